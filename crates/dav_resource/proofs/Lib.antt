@@ -1,0 +1,10 @@
+pub mod Utf8Lemmas
+pub mod TextsLemmas
+pub mod EscapeLemmas
+pub mod RoundTrip
+pub mod ReadsBack
+pub mod KeyLemmas
+pub mod PathLemmas
+pub mod MimeLemmas
+pub mod TreeLemmas
+pub mod ElementLemmas

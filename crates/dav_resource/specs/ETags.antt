@@ -1,0 +1,11 @@
+-- Entity tags (RFC 7232, section 2.3).
+use Rattle.std.specs.Prelude.{ℕ, Bool, false, not, ◌&&◌, List, bytes_eq}
+use Rattle.dav_resource.specs.declared.etag.ETag.{ETag}
+
+-- strong comparison: neither is weak, and the texts are equal
+abbrev pub strongly_equal : ETag → ETag → Bool
+strongly_equal a b = not a.weak && not b.weak && bytes_eq a.tag b.tag
+
+-- the strong tag of this text
+abbrev pub strong_tag : List ℕ → ETag
+strong_tag text = record { weak = false; tag = text }

@@ -1,0 +1,14 @@
+pub mod Errors
+pub mod Gives
+pub mod Key
+pub mod PathText
+pub mod PathForms
+pub mod Texts
+pub mod Path
+pub mod Mime
+pub mod Tree
+pub mod TreeCode
+pub mod Element
+pub mod ElementFalls
+pub mod Methods
+pub mod ETags

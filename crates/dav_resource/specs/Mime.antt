@@ -1,0 +1,39 @@
+-- The media type of a file by its name: the extensions are this project's own choice, the types those of the IANA registry.
+use Rattle.std.specs.Prelude.{ℕ, ◌&&◌, ◌||◌, ◌==◌, not, Bool, codes, bytes_eq, List, [], ◌∷◌, drop, map, if◌then◌else◌}
+use Rattle.std.specs.List.{list_any}
+use Rattle.std.specs.Char.{to_ascii_lowercase}
+
+abbrev pub is_dot : ℕ → Bool
+is_dot b = b == 46
+
+-- the bytes behind the last `.`, nothing where there is none
+abbrev pub after_last_dot : List ℕ → List ℕ
+after_last_dot [] = []
+after_last_dot (b ∷ bs) = if is_dot b && not (list_any is_dot bs) then bs else after_last_dot bs
+
+-- a `.` that is the name's first character begins no extension
+abbrev pub extension_of : List ℕ → List ℕ
+extension_of name = after_last_dot (drop 1 name)
+
+-- the type of an extension in lower case
+abbrev pub type_of : List ℕ → List ℕ
+type_of extension =
+    let is : List ℕ → Bool = bytes_eq extension in
+    if is (codes "html") || is (codes "htm") then codes "text/html"
+    else (if is (codes "txt") then codes "text/plain"
+    else (if is (codes "css") then codes "text/css"
+    else (if is (codes "csv") then codes "text/csv"
+    else (if is (codes "js") then codes "text/javascript"
+    else (if is (codes "json") then codes "application/json"
+    else (if is (codes "xml") then codes "text/xml"
+    else (if is (codes "pdf") then codes "application/pdf"
+    else (if is (codes "png") then codes "image/png"
+    else (if is (codes "jpg") || is (codes "jpeg") then codes "image/jpeg"
+    else (if is (codes "gif") then codes "image/gif"
+    else (if is (codes "svg") then codes "image/svg+xml"
+    else (if is (codes "mp3") then codes "audio/mpeg"
+    else (if is (codes "mp4") then codes "video/mp4"
+    else codes "application/octet-stream")))))))))))))
+
+abbrev pub mime_type_of : List ℕ → List ℕ
+mime_type_of name = type_of (map to_ascii_lowercase (extension_of name))

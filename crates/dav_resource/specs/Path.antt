@@ -1,0 +1,10 @@
+-- What contracts see of a `DavPath`: this project's own choice.
+use Rattle.dav_resource.specs.PathText.{PathValue, IsPathValue}
+use Rattle.dav_resource.specs.Texts.{texts}
+use Rattle.dav_resource.specs.declared.path.DavPath.TheInside.{Inside}
+
+abbrev pub path_of : Inside → PathValue
+path_of p = record { star = p.star; slash = p.slash; prefix = texts p.prefix.items; key = texts p.segments.items }
+
+abbrev pub IsPath : Inside → Type 0
+IsPath p = IsPathValue (path_of p)

@@ -1,0 +1,159 @@
+-- Paths as texts: how the path of a URL (RFC 3986, sections 2.1, 2.3 and 3.3) is read as a key, and how a key is written; that no segment is `..`, and the order of the errors, is this project's own choice.
+use Rattle.std.specs.Prelude.{◌≡◌, ℕ, ◌<◌, ◌-◌, Bool, true, false, codes, bytes_eq, not, ◌&&◌, ◌||◌, ◌==◌, List, [], ◌∷◌, ◌++◌, length, take, drop, slice_index, if◌then◌else◌, Result, Ok, Err, IsTrue, All}
+use Rattle.std.specs.List.{list_all, slice_split, before_first, flat_map, starts_with}
+use Rattle.std.specs.Str.{is_utf8}
+use Rattle.std.specs.Char.{is_ascii_hexdigit, is_ascii_alphanumeric}
+use Rattle.percent_encoding.specs.Percent.{percent_decode, percent_encode_byte}
+use Rattle.dav_resource.specs.declared.error.DavError.{DavError}
+use Rattle.dav_resource.specs.declared.error.DavError.TheVariants.{InvalidPath, ForbiddenPath, IllegalPath}
+use Rattle.dav_resource.specs.Key.{Key}
+
+-- `/`
+abbrev pub is_slash : ℕ → Bool
+is_slash b = b == 47
+
+-- ---- one part of a text, between slashes
+
+-- the bytes begin with two hexadecimal digits
+abbrev pub starts_with_two_digits : List ℕ → Bool
+starts_with_two_digits [] = false
+starts_with_two_digits (high ∷ []) = false
+starts_with_two_digits (high ∷ low ∷ rest) = is_ascii_hexdigit high && is_ascii_hexdigit low
+
+-- two hexadecimal digits stand behind each `%`
+abbrev pub has_whole_escapes : List ℕ → Bool
+has_whole_escapes [] = true
+has_whole_escapes (b ∷ bs) = (not (b == 37) || starts_with_two_digits bs) && has_whole_escapes bs
+
+-- neither NUL nor `/`
+abbrev pub is_plain_byte : ℕ → Bool
+is_plain_byte b = not (b == 0) && not (b == 47)
+
+-- the bytes that a part stands for may stand in a segment
+abbrev pub is_segment_text : List ℕ → Bool
+is_segment_text bytes = is_utf8 bytes && list_all is_plain_byte bytes
+
+abbrev pub is_readable : List ℕ → Bool
+is_readable part = has_whole_escapes part && is_segment_text (percent_decode part)
+
+-- ---- a text
+
+-- nothing, `.`, and `..`
+abbrev pub is_dropped : List ℕ → Bool
+is_dropped [] = true
+is_dropped (b ∷ []) = b == 46
+is_dropped (b ∷ c ∷ bs) = false
+
+abbrev pub is_parent : List ℕ → Bool
+is_parent [] = false
+is_parent (b ∷ []) = false
+is_parent (b ∷ c ∷ []) = b == 46 && c == 46
+is_parent (b ∷ c ∷ d ∷ bs) = false
+
+-- the key after one more segment text
+abbrev pub enter : Key → List ℕ → Result Key DavError
+enter key segment =
+    if is_dropped segment then Ok key
+    else (if not (is_parent segment) then Ok (key ++ segment ∷ [])
+    else (if length key == 0 then Err ForbiddenPath else Ok (take (length key - 1) key)))
+
+abbrev pub on_ok : {A B : Type 0} → Result A DavError → (A → Result B DavError) → Result B DavError
+on_ok (Ok a) f = f a
+on_ok (Err e) f = Err e
+
+-- the text that a part stands for
+abbrev pub read_part : List ℕ → Result (List ℕ) DavError
+read_part part = if is_readable part then Ok (percent_decode part) else Err InvalidPath
+
+-- the key after one more part of the text
+abbrev pub enter_part : Key → List ℕ → Result Key DavError
+enter_part key part = on_ok (read_part part) (enter key)
+
+-- the key after all these parts, from left to right
+abbrev pub enter_parts : Key → Key → Result Key DavError
+enter_parts key [] = Ok key
+enter_parts key (part ∷ parts) = on_ok (enter_part key part) (λ next. enter_parts next parts)
+
+-- the key of a text that begins with `/`
+abbrev pub read_key : List ℕ → Result Key DavError
+read_key text =
+    if slice_index text 0 == 47 then enter_parts [] (slice_split is_slash text) else Err InvalidPath
+
+-- ---- a path, and how it is read
+
+-- the key without the prefix's segments, and the prefix's segments apart
+pub record PathValue : Type 0 where
+  pub star : Bool
+  pub slash : Bool
+  pub prefix : Key
+  pub key : Key
+
+-- the text up to its first `?` or `#`
+abbrev pub path_part : List ℕ → List ℕ
+path_part text = before_first (λ b. b == 35) (before_first (λ b. b == 63) text)
+
+abbrev pub ends_in_slash : List ℕ → Bool
+ends_in_slash text = slice_index text (length text - 1) == 47
+
+-- the empty prefix is no text of a path
+abbrev pub read_prefix : List ℕ → Result Key DavError
+read_prefix [] = Ok []
+read_prefix (b ∷ bs) = read_key (b ∷ bs)
+
+-- the path of this key below this prefix
+abbrev pub below_prefix : Bool → Key → Key → Result PathValue DavError
+below_prefix slash key prefix =
+    if starts_with bytes_eq key prefix
+    then Ok (record { star = false; slash = slash || length (drop (length prefix) key) == 0; prefix = prefix; key = drop (length prefix) key })
+    else Err IllegalPath
+
+-- the path `*`, which names no resource but the server (RFC 9110, section 7.1)
+abbrev pub star_path : PathValue
+star_path = record { star = true; slash = true; prefix = []; key = [] }
+
+abbrev pub read_path : List ℕ → List ℕ → Result PathValue DavError
+read_path text prefix =
+    if bytes_eq text (codes "*") then Ok star_path
+    else on_ok (read_key (path_part text)) (λ key. on_ok (read_prefix prefix) (below_prefix (ends_in_slash (path_part text)) key))
+
+-- ---- how it is written
+
+abbrev pub is_unreserved : ℕ → Bool
+is_unreserved b = is_ascii_alphanumeric b || b == 45 || b == 46 || b == 95 || b == 126
+
+-- each other byte as `%` and two upper-case hexadecimal digits
+abbrev pub escape : List ℕ → List ℕ
+escape bytes = flat_map (λ b. if is_unreserved b then b ∷ [] else percent_encode_byte b) bytes
+
+abbrev pub key_text : Key → List ℕ
+key_text key = flat_map (λ segment. 47 ∷ escape segment) key
+
+-- the last slash, which the root always has
+abbrev pub last_slash : Bool → Key → List ℕ
+last_slash slash key = if slash || length key == 0 then 47 ∷ [] else []
+
+abbrev pub url_text : PathValue → List ℕ
+url_text path = if path.star then codes "*" else key_text path.key ++ last_slash path.slash path.key
+
+-- ---- what a key is
+
+-- a text that may stand in a segment
+pub record IsSegmentText (segment : List ℕ) : Type 0 where
+  pub text : IsTrue (is_segment_text segment)
+  pub bytes : All (λ b. b < 256) segment
+
+-- and neither nothing, `.` nor `..`
+pub record IsSegment (segment : List ℕ) : Type 0 where
+  pub written : IsSegmentText segment
+  pub kept : is_dropped segment ≡ false
+  pub child : is_parent segment ≡ false
+
+abbrev pub IsKey : Key → Type 0
+IsKey [] = Unit {0}
+IsKey (segment ∷ key) = IsSegment segment × IsKey key
+
+-- a key below a key; `*` is one path alone
+pub record IsPathValue (path : PathValue) : Type 0 where
+  pub prefix : IsKey path.prefix
+  pub key : IsKey path.key
+  pub star : path.star ≡ true → path ≡ star_path

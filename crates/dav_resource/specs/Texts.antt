@@ -1,0 +1,7 @@
+-- What a list of texts is seen as: a key, of each text its bytes.
+use Rattle.std.specs.Prelude.{List, map, string_bytes, String}
+use Rattle.std.specs.declared.alloc.Global.{Global}
+use Rattle.dav_resource.specs.Key.{Key}
+
+abbrev pub texts : List (String Global) → Key
+texts ss = map string_bytes ss

@@ -1,0 +1,288 @@
+//! Element trees, as a WebDAV body holds them (RFC 4918, section 14; Namespaces in XML 1.0).
+ghost use Rattle.std.specs.Prelude.{◌≡◌, ◌↔◌, ◌<◌, ◌++◌, length, [], None, map, position, unwrap_or, IsTrue, IfOk, OnOk, OnErr, option_map, string_bytes};
+ghost use Rattle.dav_resource.specs.Tree.{empty_element, prefixed_element, with_attribute, xmlns_name, with_children, one_text, one_element, texts_of, elements_of, first_named, without_first_named};
+ghost use Rattle.dav_resource.specs.Element.{nodes_of, text_pair, node_is_named, child_elements};
+ghost use Rattle.std.specs.Iterator.{YieldsFirstRef, item_count};
+
+use crate::Text;
+use std::alloc::{AllocError, Global};
+use std::collections::BTreeMap;
+use std::marker::Model;
+
+/// An element with its attributes and what stands in it, which contracts see as a tree.
+#[derive(Drop, Debug)]
+#[cycle(element)]
+pub struct Element {
+    /// The local name (Namespaces in XML 1.0, section 4).
+    pub name: String,
+    /// The prefix that stands before the name, where there is one.
+    pub prefix: Option<String>,
+    /// The namespace that the name is of, where it is known.
+    pub namespace: Option<String>,
+    /// The attributes by their names, with the declarations of namespaces among them.
+    pub attributes: BTreeMap<String, String>,
+    /// What stands in the element, in order.
+    pub children: Vec<XMLNode>,
+}
+
+/// What may stand in an element.
+#[derive(Drop, Debug)]
+#[cycle(element)]
+pub enum XMLNode {
+    /// An element, with what stands in it.
+    Element(Element),
+    /// Characters.
+    Text(Text),
+}
+
+impl Model for Element {
+    ghost use Rattle.dav_resource.specs.Tree.{Tree};
+    ghost use Rattle.dav_resource.specs.TreeCode.{tree_code, tree_size};
+
+    ghost Value = { Tree };
+
+    ghost coded = { tree_code };
+
+    ghost use Rattle.dav_resource.specs.Element.{tree_of};
+
+    ghost view = { tree_of };
+
+    ghost size = { tree_size };
+
+    ghost use Rattle.std.proofs.Common.{arith};
+    ghost use Rattle.dav_resource.specs.ElementFalls.{most_le-nodes_size};
+
+    ghost size_decreases = { λ e _. omega (arith, most_le-nodes_size e.children.items) };
+}
+
+impl Element {
+    /// An element with this name alone: no prefix, no namespace, no attribute and nothing in it.
+    /// Only memory can be lacking.
+    pub fn new(alloc: Global, name: &str) -> Result<Element, AllocError>
+        ensures { IfOk result (λ e. e ≡ empty_element name.now None) }
+    {
+        Ok(Element {
+            name: String::from_str(alloc, name)?,
+            prefix: None,
+            namespace: None,
+            attributes: BTreeMap::new(alloc),
+            children: Vec::new(alloc),
+        })
+    }
+
+    /// An element by its prefix and name, cut at the first `:` (Namespaces in XML 1.0, section 4);
+    /// a text without `:` is a name alone. No namespace is set. Only memory can be lacking.
+    pub fn new2(alloc: Global, text: &str) -> Result<Element, AllocError>
+        ensures { IfOk result (λ e. e ≡ prefixed_element text.now) }
+    {
+        let Some((prefix, name)) = text.split_once(':') else {
+            return Element::new(alloc, text);
+        };
+        let mut element = Element::new(alloc, name)?;
+        element.prefix = Some(String::from_str(alloc, prefix)?);
+        Ok(element)
+    }
+
+    /// Declares a namespace under a prefix, or the default namespace for an empty prefix
+    /// (Namespaces in XML 1.0, section 3). A declaration of the same prefix gives way; all else
+    /// stays. Only memory can be lacking, and then nothing is left of the element.
+    #[tactic(auto, using(crate::proofs::ElementLemmas::building))]
+    pub fn ns(mut self, prefix: &str, uri: &str) -> Result<Element, AllocError>
+        ensures { IfOk result (λ e. e ≡ with_attribute self (xmlns_name prefix.now) uri.now) }
+    {
+        let alloc = *self.name.allocator();
+        let name = xmlns_name(alloc, prefix)?;
+        let value = String::from_str(alloc, uri)?;
+        self.attributes.insert(name, value)?;
+        Ok(self)
+    }
+
+    /// Adds a text at the end. Only memory can be lacking, and then nothing is left of the element.
+    #[tactic(auto, using(crate::proofs::ElementLemmas::building))]
+    pub fn text(mut self, text: &str) -> Result<Element, AllocError>
+        ensures { IfOk result (λ e. e ≡ with_children self (one_text text.now)) }
+    {
+        let text = Text::from_string(String::from_str(*self.name.allocator(), text)?);
+        self.children.push(XMLNode::Text(text))?;
+        Ok(self)
+    }
+
+    /// The texts that stand directly in it, joined; none without such a text. Only memory can be
+    /// lacking.
+    pub fn get_text(&self) -> Result<Option<String>, AllocError>
+        ensures { IfOk result (λ text. option_map string_bytes text ≡ texts_of self.now.children) }
+    {
+        let alloc = *self.name.allocator();
+        let mut joined = None;
+        for child in &self.children {
+            if let XMLNode::Text(text) = child {
+                joined = Some(append_text(alloc, joined, text.as_str())?);
+            }
+        }
+        Ok(joined)
+    }
+
+    /// The elements that stand directly in it, in order.
+    pub fn child_elems_iter(&self) -> ChildElements<'_>
+        ensures { child_elements result ≡ elements_of self.now.children }
+    {
+        ChildElements {
+            nodes: &self.children,
+        }
+    }
+
+    /// Whether an element stands directly in it.
+    pub fn has_child_elems(&self) -> bool
+        ensures { IsTrue result ↔ (0 < length (elements_of self.now.children)) }
+    {
+        self.child_elems_iter().next().is_some()
+    }
+
+    /// Takes the first child element of this local name out, whatever its prefix and namespace, and
+    /// leaves the rest as it is; without one nothing changes.
+    pub fn take_child(&mut self, name: &str) -> Option<Element>
+        ensures taken { result ≡ first_named name.now self.old.children }
+        ensures left { self.new ≡ record self.old { children = without_first_named name.now self.old.children } }
+    {
+        take_named(&mut self.children, name)
+    }
+
+    /// A value of the same contents, at every level. Only memory can be lacking.
+    #[cycle(clone)]
+    #[tactic(auto, using(crate::proofs::ElementLemmas::walking))]
+    pub fn clone(&self) -> Result<Element, AllocError>
+        ensures { IfOk result (λ copy. copy ≡ self.now) }
+    {
+        let mut children = Vec::new(*self.name.allocator());
+        for child in &self.children {
+            children.push(child.clone()?)?;
+        }
+        Ok(Element {
+            name: self.name.clone()?,
+            prefix: clone_text(&self.prefix)?,
+            namespace: clone_text(&self.namespace)?,
+            attributes: clone_attributes(&self.attributes)?,
+            children,
+        })
+    }
+
+    /// Adds an element at the end. Only memory can be lacking, and then the element that it was to
+    /// stand in is as it was, and nothing is left of the other.
+    #[tactic(auto, using(crate::proofs::ElementLemmas::building))]
+    pub fn push_element(&mut self, element: Element) -> Result<(), AllocError>
+        ensures ok { OnOk result (self.new ≡ with_children self.old (one_element element)) }
+        ensures err { OnErr result (self.new ≡ self.old) }
+    {
+        self.children.push(XMLNode::Element(element))?;
+        Ok(())
+    }
+}
+
+impl XMLNode {
+    /// Whether this is an element of this local name.
+    fn is_named(&self, name: &str) -> bool
+        ensures { result ≡ node_is_named name.now self.now }
+    {
+        match self {
+            XMLNode::Element(element) => element.name.as_str() == name,
+            XMLNode::Text(_) => false,
+        }
+    }
+
+    /// A value of the same contents, at every level. Only memory can be lacking.
+    #[cycle(clone)]
+    pub fn clone(&self) -> Result<XMLNode, AllocError>
+        ensures { IfOk result (λ copy. copy ≡ self.now) }
+    {
+        match self {
+            XMLNode::Element(element) => Ok(XMLNode::Element(element.clone()?)),
+            XMLNode::Text(text) => Ok(XMLNode::Text(text.clone()?)),
+        }
+    }
+}
+
+/// The elements among nodes, in order.
+#[derive(Drop)]
+pub struct ChildElements<'a> {
+    nodes: &'a [XMLNode],
+}
+
+impl<'a> Iterator for ChildElements<'a> {
+    type Item = &'a Element;
+
+    ghost next_gives = { YieldsFirstRef child_elements };
+
+    ghost remaining = { item_count child_elements };
+
+    fn next(&mut self) -> Option<&'a Element> {
+        while let [first, rest @ ..] = self.nodes {
+            self.nodes = rest;
+            if let XMLNode::Element(element) = first {
+                return Some(element);
+            }
+        }
+        None
+    }
+}
+
+/// Where the first element of this name stands.
+fn position_named(nodes: &[XMLNode], name: &str) -> Option<usize>
+    ensures { result ≡ position (node_is_named name.now) nodes.now }
+{
+    nodes.iter().position(|node| node.is_named(name))
+}
+
+/// Takes the first element of this name out.
+fn take_named(nodes: &mut Vec<XMLNode>, name: &str) -> Option<Element>
+    ensures taken { result ≡ first_named name.now (nodes_of nodes.old.items) }
+    ensures left { nodes_of nodes.new.items ≡ without_first_named name.now (nodes_of nodes.old.items) }
+{
+    let at = position_named(nodes, name)?;
+    match nodes.remove(at) {
+        XMLNode::Element(element) => Some(element),
+        XMLNode::Text(_) => None,
+    }
+}
+
+/// The same text again, where there is one.
+fn clone_text(text: &Option<String>) -> Result<Option<String>, AllocError>
+    ensures { IfOk result (λ copy. option_map string_bytes copy ≡ option_map string_bytes text.now) }
+{
+    text.clone()
+}
+
+/// The same names with the same values again.
+#[tactic(auto, using(crate::proofs::ElementLemmas::walking))]
+fn clone_attributes(
+    attributes: &BTreeMap<String, String>,
+) -> Result<BTreeMap<String, String>, AllocError>
+    ensures { IfOk result (λ copy. map text_pair copy.entries ≡ map text_pair attributes.now.entries) }
+{
+    attributes.clone()
+}
+
+/// The name of the attribute that declares a namespace under this prefix.
+fn xmlns_name(alloc: Global, prefix: &str) -> Result<String, AllocError>
+    ensures { IfOk result (λ name. string_bytes name ≡ xmlns_name prefix.now) }
+{
+    let mut name = String::from_str(alloc, "xmlns")?;
+    if !prefix.is_empty() {
+        name.push(':')?;
+        name.push_str(prefix)?;
+    }
+    Ok(name)
+}
+
+/// The text so far, if any, and this text after it.
+fn append_text(alloc: Global, joined: Option<String>, text: &str) -> Result<String, AllocError>
+    ensures { IfOk result (λ whole. string_bytes whole ≡ unwrap_or (option_map string_bytes joined) [] ++ text.now) }
+{
+    let Some(mut whole) = joined else {
+        return String::from_str(alloc, text);
+    };
+    whole.push_str(text)?;
+    Ok(whole)
+}
+
+#[cfg(test)]
+mod tests;

@@ -1,0 +1,24 @@
+//! The values that a WebDAV engine works on: errors, paths, elements, metadata, requests and replies.
+#![tactic(auto)]
+
+mod element;
+mod error;
+mod etag;
+mod meta;
+mod method;
+mod path;
+mod property;
+mod record;
+mod request;
+mod text;
+
+pub use element::{ChildElements, Element, XMLNode};
+pub use error::{DavError, DavResult, FsError, FsResult};
+pub use etag::{ETag, ETagList, IfRange};
+pub use meta::{DavFile, DirEntry, Meta, OpenOptions};
+pub use method::{DavMethod, DavMethodSet};
+pub use path::DavPath;
+pub use property::DavProp;
+pub use record::{Op, Outcome, Record};
+pub use request::{Body, DavRequest, Depth, ReqBody};
+pub use text::{Items, Text};

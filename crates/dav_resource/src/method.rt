@@ -1,0 +1,95 @@
+//! The methods of WebDAV, and sets of them.
+ghost use Rattle.std.specs.Prelude.{◌≡◌, false, true, if◌then◌else◌};
+ghost use Rattle.dav_resource.specs.Methods.{method_of, contains_method, same_method};
+
+use http::Method;
+
+/// A method that a WebDAV server serves (RFC 9110, section 9; RFC 5789; RFC 4918, section 9).
+#[derive(Clone, Copy, Debug, PartialEq, Eq)]
+pub enum DavMethod {
+    Head,
+    Get,
+    Put,
+    Patch,
+    Options,
+    PropFind,
+    PropPatch,
+    MkCol,
+    Copy,
+    Move,
+    Delete,
+    Lock,
+    Unlock,
+}
+
+impl DavMethod {
+    /// The method of a request, where it is one of these. Names are compared exactly.
+    pub fn from_method(method: &Method) -> Option<DavMethod>
+        ensures { result ≡ method_of method.now }
+    {
+        match method.as_str() {
+            "HEAD" => Some(DavMethod::Head),
+            "GET" => Some(DavMethod::Get),
+            "PUT" => Some(DavMethod::Put),
+            "PATCH" => Some(DavMethod::Patch),
+            "OPTIONS" => Some(DavMethod::Options),
+            "PROPFIND" => Some(DavMethod::PropFind),
+            "PROPPATCH" => Some(DavMethod::PropPatch),
+            "MKCOL" => Some(DavMethod::MkCol),
+            "COPY" => Some(DavMethod::Copy),
+            "MOVE" => Some(DavMethod::Move),
+            "DELETE" => Some(DavMethod::Delete),
+            "LOCK" => Some(DavMethod::Lock),
+            "UNLOCK" => Some(DavMethod::Unlock),
+            _ => None,
+        }
+    }
+}
+
+/// A set of methods.
+#[derive(Clone, Copy, Debug, PartialEq, Eq)]
+pub struct DavMethodSet {
+    /// Whether each method is in the set, in the order in which they are declared.
+    pub members: [bool; 13],
+}
+
+impl DavMethodSet {
+    /// No method.
+    pub fn none() -> DavMethodSet
+        ensures { (method : _) → contains_method result method ≡ false }
+    {
+        DavMethodSet {
+            members: [false; 13],
+        }
+    }
+
+    /// Every method.
+    pub fn all() -> DavMethodSet
+        ensures { (method : _) → contains_method result method ≡ true }
+    {
+        DavMethodSet {
+            members: [true; 13],
+        }
+    }
+
+    /// Puts a method in; the others stay as they are.
+    pub fn add(&mut self, method: DavMethod)
+        ensures { (other : _) → contains_method self.new other ≡ (if same_method other method then true else contains_method self.old other) }
+    {
+        self.members[method as usize] = true;
+    }
+
+    /// Takes a method out; the others stay as they are.
+    pub fn remove(&mut self, method: DavMethod)
+        ensures { (other : _) → contains_method self.new other ≡ (if same_method other method then false else contains_method self.old other) }
+    {
+        self.members[method as usize] = false;
+    }
+
+    /// Whether a method is in the set.
+    pub fn contains(&self, method: DavMethod) -> bool
+        ensures { result ≡ contains_method self.now method }
+    {
+        self.members[method as usize]
+    }
+}

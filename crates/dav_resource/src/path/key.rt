@@ -1,0 +1,58 @@
+//! Keys, as lists of segments.
+ghost use Rattle.std.specs.Prelude.{◌≡◌, ◌≤◌, ◌++◌, ◌||◌, ◌==◌, drop, length, vec_len, IsTrue, IfOk, OnOk, bytes_eq};
+ghost use Rattle.std.specs.List.{starts_with};
+ghost use Rattle.dav_resource.specs.Key.{parent};
+ghost use Rattle.dav_resource.specs.Texts.{texts};
+
+use std::alloc::{AllocError, Global};
+
+/// Whether the key begins with these segments.
+pub(crate) fn is_below(key: &[String], prefix: &[String]) -> bool
+    ensures value { result ≡ starts_with bytes_eq (texts key.now) (texts prefix.now) }
+    ensures fits { IsTrue result → length prefix.now ≤ length key.now }
+{
+    key.starts_with(prefix)
+}
+
+/// Whether a path of this key names a collection: the root always does.
+pub(crate) fn is_collection(slash: bool, key: &[String]) -> bool
+    ensures { result ≡ (slash || length key.now == 0) }
+{
+    slash || key.is_empty()
+}
+
+/// Takes the first segments off.
+pub(crate) fn drop_first(key: &mut Vec<String>, count: usize)
+    requires { count ≤ vec_len key.old }
+    ensures { key.new.items ≡ drop count key.old.items }
+{
+    key.drain(..count);
+}
+
+/// Takes the last segment off, where there is one.
+#[tactic(auto, using(crate::proofs::TextsLemmas::parent_texts))]
+pub(crate) fn drop_last(key: &mut Vec<String>)
+    ensures { texts key.new.items ≡ parent (texts key.old.items) }
+{
+    key.pop();
+}
+
+/// Puts a copy of each of these segments at the key's end.
+pub(crate) fn append_copies(key: &mut Vec<String>, segments: &[String]) -> Result<(), AllocError>
+    ensures { OnOk result (texts key.new.items ≡ texts key.old.items ++ texts segments.now) }
+{
+    for segment in segments {
+        let segment = segment.clone()?;
+        key.push(segment)?;
+    }
+    Ok(())
+}
+
+/// The same segments once more.
+pub(crate) fn copy_key(alloc: Global, segments: &[String]) -> Result<Vec<String>, AllocError>
+    ensures { IfOk result (λ copy. texts copy.items ≡ texts segments.now) }
+{
+    let mut copy = Vec::new(alloc);
+    append_copies(&mut copy, segments)?;
+    Ok(copy)
+}

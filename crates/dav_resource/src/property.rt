@@ -1,0 +1,43 @@
+//! Properties of a resource (RFC 4918, section 4).
+ghost use Rattle.std.specs.Prelude.{◌≡◌, IfOk};
+
+use crate::{Element, Text};
+use std::alloc::AllocError;
+
+/// A property: its name, with the prefix and the namespace where it has them, and the element that
+/// holds its value where that is known (RFC 4918, section 4.3).
+#[derive(Drop, Debug)]
+pub struct DavProp {
+    pub name: Text,
+    pub prefix: Option<Text>,
+    pub namespace: Option<Text>,
+    pub element: Option<Element>,
+}
+
+impl DavProp {
+    /// A value of the same contents. Only memory can be lacking.
+    pub fn clone(&self) -> Result<DavProp, AllocError>
+        ensures { IfOk result (λ copy. copy ≡ self.now) }
+    {
+        let element = match &self.element {
+            Some(element) => Some(element.clone()?),
+            None => None,
+        };
+        Ok(DavProp {
+            name: self.name.clone()?,
+            prefix: clone_text(&self.prefix)?,
+            namespace: clone_text(&self.namespace)?,
+            element,
+        })
+    }
+}
+
+/// The same text again, where there is one.
+fn clone_text(text: &Option<Text>) -> Result<Option<Text>, AllocError>
+    ensures { IfOk result (λ copy. copy ≡ text.now) }
+{
+    match text {
+        Some(text) => Ok(Some(text.clone()?)),
+        None => Ok(None),
+    }
+}

@@ -1,0 +1,47 @@
+//! Requests, and what replies carry.
+use crate::{DavPath, Element, Items, Text};
+use http::Method;
+use http_header::{HeaderMap, HeaderValue};
+
+/// How far below a resource a method reaches (RFC 4918, section 10.2).
+#[derive(Clone, Copy, Debug, PartialEq, Eq)]
+pub enum Depth {
+    Zero,
+    One,
+    Infinity,
+    /// No header: each method says what that means. It is never read from a header.
+    Default,
+}
+
+/// The body of a request, as a handler above has read it.
+#[derive(Drop, Debug)]
+pub enum ReqBody {
+    None,
+    Bytes(Items<u8>),
+    /// XML, as the tree of its root.
+    Tree(Element),
+    /// A body that should have been XML and couldn't be read.
+    Malformed,
+}
+
+/// What a reply carries.
+#[derive(Drop, Debug)]
+pub enum Body {
+    Empty,
+    Tree(Element),
+}
+
+/// A request, with all that the engine is told beside it.
+#[derive(Drop, Debug)]
+pub struct DavRequest {
+    pub method: Method,
+    pub path: DavPath,
+    pub headers: HeaderMap<HeaderValue>,
+    pub body: ReqBody,
+    /// Who sends it, where that is known.
+    pub principal: Option<Text>,
+    /// The token that a lock made by this request gets: one or more bytes 0x21 to 0x7E.
+    pub token: Text,
+    /// The moment, in whole seconds since 1970.
+    pub now: u64,
+}
