@@ -1,0 +1,7 @@
+pub mod Keys
+pub mod Bytes
+pub mod Entries
+pub mod Sound
+pub mod Rows
+pub mod Answering
+pub mod Dumps

@@ -1,0 +1,10 @@
+pub mod Logged
+pub mod Store
+pub mod Calls
+pub mod Memory
+pub mod MemoryCalls
+pub mod Entry
+pub mod Dump
+pub mod MemFs
+pub mod KeyProps
+pub mod Lawful

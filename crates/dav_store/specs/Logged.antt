@@ -1,0 +1,20 @@
+-- What contracts see of a store's log: this project's own choice.
+use Rattle.std.specs.Prelude.{ℕ, List, [], map}
+use Rattle.dav_resource.specs.Key.{Key}
+use Rattle.dav_resource.specs.declared.record.Op.{Op}
+use Rattle.dav_resource.specs.declared.record.Outcome.{Outcome}
+use Rattle.dav_resource.specs.declared.record.Record.{Record}
+
+-- a record, by the keys of its paths
+pub record Logged : Type 0 where
+  pub op : Op
+  pub keys : List Key
+  pub outcome : Outcome
+  pub statuses : List ℕ
+
+abbrev pub logged_of : Record → Logged
+logged_of r = record { op = r.op; keys = map (λ p. p.key) r.paths; outcome = r.outcome; statuses = r.statuses }
+
+-- the record of a call that answers no statuses
+abbrev pub logged : Op → List Key → Outcome → Logged
+logged op keys outcome = record { op = op; keys = keys; outcome = outcome; statuses = [] }

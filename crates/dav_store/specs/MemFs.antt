@@ -1,0 +1,13 @@
+-- What contracts see of a store in memory.
+use Rattle.std.specs.Prelude.{map}
+use Rattle.dav_store.specs.Logged.{logged_of}
+use Rattle.dav_store.specs.Store.{Store}
+use Rattle.dav_store.specs.Memory.{Memory, seen_of}
+use Rattle.dav_store.specs.declared.memory.MemFs.{MemFs}
+
+abbrev pub memory_of : MemFs → Memory
+memory_of store = record { entries = store.entries.items; version = store.version; moment = store.moment }
+
+-- as the engine sees it
+abbrev pub store_of : MemFs → Store
+store_of store = seen_of (memory_of store) (map logged_of store.log.items)

@@ -1,0 +1,86 @@
+-- What each call of a store in memory answers, exactly: this project's own choice.
+use Rattle.std.specs.Prelude.{◌≡◌, ◌≢◌, ℕ, ◌-◌, ◌^◌, ◌==◌, if◌then◌else◌, List, [], ◌∷◌, ◌++◌, Option, Some, None, Result, Ok, Err, ◌⊎◌, IfOk, IfErr}
+use Rattle.std.specs.FinMap.{get}
+use Rattle.dav_resource.specs.Key.{Key, parent}
+use Rattle.dav_resource.specs.declared.meta.OpenOptions.{OpenOptions}
+use Rattle.dav_resource.specs.declared.meta.DavFile.{DavFile}
+use Rattle.dav_resource.specs.declared.error.FsError.{FsError}
+use Rattle.dav_resource.specs.declared.error.FsError.TheVariants as errors
+use Rattle.dav_resource.specs.declared.record.Op.{Op}
+use Rattle.dav_resource.specs.declared.record.Outcome.{Outcome}
+use Rattle.dav_resource.specs.declared.record.Outcome.TheVariants.{Granted, Barred, Refused}
+use Rattle.dav_store.specs.Logged.{Logged, logged}
+use Rattle.dav_store.specs.Store.{File}
+use Rattle.dav_store.specs.Calls.{metadata_bar, create_dir_bar, open_bar, file_bar, bytes_at, written_at, place_of}
+use Rattle.dav_store.specs.Memory.{Stored, Memory, tree_of, contents_of, stored_at, made, filled}
+
+-- a call has no memory, and nothing happens; or it answers this error, where there is one, and nothing
+-- changes; or there is none, and what is held changes so
+pub record Gives {A : Type 0} (error : Option FsError) (change : Memory → Memory) (old : Memory) (answer : Result A FsError) (new : Memory) : Type 0 where
+  pub granted : IfOk answer (λ a. (error ≡ None) × (new ≡ change old))
+  pub declined : IfErr answer (λ e. (new ≡ old) × ((e ≡ errors.Memory) ⊎ (error ≡ Some e)))
+
+-- how a call is recorded that answers an error: no row gives GeneralFailure
+abbrev pub outcome_of : FsError → Outcome
+outcome_of errors.GeneralFailure = Refused errors.GeneralFailure
+outcome_of errors.NotImplemented = Barred errors.NotImplemented
+outcome_of errors.Exists = Barred errors.Exists
+outcome_of errors.NotFound = Barred errors.NotFound
+outcome_of errors.Forbidden = Barred errors.Forbidden
+outcome_of errors.InsufficientStorage = Barred errors.InsufficientStorage
+outcome_of errors.LoopDetected = Barred errors.LoopDetected
+outcome_of errors.PathTooLong = Barred errors.PathTooLong
+outcome_of errors.TooLarge = Barred errors.TooLarge
+outcome_of errors.IsRemote = Barred errors.IsRemote
+outcome_of errors.Memory = Barred errors.Memory
+
+-- the record of an answer; none of a want of memory
+abbrev pub LogsAnswer : {A : Type 0} → Op → List Key → Result A FsError → List Logged → List Logged → Type 0
+LogsAnswer op keys (Ok answer) old new = new ≡ old ++ logged op keys Granted ∷ []
+LogsAnswer op keys (Err e) old new = ((e ≡ errors.Memory) × (new ≡ old)) ⊎ ((e ≢ errors.Memory) × (new ≡ old ++ logged op keys (outcome_of e) ∷ []))
+
+-- nothing changes
+abbrev pub kept : Memory → Memory
+kept old = old
+
+-- a change is barred by its row, or else refused where no number is left for it
+abbrev pub change_error : Option FsError → Memory → Option FsError
+change_error (Some e) old = Some e
+change_error None old = if old.version == 2 ^ 64 - 1 then Some errors.GeneralFailure else None
+
+-- ---- metadata
+
+abbrev pub look_error : Key → Memory → Option FsError
+look_error key old = metadata_bar (get (tree_of old.entries) key)
+
+-- ---- create_dir
+
+abbrev pub create_dir_error : Key → Memory → Option FsError
+create_dir_error key old = change_error (create_dir_bar (get (tree_of old.entries) key) (get (tree_of old.entries) (parent key))) old
+
+-- ---- open: a file that is there and isn't to be emptied stays as it is
+
+abbrev pub error_of_opening : OpenOptions → Option Stored → Option FsError → Memory → Option FsError
+error_of_opening options None bar old = change_error bar old
+error_of_opening options (Some s) bar old = if options.truncate then change_error bar old else bar
+
+abbrev pub open_error : OpenOptions → Key → Memory → Option FsError
+open_error options key old = error_of_opening options (stored_at key old.entries) (open_bar options (get (tree_of old.entries) key) (get (tree_of old.entries) (parent key))) old
+
+abbrev pub opened_from : OpenOptions → Key → Option Stored → Memory → Memory
+opened_from options key None old = made key (File []) old
+opened_from options key (Some s) old = if options.truncate then filled key [] old else old
+
+abbrev pub opened : OpenOptions → Key → Memory → Memory
+opened options key old = opened_from options key (stored_at key old.entries) old
+
+-- ---- the calls on an open file
+
+abbrev pub file_error : Key → Memory → Option FsError
+file_error key old = file_bar (get (tree_of old.entries) key)
+
+abbrev pub write_error : Key → Memory → Option FsError
+write_error key old = change_error (file_error key old) old
+
+abbrev pub written : DavFile → List ℕ → Memory → Memory
+written file more old = filled file.path.key (written_at (bytes_at (get (tree_of old.entries) file.path.key)) (place_of file (contents_of old.entries)) more) old

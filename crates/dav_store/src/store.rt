@@ -1,0 +1,64 @@
+//! The contract of a store.
+ghost use Rattle.std.specs.Prelude.{◌≡◌, ◌+◌, ◌<◌, ◌^◌, false, [], length, map, MatchResult, OnErr};
+ghost use Rattle.dav_store.specs.Logged.{logged_of};
+ghost use Rattle.dav_store.specs.Store.{Store, IsWellFormed};
+ghost use Rattle.dav_store.specs.Calls.{Looks, MakesDirectory, Opens, Writes, Flushes, LooksAtFile, place_of};
+
+use dav_resource::{DavFile, DavPath, FsResult, Meta, OpenOptions, Record};
+
+/// A store of resources, which keeps a log of its calls and may refuse any of them.
+///
+/// `C` is what it knows a caller by. Each call writes one record, but for one that had no memory
+/// (`FsError::Memory`): then nothing happened. A call that isn't granted changes nothing but the log:
+/// it is barred, with the error that its row gives for what stands in the tree, or refused of the store's
+/// own will, with any error but `NotFound`, `Exists` and `Memory`.
+pub trait GuardedFileSystem<C> {
+    /// The tree, the dead properties, the metadata, the quota and the log.
+    ghost seen: { Self → Store };
+
+    /// What is known of a resource. Barred: nothing is there (`NotFound`).
+    fn metadata(&mut self, path: &DavPath, credentials: &C) -> FsResult<Meta>
+        ensures { Looks (seen self.old) path.now.key result (seen self.new) };
+
+    /// Makes a directory without properties. Barred: something is there (`Exists`), or its parent is no
+    /// directory (`NotFound`).
+    fn create_dir(&mut self, path: &DavPath, credentials: &C) -> FsResult<()>
+        ensures { MakesDirectory (seen self.old) path.now.key result (seen self.new) };
+
+    /// Opens a file, with the place at its start, and makes or empties it where that is asked. Barred:
+    /// something is there where a new file is to be made (`Exists`), a directory is there (`Forbidden`),
+    /// or nothing is there and no file may be made (`NotFound`).
+    fn open(&mut self, path: &DavPath, options: &OpenOptions, credentials: &C) -> FsResult<DavFile>
+        ensures { Opens (seen self.old) path.now options.now result (seen self.new) };
+
+    /// Writes bytes at the file's place, or at its end for one that was opened to append; zero bytes fill
+    /// a gap. The place moves behind them. Barred: the file isn't there (`NotFound`); the place stays.
+    fn write_bytes(&mut self, file: &mut DavFile, bytes: &[u8], credentials: &C) -> FsResult<()>
+        requires { file.old.append ≡ false → file.old.pos + length bytes.now < 2 ^ 64 }
+        ensures written { Writes (seen self.old) file.old bytes.now result (seen self.new) }
+        ensures place { MatchResult result (λ _. file.new ≡ record file.old { pos = place_of file.old (seen self.old).contents + length bytes.now }) (λ _. file.new ≡ file.old) };
+
+    /// Ends the writing of a file. Barred: the file isn't there (`NotFound`).
+    fn flush(&mut self, file: &DavFile, credentials: &C) -> FsResult<()>
+        ensures { Flushes (seen self.old) file.now.path.key result (seen self.new) };
+
+    /// What is known of an open file. Barred: the file isn't there (`NotFound`).
+    fn file_metadata(&mut self, file: &DavFile, credentials: &C) -> FsResult<Meta>
+        ensures { LooksAtFile (seen self.old) file.now.path.key result (seen self.new) };
+
+    /// Whether the store keeps dead properties. It leaves no record, and no call changes it.
+    fn have_props(&self) -> bool
+        ensures { result ≡ (seen self.now).keeps_properties };
+
+    /// The records of the calls so far, the oldest first.
+    fn records(&self) -> &[Record]
+        ensures { map logged_of result.now ≡ (seen self.now).log };
+
+    /// Empties the log. Nothing else changes.
+    fn clear_log(&mut self)
+        ensures { seen self.new ≡ record (seen self.old) { log = [] } };
+
+    /// The root is a directory, and so is each other key's parent; metadata and properties stand on what
+    /// is there.
+    ghost well_formed: { (store : Self) → IsWellFormed (seen store).contents };
+}
