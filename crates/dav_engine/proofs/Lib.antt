@@ -1,0 +1,10 @@
+pub mod Dialogues
+pub mod FieldText
+pub mod Granting
+pub mod Headers
+pub mod Making
+pub mod PutHeaders
+pub mod Putting
+pub mod Running
+pub mod Serving
+pub mod Trees

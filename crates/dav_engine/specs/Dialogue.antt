@@ -1,0 +1,78 @@
+-- What a method asks of a store, in order, and where it ends.
+use Rattle.std.specs.Prelude.{◌≡◌, List, [], ◌∷◌, ◌++◌, Option, None, Result, Ok, Err, ◌⊎◌}
+use Rattle.dav_resource.specs.Key.{Key}
+use Rattle.dav_resource.specs.declared.meta.Meta.{Meta}
+use Rattle.dav_resource.specs.declared.record.Op.{Op}
+use Rattle.dav_resource.specs.declared.record.Outcome.{Outcome}
+use Rattle.dav_resource.specs.declared.record.Outcome.TheVariants.{Granted, Barred, Refused}
+use Rattle.dav_resource.specs.declared.error.FsError.{FsError}
+use Rattle.dav_resource.specs.declared.error.DavError.{DavError}
+use Rattle.dav_resource.specs.declared.error.DavError.TheVariants.{Memory}
+use Rattle.dav_store.specs.Logged.{Logged, logged}
+use Rattle.dav_store.specs.Store.{Store, Contents}
+use Rattle.dav_store.specs.Calls.{Call, record_of, IsLawful, metadata_call}
+use Rattle.dav_engine.specs.Reply.{Reply, Answer}
+
+-- a call whose outcome leads on; a refusal of the request; or the end, with a value
+pub data Dialogue (A : Type 0) : Type 0 where
+  Asks : Call → (Outcome → Dialogue A) → Dialogue A
+  Refuses : DavError → Dialogue A
+  Passed : A → Dialogue A
+
+-- one dialogue, and then another
+infixl 10 ◌>>=◌
+unfoldable pub ◌>>=◌ : {A B : Type 0} → Dialogue A → (A → Dialogue B) → Dialogue B
+(Asks call next) >>= then = Asks call (λ outcome. next outcome >>= then)
+(Refuses e) >>= then = Refuses e
+(Passed a) >>= then = then a
+
+-- a call that the request fails by, where it isn't granted
+abbrev pub needs : {A : Type 0} → Call → (FsError → DavError) → Dialogue A → Dialogue A
+needs {A} call error next = Asks call met
+  where
+    met : Outcome → Dialogue A
+    met Granted = next
+    met (Barred e) = Refuses (error e)
+    met (Refused e) = Refuses (error e)
+
+-- what a granted look at a key tells
+abbrev pub if_granted : {A : Type 0} → Outcome → Option A → Option A
+if_granted Granted seen = seen
+if_granted (Barred e) seen = None
+if_granted (Refused e) seen = None
+
+-- a look at a key, where a refusal counts as nothing there
+abbrev pub look : Contents → Key → Dialogue (Option Meta)
+look contents key = Asks (metadata_call contents key) (λ outcome. Passed (if_granted outcome (contents.metas key)))
+
+-- ---- how records follow a dialogue
+
+-- the records are the dialogue's first calls, each with a lawful outcome, and this dialogue is left
+abbrev pub LeadsTo : {A : Type 0} → Dialogue A → List Logged → Dialogue A → Type 0
+LeadsTo dialogue [] left = left ≡ dialogue
+LeadsTo (Asks call next) (logged ∷ records) left = (logged ≡ record_of call logged.outcome) × IsLawful call.bar logged.outcome × LeadsTo (next logged.outcome) records left
+LeadsTo (Refuses e) (logged ∷ records) left = ⊥
+LeadsTo (Passed a) (logged ∷ records) left = ⊥
+
+-- over these records the dialogue ends in a value, or refuses with the error, or memory ran out on the way
+abbrev pub EndsIn : {A : Type 0} → Dialogue A → List Logged → Result A DavError → Type 0
+EndsIn dialogue records (Ok a) = LeadsTo dialogue records (Passed a)
+EndsIn {A} dialogue records (Err e) = LeadsTo dialogue records (Refuses e) ⊎ ((e ≡ Memory) × ((left : Dialogue A) × LeadsTo dialogue records left))
+
+-- over these records the dialogue ends in this answer; a value may be told by several replies
+abbrev pub IsAnswered : {A : Type 0} → Dialogue A → (A → Reply → Type 0) → List Logged → Answer → Type 0
+IsAnswered {A} dialogue Tells records (Ok reply) = (a : A) × LeadsTo dialogue records (Passed a) × Tells a reply
+IsAnswered dialogue Tells records (Err e) = LeadsTo dialogue records (Refuses e)
+
+-- a call of this op on this key was granted
+abbrev pub WasGranted : Op → Key → List Logged → Type 0
+WasGranted op key [] = ⊥
+WasGranted op key (first ∷ records) = (first ≡ logged op (key ∷ []) Granted) ⊎ WasGranted op key records
+
+-- the dialogue was held, and nothing changed but the log
+pub record Judges {A : Type 0} (dialogue : Dialogue A) (old : Store) (verdict : Result A DavError) (new : Store) : Type 0 where
+  pub records : List Logged
+  pub told : new.log ≡ old.log ++ records
+  pub same : new.contents ≡ old.contents
+  pub fixed : new.keeps_properties ≡ old.keeps_properties
+  pub ends : EndsIn dialogue records verdict

@@ -1,0 +1,9 @@
+pub mod DavInner
+pub mod Reply
+pub mod ReplyHeader
+pub mod PutReply
+pub mod Dialogue
+pub mod Mkcol
+pub mod Put
+pub mod Methods
+pub mod Step

@@ -1,0 +1,31 @@
+-- Each method: its rules, its work, and what it leaves where memory runs out in the work.
+use Rattle.std.specs.Prelude.{◌≡◌, List, Option, Some, None}
+use Rattle.dav_resource.specs.declared.meta.Meta.{Meta}
+use Rattle.dav_resource.specs.declared.method.DavMethod.{DavMethod}
+use Rattle.dav_resource.specs.declared.method.DavMethod.TheVariants.{Head, Get, Put, Patch, Options, PropFind, PropPatch, MkCol, Copy, Move, Delete, Lock, Unlock}
+use Rattle.dav_resource.specs.declared.error.DavError.TheVariants.{Status}
+use Rattle.dav_resource.specs.declared.request.DavRequest.{DavRequest}
+use Rattle.dav_store.specs.Logged.{Logged}
+use Rattle.dav_store.specs.Store.{Contents}
+use Rattle.dav_engine.specs.Reply.{Answer}
+use Rattle.dav_engine.specs.Dialogue.{Dialogue, Refuses}
+use Rattle.dav_engine.specs.Mkcol.{mkcol_rules, MkcolWork, MkcolCut}
+use Rattle.dav_engine.specs.Put.{put_rules, PutWork, PutCut}
+
+-- what is asked before anything is done, with what was found at the path; a method that isn't served is 501
+abbrev pub rules_of : Option DavMethod → DavRequest → Contents → Dialogue (Option Meta)
+rules_of (Some MkCol) request old = mkcol_rules request old
+rules_of (Some Put) request old = put_rules request old
+rules_of _ request old = Refuses (Status 501)
+
+-- the work, once the rules are passed, with its answer
+abbrev pub Work : Option DavMethod → DavRequest → Option Meta → Contents → List Logged → Answer → Contents → Type 0
+Work (Some MkCol) request found old records answer new = MkcolWork request old records answer new
+Work (Some Put) request found old records answer new = PutWork request found old records answer new
+Work _ request found old records answer new = ⊥
+
+-- the work, cut short for want of memory
+abbrev pub WorkCut : Option DavMethod → DavRequest → Contents → List Logged → Contents → Type 0
+WorkCut (Some MkCol) request old records new = MkcolCut old records new
+WorkCut (Some Put) request old records new = PutCut request old records new
+WorkCut _ request old records new = ⊥

@@ -1,0 +1,49 @@
+-- MKCOL (RFC 4918, section 9.3): makes a collection.
+use Rattle.std.specs.Prelude.{◌≡◌, if◌then◌else◌, List, [], ◌∷◌, codes, Option}
+use Rattle.dav_resource.specs.PathText.{PathValue, url_text}
+use Rattle.dav_resource.specs.PathForms.{is_collection, prefixed}
+use Rattle.dav_resource.specs.Errors.{from_fs}
+use Rattle.dav_resource.specs.declared.meta.Meta.{Meta}
+use Rattle.dav_resource.specs.declared.record.Op.TheVariants.{CreateDir}
+use Rattle.dav_resource.specs.declared.error.FsError.{FsError}
+use Rattle.dav_resource.specs.declared.error.FsError.TheVariants.{Exists, NotFound}
+use Rattle.dav_resource.specs.declared.error.DavError.{DavError}
+use Rattle.dav_resource.specs.declared.error.DavError.TheVariants.{Status}
+use Rattle.dav_resource.specs.declared.request.DavRequest.{DavRequest}
+use Rattle.dav_store.specs.Logged.{Logged}
+use Rattle.dav_store.specs.Store.{Contents}
+use Rattle.dav_store.specs.Calls.{create_dir_call, IsMadeAt}
+use Rattle.dav_engine.specs.Reply.{Reply, Answer, bare_reply, field}
+use Rattle.dav_engine.specs.Dialogue.{Dialogue, Passed, needs, look, IsAnswered, WasGranted}
+
+-- a look at the path, whose refusal is passed over
+abbrev pub mkcol_rules : DavRequest → Contents → Dialogue (Option Meta)
+mkcol_rules request old = look old request.path.key
+
+-- something is there: 405; its parent is no collection: 409
+abbrev pub mkcol_error : FsError → DavError
+mkcol_error Exists = Status 405
+mkcol_error NotFound = Status 409
+mkcol_error e = from_fs e
+
+abbrev pub mkcol_steps : DavRequest → Contents → Dialogue (Unit {0})
+mkcol_steps request old = needs (create_dir_call old request.path.key) mkcol_error (Passed tt)
+
+-- 201, and the collection's path where the request's ended in a slash
+abbrev pub mkcol_reply : PathValue → Reply
+mkcol_reply path =
+    bare_reply 201 (if is_collection path then field (codes "content-location") (url_text (prefixed path)) ∷ [] else [])
+
+-- the collection is made where its call was granted; else all stays
+pub record MkcolLeaves (request : DavRequest) (records : List Logged) (old new : Contents) : Type 0 where
+  pub made : WasGranted CreateDir request.path.key records → IsMadeAt request.path.key old new
+  pub untouched : ¬ (WasGranted CreateDir request.path.key records) → new ≡ old
+
+pub record MkcolWork (request : DavRequest) (old : Contents) (records : List Logged) (answer : Answer) (new : Contents) : Type 0 where
+  pub answered : IsAnswered (mkcol_steps request old) (λ _ reply. reply ≡ mkcol_reply request.path) records answer
+  pub leaves : MkcolLeaves request records old new
+
+-- memory ran out before the one call of the work
+pub record MkcolCut (old : Contents) (records : List Logged) (new : Contents) : Type 0 where
+  pub none : records ≡ []
+  pub same : new ≡ old

@@ -1,0 +1,84 @@
+-- Steps of the engine, and runs of them.
+use Rattle.std.specs.Prelude.{◌≡◌, List, [], ◌∷◌, ◌++◌, Option, Err, ◌⊎◌}
+use Rattle.dav_resource.specs.Methods.{method_of}
+use Rattle.dav_resource.specs.declared.meta.Meta.{Meta}
+use Rattle.dav_resource.specs.declared.method.DavMethod.{DavMethod}
+use Rattle.dav_resource.specs.declared.error.DavError.{DavError}
+use Rattle.dav_resource.specs.declared.error.DavError.TheVariants.{Memory}
+use Rattle.dav_resource.specs.declared.request.DavRequest.{DavRequest}
+use Rattle.dav_store.specs.Logged.{Logged}
+use Rattle.dav_store.specs.Store.{Contents, Store}
+use Rattle.dav_engine.specs.Reply.{Answer}
+use Rattle.dav_engine.specs.Dialogue.{Dialogue, Refuses, Passed, LeadsTo}
+use Rattle.dav_engine.specs.Methods.{rules_of, Work, WorkCut}
+
+-- a request served as this method, from old to new, over these records
+module _ (method : Option DavMethod) (request : DavRequest) (old : Contents) (records : List Logged) (answer : Answer) (new : Contents) where
+  -- a rule refuses: no call follows, and nothing changes
+  pub record IsRefused : Type 0 where
+    pub error : DavError
+    pub head : LeadsTo (rules_of method request old) records (Refuses error)
+    pub told : answer ≡ Err error
+    pub same : new ≡ old
+
+  -- all rules are passed, and the rest is the work
+  pub record IsDone : Type 0 where
+    pub head : List Logged
+    pub rest : List Logged
+    pub cut : records ≡ head ++ rest
+    pub found : Option Meta
+    pub passed : LeadsTo (rules_of method request old) head (Passed found)
+    pub work : Work method request found old rest answer new
+
+  -- memory ran out among the rules: the records are their first calls, and nothing changed
+  pub record IsCutShort : Type 0 where
+    pub left : Dialogue (Option Meta)
+    pub head : LeadsTo (rules_of method request old) records left
+    pub told : answer ≡ Err Memory
+    pub same : new ≡ old
+
+  -- memory ran out in the work, all rules passed
+  pub record IsCutInWork : Type 0 where
+    pub head : List Logged
+    pub rest : List Logged
+    pub cut : records ≡ head ++ rest
+    pub found : Option Meta
+    pub passed : LeadsTo (rules_of method request old) head (Passed found)
+    pub told : answer ≡ Err Memory
+    pub work : WorkCut method request old rest new
+
+  -- from old, the engine may give this answer over these records, and go on to new
+  pub data Step : Type 0 where
+    Refused : IsRefused → Step
+    Done : IsDone → Step
+    CutShort : IsCutShort → Step
+    CutInWork : IsCutInWork → Step
+
+-- a step whose records are what the log gained
+pub record Serves (method : Option DavMethod) (old : Store) (request : DavRequest) (answer : Answer) (new : Store) : Type 0 where
+  pub records : List Logged
+  pub told : new.log ≡ old.log ++ records
+  pub fixed : new.keeps_properties ≡ old.keeps_properties
+  pub step : Step method request old.contents records answer new.contents
+
+-- the work of a request whose rules are passed, and what the log gained
+pub record Works (method : Option DavMethod) (request : DavRequest) (found : Option Meta) (old : Store) (answer : Answer) (new : Store) : Type 0 where
+  pub records : List Logged
+  pub told : new.log ≡ old.log ++ records
+  pub fixed : new.keeps_properties ≡ old.keeps_properties
+  pub done : Work method request found old.contents records answer new.contents ⊎ ((answer ≡ Err Memory) × WorkCut method request old.contents records new.contents)
+
+-- one step after another, each as the request's own method, over its part of the records
+abbrev pub Run : Contents → List DavRequest → List Logged → List Answer → Contents → Type 0
+Run old [] records [] new = (records ≡ []) × (new ≡ old)
+Run old (request ∷ requests) records (answer ∷ answers) new =
+    (part rest : List Logged) × (mid : Contents) × (records ≡ part ++ rest) × Step (method_of request.method) request old part answer mid × Run mid requests rest answers new
+Run old [] records (answer ∷ answers) new = ⊥
+Run old (request ∷ requests) records [] new = ⊥
+
+-- a run whose records are what the log gained
+pub record Runs (old : Store) (requests : List DavRequest) (answers : List Answer) (new : Store) : Type 0 where
+  pub records : List Logged
+  pub told : new.log ≡ old.log ++ records
+  pub fixed : new.keeps_properties ≡ old.keeps_properties
+  pub run : Run old.contents requests records answers new.contents

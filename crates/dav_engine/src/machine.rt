@@ -1,0 +1,43 @@
+//! A request to its method, and requests one after another.
+ghost use Rattle.std.specs.Prelude.{◌≡◌, Err, map, IfOk, OnErr};
+ghost use Rattle.dav_resource.specs.Methods.{method_of};
+ghost use Rattle.dav_engine.specs.DavInner.{lent, loan};
+ghost use Rattle.dav_engine.specs.Reply.{answer_of};
+ghost use Rattle.dav_engine.specs.Step.{Serves, Runs};
+
+use crate::DavInner;
+use dav_resource::{Body, DavError, DavMethod, DavRequest, DavResult};
+use dav_store::GuardedFileSystem;
+use http::{Response, StatusCode};
+
+impl<'a, C: Drop, F: GuardedFileSystem<C>> DavInner<'a, C, F> {
+    /// Serves a request by its method. A method that isn't served is answered 501, and nothing is asked of
+    /// the store. The errors are those of the method's own call.
+    pub fn serve(&mut self, request: &DavRequest) -> DavResult<Response<Body>>
+        ensures same_store { loan self.new ≡ loan self.old }
+        ensures step { Serves (method_of request.entry.now.method) (F.seen (lent self.old)) request.entry.now (answer_of result) (F.seen (lent self.new)) }
+    {
+        let Some(method) = DavMethod::from_method(&request.method) else {
+            return Err(DavError::Status(StatusCode::NOT_IMPLEMENTED));
+        };
+        match method {
+            DavMethod::MkCol => self.handle_mkcol(request),
+            DavMethod::Put => self.handle_put(request),
+            _ => Err(DavError::Status(StatusCode::NOT_IMPLEMENTED)),
+        }
+    }
+
+    /// Serves the requests in order, and answers each. The room for the replies is taken first: the only
+    /// `Err` is `Memory`, and it has served nothing.
+    pub fn run(&mut self, requests: &[DavRequest]) -> DavResult<Vec<DavResult<Response<Body>>>>
+        ensures same_store { loan self.new ≡ loan self.old }
+        ensures run { IfOk result (λ replies. Runs (F.seen (lent self.old)) requests.now (map answer_of replies.items) (F.seen (lent self.new))) }
+        ensures memory { OnErr result ((result ≡ Err DavError.Memory) × (F.seen (lent self.new) ≡ F.seen (lent self.old))) }
+    {
+        let mut replies = Vec::with_capacity(*self.prefix.allocator(), requests.len())?;
+        for request in requests {
+            replies.push(self.serve(request)).unwrap();
+        }
+        Ok(replies)
+    }
+}

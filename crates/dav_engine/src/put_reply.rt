@@ -1,0 +1,124 @@
+//! The reply to a PUT.
+ghost use Rattle.std.specs.Prelude.{◌≡◌, ◌≤◌, List, ℕ, if◌then◌else◌, IfOk, IfErr, is_some, option_map};
+ghost use Rattle.std.specs.Option.{ForSome, option_and_then};
+ghost use Rattle.http_header.specs.FieldValue.{plain_value};
+ghost use Rattle.dav_resource.specs.declared.error.DavError.TheVariants.{Memory};
+ghost use Rattle.dav_store.specs.Store.{IsTagText};
+ghost use Rattle.dav_engine.specs.Reply.{reply_of};
+ghost use Rattle.dav_engine.specs.PutReply.{IsPutReply, HasPutHeaders, ShowsChange, last_shown, IsHttpDate, quoted as quoted_tag, shown_tag, shown_change, empty_length};
+
+use crate::reply_header::{add_header, value_of};
+use dav_resource::{Body, DavResult, Meta};
+use http::{Response, StatusCode};
+use http_header::{ACCEPT_RANGES, CONTENT_LENGTH, ETAG, HeaderMap, HeaderValue, LAST_MODIFIED};
+use httpdate::{HttpDate, fmt_http_date};
+use std::alloc::Global;
+
+/// The last moment that a reply shows: 9998-12-31T23:59:59Z, in seconds since 1970.
+const LAST_SHOWN: u64 = 253_370_764_799;
+
+/// The reply, by whether something was there and what is known of the file now. Only memory can be lacking.
+pub(crate) fn put_reply(
+    alloc: Global,
+    found: Option<Meta>,
+    meta: Option<Meta>,
+) -> DavResult<Response<Body>>
+    requires { ForSome meta (λ m. ForSome m.etag IsTagText) }
+    ensures ok { IfOk result (λ reply. IsPutReply found meta (reply_of reply)) }
+    ensures err { IfErr result (λ e. e ≡ Memory) }
+{
+    let headers = put_headers(alloc, &found, &meta)?;
+    let mut reply = Response::new(alloc, Body::Empty);
+    *reply.status_mut() = put_status(&found);
+    *reply.headers_mut() = headers;
+    Ok(reply)
+}
+
+/// 204 where something was there, else 201.
+fn put_status(found: &Option<Meta>) -> StatusCode
+    ensures { result ≡ (if is_some found.now then 204 else 201) }
+{
+    match found {
+        Some(_) => StatusCode::NO_CONTENT,
+        None => StatusCode::CREATED,
+    }
+}
+
+/// The header fields of the reply, in the order in which they are set.
+fn put_headers(
+    alloc: Global,
+    found: &Option<Meta>,
+    meta: &Option<Meta>,
+) -> DavResult<HeaderMap<HeaderValue>>
+    requires { ForSome meta.now (λ m. ForSome m.etag IsTagText) }
+    ensures ok { IfOk result (λ headers. HasPutHeaders found.now meta.now headers) }
+    ensures err { IfErr result (λ e. e ≡ Memory) }
+{
+    let mut headers = HeaderMap::new(alloc);
+    let ranges = HeaderValue::from_static("bytes");
+    add_header(&mut headers, ACCEPT_RANGES, Some(ranges))?;
+    add_header(&mut headers, CONTENT_LENGTH, length_value(found))?;
+    add_header(&mut headers, ETAG, tag_value(alloc, meta)?)?;
+    add_header(&mut headers, LAST_MODIFIED, change_value(alloc, meta)?)?;
+    Ok(headers)
+}
+
+/// The length of a body that isn't there, shown where the file is new.
+fn length_value(found: &Option<Meta>) -> Option<HeaderValue>
+    ensures { result ≡ empty_length found.now }
+{
+    match found {
+        Some(_) => None,
+        None => Some(HeaderValue::from_static("0")),
+    }
+}
+
+/// The entity tag, where one is known.
+fn tag_value(alloc: Global, meta: &Option<Meta>) -> DavResult<Option<HeaderValue>>
+    requires { ForSome meta.now (λ m. ForSome m.etag IsTagText) }
+    ensures ok { IfOk result (λ value. value ≡ option_map (λ tag. plain_value (quoted_tag tag)) (shown_tag meta.now)) }
+    ensures err { IfErr result (λ e. e ≡ Memory) }
+{
+    let Some(meta) = meta else {
+        return Ok(None);
+    };
+    match &meta.etag {
+        Some(tag) => Ok(Some(quoted(alloc, tag.as_str())?)),
+        None => Ok(None),
+    }
+}
+
+/// The moment of the last change, where it is known and can be shown.
+fn change_value(alloc: Global, meta: &Option<Meta>) -> DavResult<Option<HeaderValue>>
+    ensures ok { IfOk result (λ value. ShowsChange (option_and_then shown_change meta.now) value) }
+    ensures err { IfErr result (λ e. e ≡ Memory) }
+{
+    let Some(meta) = meta else {
+        return Ok(None);
+    };
+    match meta.modified {
+        Some(secs) if secs <= LAST_SHOWN => Ok(Some(http_date(alloc, secs)?)),
+        _ => Ok(None),
+    }
+}
+
+/// The strong entity tag of this text, as a header shows it.
+fn quoted(alloc: Global, tag: &str) -> DavResult<HeaderValue>
+    requires { IsTagText tag.now }
+    ensures ok { IfOk result (λ value. value ≡ plain_value (quoted_tag tag.now)) }
+    ensures err { IfErr result (λ e. e ≡ Memory) }
+{
+    let text = format!(in alloc; "\"{tag}\"")?;
+    value_of(text)
+}
+
+/// The HTTP date of this second (RFC 9110, section 5.6.7).
+fn http_date(alloc: Global, secs: u64) -> DavResult<HeaderValue>
+    requires { secs ≤ last_shown }
+    ensures ok { IfOk result (λ value. (date : List ℕ) × (IsHttpDate secs date × (value ≡ plain_value date))) }
+    ensures err { IfErr result (λ e. e ≡ Memory) }
+{
+    let date = HttpDate::from_unix_secs(secs).unwrap();
+    let text = fmt_http_date(alloc, date)?;
+    value_of(text)
+}

@@ -1,0 +1,35 @@
+//! The header fields of a reply, set one after the other.
+ghost use Rattle.std.specs.Prelude.{◌≡◌, ◌++◌, OnOk, IfOk, IfErr, string_bytes};
+ghost use Rattle.http_header.specs.FieldValue.{IsFieldValue, plain_value};
+ghost use Rattle.dav_resource.specs.declared.error.DavError.TheVariants.{Memory};
+ghost use Rattle.dav_engine.specs.ReplyHeader.{HasRoomFor, optional_field};
+
+use dav_resource::DavResult;
+use http_header::{HeaderMap, HeaderName, HeaderValue};
+
+/// Sets one more header field, the last, where there is a value for it; else the fields stay as they are.
+/// Only memory can be lacking.
+pub(crate) fn add_header(
+    headers: &mut HeaderMap<HeaderValue>,
+    name: HeaderName,
+    value: Option<HeaderValue>,
+) -> DavResult<()>
+    requires { HasRoomFor headers.old name }
+    ensures ok { OnOk result (headers.new ≡ headers.old ++ optional_field name value) }
+    ensures err { IfErr result (λ e. e ≡ Memory) }
+{
+    let Some(value) = value else {
+        return Ok(());
+    };
+    headers.insert(name, value)?;
+    Ok(())
+}
+
+/// The value of a header field that shows this text. Only memory can be lacking.
+pub(crate) fn value_of(text: String) -> DavResult<HeaderValue>
+    requires { IsFieldValue (string_bytes text) }
+    ensures ok { IfOk result (λ value. value ≡ plain_value (string_bytes text)) }
+    ensures err { IfErr result (λ e. e ≡ Memory) }
+{
+    Ok(HeaderValue::from_string(text)?)
+}
