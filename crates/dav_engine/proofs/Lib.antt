@@ -2,6 +2,7 @@ pub mod Dialogues
 pub mod FieldText
 pub mod Granting
 pub mod Headers
+pub mod HttpDate
 pub mod Making
 pub mod PutHeaders
 pub mod Putting

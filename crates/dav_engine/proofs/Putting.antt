@@ -22,8 +22,8 @@ use Rattle.dav_store.specs.Calls.{Call, record_of, error_of, IsLawful, Grants, D
 use Rattle.http.specs.declared.response.Response.{Response}
 use Rattle.dav_resource.specs.declared.request.Body.{Body}
 use Rattle.dav_engine.specs.Reply.{reply_of, answer_of}
-use Rattle.dav_engine.specs.PutReply.{IsPutReply}
-use Rattle.dav_engine.specs.Dialogue.{Dialogue, Asks, Refuses, Passed, needs, if_granted, LeadsTo, EndsIn, Judges, WasGranted}
+use Rattle.dav_engine.specs.PutReply.{put_reply}
+use Rattle.dav_engine.specs.Dialogue.{Dialogue, Asks, Refuses, Passed, GoesOn, needs, if_granted, LeadsTo, EndsIn, Judges, WasGranted}
 use Rattle.dav_engine.specs.Put.{body_bytes, new_bytes, put_body, body_verdict, put_options, put_open_error, on_file, put_write, look_by, put_steps, IsFileAt, PutLeaves, WritesBody, look_at_file}
 use Rattle.dav_engine.specs.Step.{Works}
 use Rattle.dav_engine.proofs.Granting.{not_granted, not_this_op, WasGranted-first, WasGranted-either}
@@ -105,7 +105,7 @@ module _ (request : DavRequest) where
     records = [];
     told = sym (append-nil store.log);
     fixed = refl;
-    done = inr (refl, record { left = put_steps request store.contents (store.contents.metas place); calls = refl; leaves = record { untouched = λ _. refl; emptied = λ g. absurd g; written = λ g. absurd g } });
+    done = inr (refl, record { left = put_steps request store.contents (store.contents.metas place); calls = refl; goes_on = tt; leaves = record { untouched = λ _. refl; emptied = λ g. absurd g; written = λ g. absurd g } });
   }
 
   -- the file isn't opened
@@ -131,18 +131,18 @@ module _ (request : DavRequest) where
       refused (outcomes.Refused d) cause lawful = let is : d ≡ e = cc in (refl, lawful, rw is refl)
 
   -- memory ran out on the way
-  pub works_cut : (found : Option Meta) (old now : Store) (left : Option Meta → Dialogue (Option Meta)) → Reached old now left → Works (Some Put) request found old (Err dav_errors.Memory) now
-  works_cut found old now left h = record {
+  pub works_cut : (found : Option Meta) (old now : Store) (left : Option Meta → Dialogue (Option Meta)) → ((meta : Option Meta) → GoesOn (left meta)) → Reached old now left → Works (Some Put) request found old (Err dav_errors.Memory) now
+  works_cut found old now left goes_on h = record {
     records = h.records;
     told = h.told;
     fixed = h.fixed;
-    done = inr (refl, record { left = left (now.contents.metas place); calls = h.calls (now.contents.metas place); leaves = h.leaves });
+    done = inr (refl, record { left = left (now.contents.metas place); calls = h.calls (now.contents.metas place); goes_on = goes_on (now.contents.metas place); leaves = h.leaves });
   }
 
   -- a call on the file isn't granted
   pub works_stopped : (found : Option Meta) (op : Op) (old mid now : Store) (next : Option Meta → Dialogue (Option Meta)) (e : FsError) → Reached old mid (λ meta. needs (on_file op place) from_fs (next meta))
       → ((e ≡ fs_errors.Memory) × (now ≡ mid)) ⊎ Declines (file_call op mid.contents place) e mid now → Works (Some Put) request found old (Err (from_fs e)) now
-  works_stopped found op old mid now next e h (inl m) = rw (m.0, m.1) (works_cut found old mid _ h)
+  works_stopped found op old mid now next e h (inl m) = rw (m.0, m.1) (works_cut found old mid _ (λ _. tt) h)
   works_stopped found op old mid now next e h (inr d) = record {
     records = h.records ++ record_of (file_call op mid.contents place) d.outcome ∷ [];
     told = rw (d.told, h.told, append_assoc);
@@ -265,6 +265,11 @@ module _ (request : DavRequest) where
   never call meta (r ∷ []) e h = absurd (let p : Refuses e ≡ Passed (if_granted r.outcome meta) = h.2 in cc)
   never call meta (r ∷ s ∷ records) e h = absurd h.2
 
+  goes : (call : Call) (meta : Option Meta) (records : List Logged) (left : Dialogue (Option Meta)) → LeadsTo (look_by call meta) records left → GoesOn left
+  goes call meta [] left h = subst (λ d. GoesOn d) (sym h) tt
+  goes call meta (r ∷ []) left h = subst (λ d. GoesOn d) (sym h.2) tt
+  goes call meta (r ∷ s ∷ records) left h = absurd h.2
+
   -- the last look had no memory
   pub works_unlooked : (found : Option Meta) (old mid now : Store) (e : DavError) → Reached old mid (look_by (on_file FileMetadata place)) → Judges (look_at_file mid.contents place) mid (Err e) now
       → Works (Some Put) request found old (Err e) now
@@ -283,13 +288,14 @@ module _ (request : DavRequest) where
               record {
                 left = m.1.0;
                 calls = rw j.same (LeadsTo-more _ _ _ h.records j.records (h.calls (mid.contents.metas place)) asked);
+                goes_on = goes _ _ j.records m.1.0 asked;
                 leaves = leaves_looked h.records j.records _ _ _ _ h.leaves j.same asked;
               },
             );
           })
 
   -- the reply is made, or there was no memory for it
-  pub works_replied : (found meta : Option Meta) (old now : Store) (result : Result (Response Body) DavError) → Looked old now meta → IfOk result (λ reply. IsPutReply found meta (reply_of reply)) → IfErr result (λ e. e ≡ dav_errors.Memory)
+  pub works_replied : (found meta : Option Meta) (old now : Store) (result : Result (Response Body) DavError) → Looked old now meta → IfOk result (λ reply. reply_of reply ≡ put_reply found meta) → IfErr result (λ e. e ≡ dav_errors.Memory)
       → Works (Some Put) request found old (answer_of result) now
   works_replied found meta old now (Ok reply) h is _ = record {
     records = h.records;
@@ -301,5 +307,5 @@ module _ (request : DavRequest) where
     records = h.records;
     told = h.told;
     fixed = h.fixed;
-    done = inr (refl, record { left = Passed meta; calls = h.calls; leaves = h.leaves });
+    done = inr (refl, record { left = Passed meta; calls = h.calls; goes_on = tt; leaves = h.leaves });
   })

@@ -13,19 +13,19 @@ use Rattle.dav_resource.specs.declared.request.DavRequest.{DavRequest}
 use Rattle.dav_store.specs.Store.{Store, Contents}
 use Rattle.dav_engine.specs.Reply.{Answer, answer_of}
 use Rattle.dav_engine.specs.Dialogue.{Dialogue, Refuses, EndsIn, Judges}
-use Rattle.dav_engine.specs.Methods.{rules_of, Work, WorkCut}
+use Rattle.dav_engine.specs.Methods.{IsServed, rules_of, Work, WorkCut}
 use Rattle.dav_engine.specs.Step.{Serves, Works, Step, Refused, Done, CutShort, CutInWork}
 
 module _ (method : Option DavMethod) (request : DavRequest) where
   -- the rules end it, by the exit of a `?`
-  pub serves_exit : (old new : Store) (e : DavError) (result : Result (Response Body) DavError) → IsErrAnd result (λ d. d ≡ e) → Judges (rules_of method request old.contents) old (Err e) new → Serves method old request (answer_of result) new
-  serves_exit old new e result told h =
+  pub serves_exit : IsServed method → (old new : Store) (e : DavError) (result : Result (Response Body) DavError) → IsErrAnd result (λ d. d ≡ e) → Judges (rules_of method request old.contents) old (Err e) new → Serves method old request (answer_of result) new
+  serves_exit served old new e result told h =
       let p = err_from_is_err_and result told in
       rw (p.1, p.2) (record { records = h.records; told = h.told; fixed = h.fixed; step = step h.ends })
     where
       step : EndsIn (rules_of method request old.contents) h.records (Err e) → Step method request old.contents h.records (Err e) new.contents
       step (inl refuses) = Refused (record { error = e; head = refuses; told = refl; same = h.same })
-      step (inr memory) = CutShort (record { left = memory.1.0; head = memory.1.1; told = rw memory.0; same = h.same })
+      step (inr memory) = CutShort (record { served = served; left = memory.1.0; head = memory.1.1; told = rw memory.0; same = h.same })
 
   -- the rules are passed, and the work follows
   pub serves_work : (found : Option Meta) (old mid new : Store) (answer : Answer) → Judges (rules_of method request old.contents) old (Ok found) mid → Works method request found mid answer new → Serves method old request answer new

@@ -19,6 +19,12 @@ pub data Dialogue (A : Type 0) : Type 0 where
   Refuses : DavError → Dialogue A
   Passed : A → Dialogue A
 
+-- the request isn't refused
+abbrev pub GoesOn : {A : Type 0} → Dialogue A → Type 0
+GoesOn (Asks call next) = Unit {0}
+GoesOn (Refuses e) = ⊥
+GoesOn (Passed a) = Unit {0}
+
 -- one dialogue, and then another
 infixl 10 ◌>>=◌
 unfoldable pub ◌>>=◌ : {A B : Type 0} → Dialogue A → (A → Dialogue B) → Dialogue B

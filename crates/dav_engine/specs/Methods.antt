@@ -12,6 +12,12 @@ use Rattle.dav_engine.specs.Dialogue.{Dialogue, Refuses}
 use Rattle.dav_engine.specs.Mkcol.{mkcol_rules, MkcolWork, MkcolCut}
 use Rattle.dav_engine.specs.Put.{put_rules, PutWork, PutCut}
 
+-- the methods that are served
+abbrev pub IsServed : Option DavMethod → Type 0
+IsServed (Some MkCol) = Unit {0}
+IsServed (Some Put) = Unit {0}
+IsServed _ = ⊥
+
 -- what is asked before anything is done, with what was found at the path; a method that isn't served is 501
 abbrev pub rules_of : Option DavMethod → DavRequest → Contents → Dialogue (Option Meta)
 rules_of (Some MkCol) request old = mkcol_rules request old

@@ -20,8 +20,8 @@ use Rattle.dav_store.specs.Logged.{Logged}
 use Rattle.dav_store.specs.Store.{Store, Contents, File}
 use Rattle.dav_store.specs.Calls.{Call, open_call, file_call, Writes}
 use Rattle.dav_engine.specs.Reply.{Answer}
-use Rattle.dav_engine.specs.PutReply.{IsPutReply}
-use Rattle.dav_engine.specs.Dialogue.{Dialogue, Asks, Refuses, Passed, needs, if_granted, look, ◌>>=◌, LeadsTo, IsAnswered, WasGranted}
+use Rattle.dav_engine.specs.PutReply.{put_reply}
+use Rattle.dav_engine.specs.Dialogue.{Dialogue, Asks, Refuses, Passed, GoesOn, needs, if_granted, look, ◌>>=◌, LeadsTo, IsAnswered, WasGranted}
 
 -- ---- the rules
 
@@ -104,13 +104,14 @@ pub record PutLeaves (request : DavRequest) (records : List Logged) (old new : C
   pub written : WasGranted WriteBytes request.path.key records → IsFileAt request.path.key (new_bytes request.body) old new
 
 pub record PutWork (request : DavRequest) (found : Option Meta) (old : Contents) (records : List Logged) (answer : Answer) (new : Contents) : Type 0 where
-  pub answered : IsAnswered (put_steps request old (new.metas request.path.key)) (IsPutReply found) records answer
+  pub answered : IsAnswered (put_steps request old (new.metas request.path.key)) (λ meta reply. reply ≡ put_reply found meta) records answer
   pub leaves : PutLeaves request records old new
 
--- memory ran out on the way: the records are the first calls of the work, and what they did stays
+-- memory ran out on the way, before any refusal: the records are the first calls of the work, and what they did stays
 pub record PutCut (request : DavRequest) (old : Contents) (records : List Logged) (new : Contents) : Type 0 where
   pub left : Dialogue (Option Meta)
   pub calls : LeadsTo (put_steps request old (new.metas request.path.key)) records left
+  pub goes_on : GoesOn left
   pub leaves : PutLeaves request records old new
 
 -- ---- the calls on the file, as the engine makes them

@@ -7,10 +7,10 @@ use Rattle.dav_resource.specs.declared.error.DavError.{DavError}
 use Rattle.dav_resource.specs.declared.error.DavError.TheVariants.{Memory}
 use Rattle.dav_resource.specs.declared.request.DavRequest.{DavRequest}
 use Rattle.dav_store.specs.Logged.{Logged}
-use Rattle.dav_store.specs.Store.{Contents, Store}
+use Rattle.dav_store.specs.Store.{Contents, Store, IsWellFormed}
 use Rattle.dav_engine.specs.Reply.{Answer}
 use Rattle.dav_engine.specs.Dialogue.{Dialogue, Refuses, Passed, LeadsTo}
-use Rattle.dav_engine.specs.Methods.{rules_of, Work, WorkCut}
+use Rattle.dav_engine.specs.Methods.{IsServed, rules_of, Work, WorkCut}
 
 -- a request served as this method, from old to new, over these records
 module _ (method : Option DavMethod) (request : DavRequest) (old : Contents) (records : List Logged) (answer : Answer) (new : Contents) where
@@ -30,8 +30,9 @@ module _ (method : Option DavMethod) (request : DavRequest) (old : Contents) (re
     pub passed : LeadsTo (rules_of method request old) head (Passed found)
     pub work : Work method request found old rest answer new
 
-  -- memory ran out among the rules: the records are their first calls, and nothing changed
+  -- memory ran out among the rules of a method that is served: the records are their first calls, and nothing changed
   pub record IsCutShort : Type 0 where
+    pub served : IsServed method
     pub left : Dialogue (Option Meta)
     pub head : LeadsTo (rules_of method request old) records left
     pub told : answer ≡ Err Memory
@@ -68,11 +69,11 @@ pub record Works (method : Option DavMethod) (request : DavRequest) (found : Opt
   pub fixed : new.keeps_properties ≡ old.keeps_properties
   pub done : Work method request found old.contents records answer new.contents ⊎ ((answer ≡ Err Memory) × WorkCut method request old.contents records new.contents)
 
--- one step after another, each as the request's own method, over its part of the records
+-- one step after another, each as the request's own method, over its part of the records, and to a state that a store may have
 abbrev pub Run : Contents → List DavRequest → List Logged → List Answer → Contents → Type 0
 Run old [] records [] new = (records ≡ []) × (new ≡ old)
 Run old (request ∷ requests) records (answer ∷ answers) new =
-    (part rest : List Logged) × (mid : Contents) × (records ≡ part ++ rest) × Step (method_of request.method) request old part answer mid × Run mid requests rest answers new
+    (part rest : List Logged) × (mid : Contents) × (records ≡ part ++ rest) × Step (method_of request.method) request old part answer mid × IsWellFormed mid × Run mid requests rest answers new
 Run old [] records (answer ∷ answers) new = ⊥
 Run old (request ∷ requests) records [] new = ⊥
 

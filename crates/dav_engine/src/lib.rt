@@ -1,6 +1,7 @@
 //! The engine: WebDAV requests over any store that keeps its contract.
 #![tactic(auto)]
 
+mod http_date;
 mod inner;
 mod machine;
 mod mkcol;

@@ -1,30 +1,30 @@
 //! The reply to a PUT.
-ghost use Rattle.std.specs.Prelude.{◌≡◌, ◌≤◌, List, ℕ, if◌then◌else◌, IfOk, IfErr, is_some, option_map};
+ghost use Rattle.std.specs.Prelude.{◌≡◌, if◌then◌else◌, IfOk, IfErr, is_some, option_map, string_bytes};
 ghost use Rattle.std.specs.Option.{ForSome, option_and_then};
 ghost use Rattle.http_header.specs.FieldValue.{plain_value};
 ghost use Rattle.dav_resource.specs.declared.error.DavError.TheVariants.{Memory};
 ghost use Rattle.dav_store.specs.Store.{IsTagText};
 ghost use Rattle.dav_engine.specs.Reply.{reply_of};
-ghost use Rattle.dav_engine.specs.PutReply.{IsPutReply, HasPutHeaders, ShowsChange, last_shown, IsHttpDate, quoted as quoted_tag, shown_tag, shown_change, empty_length};
+ghost use Rattle.dav_engine.specs.HttpDate.{http_date_text};
+ghost use Rattle.dav_engine.specs.PutReply.{put_reply as reply_to_put, put_headers as headers_of_put, quoted as quoted_tag, shown_tag, shown_change, empty_length};
 
-use crate::reply_header::{add_header, value_of};
+use crate::http_date::{LAST_SHOWN, http_date};
+use crate::reply_header::{add_header, header_value};
 use dav_resource::{Body, DavResult, Meta};
 use http::{Response, StatusCode};
 use http_header::{ACCEPT_RANGES, CONTENT_LENGTH, ETAG, HeaderMap, HeaderValue, LAST_MODIFIED};
-use httpdate::{HttpDate, fmt_http_date};
-use std::alloc::Global;
+use std::alloc::{AllocError, Global};
 
-/// The last moment that a reply shows: 9998-12-31T23:59:59Z, in seconds since 1970.
-const LAST_SHOWN: u64 = 253_370_764_799;
-
-/// The reply, by whether something was there and what is known of the file now. Only memory can be lacking.
+/// The reply, by whether something was there and what is known of the file now (RFC 9110, section 9.3.4):
+/// 204 or 201, with `Accept-Ranges`, `Content-Length` where the file is new, `ETag` and `Last-Modified`
+/// (sections 8.8.2 and 8.8.3). The only error is `Memory`, where memory is lacking.
 pub(crate) fn put_reply(
     alloc: Global,
     found: Option<Meta>,
     meta: Option<Meta>,
 ) -> DavResult<Response<Body>>
     requires { ForSome meta (λ m. ForSome m.etag IsTagText) }
-    ensures ok { IfOk result (λ reply. IsPutReply found meta (reply_of reply)) }
+    ensures ok { IfOk result (λ reply. reply_of reply ≡ reply_to_put found meta) }
     ensures err { IfErr result (λ e. e ≡ Memory) }
 {
     let headers = put_headers(alloc, &found, &meta)?;
@@ -51,7 +51,7 @@ fn put_headers(
     meta: &Option<Meta>,
 ) -> DavResult<HeaderMap<HeaderValue>>
     requires { ForSome meta.now (λ m. ForSome m.etag IsTagText) }
-    ensures ok { IfOk result (λ headers. HasPutHeaders found.now meta.now headers) }
+    ensures ok { IfOk result (λ headers. headers ≡ headers_of_put found.now meta.now) }
     ensures err { IfErr result (λ e. e ≡ Memory) }
 {
     let mut headers = HeaderMap::new(alloc);
@@ -90,14 +90,15 @@ fn tag_value(alloc: Global, meta: &Option<Meta>) -> DavResult<Option<HeaderValue
 
 /// The moment of the last change, where it is known and can be shown.
 fn change_value(alloc: Global, meta: &Option<Meta>) -> DavResult<Option<HeaderValue>>
-    ensures ok { IfOk result (λ value. ShowsChange (option_and_then shown_change meta.now) value) }
+    ensures ok { IfOk result (λ value. value ≡ option_map (λ secs. plain_value (http_date_text secs)) (option_and_then shown_change meta.now)) }
     ensures err { IfErr result (λ e. e ≡ Memory) }
 {
     let Some(meta) = meta else {
         return Ok(None);
     };
-    match meta.modified {
-        Some(secs) if secs <= LAST_SHOWN => Ok(Some(http_date(alloc, secs)?)),
+    let changed = meta.modified;
+    match changed {
+        Some(secs) if secs <= LAST_SHOWN => Ok(Some(header_value(http_date(alloc, secs)?)?)),
         _ => Ok(None),
     }
 }
@@ -108,17 +109,13 @@ fn quoted(alloc: Global, tag: &str) -> DavResult<HeaderValue>
     ensures ok { IfOk result (λ value. value ≡ plain_value (quoted_tag tag.now)) }
     ensures err { IfErr result (λ e. e ≡ Memory) }
 {
-    let text = format!(in alloc; "\"{tag}\"")?;
-    value_of(text)
+    let text = in_quotes(alloc, tag)?;
+    header_value(text)
 }
 
-/// The HTTP date of this second (RFC 9110, section 5.6.7).
-fn http_date(alloc: Global, secs: u64) -> DavResult<HeaderValue>
-    requires { secs ≤ last_shown }
-    ensures ok { IfOk result (λ value. (date : List ℕ) × (IsHttpDate secs date × (value ≡ plain_value date))) }
-    ensures err { IfErr result (λ e. e ≡ Memory) }
+/// The text in quotes.
+fn in_quotes(alloc: Global, text: &str) -> Result<String, AllocError>
+    ensures { IfOk result (λ quoted. string_bytes quoted ≡ quoted_tag text.now) }
 {
-    let date = HttpDate::from_unix_secs(secs).unwrap();
-    let text = fmt_http_date(alloc, date)?;
-    value_of(text)
+    format!(in alloc; "\"{text}\"")
 }

@@ -8,7 +8,7 @@ use dav_resource::DavResult;
 use http_header::{HeaderMap, HeaderName, HeaderValue};
 
 /// Sets one more header field, the last, where there is a value for it; else the fields stay as they are.
-/// Only memory can be lacking.
+/// The only error is `Memory`, where memory is lacking.
 pub(crate) fn add_header(
     headers: &mut HeaderMap<HeaderValue>,
     name: HeaderName,
@@ -25,8 +25,8 @@ pub(crate) fn add_header(
     Ok(())
 }
 
-/// The value of a header field that shows this text. Only memory can be lacking.
-pub(crate) fn value_of(text: String) -> DavResult<HeaderValue>
+/// The value of a header field that shows this text. The only error is `Memory`, where memory is lacking.
+pub(crate) fn header_value(text: String) -> DavResult<HeaderValue>
     requires { IsFieldValue (string_bytes text) }
     ensures ok { IfOk result (λ value. value ≡ plain_value (string_bytes text)) }
     ensures err { IfErr result (λ e. e ≡ Memory) }

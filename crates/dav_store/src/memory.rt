@@ -395,3 +395,6 @@ fn file_index(entries: &[Entry], key: &[String]) -> FsResult<usize>
         _ => Err(FsError::NotFound),
     }
 }
+
+#[cfg(test)]
+mod tests;

@@ -1,0 +1,18 @@
+use Rattle.std.proofs.lemmas.Result.{IfOk-weaker}
+use Rattle.dav_engine.proofs.FieldText.{IsFieldValue-date_text}
+use Rattle.dav_engine.proofs.HttpDate.{http_date_text_is}
+use Rattle.dav_engine.proofs.http_date.http_date.Goals as goal
+
+pub returns-clause-dated : goal.returns-clause-dated
+returns-clause-dated c =
+    let second = rw c.unwrap-date.ensures at c.from_unix_secs.ensures.value in
+    IfOk-weaker c.fmt_http_date.result _ _ (λ text shown. (c.unwrap-date.result, second, shown)) c.fmt_http_date.ensures
+
+pub returns-clause-exact : goal.returns-clause-exact
+returns-clause-exact c =
+    let second = rw c.unwrap-date.ensures at c.from_unix_secs.ensures.value in
+    IfOk-weaker c.fmt_http_date.result _ _ (λ text shown. http_date_text_is c.args.secs _ (c.unwrap-date.result, second, shown)) c.fmt_http_date.ensures
+
+pub returns-clause-field : goal.returns-clause-field
+returns-clause-field c =
+    IfOk-weaker c.fmt_http_date.result _ _ (λ text shown. rw shown (IsFieldValue-date_text c.unwrap-date.result)) c.fmt_http_date.ensures

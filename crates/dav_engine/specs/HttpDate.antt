@@ -1,0 +1,53 @@
+-- The date that a header field shows for a second since 1970 (RFC 9110, section 5.6.7), in the Gregorian calendar.
+use Rattle.std.specs.Prelude.{◌≡◌, ℕ, zero, suc, ◌+◌, ◌-◌, ◌/◌, ◌%◌, nat_le, if◌then◌else◌, List}
+use Rattle.httpdate.specs.declared.parts.Parts.{Parts}
+use Rattle.httpdate.specs.declared.date.HttpDate.{HttpDate}
+use Rattle.httpdate.specs.Calendar.{days_of_years, days_of_months, weekday}
+use Rattle.httpdate.specs.Date.{unix_secs, date_text}
+use Rattle.httpdate.specs.Text.{imf_fixdate}
+
+-- the last moment that a reply shows: 9998-12-31T23:59:59Z
+abbrev pub last_shown : ℕ
+last_shown = 253370764799
+
+-- the text is the date of this second
+abbrev pub IsHttpDate : ℕ → List ℕ → Type 0
+IsHttpDate secs text = (date : HttpDate) × (unix_secs date ≡ secs) × (text ≡ date_text date)
+
+-- ---- the same as a function
+
+-- how many of the first n periods have ended by the day x, where the first k last `lengths k` days together
+unfoldable pub ended : (ℕ → ℕ) → ℕ → ℕ → ℕ
+ended lengths zero x = 0
+ended lengths (suc n) x = ended lengths n x + (if nat_le (lengths (suc n)) x then 1 else 0)
+
+-- of the years from 1970 to 9999, how many have ended by this day since 1970
+abbrev pub ended_years : ℕ → ℕ
+ended_years day = ended days_of_years 8030 day
+
+-- of the twelve months of the year, how many have ended by this day of it, where its first is 0
+abbrev pub ended_months : ℕ → ℕ → ℕ
+ended_months year day = ended (days_of_months year) 12 day
+
+-- the numbers of a date, from the year and the day of it, where its first is 0, and the second
+abbrev pub parts_from : ℕ → ℕ → ℕ → Parts
+parts_from year day secs =
+    record {
+      year = year;
+      mon = 1 + ended_months year day;
+      day = 1 + (day - days_of_months year (ended_months year day));
+      hour = secs % 86400 / 3600;
+      min = secs % 3600 / 60;
+      sec = secs % 60;
+      wday = weekday (secs / 86400);
+    }
+
+-- the numbers of the date of a second since 1970
+abbrev pub parts_of : ℕ → Parts
+parts_of secs =
+    let years = ended_years (secs / 86400) in
+    parts_from (1970 + years) (secs / 86400 - days_of_years years) secs
+
+-- the date of a second, as `Sun, 06 Nov 1994 08:49:37 GMT`
+unfoldable pub http_date_text : ℕ → List ℕ
+http_date_text secs = imf_fixdate (parts_of secs)

@@ -1,0 +1,105 @@
+use super::*;
+use std::test::Fail;
+
+fn path(alloc: Global, text: &str) -> FsResult<DavPath> {
+    DavPath::from_str_and_prefix(alloc, text, "").map_err(|_| FsError::Memory)
+}
+
+fn options(create: bool, create_new: bool, truncate: bool) -> OpenOptions {
+    OpenOptions {
+        write: true,
+        create,
+        create_new,
+        truncate,
+        append: false,
+        size: None,
+        checksum: None,
+    }
+}
+
+fn etag<F: GuardedFileSystem<()>>(fs: &mut F, path: &DavPath) -> FsResult<String> {
+    match fs.metadata(path, &())?.etag {
+        Some(tag) => Ok(tag.into_string()),
+        None => Err(FsError::GeneralFailure),
+    }
+}
+
+/// A directory with a file of three bytes behind a gap of two.
+fn fill<F: GuardedFileSystem<()>>(alloc: Global, fs: &mut F) -> FsResult<()> {
+    fs.create_dir(&path(alloc, "/d")?, &())?;
+    let mut file = fs.open(&path(alloc, "/d/f")?, &options(true, false, false), &())?;
+    file.pos = 2;
+    fs.write_bytes(&mut file, b"abc", &())?;
+    fs.flush(&file, &())
+}
+
+#[test]
+fn keeps_what_is_made(rt: HostRuntime) -> Result<(), Fail> {
+    let alloc = rt.alloc();
+    let mut fs = MemFs::new(alloc)?;
+    fs.set_now(7);
+    fill(alloc, &mut fs)?;
+    assert_eq!(rt; etag(&mut fs, &path(alloc, "/")?)?.as_str(), "0");
+    assert_eq!(rt; etag(&mut fs, &path(alloc, "/d")?)?.as_str(), "1");
+    assert_eq!(rt; etag(&mut fs, &path(alloc, "/d/f")?)?.as_str(), "3");
+    let records = GuardedFileSystem::<()>::records(&fs);
+    assert_eq!(rt; records.len(), 7);
+    assert_eq!(rt; records[3].op, Op::Flush);
+    assert_eq!(rt; records[3].outcome, Outcome::Granted);
+    GuardedFileSystem::<()>::clear_log(&mut fs);
+    assert_eq!(rt; GuardedFileSystem::<()>::records(&fs).len(), 0);
+    assert!(rt; !GuardedFileSystem::<()>::have_props(&fs));
+    Ok(())
+}
+
+#[test]
+fn bars_by_the_table(rt: HostRuntime) -> Result<(), Fail> {
+    let alloc = rt.alloc();
+    let mut fs = MemFs::new(alloc)?;
+    fill(alloc, &mut fs)?;
+    let file = path(alloc, "/d/f")?;
+    assert_eq!(rt;
+        fs.create_dir(&path(alloc, "/d/f/x")?, &()).err(),
+        Some(FsError::NotFound)
+    );
+    assert_eq!(rt; fs.create_dir(&file, &()).err(), Some(FsError::Exists));
+    assert_eq!(rt;
+        fs.open(&file, &options(true, true, false), &()).err(),
+        Some(FsError::Exists)
+    );
+    let root = path(alloc, "/")?;
+    assert_eq!(rt;
+        fs.open(&root, &options(true, false, true), &()).err(),
+        Some(FsError::Forbidden)
+    );
+    let missing = path(alloc, "/x")?;
+    assert_eq!(rt;
+        fs.open(&missing, &options(false, false, false), &()).err(),
+        Some(FsError::NotFound)
+    );
+    let records = GuardedFileSystem::<()>::records(&fs);
+    assert_eq!(rt; records.len(), 9);
+    assert_eq!(rt; records[5].outcome, Outcome::Barred(FsError::Exists));
+    Ok(())
+}
+
+#[test]
+fn dumps_all(rt: HostRuntime) -> Result<(), Fail> {
+    let alloc = rt.alloc();
+    let mut fs = MemFs::new(alloc)?;
+    fs.set_now(7);
+    fill(alloc, &mut fs)?;
+    let file = fs.open(&path(alloc, "/d/f")?, &options(false, false, false), &())?;
+    let meta = fs.file_metadata(&file, &())?;
+    assert_eq!(rt; meta.len, 5);
+    assert_eq!(rt; meta.modified, Some(7));
+    let dumped = fs.dump()?;
+    assert_eq!(rt; dumped.len(), 3);
+    assert_eq!(rt; dumped[1].0.as_url_string(alloc)?.as_str(), "/d/");
+    assert_eq!(rt; dumped[2].0.as_url_string(alloc)?.as_str(), "/d/f");
+    match &dumped[2].1 {
+        Some(bytes) => assert_eq!(rt; bytes.as_slice(), b"\0\0abc".as_slice()),
+        None => assert!(rt; false),
+    }
+    Ok(())
+}
