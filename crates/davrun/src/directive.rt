@@ -1,0 +1,116 @@
+//! The directives of a block: lines that begin with `=`.
+ghost use Rattle.std.specs.Prelude.{◌≡◌, ◌⊎◌, ◌<◌, if◌then◌else◌, Some, None, IfOk, IfErr, IfSome, length, option_map};
+ghost use Rattle.std.specs.List.{list_all};
+ghost use Rattle.std.specs.Char.{is_ascii_digit, is_ascii_hexdigit, digit_value};
+ghost use Rattle.std.specs.Str.Parse.{digits_value};
+ghost use Rattle.davrun.specs.Number.{is_number};
+ghost use Rattle.davrun.specs.Escape.{first_byte as first_byte_of, escaped_byte as escaped_byte_of, hex_byte as hex_byte_of, StandsFor, IsFaulty};
+
+use crate::script::{Block, Fault, LineError};
+use dav_resource::{Items, ReqBody};
+use std::alloc::Global;
+
+/// Reads a directive into its block, from its line without the `=`: a name, and where a space follows, a value.
+/// Of one that is given twice, and of two bodies, the last counts.
+pub fn read(block: &mut Block, line: &str) -> Result<(), LineError> {
+    let (name, value) = line.split_once(' ').unwrap_or((line, ""));
+    match name {
+        "bytes" => {
+            let bytes = unescape(*block.path.allocator(), value.as_bytes())?;
+            block.body = ReqBody::Bytes(Items::from_vec(bytes));
+        }
+        "malformed" if value.is_empty() => block.body = ReqBody::Malformed,
+        "malformed" => return Err(Fault::BadValue.into()),
+        "now" => match read_number(value) {
+            Some(now) => block.now = Some(now),
+            None => return Err(Fault::BadValue.into()),
+        },
+        _ => return Err(Fault::UnknownDirective.into()),
+    }
+    Ok(())
+}
+
+/// The number that a text of one or more decimal digits spells, where it fits.
+fn read_number(text: &str) -> Option<u64>
+    ensures { result ≡ (if is_number text.now then Some (digits_value 10 text.now) else None) }
+{
+    if !has_digits_alone(text.as_bytes()) {
+        return None;
+    }
+    text.parse().ok()
+}
+
+/// Whether the bytes are decimal digits, each of them.
+fn has_digits_alone(text: &[u8]) -> bool
+    ensures { result ≡ list_all is_ascii_digit text.now }
+{
+    text.iter().all(|byte| byte.is_ascii_digit())
+}
+
+/// The bytes that a text stands for, in which `\n` is a line feed, `\\` and `\"` are the second letter, and
+/// `\x` with two hexadecimal digits is that byte; no other letter may follow a `\`.
+fn unescape(alloc: Global, text: &[u8]) -> Result<Vec<u8>, LineError>
+    ensures ok { IfOk result (λ bytes. StandsFor text.now bytes.items) }
+    ensures err { IfErr result (λ e. (e ≡ LineError.Memory) ⊎ ((e ≡ LineError.Fault Fault.BadValue) × IsFaulty text.now)) }
+{
+    let mut bytes = Vec::new(alloc);
+    let mut rest = text;
+    while !rest.is_empty() {
+        let Some((byte, tail)) = first_byte(rest) else {
+            return Err(LineError::Fault(Fault::BadValue));
+        };
+        bytes.push(byte)?;
+        rest = tail;
+    }
+    Ok(bytes)
+}
+
+/// The first byte that a text stands for, and what follows its letters.
+fn first_byte(text: &[u8]) -> Option<(u8, &[u8])>
+    ensures byte { option_map (λ p. (p.0, p.1.now)) result ≡ first_byte_of text.now }
+    ensures shorter { IfSome result (λ p. length p.1.now < length text.now) }
+{
+    let (letter, rest) = text.split_first()?;
+    if *letter == b'\\' {
+        return escaped_byte(rest);
+    }
+    Some((*letter, rest))
+}
+
+/// The byte that the letters after a `\` stand for, and what follows them.
+fn escaped_byte(text: &[u8]) -> Option<(u8, &[u8])>
+    ensures byte { option_map (λ p. (p.0, p.1.now)) result ≡ escaped_byte_of text.now }
+    ensures shorter { IfSome result (λ p. length p.1.now < length text.now) }
+{
+    let (letter, rest) = text.split_first()?;
+    match *letter {
+        b'n' => Some((b'\n', rest)),
+        b'\\' | b'"' => Some((*letter, rest)),
+        b'x' => hex_byte(rest),
+        _ => None,
+    }
+}
+
+/// The byte that two hexadecimal digits stand for, and what follows them.
+fn hex_byte(text: &[u8]) -> Option<(u8, &[u8])>
+    ensures byte { option_map (λ p. (p.0, p.1.now)) result ≡ hex_byte_of text.now }
+    ensures shorter { IfSome result (λ p. length p.1.now < length text.now) }
+{
+    let (high, rest) = text.split_first()?;
+    let (low, rest) = rest.split_first()?;
+    let byte = 16 * hex_digit(*high)? + hex_digit(*low)?;
+    Some((byte, rest))
+}
+
+/// What a hexadecimal digit counts.
+fn hex_digit(digit: u8) -> Option<u8>
+    ensures value { result ≡ (if is_ascii_hexdigit digit then Some (digit_value digit) else None) }
+    ensures small { IfSome result (λ value. value < 16) }
+{
+    match digit {
+        b'0'..=b'9' => Some(digit - b'0'),
+        b'a'..=b'f' => Some(digit - b'a' + 10),
+        b'A'..=b'F' => Some(digit - b'A' + 10),
+        _ => None,
+    }
+}

@@ -1,0 +1,58 @@
+//! The outline of an element tree: a line for each element and each text, two spaces in for each level.
+use crate::quote::push_quoted;
+use dav_resource::{Element, XMLNode};
+use std::alloc::{AllocError, Global};
+
+/// The outline of a tree, each line with its line feed.
+pub fn outline(alloc: Global, tree: &Element) -> Result<String, AllocError> {
+    let mut lines = String::new(alloc);
+    push_element(tree, 0, &mut lines)?;
+    Ok(lines)
+}
+
+/// Adds the lines of an element at a level.
+fn push_element(element: &Element, level: usize, lines: &mut String) -> Result<(), AllocError> {
+    indent(lines, level)?;
+    push_tag(element, lines)?;
+    let below = level.saturating_add(1);
+    for child in &element.children {
+        match child {
+            XMLNode::Element(child) => push_element(child, below, lines)?,
+            XMLNode::Text(text) => {
+                indent(lines, below)?;
+                push_quoted(lines, text.as_str())?;
+                lines.push('\n')?;
+            }
+        }
+    }
+    Ok(())
+}
+
+/// Adds the spaces of a level.
+fn indent(lines: &mut String, level: usize) -> Result<(), AllocError> {
+    for _ in 0..level {
+        lines.push_str("  ")?;
+    }
+    Ok(())
+}
+
+/// Adds an element's own line: its name, its namespace and its attributes by their names.
+fn push_tag(element: &Element, lines: &mut String) -> Result<(), AllocError> {
+    if let Some(prefix) = &element.prefix {
+        lines.push_str(prefix.as_str())?;
+        lines.push(':')?;
+    }
+    lines.push_str(element.name.as_str())?;
+    if let Some(namespace) = &element.namespace {
+        lines.push_str(" {")?;
+        lines.push_str(namespace.as_str())?;
+        lines.push('}')?;
+    }
+    for (name, value) in element.attributes.iter() {
+        lines.push(' ')?;
+        lines.push_str(name.as_str())?;
+        lines.push('=')?;
+        push_quoted(lines, value.as_str())?;
+    }
+    lines.push('\n')
+}

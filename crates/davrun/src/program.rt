@@ -1,0 +1,160 @@
+//! The program: a script in, replies and what the store holds at the end out.
+ghost use Rattle.std.specs.Prelude.{◌≡◌, ◌⊎◌};
+
+use crate::print::{print_end, print_reply, print_request};
+use crate::script::{Block, read_script};
+use crate::trouble::{Stopped, Trouble, report};
+use dav_engine::DavInner;
+use dav_resource::{Body, DavError, DavPath, DavRequest, DavResult, Text};
+use dav_store::MemFs;
+use http::Response;
+use std::alloc::Global;
+use std::io::{Read, Write};
+
+/// Runs the program on its arguments without its name, and gives its status: 0 where the whole script was served,
+/// 2 where the arguments aren't one prefix or none or a line of the script is at fault, 3 where reading, writing
+/// or memory failed. With 2 nothing was served or printed, and with 0 nothing was said in `errors`.
+pub fn run_script<I: Read, O: Write, E: Write>(
+    alloc: Global,
+    arguments: &[String],
+    input: &mut I,
+    output: &mut O,
+    errors: &mut E,
+) -> u8
+    ensures status { (result ≡ 0) ⊎ (result ≡ 2) ⊎ (result ≡ 3) }
+    ensures served { result ≡ 0 → errors.new ≡ errors.old }
+    ensures refused { result ≡ 2 → output.new ≡ output.old }
+{
+    let (prefix, blocks) = match read_all(alloc, arguments, input) {
+        Ok(read) => read,
+        Err(trouble) => return report(errors, trouble),
+    };
+    match serve_all(alloc, prefix, blocks, output) {
+        Ok(()) => 0,
+        Err(stopped) => report(errors, Trouble::Stopped(stopped)),
+    }
+}
+
+/// The prefix, and then the whole script.
+fn read_all<'a, I: Read>(
+    alloc: Global,
+    arguments: &'a [String],
+    input: &mut I,
+) -> Result<(&'a str, Vec<Block>), Trouble> {
+    let prefix = match arguments {
+        [] => "",
+        [prefix] => prefix.as_str(),
+        _ => return Err(Trouble::Usage),
+    };
+    check_prefix(alloc, prefix)?;
+    let script = read_input(alloc, input)?;
+    Ok((prefix, read_script(alloc, script.as_slice())?))
+}
+
+/// Whether a prefix can be read: it is empty, or begins with `/` and has segments as a path has them.
+fn check_prefix(alloc: Global, prefix: &str) -> Result<(), Trouble> {
+    match DavPath::from_str_and_prefix(alloc, "/", prefix) {
+        // Of a prefix that can be read, the root is below it or not.
+        Ok(_) | Err(DavError::IllegalPath) => Ok(()),
+        Err(DavError::Memory) => Err(Stopped::Memory.into()),
+        Err(_) => Err(Trouble::Usage),
+    }
+}
+
+fn read_input<I: Read>(alloc: Global, input: &mut I) -> Result<Vec<u8>, Stopped> {
+    let mut script = Vec::new(alloc);
+    input.read_to_end(&mut script)?;
+    Ok(script)
+}
+
+/// Serves the blocks in order over one store, and prints the replies and then what the store holds.
+fn serve_all<O: Write>(
+    alloc: Global,
+    prefix: &str,
+    blocks: Vec<Block>,
+    output: &mut O,
+) -> Result<(), Stopped> {
+    let mut session = Session {
+        prefix,
+        store: MemFs::new(alloc)?,
+        blocks: 0,
+        now: 0,
+    };
+    for block in blocks {
+        session.serve(alloc, block, output)?;
+    }
+    print_end(alloc, output, &session.store)?;
+    Ok(output.flush()?)
+}
+
+/// What the blocks of a script share.
+#[derive(Drop)]
+struct Session<'a> {
+    prefix: &'a str,
+    store: MemFs,
+    /// How many blocks came before.
+    blocks: u64,
+    /// The moment, in whole seconds since 1970.
+    now: u64,
+}
+
+impl<'a> Session<'a> {
+    /// Serves one block, and prints its reply. A path that can't be read is answered by its status alone.
+    fn serve<O: Write>(
+        &mut self,
+        alloc: Global,
+        block: Block,
+        output: &mut O,
+    ) -> Result<(), Stopped> {
+        self.blocks = self.blocks.saturating_add(1);
+        self.set_now(block.now);
+        print_request(output, &block)?;
+        match DavPath::from_str_and_prefix(alloc, block.path.as_str(), self.prefix) {
+            Ok(path) => {
+                let request = self.request(alloc, path, block)?;
+                for reply in &self.run(alloc, request)? {
+                    print_reply(alloc, output, reply)?;
+                }
+                Ok(())
+            }
+            Err(DavError::Memory) => Err(Stopped::Memory),
+            Err(error) => print_reply(alloc, output, &Err(error)),
+        }
+    }
+
+    /// Sets the moment of this block and those after it, where the block has one.
+    fn set_now(&mut self, now: Option<u64>) {
+        if let Some(now) = now {
+            self.now = now;
+            self.store.set_now(now);
+        }
+    }
+
+    /// The request of a block.
+    fn request(&self, alloc: Global, path: DavPath, block: Block) -> Result<DavRequest, Stopped> {
+        let number = self.blocks;
+        Ok(DavRequest {
+            method: block.method,
+            path,
+            headers: block.headers,
+            body: block.body,
+            principal: None,
+            token: Text::from_string(format!(in alloc; "urn:lock:{number}")?),
+            now: self.now,
+        })
+    }
+
+    /// Lets the engine serve one request. Its reply may be want of memory; an `Err` is that of the engine itself.
+    fn run(
+        &mut self,
+        alloc: Global,
+        request: DavRequest,
+    ) -> Result<Vec<DavResult<Response<Body>>>, Stopped> {
+        let prefix = String::from_str(alloc, self.prefix)?;
+        let mut engine = DavInner::new(&mut self.store, prefix, ());
+        match engine.run(&[request]) {
+            Ok(replies) => Ok(replies),
+            Err(_) => Err(Stopped::Memory),
+        }
+    }
+}

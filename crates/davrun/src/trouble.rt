@@ -1,0 +1,99 @@
+//! Why the program ends without having served a script, and with which status.
+ghost use Rattle.std.specs.Prelude.{◌≡◌, ◌⊎◌};
+ghost use Rattle.davrun.specs.Status.{status_of};
+
+use crate::script::{Fault, ScriptError};
+use dav_resource::FsError;
+use std::alloc::{AllocError, AllocFailed};
+use std::fmt;
+use std::io::{self, Write};
+
+/// What may stop the program at any time.
+#[derive(Clone, Copy, Debug, PartialEq, Eq)]
+pub enum Stopped {
+    InputOutput,
+    Memory,
+}
+
+/// Why a script wasn't served.
+#[derive(Clone, Copy, Debug, PartialEq, Eq)]
+pub enum Trouble {
+    /// The arguments aren't one prefix or none.
+    Usage,
+    /// The number of the script's first line at fault, from 1, and its fault.
+    Fault(u64, Fault),
+    Stopped(Stopped),
+}
+
+/// Says on the standard error why the program ends, and gives its status: 2 for what the caller handed in, 3 for
+/// what stopped it, and 3 where it couldn't be said.
+pub fn report<E: Write>(errors: &mut E, trouble: Trouble) -> u8
+    ensures { (result ≡ 3) ⊎ (result ≡ status_of trouble) }
+{
+    if say(errors, trouble).is_err() {
+        return 3;
+    }
+    match trouble {
+        Trouble::Usage | Trouble::Fault(..) => 2,
+        Trouble::Stopped(_) => 3,
+    }
+}
+
+fn say<E: Write>(errors: &mut E, trouble: Trouble) -> io::Result<()> {
+    writeln!(errors, "{trouble}")?;
+    errors.flush()
+}
+
+impl fmt::Display for Trouble {
+    fn fmt<W: fmt::Write>(&self, f: &mut fmt::Formatter<W>) -> fmt::Result {
+        match self {
+            Trouble::Usage => f.write_str("usage: davrun [PREFIX]"),
+            Trouble::Fault(line, fault) => write!(f, "line {line}: {fault}"),
+            Trouble::Stopped(Stopped::InputOutput) => f.write_str("davrun: input or output failed"),
+            Trouble::Stopped(Stopped::Memory) => f.write_str("davrun: no memory"),
+        }
+    }
+}
+
+impl From<ScriptError> for Trouble {
+    fn from(error: ScriptError) -> Trouble {
+        match error {
+            ScriptError::Fault(line, fault) => Trouble::Fault(line, fault),
+            ScriptError::Memory => Trouble::Stopped(Stopped::Memory),
+        }
+    }
+}
+
+impl From<Stopped> for Trouble {
+    fn from(stopped: Stopped) -> Trouble {
+        Trouble::Stopped(stopped)
+    }
+}
+
+impl From<io::Error> for Stopped {
+    fn from(error: io::Error) -> Stopped {
+        match error.kind() {
+            io::ErrorKind::OutOfMemory => Stopped::Memory,
+            _ => Stopped::InputOutput,
+        }
+    }
+}
+
+impl From<AllocError> for Stopped {
+    fn from(_: AllocError) -> Stopped {
+        Stopped::Memory
+    }
+}
+
+impl<T: Drop> From<AllocFailed<T>> for Stopped {
+    fn from(_: AllocFailed<T>) -> Stopped {
+        Stopped::Memory
+    }
+}
+
+/// A new store, or what it holds, is refused for want of memory alone.
+impl From<FsError> for Stopped {
+    fn from(_: FsError) -> Stopped {
+        Stopped::Memory
+    }
+}
