@@ -1,10 +1,9 @@
 -- Which calls were granted.
-use Rattle.std.proofs.Common.{◌≡◌, ◌≢◌, List, [], ◌∷◌, ◌++◌, ◌⊎◌, inl, inr, ap}
+use Rattle.std.proofs.Common.{◌≢◌, List, [], ◌∷◌, ◌++◌, ◌⊎◌, inl, inr, ap}
 use Rattle.dav_resource.specs.Key.{Key}
 use Rattle.dav_resource.specs.declared.record.Op.{Op}
-use Rattle.dav_resource.specs.declared.record.Outcome.{Outcome}
 use Rattle.dav_resource.specs.declared.record.Outcome.TheVariants as outcomes
-use Rattle.dav_store.specs.Logged.{Logged, logged}
+use Rattle.dav_store.specs.Logged.{Logged}
 use Rattle.dav_engine.specs.Dialogue.{WasGranted}
 
 -- a call that isn't granted is no granted one

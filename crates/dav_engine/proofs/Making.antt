@@ -1,20 +1,16 @@
 -- The work of MKCOL.
-use Rattle.std.proofs.Common.{◌≡◌, [], ◌∷◌, Ok, Err, Some, None, Option, ◌⊎◌, inl, inr, refl, sym, append-nil}
+use Rattle.std.proofs.Common.{◌≡◌, [], ◌∷◌, Ok, Err, Some, Option, ◌⊎◌, inl, inr, refl, sym, append-nil}
 use Rattle.dav_resource.specs.declared.meta.Meta.{Meta}
 use Rattle.dav_resource.specs.declared.record.Outcome.{Outcome}
 use Rattle.dav_resource.specs.declared.record.Outcome.TheVariants as outcomes
-use Rattle.dav_resource.specs.declared.record.Op.{Op}
 use Rattle.dav_resource.specs.declared.error.FsError.{FsError}
 use Rattle.dav_resource.specs.declared.error.FsError.TheVariants as fs_errors
 use Rattle.dav_resource.specs.declared.error.DavError.TheVariants as dav_errors
 use Rattle.dav_resource.specs.declared.method.DavMethod.TheVariants.{MkCol}
 use Rattle.dav_resource.specs.declared.request.DavRequest.{DavRequest}
-use Rattle.dav_resource.specs.Key.{Key}
-use Rattle.dav_store.specs.Logged.{Logged, logged}
 use Rattle.dav_store.specs.Store.{Store, Contents}
-use Rattle.dav_store.specs.Calls.{Call, record_of, error_of, IsLawful, Grants, Declines, create_dir_call, IsMadeAt}
+use Rattle.dav_store.specs.Calls.{record_of, error_of, IsLawful, Grants, Declines, create_dir_call, IsMadeAt}
 use Rattle.dav_engine.specs.Reply.{Reply}
-use Rattle.dav_engine.specs.Dialogue.{WasGranted}
 use Rattle.dav_engine.specs.Mkcol.{mkcol_error, mkcol_reply, MkcolWork}
 use Rattle.dav_engine.specs.Step.{Works}
 use Rattle.dav_engine.proofs.Granting.{not_granted}

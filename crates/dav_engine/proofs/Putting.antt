@@ -16,15 +16,15 @@ use Rattle.dav_resource.specs.declared.error.DavError.TheVariants as dav_errors
 use Rattle.dav_resource.specs.declared.method.DavMethod.TheVariants.{Put}
 use Rattle.dav_resource.specs.declared.request.ReqBody.{ReqBody}
 use Rattle.dav_resource.specs.declared.request.DavRequest.{DavRequest}
-use Rattle.dav_store.specs.Logged.{Logged, logged}
-use Rattle.dav_store.specs.Store.{Store, Contents, Node, File, Tree}
-use Rattle.dav_store.specs.Calls.{Call, record_of, error_of, IsLawful, Grants, Declines, Answers, open_call, IsOpened, file_call, file_bar, written_at, bytes_at, Writes, Flushes, IsWritten}
+use Rattle.dav_store.specs.Logged.{Logged}
+use Rattle.dav_store.specs.Store.{Store, Contents, File}
+use Rattle.dav_store.specs.Calls.{Call, record_of, error_of, IsLawful, Grants, Declines, open_call, IsOpened, file_call, file_bar, written_at, bytes_at, Flushes, IsWritten}
 use Rattle.http.specs.declared.response.Response.{Response}
 use Rattle.dav_resource.specs.declared.request.Body.{Body}
 use Rattle.dav_engine.specs.Reply.{reply_of, answer_of}
 use Rattle.dav_engine.specs.PutReply.{put_reply}
-use Rattle.dav_engine.specs.Dialogue.{Dialogue, Asks, Refuses, Passed, GoesOn, needs, if_granted, LeadsTo, EndsIn, Judges, WasGranted}
-use Rattle.dav_engine.specs.Put.{body_bytes, new_bytes, put_body, body_verdict, put_options, put_open_error, on_file, put_write, look_by, put_steps, IsFileAt, PutLeaves, WritesBody, look_at_file}
+use Rattle.dav_engine.specs.Dialogue.{Dialogue, Refuses, Passed, GoesOn, needs, if_granted, LeadsTo, EndsIn, Judges, WasGranted}
+use Rattle.dav_engine.specs.Put.{body_bytes, new_bytes, put_body, body_verdict, put_options, put_open_error, on_file, put_write, look_by, put_steps, PutLeaves, WritesBody, look_at_file}
 use Rattle.dav_engine.specs.Step.{Works}
 use Rattle.dav_engine.proofs.Granting.{not_granted, not_this_op, WasGranted-first, WasGranted-either}
 use Rattle.dav_engine.proofs.Dialogues.{LeadsTo-more}

@@ -1,5 +1,5 @@
 -- Runs go on by one step.
-use Rattle.std.proofs.Common.{◌≡◌, ℕ, ◌+◌, ◌<◌, List, [], ◌∷◌, ◌++◌, length, take, get_or, map, refl, ap, ◌∙◌, append-nil, append_assoc, Result}
+use Rattle.std.proofs.Common.{◌≡◌, ℕ, ◌+◌, ◌<◌, List, [], ◌∷◌, ◌++◌, length, take, get_or, map, refl, append-nil, append_assoc, Result}
 use Rattle.std.proofs.lemmas.List.{take_more, map-append}
 use Rattle.http.specs.declared.response.Response.{Response}
 use Rattle.dav_resource.specs.Methods.{method_of}

@@ -1,5 +1,5 @@
 -- Requests as rules and work.
-use Rattle.std.proofs.Common.{◌≡◌, ◌++◌, [], Option, Some, None, Ok, Err, ◌⊎◌, inl, inr, refl, sym, subst, append_assoc, append-nil, Result}
+use Rattle.std.proofs.Common.{◌≡◌, ◌++◌, [], Option, Some, Ok, Err, ◌⊎◌, inl, inr, refl, sym, subst, append_assoc, append-nil, Result}
 use Rattle.std.specs.Result.{IsErrAnd}
 use Rattle.std.proofs.lemmas.Result.{err_from_is_err_and}
 use Rattle.http.specs.declared.response.Response.{Response}
@@ -12,7 +12,7 @@ use Rattle.dav_resource.specs.declared.request.Body.{Body}
 use Rattle.dav_resource.specs.declared.request.DavRequest.{DavRequest}
 use Rattle.dav_store.specs.Store.{Store, Contents}
 use Rattle.dav_engine.specs.Reply.{Answer, answer_of}
-use Rattle.dav_engine.specs.Dialogue.{Dialogue, Refuses, EndsIn, Judges}
+use Rattle.dav_engine.specs.Dialogue.{Refuses, EndsIn, Judges}
 use Rattle.dav_engine.specs.Methods.{IsServed, rules_of, Work, WorkCut}
 use Rattle.dav_engine.specs.Step.{Serves, Works, Step, Refused, Done, CutShort, CutInWork}
 

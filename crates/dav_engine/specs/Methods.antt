@@ -1,8 +1,8 @@
 -- Each method: its rules, its work, and what it leaves where memory runs out in the work.
-use Rattle.std.specs.Prelude.{◌≡◌, List, Option, Some, None}
+use Rattle.std.specs.Prelude.{List, Option, Some}
 use Rattle.dav_resource.specs.declared.meta.Meta.{Meta}
 use Rattle.dav_resource.specs.declared.method.DavMethod.{DavMethod}
-use Rattle.dav_resource.specs.declared.method.DavMethod.TheVariants.{Head, Get, Put, Patch, Options, PropFind, PropPatch, MkCol, Copy, Move, Delete, Lock, Unlock}
+use Rattle.dav_resource.specs.declared.method.DavMethod.TheVariants.{Put, MkCol}
 use Rattle.dav_resource.specs.declared.error.DavError.TheVariants.{Status}
 use Rattle.dav_resource.specs.declared.request.DavRequest.{DavRequest}
 use Rattle.dav_store.specs.Logged.{Logged}

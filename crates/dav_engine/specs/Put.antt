@@ -1,6 +1,6 @@
 -- PUT (RFC 9110, section 9.3.4; RFC 4918, section 9.7): the body becomes what the file holds.
-use Rattle.std.specs.Prelude.{◌≡◌, ℕ, ◌≤◌, nat_le, true, false, if◌then◌else◌, List, [], ◌∷◌, ◌++◌, codes, Option, Some, None, is_some, Result, Ok, Err}
-use Rattle.std.specs.Option.{option_map_or, option_and_then, ForSome}
+use Rattle.std.specs.Prelude.{◌≡◌, ℕ, true, false, if◌then◌else◌, List, [], ◌∷◌, Option, Some, None, is_some, Result, Ok, Err}
+use Rattle.std.specs.Option.{option_map_or}
 use Rattle.std.specs.FinMap.{insert}
 use Rattle.dav_resource.specs.Key.{Key}
 use Rattle.dav_resource.specs.Errors.{from_fs}
