@@ -1,4 +1,4 @@
--- The status that each error answers.
+-- The status that each error answers (RFC 9110, section 15; RFC 4918, section 11; RFC 5842, section 7), and the error that another one becomes: which is which is this project's own choice.
 use Rattle.std.specs.Prelude.{ℕ}
 use Rattle.dav_resource.specs.declared.error.FsError.{FsError}
 use Rattle.dav_resource.specs.declared.error.FsError.TheVariants as fs
@@ -9,6 +9,7 @@ use Rattle.http_header.specs.declared.value.HeaderValueError.TheVariants as valu
 use Rattle.dav_resource.specs.declared.error.DavError.{DavError}
 use Rattle.dav_resource.specs.declared.error.DavError.TheVariants as dav
 
+-- the status of a store's refusal
 abbrev pub fs_status : FsError → ℕ
 fs_status fs.NotImplemented = 501
 fs_status fs.GeneralFailure = 500
@@ -22,6 +23,7 @@ fs_status fs.TooLarge = 413
 fs_status fs.IsRemote = 502
 fs_status fs.Memory = 507
 
+-- the status of an error of the engine
 abbrev pub dav_status : DavError → ℕ
 dav_status (dav.Status status) = status
 dav_status (dav.StatusClose status) = status

@@ -10,26 +10,37 @@ use thiserror::Error;
 /// Why a store refused a call.
 #[derive(Clone, Copy, Debug, PartialEq, Eq, Error)]
 pub enum FsError {
+    /// The store doesn't offer it.
     #[error("not implemented")]
     NotImplemented,
+    /// The store failed.
     #[error("the store failed")]
     GeneralFailure,
+    /// Something is there that may not be.
     #[error("it exists already")]
     Exists,
+    /// Something isn't there that has to be.
     #[error("not found")]
     NotFound,
+    /// What is there doesn't allow the call, or the store doesn't.
     #[error("forbidden")]
     Forbidden,
+    /// The store has no room for more (RFC 4918, section 11.5).
     #[error("no room is left")]
     InsufficientStorage,
+    /// The store's links make a loop (RFC 5842, section 7.2).
     #[error("a loop was found")]
     LoopDetected,
+    /// The store keeps no path of this length.
     #[error("the path is too long")]
     PathTooLong,
+    /// The store keeps no file of this size.
     #[error("it is too large")]
     TooLarge,
+    /// Another server has the resource.
     #[error("it is on another server")]
     IsRemote,
+    /// Memory was lacking, and nothing happened.
     #[error("out of memory")]
     Memory,
 }
@@ -37,23 +48,31 @@ pub enum FsError {
 /// Why the engine refused a request.
 #[derive(Debug, Drop, Error)]
 pub enum DavError {
+    /// The request is answered by this status.
     #[error("status {0}")]
     Status(StatusCode),
-    /// A handler above is to close the connection.
+    /// The request is answered by this status, and a handler above is to close the connection.
     #[error("status {0}, and the connection closes")]
     StatusClose(StatusCode),
+    /// The store refused a call, for any cause but want of memory.
     #[error("{0}")]
     FsError(FsError),
+    /// The body is no tree that the method knows.
     #[error("the body is no tree that the method knows")]
     XmlParseError,
+    /// The path can't be read.
     #[error("the path cannot be read")]
     InvalidPath,
+    /// A `..` of the path leaves the root.
     #[error("the path leaves the root")]
     ForbiddenPath,
+    /// The path isn't below the server's prefix.
     #[error("the path is not below the prefix")]
     IllegalPath,
+    /// Nothing was there to be answered.
     #[error("nothing was answered")]
     ChanError,
+    /// Memory was lacking.
     #[error("out of memory")]
     Memory,
 }
@@ -84,6 +103,7 @@ impl FsError {
     }
 }
 
+/// Want of memory.
 impl From<AllocError> for FsError {
     ghost use Rattle.dav_resource.specs.declared.error.FsError.TheVariants.{Memory};
 
@@ -94,6 +114,7 @@ impl From<AllocError> for FsError {
     }
 }
 
+/// Want of memory.
 impl<T: Drop> From<AllocFailed<T>> for FsError {
     ghost use Rattle.dav_resource.specs.declared.error.FsError.TheVariants.{Memory};
 
@@ -128,6 +149,7 @@ impl DavError {
     }
 }
 
+/// The status as the answer; the connection stays open.
 impl From<StatusCode> for DavError {
     ghost use Rattle.dav_resource.specs.declared.error.DavError.TheVariants.{Status};
 
@@ -138,6 +160,7 @@ impl From<StatusCode> for DavError {
     }
 }
 
+/// Want of memory stays that; each other refusal is kept as it is.
 impl From<FsError> for DavError {
     ghost use Rattle.dav_resource.specs.Errors.{from_fs};
 
@@ -151,6 +174,7 @@ impl From<FsError> for DavError {
     }
 }
 
+/// Want of memory.
 impl From<AllocError> for DavError {
     ghost use Rattle.dav_resource.specs.declared.error.DavError.TheVariants.{Memory};
 
@@ -161,6 +185,7 @@ impl From<AllocError> for DavError {
     }
 }
 
+/// Want of memory.
 impl<T: Drop> From<AllocFailed<T>> for DavError {
     ghost use Rattle.dav_resource.specs.declared.error.DavError.TheVariants.{Memory};
 
@@ -171,6 +196,7 @@ impl<T: Drop> From<AllocFailed<T>> for DavError {
     }
 }
 
+/// A reply that takes no more headers is the server's own fault: status 500 (RFC 9110, section 15.6.1).
 impl From<HeaderMapError> for DavError {
     ghost use Rattle.dav_resource.specs.Errors.{from_map};
 
@@ -184,6 +210,7 @@ impl From<HeaderMapError> for DavError {
     }
 }
 
+/// A reply's text that is no header value is the server's own fault: status 500 (RFC 9110, section 15.6.1).
 impl From<HeaderValueError> for DavError {
     ghost use Rattle.dav_resource.specs.Errors.{from_value};
 
@@ -196,3 +223,6 @@ impl From<HeaderValueError> for DavError {
         }
     }
 }
+
+#[cfg(test)]
+mod tests;

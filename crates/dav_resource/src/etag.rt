@@ -61,3 +61,6 @@ pub struct IfRange {
     /// The one tag.
     pub tag: ETag,
 }
+
+#[cfg(test)]
+mod tests;

@@ -4,7 +4,8 @@ ghost use Rattle.dav_resource.specs.Methods.{method_of, contains_method, same_me
 
 use http::Method;
 
-/// A method that a WebDAV server serves (RFC 9110, section 9; RFC 5789; RFC 4918, section 9).
+/// A method that a WebDAV server serves (RFC 9110, section 9; RFC 5789; RFC 4918, section 9). Each
+/// variant is the method of its name.
 #[derive(Clone, Copy, Debug, PartialEq, Eq)]
 pub enum DavMethod {
     Head,
@@ -93,3 +94,6 @@ impl DavMethodSet {
         self.members[method as usize]
     }
 }
+
+#[cfg(test)]
+mod tests;

@@ -51,8 +51,8 @@ impl DavPath {
     /// The first fault from left to right is the error: `InvalidPath` where the text (or the
     /// prefix) doesn't begin with `/`, or a part has a `%` without two hexadecimal digits, or
     /// stands for bytes that are no UTF-8, or for NUL or `/`; `ForbiddenPath` where a `..`
-    /// leaves the root; then `IllegalPath` where the path is not below the prefix. `Memory`
-    /// may come at any time.
+    /// leaves the root. The faults of the text come before those of the prefix, and last comes
+    /// `IllegalPath`, where the path is not below the prefix. `Memory` may come at any time.
     pub fn from_str_and_prefix(alloc: Global, text: &str, prefix: &str) -> DavResult<DavPath>
         ensures { GivesBy (λ path. path) result (read_path text.now prefix.now) }
     {

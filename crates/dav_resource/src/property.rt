@@ -4,13 +4,16 @@ ghost use Rattle.std.specs.Prelude.{◌≡◌, IfOk};
 use crate::{Element, Text};
 use std::alloc::AllocError;
 
-/// A property: its name, with the prefix and the namespace where it has them, and the element that
-/// holds its value where that is known (RFC 4918, section 4.3).
+/// A property by its name, with its value where that is known (RFC 4918, sections 4.3 and 4.4).
 #[derive(Drop, Debug)]
 pub struct DavProp {
+    /// The local name (Namespaces in XML 1.0, section 4).
     pub name: Text,
+    /// The prefix that the name was written with, where it had one.
     pub prefix: Option<Text>,
+    /// The namespace that the name is of, where it has one.
     pub namespace: Option<Text>,
+    /// The element that holds the value, where it is known.
     pub element: Option<Element>,
 }
 

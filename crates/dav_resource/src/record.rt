@@ -5,7 +5,7 @@ use crate::{DavPath, FsError, Items};
 use http::StatusCode;
 use std::alloc::{AllocError, Global};
 
-/// Which call of a store a record is of.
+/// Which call of a store a record is of. Each variant but the two described is the call of its name.
 #[derive(Clone, Copy, Debug, PartialEq, Eq)]
 pub enum Op {
     Metadata,

@@ -6,8 +6,11 @@ use http_header::{HeaderMap, HeaderValue};
 /// How far below a resource a method reaches (RFC 4918, section 10.2).
 #[derive(Clone, Copy, Debug, PartialEq, Eq)]
 pub enum Depth {
+    /// The resource alone.
     Zero,
+    /// The resource and its members.
     One,
+    /// The resource and all that is below it.
     Infinity,
     /// No header: each method says what that means. It is never read from a header.
     Default,
@@ -16,7 +19,9 @@ pub enum Depth {
 /// The body of a request, as a handler above has read it.
 #[derive(Drop, Debug)]
 pub enum ReqBody {
+    /// No body.
     None,
+    /// Bytes, which no one has read.
     Bytes(Items<u8>),
     /// XML, as the tree of its root.
     Tree(Element),
@@ -27,16 +32,22 @@ pub enum ReqBody {
 /// What a reply carries.
 #[derive(Drop, Debug)]
 pub enum Body {
+    /// Nothing.
     Empty,
+    /// XML, as the tree of its root.
     Tree(Element),
 }
 
 /// A request, with all that the engine is told beside it.
 #[derive(Drop, Debug)]
 pub struct DavRequest {
+    /// The method.
     pub method: Method,
+    /// The path of the resource that the request is about.
     pub path: DavPath,
+    /// The headers.
     pub headers: HeaderMap<HeaderValue>,
+    /// The body.
     pub body: ReqBody,
     /// Who sends it, where that is known.
     pub principal: Option<Text>,

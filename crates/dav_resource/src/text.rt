@@ -80,7 +80,7 @@ impl<T> Items<T> {
     }
 
     /// The allocator that the items are kept by.
-    pub fn allocator(&self) -> Global {
+    pub(crate) fn allocator(&self) -> Global {
         *self.items.allocator()
     }
 

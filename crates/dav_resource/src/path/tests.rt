@@ -47,6 +47,35 @@ fn refuses(rt: HostRuntime) -> Result<(), Fail> {
 }
 
 #[test]
+fn slashes_dots_and_prefixes(rt: HostRuntime) -> Result<(), Fail> {
+    let rows = [
+        ("//a//b", "/", "/a/b"),
+        ("/a/.", "", "/a"),
+        ("/a/./", "", "/a/"),
+        ("/a/x/..", "", "/a"),
+        ("/a?x/", "", "/a"),
+        ("/a%2541", "", "/a%2541"),
+        ("/dav/x/", "/dav/", "/x/"),
+        ("/d%61v/x", "/dav/./y/..", "/x"),
+    ];
+    for (text, prefix, want) in rows {
+        let shown = shown(rt.alloc(), text, prefix)?;
+        assert_eq!(rt; shown.as_str(), want, "{text} below {prefix}");
+    }
+    Ok(())
+}
+
+#[test]
+fn refuses_prefixes(rt: HostRuntime) {
+    let alloc = rt.alloc();
+    let refused = |text: &str, prefix: &str| DavPath::from_str_and_prefix(alloc, text, prefix);
+    assert!(rt; matches!(refused("/x", "dav"), Err(DavError::InvalidPath)));
+    assert!(rt; matches!(refused("/x", "/.."), Err(DavError::ForbiddenPath)));
+    assert!(rt; matches!(refused("/%zz", "/.."), Err(DavError::InvalidPath)));
+    assert!(rt; matches!(refused("/davx", "/dav"), Err(DavError::IllegalPath)));
+}
+
+#[test]
 fn parts(rt: HostRuntime) -> Result<(), Fail> {
     let file = DavPath::from_str_and_prefix(rt.alloc(), "/dav/a/b.txt", "/dav")?;
     assert_eq!(rt; file.file_name_bytes(), b"b.txt".as_slice());

@@ -95,11 +95,11 @@ fn dumps_all(rt: HostRuntime) -> Result<(), Fail> {
     assert_eq!(rt; meta.modified, Some(7));
     let dumped = fs.dump()?;
     assert_eq!(rt; dumped.len(), 3);
-    assert_eq!(rt; dumped[1].0.as_url_string(alloc)?.as_str(), "/d/");
-    assert_eq!(rt; dumped[2].0.as_url_string(alloc)?.as_str(), "/d/f");
+    assert_eq!(rt; dumped[1].0.as_url_string()?.as_str(), "/d/");
+    assert_eq!(rt; dumped[2].0.as_url_string()?.as_str(), "/d/f");
     match &dumped[2].1 {
         Some(bytes) => assert_eq!(rt; bytes.as_slice(), b"\0\0abc".as_slice()),
-        None => assert!(rt; false),
+        None => panic!(rt; "a directory"),
     }
     Ok(())
 }
