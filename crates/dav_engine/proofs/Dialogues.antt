@@ -1,11 +1,15 @@
 -- One dialogue, and then another.
-use Rattle.std.proofs.Common.{◌≡◌, List, [], ◌∷◌, ◌++◌, Result, Ok, Err, inl, inr, refl, sym, subst, append-nil, append_assoc}
+use Rattle.std.proofs.Common.{◌≡◌, List, [], ◌∷◌, ◌++◌, Result, Ok, Err, inl, inr, refl, sym, subst, append-nil, append_assoc, ◌≢◌, Some}
 use Rattle.std.specs.Result.{IsErrAnd}
 use Rattle.std.proofs.lemmas.Result.{err_from_is_err_and}
 use Rattle.dav_resource.specs.declared.error.DavError.{DavError}
+use Rattle.dav_resource.specs.declared.error.FsError.{FsError}
+use Rattle.dav_resource.specs.declared.record.Outcome.{Outcome}
+use Rattle.dav_resource.specs.declared.record.Outcome.TheVariants as outcomes
+use Rattle.dav_store.specs.Calls.{Call, record_of, error_of, IsLawful}
 use Rattle.dav_store.specs.Logged.{Logged}
 use Rattle.dav_store.specs.Store.{Store}
-use Rattle.dav_engine.specs.Dialogue.{Dialogue, Asks, Refuses, Passed, ◌>>=◌, LeadsTo, EndsIn, Judges}
+use Rattle.dav_engine.specs.Dialogue.{Dialogue, Asks, Refuses, Passed, needs, ◌>>=◌, LeadsTo, EndsIn, Judges}
 
 -- more records go on from what is left
 pub LeadsTo-more : {A : Type 0} (dialogue mid left : Dialogue A) (records more : List Logged) → LeadsTo dialogue records mid → LeadsTo mid more left → LeadsTo dialogue (records ++ more) left
@@ -57,3 +61,18 @@ module _ {A B : Type 0} (then : A → Dialogue B) where
 -- a dialogue that asks nothing
 pub judges_pure : {A : Type 0} (dialogue : Dialogue A) (store : Store) (verdict : Result A DavError) → EndsIn dialogue [] verdict → Judges dialogue store verdict store
 judges_pure dialogue store verdict h = record { records = []; told = sym (append-nil store.log); same = refl; fixed = refl; ends = h }
+
+-- ---- a call that the request fails by
+
+-- a call that isn't granted has another outcome
+pub unlike : (e : FsError) (outcome : Outcome) → error_of outcome ≡ Some e → outcome ≢ outcomes.Granted
+unlike e outcomes.Granted cause same = cc
+unlike e (outcomes.Barred d) cause same = cc
+unlike e (outcomes.Refused d) cause same = cc
+
+-- and refuses the request
+pub needs-declined : {A : Type 0} (call : Call) (error : FsError → DavError) (next : Dialogue A) (e : FsError) (outcome : Outcome) → error_of outcome ≡ Some e → IsLawful call.bar outcome
+    → LeadsTo (needs call error next) (record_of call outcome ∷ []) (Refuses (error e))
+needs-declined call error next e outcomes.Granted cause lawful = absurd cc
+needs-declined call error next e (outcomes.Barred d) cause lawful = let is : d ≡ e = cc in (refl, lawful, rw is refl)
+needs-declined call error next e (outcomes.Refused d) cause lawful = let is : d ≡ e = cc in (refl, lawful, rw is refl)

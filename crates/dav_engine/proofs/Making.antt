@@ -1,18 +1,18 @@
 -- The work of MKCOL.
 use Rattle.std.proofs.Common.{◌≡◌, [], ◌∷◌, Ok, Err, Some, Option, ◌⊎◌, inl, inr, refl, sym, append-nil}
 use Rattle.dav_resource.specs.declared.meta.Meta.{Meta}
-use Rattle.dav_resource.specs.declared.record.Outcome.{Outcome}
 use Rattle.dav_resource.specs.declared.record.Outcome.TheVariants as outcomes
 use Rattle.dav_resource.specs.declared.error.FsError.{FsError}
 use Rattle.dav_resource.specs.declared.error.FsError.TheVariants as fs_errors
 use Rattle.dav_resource.specs.declared.error.DavError.TheVariants as dav_errors
 use Rattle.dav_resource.specs.declared.method.DavMethod.TheVariants.{MkCol}
 use Rattle.dav_resource.specs.declared.request.DavRequest.{DavRequest}
-use Rattle.dav_store.specs.Store.{Store, Contents}
-use Rattle.dav_store.specs.Calls.{record_of, error_of, IsLawful, Grants, Declines, create_dir_call, IsMadeAt}
+use Rattle.dav_store.specs.Store.{Store}
+use Rattle.dav_store.specs.Calls.{record_of, Grants, Declines, create_dir_call, IsMadeAt}
 use Rattle.dav_engine.specs.Reply.{Reply}
-use Rattle.dav_engine.specs.Mkcol.{mkcol_error, mkcol_reply, MkcolWork}
+use Rattle.dav_engine.specs.Mkcol.{mkcol_error, mkcol_reply}
 use Rattle.dav_engine.specs.Step.{Works}
+use Rattle.dav_engine.proofs.Dialogues.{unlike, needs-declined}
 use Rattle.dav_engine.proofs.Granting.{not_granted}
 
 module _ (request : DavRequest) (found : Option Meta) where
@@ -25,16 +25,6 @@ module _ (request : DavRequest) (found : Option Meta) where
     done = inr (refl, record { none = refl; same = refl });
   }
 
-  declined : (e : FsError) (outcome : Outcome) (old new : Contents) → error_of outcome ≡ Some e → IsLawful (create_dir_call old request.path.key).bar outcome → new ≡ old
-      → MkcolWork request old (record_of (create_dir_call old request.path.key) outcome ∷ []) (Err (mkcol_error e)) new
-  declined e outcomes.Granted old new cause lawful same = absurd cc
-  declined e (outcomes.Barred d) old new cause lawful same =
-      let is : d ≡ e = cc in
-      record { answered = (refl, lawful, rw is refl); leaves = record { made = λ g. absurd (not_granted _ _ _ g (λ e. cc)); untouched = λ _. same } }
-  declined e (outcomes.Refused d) old new cause lawful same =
-      let is : d ≡ e = cc in
-      record { answered = (refl, lawful, rw is refl); leaves = record { made = λ g. absurd (not_granted _ _ _ g (λ e. cc)); untouched = λ _. same } }
-
   -- the call isn't granted
   pub works_declined : (e : FsError) (old new : Store) → ((e ≡ fs_errors.Memory) × (new ≡ old)) ⊎ Declines (create_dir_call old.contents request.path.key) e old new
       → Works (Some MkCol) request found old (Err (mkcol_error e)) new
@@ -43,7 +33,10 @@ module _ (request : DavRequest) (found : Option Meta) where
     records = record_of (create_dir_call old.contents request.path.key) h.outcome ∷ [];
     told = h.told;
     fixed = h.fixed;
-    done = inl (declined e h.outcome _ _ h.cause h.lawful h.same);
+    done = inl (record {
+      answered = needs-declined (create_dir_call old.contents request.path.key) mkcol_error _ e h.outcome h.cause h.lawful;
+      leaves = record { made = λ g. absurd (not_granted _ _ _ g (unlike e h.outcome h.cause)); untouched = λ _. h.same };
+    });
   }
 
   -- the call is granted

@@ -1,5 +1,5 @@
 -- The rules and the work of PUT.
-use Rattle.std.proofs.Common.{◌≡◌, ◌≢◌, ◌∙◌, ℕ, zero, suc, IfOk, IfErr, Bool, true, false, List, [], ◌∷◌, ◌++◌, Option, Some, None, Result, Ok, Err, if◌then◌else◌, ◌⊎◌, inl, inr, refl, sym, ap, subst, is_some, append-nil, append_assoc, ◌+◌, length, drop}
+use Rattle.std.proofs.Common.{◌≡◌, ◌≢◌, ◌∙◌, ℕ, zero, suc, IfOk, IfErr, Bool, true, false, List, [], ◌∷◌, ◌++◌, Option, Some, Result, Ok, Err, if◌then◌else◌, ◌⊎◌, inl, inr, refl, sym, ap, subst, is_some, append-nil, append_assoc, ◌+◌, length, drop}
 use Rattle.std.specs.FinMap.{get, insert}
 use Rattle.dav_resource.specs.Key.{Key}
 use Rattle.dav_resource.specs.Errors.{from_fs}
@@ -7,7 +7,6 @@ use Rattle.dav_resource.specs.declared.meta.Meta.{Meta}
 use Rattle.dav_resource.specs.declared.meta.DavFile.{DavFile}
 use Rattle.dav_resource.specs.declared.record.Op.{Op}
 use Rattle.dav_resource.specs.declared.record.Op.TheVariants.{OpenFile, WriteBytes, Flush, FileMetadata}
-use Rattle.dav_resource.specs.declared.record.Outcome.{Outcome}
 use Rattle.dav_resource.specs.declared.record.Outcome.TheVariants as outcomes
 use Rattle.dav_resource.specs.declared.error.FsError.{FsError}
 use Rattle.dav_resource.specs.declared.error.FsError.TheVariants as fs_errors
@@ -18,7 +17,7 @@ use Rattle.dav_resource.specs.declared.request.ReqBody.{ReqBody}
 use Rattle.dav_resource.specs.declared.request.DavRequest.{DavRequest}
 use Rattle.dav_store.specs.Logged.{Logged}
 use Rattle.dav_store.specs.Store.{Store, Contents, File}
-use Rattle.dav_store.specs.Calls.{Call, record_of, error_of, IsLawful, Grants, Declines, open_call, IsOpened, file_call, file_bar, written_at, bytes_at, Flushes, IsWritten}
+use Rattle.dav_store.specs.Calls.{Call, record_of, IsLawful, Grants, Declines, open_call, IsOpened, file_call, file_bar, written_at, bytes_at, Flushes, IsWritten}
 use Rattle.http.specs.declared.response.Response.{Response}
 use Rattle.dav_resource.specs.declared.request.Body.{Body}
 use Rattle.dav_engine.specs.Reply.{reply_of, answer_of}
@@ -27,7 +26,7 @@ use Rattle.dav_engine.specs.Dialogue.{Dialogue, Refuses, Passed, GoesOn, needs, 
 use Rattle.dav_engine.specs.Put.{body_bytes, new_bytes, put_body, body_verdict, put_options, put_open_error, on_file, put_write, look_by, put_steps, PutLeaves, WritesBody, look_at_file}
 use Rattle.dav_engine.specs.Step.{Works}
 use Rattle.dav_engine.proofs.Granting.{not_granted, not_this_op, WasGranted-first, WasGranted-either}
-use Rattle.dav_engine.proofs.Dialogues.{LeadsTo-more}
+use Rattle.dav_engine.proofs.Dialogues.{LeadsTo-more, unlike, needs-declined}
 use Rattle.dav_engine.proofs.Trees.{get-inserted, insert-inserted}
 
 -- ---- the rules
@@ -116,19 +115,11 @@ module _ (request : DavRequest) where
     records = record_of (open_call old.contents place put_options) h.outcome ∷ [];
     told = h.told;
     fixed = h.fixed;
-    done = inl (record { answered = refused h.outcome h.cause h.lawful; leaves = record { untouched = λ _. h.same; emptied = λ g. absurd (not_granted OpenFile place _ g (unlike h.outcome h.cause)); written = λ g. absurd (not_this_op WriteBytes place _ g (λ x. cc)) } });
+    done = inl (record {
+      answered = needs-declined (open_call old.contents place put_options) put_open_error _ e h.outcome h.cause h.lawful;
+      leaves = record { untouched = λ _. h.same; emptied = λ g. absurd (not_granted OpenFile place _ g (unlike e h.outcome h.cause)); written = λ g. absurd (not_this_op WriteBytes place _ g (λ x. cc)) };
+    });
   }
-    where
-      unlike : (outcome : Outcome) → error_of outcome ≡ Some e → outcome ≢ outcomes.Granted
-      unlike outcomes.Granted cause same = cc
-      unlike (outcomes.Barred d) cause same = cc
-      unlike (outcomes.Refused d) cause same = cc
-
-      refused : (outcome : Outcome) → error_of outcome ≡ Some e → IsLawful (open_call old.contents place put_options).bar outcome
-          → LeadsTo (put_steps request old.contents (new.contents.metas place)) (record_of (open_call old.contents place put_options) outcome ∷ []) (Refuses (put_open_error e))
-      refused outcomes.Granted cause lawful = absurd cc
-      refused (outcomes.Barred d) cause lawful = let is : d ≡ e = cc in (refl, lawful, rw is refl)
-      refused (outcomes.Refused d) cause lawful = let is : d ≡ e = cc in (refl, lawful, rw is refl)
 
   -- memory ran out on the way
   pub works_cut : (found : Option Meta) (old now : Store) (left : Option Meta → Dialogue (Option Meta)) → ((meta : Option Meta) → GoesOn (left meta)) → Reached old now left → Works (Some Put) request found old (Err dav_errors.Memory) now
@@ -143,26 +134,18 @@ module _ (request : DavRequest) where
   pub works_stopped : (found : Option Meta) (op : Op) (old mid now : Store) (next : Option Meta → Dialogue (Option Meta)) (e : FsError) → Reached old mid (λ meta. needs (on_file op place) from_fs (next meta))
       → ((e ≡ fs_errors.Memory) × (now ≡ mid)) ⊎ Declines (file_call op mid.contents place) e mid now → Works (Some Put) request found old (Err (from_fs e)) now
   works_stopped found op old mid now next e h (inl m) = rw (m.0, m.1) (works_cut found old mid _ (λ _. tt) h)
-  works_stopped found op old mid now next e h (inr d) = record {
-    records = h.records ++ record_of (file_call op mid.contents place) d.outcome ∷ [];
-    told = rw (d.told, h.told, append_assoc);
-    fixed = rw (d.fixed, h.fixed);
-    done = inl (record {
-      answered = LeadsTo-more _ _ _ h.records _ (h.calls (now.contents.metas place)) (refused d.outcome d.cause (subst (λ call. IsLawful call.bar d.outcome) (at_file op mid.contents place h.bytes h.there) d.lawful));
-      leaves = leaves_more h.records _ _ _ _ h.leaves d.same (λ g. not_granted OpenFile place _ g (unlike d.outcome d.cause)) (λ g. not_granted WriteBytes place _ g (unlike d.outcome d.cause));
-    });
-  }
-    where
-      unlike : (outcome : Outcome) → error_of outcome ≡ Some e → outcome ≢ outcomes.Granted
-      unlike outcomes.Granted cause same = cc
-      unlike (outcomes.Barred b) cause same = cc
-      unlike (outcomes.Refused b) cause same = cc
-
-      refused : (outcome : Outcome) → error_of outcome ≡ Some e → IsLawful None outcome
-          → LeadsTo (needs (on_file op place) from_fs (next (now.contents.metas place))) (record_of (file_call op mid.contents place) outcome ∷ []) (Refuses (from_fs e))
-      refused outcomes.Granted cause lawful = absurd cc
-      refused (outcomes.Barred b) cause lawful = let is : b ≡ e = cc in (refl, lawful, rw is refl)
-      refused (outcomes.Refused b) cause lawful = let is : b ≡ e = cc in (refl, lawful, rw is refl)
+  works_stopped found op old mid now next e h (inr d) =
+      let there = at_file op mid.contents place h.bytes h.there in
+      let lawful = subst (λ call. IsLawful call.bar d.outcome) there d.lawful in
+      record {
+        records = h.records ++ record_of (on_file op place) d.outcome ∷ [];
+        told = rw (d.told, h.told, append_assoc);
+        fixed = rw (d.fixed, h.fixed);
+        done = inl (record {
+          answered = LeadsTo-more _ _ _ h.records _ (h.calls (now.contents.metas place)) (needs-declined (on_file op place) from_fs _ e d.outcome d.cause lawful);
+          leaves = leaves_more h.records _ _ _ _ h.leaves d.same (λ g. not_granted OpenFile place _ g (unlike e d.outcome d.cause)) (λ g. not_granted WriteBytes place _ g (unlike e d.outcome d.cause));
+        });
+      }
 
   -- ---- granted calls
 

@@ -1,6 +1,6 @@
 //! The engine's struct, and what several methods share.
-ghost use Rattle.std.specs.Prelude.{◌≡◌};
-ghost use Rattle.dav_engine.specs.DavInner.{lent, loan};
+ghost use Rattle.std.specs.Prelude.{◌≡◌, string_bytes};
+ghost use Rattle.dav_engine.specs.DavInner.{lent, loan, settings};
 ghost use Rattle.dav_engine.specs.Dialogue.{Judges, look as look_of};
 
 use dav_resource::{DavError, DavPath, DavResult, FsError, Meta};
@@ -20,6 +20,7 @@ impl<'a, C: Drop, F: GuardedFileSystem<C>> DavInner<'a, C, F> {
     pub fn new(fs: &'a mut F, prefix: String, credentials: C) -> Self
         ensures same_store { loan result ≡ fs.entry.ghost_name }
         ensures store { lent result ≡ fs.old }
+        ensures settings { settings result ≡ (string_bytes prefix, credentials) }
     {
         DavInner {
             fs,
@@ -39,6 +40,7 @@ impl<'a, C: Drop, F: GuardedFileSystem<C>> DavInner<'a, C, F> {
     /// Looks at a path, where a refusal counts as nothing there.
     pub(crate) fn look(&mut self, path: &DavPath) -> DavResult<Option<Meta>>
         ensures same_store { loan self.new ≡ loan self.old }
+        ensures same_settings { settings self.new ≡ settings self.old }
         ensures rules { Judges (look_of (F.seen (lent self.old)).contents path.now.key) (F.seen (lent self.old)) result (F.seen (lent self.new)) }
     {
         match self.fs.metadata(path, &self.credentials) {

@@ -1,7 +1,7 @@
 //! A request to its method, and requests one after another.
 ghost use Rattle.std.specs.Prelude.{◌≡◌, Err, map, IfOk, OnErr};
 ghost use Rattle.dav_resource.specs.Methods.{method_of};
-ghost use Rattle.dav_engine.specs.DavInner.{lent, loan};
+ghost use Rattle.dav_engine.specs.DavInner.{lent, loan, settings};
 ghost use Rattle.dav_engine.specs.Reply.{answer_of};
 ghost use Rattle.dav_engine.specs.Step.{Serves, Runs};
 
@@ -15,6 +15,7 @@ impl<'a, C: Drop, F: GuardedFileSystem<C>> DavInner<'a, C, F> {
     /// the store. The errors are those of the method's own call.
     pub fn serve(&mut self, request: &DavRequest) -> DavResult<Response<Body>>
         ensures same_store { loan self.new ≡ loan self.old }
+        ensures same_settings { settings self.new ≡ settings self.old }
         ensures step { Serves (method_of request.entry.now.method) (F.seen (lent self.old)) request.entry.now (answer_of result) (F.seen (lent self.new)) }
     {
         let Some(method) = DavMethod::from_method(&request.method) else {
@@ -31,6 +32,7 @@ impl<'a, C: Drop, F: GuardedFileSystem<C>> DavInner<'a, C, F> {
     /// `Err` is `Memory`, and it has served nothing.
     pub fn run(&mut self, requests: &[DavRequest]) -> DavResult<Vec<DavResult<Response<Body>>>>
         ensures same_store { loan self.new ≡ loan self.old }
+        ensures same_settings { settings self.new ≡ settings self.old }
         ensures run { IfOk result (λ replies. Runs (F.seen (lent self.old)) requests.now (map answer_of replies.items) (F.seen (lent self.new))) }
         ensures memory { OnErr result ((result ≡ Err DavError.Memory) × (F.seen (lent self.new) ≡ F.seen (lent self.old))) }
     {

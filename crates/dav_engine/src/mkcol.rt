@@ -1,7 +1,7 @@
 //! MKCOL (RFC 4918, section 9.3).
 ghost use Rattle.std.specs.Prelude.{◌≡◌, IfOk, IfErr, Some};
 ghost use Rattle.dav_resource.specs.declared.method.DavMethod.TheVariants.{MkCol};
-ghost use Rattle.dav_engine.specs.DavInner.{lent, loan};
+ghost use Rattle.dav_engine.specs.DavInner.{lent, loan, settings};
 ghost use Rattle.dav_engine.specs.Reply.{reply_of, answer_of};
 ghost use Rattle.dav_engine.specs.Dialogue.{Judges};
 ghost use Rattle.dav_engine.specs.Mkcol.{mkcol_rules, mkcol_error as error_of_mkcol, mkcol_reply as reply_of_mkcol};
@@ -22,6 +22,7 @@ impl<'a, C: Drop, F: GuardedFileSystem<C>> DavInner<'a, C, F> {
     /// `Memory`. After each of them nothing has changed.
     pub fn handle_mkcol(&mut self, request: &DavRequest) -> DavResult<Response<Body>>
         ensures same_store { loan self.new ≡ loan self.old }
+        ensures same_settings { settings self.new ≡ settings self.old }
         ensures step { Serves (Some MkCol) (F.seen (lent self.old)) request.entry.now (answer_of result) (F.seen (lent self.new)) }
     {
         let found = self.judge_mkcol(request)?;
@@ -30,6 +31,7 @@ impl<'a, C: Drop, F: GuardedFileSystem<C>> DavInner<'a, C, F> {
 
     fn judge_mkcol(&mut self, request: &DavRequest) -> DavResult<Option<Meta>>
         ensures same_store { loan self.new ≡ loan self.old }
+        ensures same_settings { settings self.new ≡ settings self.old }
         ensures rules { Judges (mkcol_rules request.entry.now (F.seen (lent self.old)).contents) (F.seen (lent self.old)) result (F.seen (lent self.new)) }
     {
         self.look(&request.path)
@@ -42,6 +44,7 @@ impl<'a, C: Drop, F: GuardedFileSystem<C>> DavInner<'a, C, F> {
         found: Option<Meta>,
     ) -> DavResult<Response<Body>>
         ensures same_store { loan self.new ≡ loan self.old }
+        ensures same_settings { settings self.new ≡ settings self.old }
         ensures work { Works (Some MkCol) request.entry.now found (F.seen (lent self.old)) (answer_of result) (F.seen (lent self.new)) }
     {
         let reply = mkcol_reply(*self.prefix.allocator(), &request.path)?;

@@ -3,7 +3,7 @@ ghost use Rattle.std.specs.Prelude.{◌≡◌, ◌≤◌, ◌∷◌, if◌then�
 ghost use Rattle.std.specs.Option.{ForSome};
 ghost use Rattle.dav_resource.specs.declared.method.DavMethod.TheVariants.{Put};
 ghost use Rattle.dav_store.specs.Store.{IsTagText};
-ghost use Rattle.dav_engine.specs.DavInner.{lent, loan};
+ghost use Rattle.dav_engine.specs.DavInner.{lent, loan, settings};
 ghost use Rattle.dav_engine.specs.Reply.{answer_of};
 ghost use Rattle.dav_engine.specs.Dialogue.{Judges};
 ghost use Rattle.dav_engine.specs.Put.{body_bytes as bytes_of_body, new_bytes as bytes_of_request, put_rules, put_options as options_of_put, put_open_error as error_of_open, WritesBody, look_at_file as file_look, body_verdict};
@@ -26,6 +26,7 @@ impl<'a, C: Drop, F: GuardedFileSystem<C>> DavInner<'a, C, F> {
     /// is empty, or holds the whole body.
     pub fn handle_put(&mut self, request: &DavRequest) -> DavResult<Response<Body>>
         ensures same_store { loan self.new ≡ loan self.old }
+        ensures same_settings { settings self.new ≡ settings self.old }
         ensures step { Serves (Some Put) (F.seen (lent self.old)) request.entry.now (answer_of result) (F.seen (lent self.new)) }
     {
         let found = self.judge_put(request)?;
@@ -34,6 +35,7 @@ impl<'a, C: Drop, F: GuardedFileSystem<C>> DavInner<'a, C, F> {
 
     fn judge_put(&mut self, request: &DavRequest) -> DavResult<Option<Meta>>
         ensures same_store { loan self.new ≡ loan self.old }
+        ensures same_settings { settings self.new ≡ settings self.old }
         ensures rules { Judges (put_rules request.entry.now (F.seen (lent self.old)).contents) (F.seen (lent self.old)) result (F.seen (lent self.new)) }
     {
         let found = self.look(&request.path)?;
@@ -43,6 +45,7 @@ impl<'a, C: Drop, F: GuardedFileSystem<C>> DavInner<'a, C, F> {
     /// The work.
     fn write_file(&mut self, request: &DavRequest, found: Option<Meta>) -> DavResult<Response<Body>>
         ensures same_store { loan self.new ≡ loan self.old }
+        ensures same_settings { settings self.new ≡ settings self.old }
         ensures work { Works (Some Put) request.entry.now found (F.seen (lent self.old)) (answer_of result) (F.seen (lent self.new)) }
     {
         let mut file = match self
@@ -62,6 +65,7 @@ impl<'a, C: Drop, F: GuardedFileSystem<C>> DavInner<'a, C, F> {
     fn write_body(&mut self, file: &mut DavFile, bytes: &[u8]) -> FsResult<()>
         requires { file.old.pos ≡ 0 }
         ensures same_store { loan self.new ≡ loan self.old }
+        ensures same_settings { settings self.new ≡ settings self.old }
         ensures same_file { file.new.path ≡ file.old.path }
         ensures written { WritesBody (F.seen (lent self.old)) file.old bytes.now result (F.seen (lent self.new)) }
     {
@@ -74,6 +78,7 @@ impl<'a, C: Drop, F: GuardedFileSystem<C>> DavInner<'a, C, F> {
     /// Looks at an open file, where a refusal counts as nothing known.
     fn look_at_file(&mut self, file: &DavFile) -> DavResult<Option<Meta>>
         ensures same_store { loan self.new ≡ loan self.old }
+        ensures same_settings { settings self.new ≡ settings self.old }
         ensures looked { Judges (file_look (F.seen (lent self.old)).contents file.now.path.key) (F.seen (lent self.old)) result (F.seen (lent self.new)) }
         ensures tag { IfOk result (λ meta. ForSome meta (λ m. ForSome m.etag IsTagText)) }
     {

@@ -3,6 +3,7 @@ use Rattle.std.specs.Prelude.{ℕ, ◌&&◌, ◌||◌, ◌==◌, not, Bool, code
 use Rattle.std.specs.List.{list_any}
 use Rattle.std.specs.Char.{to_ascii_lowercase}
 
+-- `.`
 abbrev pub is_dot : ℕ → Bool
 is_dot b = b == 46
 
@@ -35,5 +36,6 @@ type_of extension =
     else (if is (codes "mp4") then codes "video/mp4"
     else codes "application/octet-stream")))))))))))))
 
+-- the type of a file of this name, whose extension is in any ASCII case
 abbrev pub mime_type_of : List ℕ → List ℕ
 mime_type_of name = type_of (map to_ascii_lowercase (extension_of name))

@@ -3,8 +3,10 @@ use Rattle.dav_resource.specs.PathText.{PathValue, IsPathValue}
 use Rattle.dav_resource.specs.Texts.{texts}
 use Rattle.dav_resource.specs.declared.path.DavPath.TheInside.{Inside}
 
+-- the fields as a path's value
 abbrev pub path_of : Inside → PathValue
 path_of p = record { star = p.star; slash = p.slash; prefix = texts p.prefix.items; key = texts p.segments.items }
 
+-- what holds of each path
 abbrev pub IsPath : Inside → Type 0
 IsPath p = IsPathValue (path_of p)

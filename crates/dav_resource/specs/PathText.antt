@@ -33,17 +33,19 @@ is_plain_byte b = not (b == 0) && not (b == 47)
 abbrev pub is_segment_text : List ℕ → Bool
 is_segment_text bytes = is_utf8 bytes && list_all is_plain_byte bytes
 
+-- the part stands for a text that may stand in a segment
 abbrev pub is_readable : List ℕ → Bool
 is_readable part = has_whole_escapes part && is_segment_text (percent_decode part)
 
 -- ---- a text
 
--- nothing, `.`, and `..`
+-- nothing, and `.`
 abbrev pub is_dropped : List ℕ → Bool
 is_dropped [] = true
 is_dropped (b ∷ []) = b == 46
 is_dropped (b ∷ c ∷ bs) = false
 
+-- `..`
 abbrev pub is_parent : List ℕ → Bool
 is_parent [] = false
 is_parent (b ∷ []) = false
@@ -57,6 +59,7 @@ enter key segment =
     else (if not (is_parent segment) then Ok (key ++ segment ∷ [])
     else (if length key == 0 then Err ForbiddenPath else Ok (take (length key - 1) key)))
 
+-- what the next step gives, unless there is an error already
 abbrev pub on_ok : {A B : Type 0} → Result A DavError → (A → Result B DavError) → Result B DavError
 on_ok (Ok a) f = f a
 on_ok (Err e) f = Err e
@@ -92,6 +95,7 @@ pub record PathValue : Type 0 where
 abbrev pub path_part : List ℕ → List ℕ
 path_part text = before_first (λ b. b == 35) (before_first (λ b. b == 63) text)
 
+-- the last byte is `/`
 abbrev pub ends_in_slash : List ℕ → Bool
 ends_in_slash text = slice_index text (length text - 1) == 47
 
@@ -111,6 +115,7 @@ below_prefix slash key prefix =
 abbrev pub star_path : PathValue
 star_path = record { star = true; slash = true; prefix = []; key = [] }
 
+-- the path of this text below this prefix: the first fault of the text, else of the prefix, else that it is not below
 abbrev pub read_path : List ℕ → List ℕ → Result PathValue DavError
 read_path text prefix =
     if bytes_eq text (codes "*") then Ok star_path
@@ -118,6 +123,7 @@ read_path text prefix =
 
 -- ---- how it is written
 
+-- letters, digits, `-`, `.`, `_` and `~` (RFC 3986, section 2.3)
 abbrev pub is_unreserved : ℕ → Bool
 is_unreserved b = is_ascii_alphanumeric b || b == 45 || b == 46 || b == 95 || b == 126
 
@@ -125,6 +131,7 @@ is_unreserved b = is_ascii_alphanumeric b || b == 45 || b == 46 || b == 95 || b 
 abbrev pub escape : List ℕ → List ℕ
 escape bytes = flat_map (λ b. if is_unreserved b then b ∷ [] else percent_encode_byte b) bytes
 
+-- `/` and then the segment, for each
 abbrev pub key_text : Key → List ℕ
 key_text key = flat_map (λ segment. 47 ∷ escape segment) key
 
@@ -132,6 +139,7 @@ key_text key = flat_map (λ segment. 47 ∷ escape segment) key
 abbrev pub last_slash : Bool → Key → List ℕ
 last_slash slash key = if slash || length key == 0 then 47 ∷ [] else []
 
+-- the text of a path, without its prefix
 abbrev pub url_text : PathValue → List ℕ
 url_text path = if path.star then codes "*" else key_text path.key ++ last_slash path.slash path.key
 
@@ -148,6 +156,7 @@ pub record IsSegment (segment : List ℕ) : Type 0 where
   pub kept : is_dropped segment ≡ false
   pub child : is_parent segment ≡ false
 
+-- each segment is one
 abbrev pub IsKey : Key → Type 0
 IsKey [] = Unit {0}
 IsKey (segment ∷ key) = IsSegment segment × IsKey key

@@ -6,6 +6,7 @@ use Rattle.dav_engine.proofs.inner.DavInner.run.Goals as goal
 pub loop-request-preserved : goal.loop-request-preserved
 loop-request-preserved g c = record {
   same_store = grind (arith, common_steps);
+  same_settings = grind (arith, common_steps);
   served = run_goes_on _ _ _ _ _ _ _ _ _ c.loop-request.invariant.served c.serve.ensures.step (g.met.F.GuardedFileSystem.well_formed _) (omega arith) c.request-item.is (grind (arith, common_steps));
   told = grind (arith, common_steps);
   room = grind (arith, common_steps);
