@@ -137,3 +137,17 @@ fn a_method_that_is_not_served_asks_nothing(rt: HostRuntime) -> Result<(), Fail>
     assert_eq!(rt; records(&store).len(), 0);
     Ok(())
 }
+
+#[test]
+fn a_handler_serves_any_method_as_its_own(rt: HostRuntime) -> Result<(), Fail> {
+    let alloc = rt.alloc();
+    let mut store = MemFs::new(alloc)?;
+    let mut engine = DavInner::new(&mut store, String::new(alloc), ());
+    let directory = request(alloc, "GET", "/d/", ReqBody::None)?;
+    assert_eq!(rt; status(&engine.handle_mkcol(&directory)), 201);
+    let file = request(alloc, "MKCOL", "/d/a", ReqBody::None)?;
+    assert_eq!(rt; status(&engine.handle_put(&file)), 201);
+    assert_eq!(rt; status(&engine.serve(&file)), 405);
+    assert_eq!(rt; records(engine.finish()).len(), 8);
+    Ok(())
+}
