@@ -159,7 +159,7 @@ module _ (request : DavRequest) where
     calls = λ meta. (refl, h.allowed, refl);
     leaves = record {
       untouched = λ none. absurd (none (inl refl));
-      emptied = λ _ _. record { tree = h.effect.tree; properties = h.effect.properties };
+      emptied = λ _ _. record { tree = h.effect.tree; properties = h.effect.properties; limit = h.effect.limit };
       written = λ g. absurd (not_this_op WriteBytes place _ g (λ x. cc));
     };
     bytes = [];
@@ -188,7 +188,7 @@ module _ (request : DavRequest) where
         leaves = record {
           untouched = λ none. absurd (none (inl refl));
           emptied = λ _ unwritten. absurd (unwritten (inr (inl refl)));
-          written = λ _. record { tree = rw is tree; properties = rw (g.effect.properties, h.effect.properties) };
+          written = λ _. record { tree = rw is tree; properties = rw (g.effect.properties, h.effect.properties); limit = rw (g.effect.limit, h.effect.limit) };
         };
         bytes = b ∷ bytes;
         there = rw tree (get-inserted old.contents.tree place (File (b ∷ bytes)));

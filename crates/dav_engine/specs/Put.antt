@@ -18,7 +18,7 @@ use Rattle.dav_resource.specs.declared.request.ReqBody.TheVariants as bodies
 use Rattle.dav_resource.specs.declared.request.DavRequest.{DavRequest}
 use Rattle.dav_store.specs.Logged.{Logged}
 use Rattle.dav_store.specs.Store.{Store, Contents, File}
-use Rattle.dav_store.specs.Calls.{Call, open_call, file_call, Writes}
+use Rattle.dav_store.specs.Calls.{Call, limit_of, open_call, file_call, Writes}
 use Rattle.dav_engine.specs.Reply.{Answer}
 use Rattle.dav_engine.specs.PutReply.{put_reply}
 use Rattle.dav_engine.specs.Dialogue.{Dialogue, Asks, Refuses, Passed, GoesOn, needs, if_granted, look, ◌>>=◌, LeadsTo, IsAnswered, WasGranted}
@@ -92,10 +92,11 @@ put_steps request old meta =
 
 -- ---- what is left
 
--- a file stands at the key and holds these bytes; nothing else in the tree and no property changed
+-- a file stands at the key and holds these bytes; nothing else in the tree, no property and no limit changed
 pub record IsFileAt (key : Key) (bytes : List ℕ) (old new : Contents) : Type 0 where
   pub tree : new.tree ≡ insert old.tree key (File bytes)
   pub properties : new.properties ≡ old.properties
+  pub limit : limit_of new ≡ limit_of old
 
 -- the file holds the body where the write was granted, and nothing where only `open` was; else all stays
 pub record PutLeaves (request : DavRequest) (records : List Logged) (old new : Contents) : Type 0 where

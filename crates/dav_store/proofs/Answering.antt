@@ -145,7 +145,7 @@ nothing_kept (Some s) e = absurd cc
 pub makes : (key : Key) (old : memory.Memory) → create_dir_bar (get (tree_of old.entries) key) (get (tree_of old.entries) (parent key)) ≡ None → IsMadeAt key (contents_of old.entries) (contents_of (made key Directory old).entries)
 makes key old free =
     let none = nothing_kept (stored_at key old.entries) (sym (get-tree old.entries key) ∙ free_bar _ (get (tree_of old.entries) (parent key)) free) in
-    record { tree = tree-push old.entries _ none; properties = refl }
+    record { tree = tree-push old.entries _ none; properties = refl; limit = refl }
 
 -- what stands there is put there
 insert-same : (tree : Tree) (key : Key) (node : Node) → get tree key ≡ Some node → tree ≡ insert tree key node
@@ -203,6 +203,7 @@ opens path options file old is none = record {
       (ap (λ n. open_bar options n (get (tree_of old.entries) (parent path.key))) (sym (get-tree old.entries path.key)) ∙ opening-none options (stored_at path.key old.entries) _ old none)
       ∙ ap (λ n. insert (tree_of old.entries) path.key (File (if options.truncate then [] else bytes_at n))) (sym (get-tree old.entries path.key));
   properties = refl;
+  limit = refl;
 }
 
 file_kept : (o : Option Stored) → file_bar (option_map node_in o) ≡ None → (s : Stored) × (o ≡ Some s)
@@ -212,7 +213,7 @@ file_kept (Some s) e = (s, refl)
 pub writes : (file : DavFile) (more : List ℕ) (old : memory.Memory) → write_error file.path.key old ≡ None → IsWritten file more (contents_of old.entries) (contents_of (written file more old).entries)
 writes file more old none =
     let kept = file_kept (stored_at file.path.key old.entries) (ap file_bar (sym (get-tree old.entries file.path.key)) ∙ change-none (file_error file.path.key old) old none) in
-    record { tree = tree-change file.path.key (with_bytes _ (old.version + 1) old.moment) (λ x. refl) old.entries kept.0 kept.1; properties = refl }
+    record { tree = tree-change file.path.key (with_bytes _ (old.version + 1) old.moment) (λ x. refl) old.entries kept.0 kept.1; properties = refl; limit = refl }
 
 -- ---- a whole call
 

@@ -1,5 +1,6 @@
 -- What each call of a store does. One definition for all: a call is granted, barred, refused, or had no memory.
 use Rattle.std.specs.Prelude.{◌≡◌, ◌≢◌, ℕ, ◌+◌, ◌-◌, ◌||◌, if◌then◌else◌, List, [], ◌∷◌, ◌++◌, length, take, drop, replicate, Option, Some, None, Result, ◌⊎◌, IfOk, IfErr}
+use Rattle.std.specs.Option.{option_map}
 use Rattle.std.specs.FinMap.{get, insert}
 use Rattle.dav_resource.specs.Key.{Key, parent}
 use Rattle.dav_resource.specs.PathText.{PathValue}
@@ -13,7 +14,7 @@ use Rattle.dav_resource.specs.declared.record.Outcome.TheVariants.{Granted, Barr
 use Rattle.dav_resource.specs.declared.error.FsError.{FsError}
 use Rattle.dav_resource.specs.declared.error.FsError.TheVariants.{NotFound, Exists, Forbidden, Memory}
 use Rattle.dav_store.specs.Logged.{Logged, logged}
-use Rattle.dav_store.specs.Store.{Store, Contents, Node, File, Directory}
+use Rattle.dav_store.specs.Store.{Store, Contents, Node, File, Directory, Quota}
 
 -- ---- what an answer may be
 
@@ -66,6 +67,10 @@ pub record Answers {A : Type 0} (call : Call) (Effect : A → Contents → Conte
   pub granted : IfOk answer (λ a. Grants call (Effect a) old new)
   pub declined : IfErr answer (λ e. ((e ≡ Memory) × (new ≡ old)) ⊎ Declines call e old new)
 
+-- whether there is a quota, and how many bytes it grants: no call changes that
+abbrev pub limit_of : Contents → Option (Option ℕ)
+limit_of contents = option_map (λ (q : Quota). q.total) contents.quota
+
 -- ---- metadata
 
 abbrev pub metadata_bar : Option Node → Option FsError
@@ -99,6 +104,7 @@ create_dir_call old key = record { op = CreateDir; keys = key ∷ []; bar = crea
 pub record IsMadeAt (key : Key) (old new : Contents) : Type 0 where
   pub tree : new.tree ≡ insert old.tree key Directory
   pub properties : new.properties ≡ old.properties
+  pub limit : limit_of new ≡ limit_of old
 
 abbrev pub MakesDirectory : Store → Key → Result (Unit {0}) FsError → Store → Type 0
 MakesDirectory old key = Answers (create_dir_call old.contents key) (λ _. IsMadeAt key) old
@@ -127,6 +133,7 @@ pub record IsOpened (path : PathValue) (options : OpenOptions) (file : DavFile) 
   pub handle : file ≡ record { path = path; pos = 0; append = options.append }
   pub tree : new.tree ≡ insert old.tree path.key (File (if options.truncate then [] else bytes_at (get old.tree path.key)))
   pub properties : new.properties ≡ old.properties
+  pub limit : limit_of new ≡ limit_of old
 
 abbrev pub Opens : Store → PathValue → OpenOptions → Result DavFile FsError → Store → Type 0
 Opens old path options = Answers (open_call old.contents path.key options) (IsOpened path options) old
@@ -154,6 +161,7 @@ place_of file contents = if file.append then length (bytes_at (get contents.tree
 pub record IsWritten (file : DavFile) (more : List ℕ) (old new : Contents) : Type 0 where
   pub tree : new.tree ≡ insert old.tree file.path.key (File (written_at (bytes_at (get old.tree file.path.key)) (place_of file old) more))
   pub properties : new.properties ≡ old.properties
+  pub limit : limit_of new ≡ limit_of old
 
 abbrev pub Writes : Store → DavFile → List ℕ → Result (Unit {0}) FsError → Store → Type 0
 Writes old file more = Answers (file_call WriteBytes old.contents file.path.key) (λ _. IsWritten file more) old

@@ -1,5 +1,6 @@
 -- What contracts see of a store in memory.
-use Rattle.std.specs.Prelude.{map}
+use Rattle.std.specs.Prelude.{List, map}
+use Rattle.dav_resource.specs.declared.record.Record.{Record}
 use Rattle.dav_store.specs.Logged.{logged_of}
 use Rattle.dav_store.specs.Store.{Store}
 use Rattle.dav_store.specs.Memory.{Memory, seen_of}
@@ -7,6 +8,10 @@ use Rattle.dav_store.specs.declared.memory.MemFs.{MemFs}
 
 abbrev pub memory_of : MemFs → Memory
 memory_of store = record { entries = store.entries.items; version = store.version; moment = store.moment }
+
+-- its records, the oldest first
+abbrev pub records_of : MemFs → List Record
+records_of store = store.log.items
 
 -- as the engine sees it
 abbrev pub store_of : MemFs → Store

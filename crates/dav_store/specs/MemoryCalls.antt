@@ -2,11 +2,13 @@
 use Rattle.std.specs.Prelude.{◌≡◌, ◌≢◌, ℕ, ◌-◌, ◌^◌, ◌==◌, if◌then◌else◌, List, [], ◌∷◌, ◌++◌, Option, Some, None, Result, Ok, Err, ◌⊎◌, IfOk, IfErr}
 use Rattle.std.specs.FinMap.{get}
 use Rattle.dav_resource.specs.Key.{Key, parent}
+use Rattle.dav_resource.specs.PathText.{PathValue}
 use Rattle.dav_resource.specs.declared.meta.OpenOptions.{OpenOptions}
 use Rattle.dav_resource.specs.declared.meta.DavFile.{DavFile}
 use Rattle.dav_resource.specs.declared.error.FsError.{FsError}
 use Rattle.dav_resource.specs.declared.error.FsError.TheVariants as errors
 use Rattle.dav_resource.specs.declared.record.Op.{Op}
+use Rattle.dav_resource.specs.declared.record.Record.{Record}
 use Rattle.dav_resource.specs.declared.record.Outcome.{Outcome}
 use Rattle.dav_resource.specs.declared.record.Outcome.TheVariants.{Granted, Barred, Refused}
 use Rattle.dav_store.specs.Logged.{Logged, logged}
@@ -38,6 +40,15 @@ outcome_of errors.Memory = Barred errors.Memory
 abbrev pub LogsAnswer : {A : Type 0} → Op → List Key → Result A FsError → List Logged → List Logged → Type 0
 LogsAnswer op keys (Ok answer) old new = new ≡ old ++ logged op keys Granted ∷ []
 LogsAnswer op keys (Err e) old new = ((e ≡ errors.Memory) × (new ≡ old)) ⊎ ((e ≢ errors.Memory) × (new ≡ old ++ logged op keys (outcome_of e) ∷ []))
+
+-- the record of a call that was given these paths
+abbrev pub record_on : Op → List PathValue → Outcome → Record
+record_on op paths outcome = record { op = op; paths = paths; outcome = outcome; statuses = [] }
+
+-- what an answer adds to the records, with its paths whole, as they were given; a want of memory adds nothing
+abbrev pub Tells : {A : Type 0} → Op → List PathValue → Result A FsError → List Record → List Record → Type 0
+Tells op paths (Ok answer) old new = new ≡ old ++ record_on op paths Granted ∷ []
+Tells op paths (Err e) old new = ((e ≡ errors.Memory) × (new ≡ old)) ⊎ ((e ≢ errors.Memory) × (new ≡ old ++ record_on op paths (outcome_of e) ∷ []))
 
 -- nothing changes
 abbrev pub kept : Memory → Memory

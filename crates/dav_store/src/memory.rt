@@ -11,7 +11,7 @@ ghost use Rattle.dav_store.specs.Calls.{Looks, MakesDirectory, Opens, Writes, Fl
 ghost use Rattle.dav_store.specs.Memory.{IsSound, tree_of, stored_at, index_of, IsFilePlace, contents_of, made, size_of};
 ghost use Rattle.dav_store.specs.Dump.{IsDump};
 ghost use Rattle.dav_store.specs.Lawful.{is_well_formed};
-ghost use Rattle.dav_store.specs.MemoryCalls.{Gives, LogsAnswer, kept, look_error, change_error, create_dir_error, open_error, opened, file_error, write_error, written};
+ghost use Rattle.dav_store.specs.MemoryCalls.{Gives, LogsAnswer, Tells, kept, look_error, change_error, create_dir_error, open_error, opened, file_error, write_error, written};
 ghost use Rattle.std.proofs.Props.{props};
 ghost use Rattle.dav_store.specs.KeyProps.{IsKey-prop};
 
@@ -35,13 +35,14 @@ pub struct MemFs {
 }
 
 impl MemFs {
-    ghost use Rattle.dav_store.specs.MemFs.{memory_of, store_of};
+    ghost use Rattle.dav_store.specs.MemFs.{memory_of, store_of, records_of};
     ghost use Rattle.dav_store.specs.Memory.{first_memory};
 
     /// A store with the root alone, made at the moment 0, and an empty log. Only memory can be lacking.
     pub fn new(alloc: Global) -> FsResult<MemFs>
         ensures memory { IfOk result (λ store. memory_of store ≡ first_memory) }
         ensures log { IfOk result (λ store. (store_of store).log ≡ []) }
+        ensures records { IfOk result (λ store. records_of store ≡ []) }
         ensures err { IfErr result (λ e. e ≡ FsError.Memory) }
     {
         let mut entries = Vec::new(alloc);
@@ -58,6 +59,7 @@ impl MemFs {
     pub fn set_now(&mut self, now: u64)
         ensures memory { memory_of self.new ≡ record (memory_of self.old) { moment = now } }
         ensures seen { store_of self.new ≡ store_of self.old }
+        ensures records { records_of self.new ≡ records_of self.old }
     {
         self.moment = now;
     }
@@ -82,6 +84,7 @@ impl MemFs {
         ensures answer { result ≡ answer }
         ensures memory { memory_of self.new ≡ memory_of self.old }
         ensures log { LogsAnswer op (map (λ p. p.key) paths) answer (map logged_of self.old.log.items) (map logged_of self.new.log.items) }
+        ensures record { Tells op paths answer self.old.log.items self.new.log.items }
     {
         let outcome = match &answer {
             Ok(_) => Outcome::Granted,
@@ -254,7 +257,7 @@ impl MemFs {
 }
 
 impl<C> GuardedFileSystem<C> for MemFs {
-    ghost use Rattle.dav_store.specs.MemFs.{memory_of, store_of};
+    ghost use Rattle.dav_store.specs.MemFs.{memory_of, store_of, records_of};
 
     ghost seen = { store_of };
 
@@ -263,6 +266,7 @@ impl<C> GuardedFileSystem<C> for MemFs {
     fn metadata(&mut self, path: &DavPath, _credentials: &C) -> FsResult<Meta>
         ensures seen { Looks (store_of self.old) path.now.key result (store_of self.new) }
         ensures memory { Gives (look_error path.now.key (memory_of self.old)) kept (memory_of self.old) result (memory_of self.new) }
+        ensures record { Tells Op.Metadata (path.now ∷ []) result (records_of self.old) (records_of self.new) }
     {
         let paths = self.begin_record(path)?;
         let answer = self.look(path);
@@ -272,6 +276,7 @@ impl<C> GuardedFileSystem<C> for MemFs {
     fn create_dir(&mut self, path: &DavPath, _credentials: &C) -> FsResult<()>
         ensures seen { MakesDirectory (store_of self.old) path.now.key result (store_of self.new) }
         ensures memory { Gives (create_dir_error path.now.key (memory_of self.old)) (made path.now.key Directory) (memory_of self.old) result (memory_of self.new) }
+        ensures record { Tells Op.CreateDir (path.now ∷ []) result (records_of self.old) (records_of self.new) }
     {
         let paths = self.begin_record(path)?;
         let answer = self.make_directory(path);
@@ -281,6 +286,7 @@ impl<C> GuardedFileSystem<C> for MemFs {
     fn open(&mut self, path: &DavPath, options: &OpenOptions, _credentials: &C) -> FsResult<DavFile>
         ensures seen { Opens (store_of self.old) path.now options.now result (store_of self.new) }
         ensures memory { Gives (open_error options.now path.now.key (memory_of self.old)) (opened options.now path.now.key) (memory_of self.old) result (memory_of self.new) }
+        ensures record { Tells Op.OpenFile (path.now ∷ []) result (records_of self.old) (records_of self.new) }
     {
         let paths = self.begin_record(path)?;
         let answer = self.open_file(path, options);
@@ -292,6 +298,7 @@ impl<C> GuardedFileSystem<C> for MemFs {
         ensures written { Writes (store_of self.old) file.old bytes.now result (store_of self.new) }
         ensures place { MatchResult result (λ _. file.new ≡ record file.old { pos = place_of file.old (store_of self.old).contents + length bytes.now }) (λ _. file.new ≡ file.old) }
         ensures memory { Gives (write_error file.old.path.key (memory_of self.old)) (written file.old bytes.now) (memory_of self.old) result (memory_of self.new) }
+        ensures record { Tells Op.WriteBytes (file.old.path ∷ []) result (records_of self.old) (records_of self.new) }
     {
         let paths = self.begin_record(&file.path)?;
         let answer = self.write_file(file, bytes);
@@ -301,6 +308,7 @@ impl<C> GuardedFileSystem<C> for MemFs {
     fn flush(&mut self, file: &DavFile, _credentials: &C) -> FsResult<()>
         ensures seen { Flushes (store_of self.old) file.now.path.key result (store_of self.new) }
         ensures memory { Gives (file_error file.now.path.key (memory_of self.old)) kept (memory_of self.old) result (memory_of self.new) }
+        ensures record { Tells Op.Flush (file.now.path ∷ []) result (records_of self.old) (records_of self.new) }
     {
         let paths = self.begin_record(&file.path)?;
         let answer = self.check_file(file);
@@ -310,6 +318,7 @@ impl<C> GuardedFileSystem<C> for MemFs {
     fn file_metadata(&mut self, file: &DavFile, _credentials: &C) -> FsResult<Meta>
         ensures seen { LooksAtFile (store_of self.old) file.now.path.key result (store_of self.new) }
         ensures memory { Gives (file_error file.now.path.key (memory_of self.old)) kept (memory_of self.old) result (memory_of self.new) }
+        ensures record { Tells Op.FileMetadata (file.now.path ∷ []) result (records_of self.old) (records_of self.new) }
     {
         let paths = self.begin_record(&file.path)?;
         let answer = self.look_at_file(file);
@@ -320,13 +329,17 @@ impl<C> GuardedFileSystem<C> for MemFs {
         false
     }
 
-    fn records(&self) -> &[Record] {
+    fn records(&self) -> &[Record]
+        ensures seen { map logged_of result.now ≡ (store_of self.now).log }
+        ensures records { result.now ≡ records_of self.now }
+    {
         &self.log
     }
 
     fn clear_log(&mut self)
         ensures seen { store_of self.new ≡ record (store_of self.old) { log = [] } }
         ensures memory { memory_of self.new ≡ memory_of self.old }
+        ensures records { records_of self.new ≡ [] }
     {
         self.log.clear();
     }
