@@ -1,3 +1,6 @@
+pub mod Arguments
+pub mod Errors
 pub mod Escape
 pub mod Number
 pub mod Status
+pub mod Texts

@@ -1,5 +1,7 @@
--- The status that the program ends with, by why it ends; this project's own choice.
-use Rattle.std.specs.Prelude.{ℕ}
+-- The status that the program ends with, by why it ends, and what it says then; this project's own choice.
+use Rattle.std.specs.Prelude.{◌≡◌, ℕ, List, [], ◌∷◌, ◌++◌, Option}
+use Rattle.std.specs.Io.KnownBytes.{Appends}
+use Rattle.davrun.specs.Texts.{trouble_text}
 use Rattle.davrun.specs.declared.trouble.Trouble.{Trouble}
 use Rattle.davrun.specs.declared.trouble.Trouble.TheVariants.{Usage, Fault, Stopped}
 
@@ -8,3 +10,11 @@ abbrev pub status_of : Trouble → ℕ
 status_of Usage = 2
 status_of (Fault line fault) = 2
 status_of (Stopped stopped) = 3
+
+-- the trouble's text as a line
+abbrev pub trouble_line : Trouble → List ℕ
+trouble_line trouble = trouble_text trouble ++ (10 ∷ [])
+
+-- what is wrong with what the caller handed in was said, in one line
+abbrev pub SaysFault : Option (List ℕ) → Option (List ℕ) → Type 0
+SaysFault old new = (trouble : Trouble) × (status_of trouble ≡ 2) × Appends old new (trouble_line trouble)

@@ -1,5 +1,10 @@
 //! The program: a script in, replies and what the store holds at the end out.
-ghost use Rattle.std.specs.Prelude.{◌≡◌, ◌⊎◌};
+ghost use Rattle.std.specs.Prelude.{◌≡◌, ◌⊎◌, ◌<◌, length, IfErr, IfOk, IfSome, IsErr, IsErrOf, IsOk, OnOk};
+ghost use Rattle.std.specs.Io.KnownBytes.{Appends, IsAtEnd};
+ghost use Rattle.dav_resource.specs.PathText.{read_prefix};
+ghost use Rattle.dav_resource.specs.Texts.{texts};
+ghost use Rattle.davrun.specs.Arguments.{AreUsable};
+ghost use Rattle.davrun.specs.Status.{SaysFault, trouble_line};
 
 use crate::print::{print_end, print_reply, print_request};
 use crate::script::{Block, read_script};
@@ -13,7 +18,8 @@ use std::io::{Read, Write};
 
 /// Runs the program on its arguments without its name, and gives its status: 0 where the whole script was served,
 /// 2 where the arguments aren't one prefix or none or a line of the script is at fault, 3 where reading, writing
-/// or memory failed. With 2 nothing was served or printed, and with 0 nothing was said in `errors`.
+/// or memory failed. With 2 nothing was served or printed, and one line of `errors` says why; with 0 nothing was
+/// said in `errors`.
 pub fn run_script<I: Read, O: Write, E: Write>(
     alloc: Global,
     arguments: &[String],
@@ -22,8 +28,20 @@ pub fn run_script<I: Read, O: Write, E: Write>(
     errors: &mut E,
 ) -> u8
     ensures status { (result ≡ 0) ⊎ (result ≡ 2) ⊎ (result ≡ 3) }
+
+    // More than one argument: nothing is read, and the usage is said.
+    ensures unread { 1 < length arguments.now → input.new ≡ input.old }
+    ensures usage { 1 < length arguments.now → result ≡ 2
+        → Appends (E.contents errors.old) (E.contents errors.new) (trouble_line Trouble.Usage) }
+
+    // With 0 the arguments were usable, the script was read to its end, and nothing was said.
+    ensures arguments { result ≡ 0 → AreUsable (texts arguments.now) }
+    ensures whole { result ≡ 0 → IsAtEnd (I.remaining input.new) }
     ensures served { result ≡ 0 → errors.new ≡ errors.old }
+
+    // With 2 nothing was printed, and what is at fault was said.
     ensures refused { result ≡ 2 → output.new ≡ output.old }
+    ensures said { result ≡ 2 → SaysFault (E.contents errors.old) (E.contents errors.new) }
 {
     let (prefix, blocks) = match read_all(alloc, arguments, input) {
         Ok(read) => read,
@@ -40,7 +58,11 @@ fn read_all<'a, I: Read>(
     alloc: Global,
     arguments: &'a [String],
     input: &mut I,
-) -> Result<(&'a str, Vec<Block>), Trouble> {
+) -> Result<(&'a str, Vec<Block>), Trouble>
+    ensures usage { 1 < length arguments.now → IsErrOf result Trouble.Usage × (input.new ≡ input.old) }
+    ensures usable { OnOk result (AreUsable (texts arguments.now)) }
+    ensures whole { OnOk result (IsAtEnd (I.remaining input.new)) }
+{
     let prefix = match arguments {
         [] => "",
         [prefix] => prefix.as_str(),
@@ -52,7 +74,10 @@ fn read_all<'a, I: Read>(
 }
 
 /// Whether a prefix can be read: it is empty, or begins with `/` and has segments as a path has them.
-fn check_prefix(alloc: Global, prefix: &str) -> Result<(), Trouble> {
+fn check_prefix(alloc: Global, prefix: &str) -> Result<(), Trouble>
+    ensures ok { OnOk result (IsOk (read_prefix prefix.now)) }
+    ensures err { IfErr result (λ e. (e ≡ Trouble.Stopped Stopped.Memory) ⊎ ((e ≡ Trouble.Usage) × IsErr (read_prefix prefix.now))) }
+{
     match DavPath::from_str_and_prefix(alloc, "/", prefix) {
         // Of a prefix that can be read, the root is below it or not.
         Ok(_) | Err(DavError::IllegalPath) => Ok(()),
@@ -61,7 +86,11 @@ fn check_prefix(alloc: Global, prefix: &str) -> Result<(), Trouble> {
     }
 }
 
-fn read_input<I: Read>(alloc: Global, input: &mut I) -> Result<Vec<u8>, Stopped> {
+/// The bytes that are left of the input, all of them.
+fn read_input<I: Read>(alloc: Global, input: &mut I) -> Result<Vec<u8>, Stopped>
+    ensures bytes { IfOk result (λ script. IfSome (I.remaining input.old) (λ bytes. script.items ≡ bytes)) }
+    ensures whole { OnOk result (IsAtEnd (I.remaining input.new)) }
+{
     let mut script = Vec::new(alloc);
     input.read_to_end(&mut script)?;
     Ok(script)

@@ -144,6 +144,11 @@ impl Block {
 }
 
 impl fmt::Display for Fault {
+    ghost use Rattle.std.specs.Prelude.{Some};
+    ghost use Rattle.davrun.specs.Texts.{fault_text};
+
+    ghost output = { λ fault. Some (fault_text fault) };
+
     fn fmt<W: fmt::Write>(&self, f: &mut fmt::Formatter<W>) -> fmt::Result {
         f.write_str(match self {
             Fault::NotUtf8 => "not UTF-8",
@@ -157,6 +162,10 @@ impl fmt::Display for Fault {
 }
 
 impl From<Fault> for LineError {
+    ghost use Rattle.davrun.specs.declared.script.LineError.TheVariants.{Fault};
+
+    ghost from_gives = { λ fault e. e ≡ Fault fault };
+
     fn from(fault: Fault) -> LineError {
         LineError::Fault(fault)
     }
@@ -183,6 +192,10 @@ impl<T: Drop> From<AllocFailed<T>> for LineError {
 }
 
 impl From<MethodError> for LineError {
+    ghost use Rattle.davrun.specs.Errors.{from_method};
+
+    ghost from_gives = { λ error e. e ≡ from_method error };
+
     fn from(error: MethodError) -> LineError {
         match error {
             MethodError::Invalid => LineError::Fault(Fault::BadRequestLine),
@@ -192,6 +205,10 @@ impl From<MethodError> for LineError {
 }
 
 impl From<HeaderNameError> for LineError {
+    ghost use Rattle.davrun.specs.Errors.{from_name};
+
+    ghost from_gives = { λ error e. e ≡ from_name error };
+
     fn from(error: HeaderNameError) -> LineError {
         match error {
             HeaderNameError::Invalid => LineError::Fault(Fault::BadHeader),
@@ -201,6 +218,10 @@ impl From<HeaderNameError> for LineError {
 }
 
 impl From<HeaderValueError> for LineError {
+    ghost use Rattle.davrun.specs.Errors.{from_value};
+
+    ghost from_gives = { λ error e. e ≡ from_value error };
+
     fn from(error: HeaderValueError) -> LineError {
         match error {
             HeaderValueError::Invalid => LineError::Fault(Fault::BadHeader),
@@ -210,6 +231,10 @@ impl From<HeaderValueError> for LineError {
 }
 
 impl From<HeaderMapError> for LineError {
+    ghost use Rattle.davrun.specs.Errors.{from_map};
+
+    ghost from_gives = { λ error e. e ≡ from_map error };
+
     fn from(error: HeaderMapError) -> LineError {
         match error {
             HeaderMapError::MaxSizeReached => LineError::Fault(Fault::BadHeader),

@@ -1,6 +1,7 @@
 //! Why the program ends without having served a script, and with which status.
-ghost use Rattle.std.specs.Prelude.{◌≡◌, ◌⊎◌};
-ghost use Rattle.davrun.specs.Status.{status_of};
+ghost use Rattle.std.specs.Prelude.{◌≡◌, ◌⊎◌, OnOk};
+ghost use Rattle.std.specs.Io.KnownBytes.{Appends};
+ghost use Rattle.davrun.specs.Status.{status_of, trouble_line};
 
 use crate::script::{Fault, ScriptError};
 use dav_resource::FsError;
@@ -28,7 +29,8 @@ pub enum Trouble {
 /// Says on the standard error why the program ends, and gives its status: 2 for what the caller handed in, 3 for
 /// what stopped it, and 3 where it couldn't be said.
 pub fn report<E: Write>(errors: &mut E, trouble: Trouble) -> u8
-    ensures { (result ≡ 3) ⊎ (result ≡ status_of trouble) }
+    ensures status { (result ≡ 3) ⊎ (result ≡ status_of trouble) }
+    ensures said { result ≡ 2 → Appends (E.contents errors.old) (E.contents errors.new) (trouble_line trouble) }
 {
     if say(errors, trouble).is_err() {
         return 3;
@@ -39,12 +41,20 @@ pub fn report<E: Write>(errors: &mut E, trouble: Trouble) -> u8
     }
 }
 
-fn say<E: Write>(errors: &mut E, trouble: Trouble) -> io::Result<()> {
+/// Writes why the program ends as one line.
+fn say<E: Write>(errors: &mut E, trouble: Trouble) -> io::Result<()>
+    ensures { OnOk result (Appends (E.contents errors.old) (E.contents errors.new) (trouble_line trouble)) }
+{
     writeln!(errors, "{trouble}")?;
     errors.flush()
 }
 
 impl fmt::Display for Trouble {
+    ghost use Rattle.std.specs.Prelude.{Some};
+    ghost use Rattle.davrun.specs.Texts.{trouble_text};
+
+    ghost output = { λ trouble. Some (trouble_text trouble) };
+
     fn fmt<W: fmt::Write>(&self, f: &mut fmt::Formatter<W>) -> fmt::Result {
         match self {
             Trouble::Usage => f.write_str("usage: davrun [PREFIX]"),
@@ -56,6 +66,10 @@ impl fmt::Display for Trouble {
 }
 
 impl From<ScriptError> for Trouble {
+    ghost use Rattle.davrun.specs.Errors.{from_script};
+
+    ghost from_gives = { λ error e. e ≡ from_script error };
+
     fn from(error: ScriptError) -> Trouble {
         match error {
             ScriptError::Fault(line, fault) => Trouble::Fault(line, fault),
@@ -65,12 +79,21 @@ impl From<ScriptError> for Trouble {
 }
 
 impl From<Stopped> for Trouble {
+    ghost use Rattle.davrun.specs.declared.trouble.Trouble.TheVariants.{Stopped};
+
+    ghost from_gives = { λ stopped e. e ≡ Stopped stopped };
+
     fn from(stopped: Stopped) -> Trouble {
         Trouble::Stopped(stopped)
     }
 }
 
 impl From<io::Error> for Stopped {
+    ghost use Rattle.std.specs.IoError.{error_kind};
+    ghost use Rattle.davrun.specs.Errors.{from_kind};
+
+    ghost from_gives = { λ error e. e ≡ from_kind (error_kind error) };
+
     fn from(error: io::Error) -> Stopped {
         match error.kind() {
             io::ErrorKind::OutOfMemory => Stopped::Memory,
@@ -80,12 +103,20 @@ impl From<io::Error> for Stopped {
 }
 
 impl From<AllocError> for Stopped {
+    ghost use Rattle.davrun.specs.declared.trouble.Stopped.TheVariants.{Memory};
+
+    ghost from_gives = { λ _ e. e ≡ Memory };
+
     fn from(_: AllocError) -> Stopped {
         Stopped::Memory
     }
 }
 
 impl<T: Drop> From<AllocFailed<T>> for Stopped {
+    ghost use Rattle.davrun.specs.declared.trouble.Stopped.TheVariants.{Memory};
+
+    ghost from_gives = { λ _ e. e ≡ Memory };
+
     fn from(_: AllocFailed<T>) -> Stopped {
         Stopped::Memory
     }
@@ -93,6 +124,10 @@ impl<T: Drop> From<AllocFailed<T>> for Stopped {
 
 /// A new store, or what it holds, is refused for want of memory alone.
 impl From<FsError> for Stopped {
+    ghost use Rattle.davrun.specs.declared.trouble.Stopped.TheVariants.{Memory};
+
+    ghost from_gives = { λ _ e. e ≡ Memory };
+
     fn from(_: FsError) -> Stopped {
         Stopped::Memory
     }
