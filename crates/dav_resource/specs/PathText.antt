@@ -121,6 +121,12 @@ read_path text prefix =
     if bytes_eq text (codes "*") then Ok star_path
     else on_ok (read_key (path_part text)) (λ key. on_ok (read_prefix prefix) (below_prefix (ends_in_slash (path_part text)) key))
 
+-- the path of this text below a prefix that is read already
+abbrev pub read_path_below : List ℕ → Key → Result PathValue DavError
+read_path_below text prefix =
+    if bytes_eq text (codes "*") then Ok star_path
+    else on_ok (read_key (path_part text)) (λ key. below_prefix (ends_in_slash (path_part text)) key prefix)
+
 -- ---- how it is written
 
 -- letters, digits, `-`, `.`, `_` and `~` (RFC 3986, section 2.3)

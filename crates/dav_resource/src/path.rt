@@ -3,7 +3,7 @@ ghost use Rattle.std.specs.Prelude.{◌≡◌, ◌↔◌, true, ◌||◌, ◌==�
 ghost use Rattle.std.specs.List.{starts_with};
 ghost use Rattle.http_header.specs.FieldValue.{IsFieldValue};
 ghost use Rattle.dav_resource.specs.Gives.{GivesBy};
-ghost use Rattle.dav_resource.specs.PathText.{read_path, url_text, star_path, IsKey, IsSegment};
+ghost use Rattle.dav_resource.specs.PathText.{read_path, read_path_below, url_text, star_path, IsKey, IsSegment};
 ghost use Rattle.dav_resource.specs.PathForms.{root_path, is_collection, resource_path, parent_path, member_path, prefixed, file_name, ReadsBack};
 ghost use Rattle.dav_resource.specs.Mime.{mime_type_of};
 ghost use Rattle.dav_resource.specs.Texts.{texts};
@@ -67,6 +67,27 @@ impl DavPath {
         let text = read::path_part(text);
         let key = read::read_key(alloc, text)?;
         let prefix = read::read_prefix(alloc, prefix)?;
+        read::below_prefix(text.ends_with('/'), key, prefix)
+    }
+
+    /// Reads the path of a URL as `from_str_and_prefix` does, below the prefix of another path.
+    ///
+    /// The errors are those of the text, from left to right, and last `IllegalPath`, where the
+    /// path is not below the prefix. `Memory` may come at any time.
+    pub fn from_str_beside(alloc: Global, text: &str, path: &DavPath) -> DavResult<DavPath>
+        ensures { GivesBy (λ p. p) result (read_path_below text.now path.now.prefix) }
+    {
+        if text == "*" {
+            return Ok(DavPath {
+                star: true,
+                slash: true,
+                prefix: Vec::new(alloc),
+                segments: Vec::new(alloc),
+            });
+        }
+        let text = read::path_part(text);
+        let key = read::read_key(alloc, text)?;
+        let prefix = key::copy_key(alloc, &path.prefix)?;
         read::below_prefix(text.ends_with('/'), key, prefix)
     }
 

@@ -76,6 +76,19 @@ fn refuses_prefixes(rt: HostRuntime) {
 }
 
 #[test]
+fn beside_a_path(rt: HostRuntime) -> Result<(), Fail> {
+    let alloc = rt.alloc();
+    let path = DavPath::from_str_and_prefix(alloc, "/d%61v/x", "/dav")?;
+    let beside = |text: &str| DavPath::from_str_beside(alloc, text, &path);
+    assert_eq!(rt; beside("/dav/a/../b/?x")?.as_url_string()?.as_str(), "/b/");
+    assert!(rt; beside("*")?.is_star());
+    assert!(rt; matches!(beside("/davx"), Err(DavError::IllegalPath)));
+    assert!(rt; matches!(beside("/dav/../.."), Err(DavError::ForbiddenPath)));
+    assert!(rt; matches!(beside("dav"), Err(DavError::InvalidPath)));
+    Ok(())
+}
+
+#[test]
 fn parts(rt: HostRuntime) -> Result<(), Fail> {
     let file = DavPath::from_str_and_prefix(rt.alloc(), "/dav/a/b.txt", "/dav")?;
     assert_eq!(rt; file.file_name_bytes(), b"b.txt".as_slice());
