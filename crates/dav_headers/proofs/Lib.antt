@@ -1,0 +1,9 @@
+pub mod TextLemmas
+pub mod OptionLemmas
+pub mod RepeatedLemmas
+pub mod TagGrammarLemmas
+pub mod TokenLemmas
+pub mod ListLemmas
+pub mod TagListLemmas
+pub mod IfLemmas
+pub mod TagListGrammar

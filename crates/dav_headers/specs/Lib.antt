@@ -1,0 +1,9 @@
+pub mod Values
+pub mod Place
+pub mod Repeated
+pub mod Tag
+pub mod TagList
+pub mod IfToken
+pub mod IfHeader
+pub mod TagGrammar
+pub mod IfGrammar

@@ -1,0 +1,34 @@
+//! Values of headers, as texts.
+ghost use Rattle.std.specs.Prelude.{◌≡◌, option_copied};
+ghost use Rattle.http_header.specs.Token.{lowercase};
+ghost use Rattle.dav_headers.specs.Values.{readable_text, first_text, is_word};
+
+use crate::text::trim_blanks;
+use http_header::{HeaderMap, HeaderValue};
+
+/// The first value of a header, where it is readable, without the blanks at its ends.
+pub(crate) fn first_text<'a>(
+    headers: &'a HeaderMap<HeaderValue>,
+    name: &'static str,
+) -> Option<&'a str>
+    ensures { option_copied result ≡ first_text headers.now (lowercase name.now) }
+{
+    readable_text(headers.get(name)?)
+}
+
+/// A value of tabs and the characters 0x20 to 0x7E, without the blanks at its ends.
+pub(crate) fn readable_text(value: &HeaderValue) -> Option<&str>
+    ensures { option_copied result ≡ readable_text value.now.bytes }
+{
+    match value.to_str() {
+        Ok(text) => Some(trim_blanks(text)),
+        Err(_) => None,
+    }
+}
+
+/// Whether the text is this word, in any ASCII case.
+pub(crate) fn is_word(text: &str, word: &str) -> bool
+    ensures { result ≡ is_word text.now word.now }
+{
+    text.eq_ignore_ascii_case(word)
+}
