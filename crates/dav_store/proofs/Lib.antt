@@ -5,3 +5,4 @@ pub mod Sound
 pub mod Rows
 pub mod Answering
 pub mod Dumps
+pub mod LockLists

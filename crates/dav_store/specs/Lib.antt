@@ -8,3 +8,6 @@ pub mod Dump
 pub mod MemFs
 pub mod KeyProps
 pub mod Lawful
+pub mod Locks
+pub mod LockCalls
+pub mod MemLs

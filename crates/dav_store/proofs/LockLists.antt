@@ -1,0 +1,163 @@
+-- Lists of locks: what a filter and a new lock leave of their distinct tokens, and the place of a lock that is named.
+use Rattle.std.proofs.Common.{◌≡◌, ◌∙◌, ℕ, Bool, true, false, cond, not, List, [], ◌∷◌, ◌++◌, map, Option, Some, None, refl, sym, ap, subst, ◌&&◌, ◌||◌, ◌==◌, ◌<◌, ◌+◌, length, get_or, zero, suc, arith, bytes_eq, IsTrue, ◌↔◌}
+use Rattle.std.proofs.Math.ListN.{set}
+use Rattle.std.proofs.lemmas.List.{map-append}
+use Rattle.std.proofs.lemmas.Iterator.Adapters.{position_from-zero}
+use Rattle.std.proofs.lemmas.Map.Keys.{IsDistinct-head, IsDistinct-tail, IsDistinct-cons, IsDistinct-push}
+use Rattle.std.proofs.lemmas.Slice.Eq.{bytes_eq-Decides, slice_eq-Decides}
+use Rattle.std.proofs.lemmas.Bool.Decides.{same_from_decides, nat_tests}
+use Rattle.std.proofs.lemmas.Cmp.{nat_list_eq_equiv}
+use Rattle.std.specs.Option.{option_map}
+use Rattle.std.specs.List.{IsDistinct, AllByRecursion, filter, find, list_any, position, position_from}
+use Rattle.dav_resource.specs.Key.{Key}
+use Rattle.dav_store.specs.declared.lock.DavLock.{DavLock}
+use Rattle.dav_store.specs.Locks.{is_same_key, is_at_or_below, has_token}
+use Rattle.dav_store.specs.LockCalls.{HasDistinctTokens, is_named, has_named, refreshed, with_refreshed}
+
+-- ---- keys and filters
+
+-- what says whether keys are the same is the test of it
+pub same_key-is : (a b : Key) (r : Bool) → (IsTrue r ↔ (a ≡ b)) → r ≡ is_same_key a b
+same_key-is a b r h = same_from_decides r (is_same_key a b) h (slice_eq-Decides bytes_eq-Decides a b (is_same_key a b) refl)
+
+-- a filter is empty where nothing passes
+pub filter_none : {X : Type 0} (test : X → Bool) (xs : List X) → (length (filter test xs) == 0) ≡ not (list_any test xs)
+filter_none test [] = refl
+filter_none test (x ∷ xs) = elim (test x) as (λ b. (length (cond b (x ∷ filter test xs) (filter test xs)) == 0) ≡ not (b || list_any test xs)) [ true ↦ search (arith, nat_tests) | false ↦ filter_none test xs ]
+
+pub uncovered : (covered each none one : Bool) → each ≡ true → none ≡ not covered → covered ≡ false → not covered ≡ (each && (none || one))
+uncovered covered each none one a b c = rw a (rw b (rw c refl))
+
+pub covered-one : (r covered each none one : Bool) → each ≡ true → none ≡ not covered → covered ≡ true → r ≡ one → r ≡ (each && (none || one))
+covered-one r covered each none one a b c d = rw a (rw b (rw c d))
+
+-- ---- distinct tokens
+
+pub distinct-none : HasDistinctTokens []
+unfolding IsDistinct
+distinct-none = tt
+
+abbrev token_of : DavLock → List ℕ
+token_of lock = lock.token
+
+all-filter : (P : List ℕ → Type 0) (test : DavLock → Bool) (locks : List DavLock) → AllByRecursion P (map token_of locks) → AllByRecursion P (map token_of (filter test locks))
+all-filter P test [] h = h
+all-filter P test (lock ∷ locks) h = elim (test lock) as (λ b. AllByRecursion P (map token_of (cond b (lock ∷ filter test locks) (filter test locks)))) [ true ↦ (h.0, all-filter P test locks h.1) | false ↦ all-filter P test locks h.1 ]
+
+pub distinct-filter : (test : DavLock → Bool) (locks : List DavLock) → HasDistinctTokens locks → HasDistinctTokens (filter test locks)
+distinct-filter test [] h = h
+distinct-filter test (lock ∷ locks) h =
+    let rest = distinct-filter test locks (IsDistinct-tail bytes_eq _ _ h) in
+    elim (test lock) as (λ b. HasDistinctTokens (cond b (lock ∷ filter test locks) (filter test locks))) [
+      | true ↦ IsDistinct-cons bytes_eq lock.token _ (all-filter _ test locks (IsDistinct-head bytes_eq _ _ h)) rest
+      | false ↦ rest
+    ]
+
+any_token : (token : List ℕ) (locks : List DavLock) → list_any (has_token token) locks ≡ list_any (bytes_eq token) (map token_of locks)
+any_token token [] = refl
+any_token token (lock ∷ locks) = ap (λ b. bytes_eq token lock.token || b) (any_token token locks)
+
+-- a lock whose token is free goes behind the others, where it goes in at all
+pub distinct-push : (added : Bool) (locks : List DavLock) (lock : DavLock) → HasDistinctTokens locks → list_any (has_token lock.token) locks ≡ false → HasDistinctTokens (cond added (locks ++ lock ∷ []) locks)
+distinct-push true locks lock distinct free =
+    subst (IsDistinct bytes_eq) (sym (map-append token_of locks (lock ∷ [])))
+    (IsDistinct-push nat_list_eq_equiv (map token_of locks) lock.token distinct (sym (any_token lock.token locks) ∙ free))
+distinct-push false locks lock distinct free = distinct
+
+-- a lock that is granted has a free token
+pub free_token : (taken above below : Bool) → (not taken && above && below) ≡ true → taken ≡ false
+free_token true above below e = absurd cc
+free_token false above below e = refl
+
+-- ---- a lock that is named
+
+-- no lock but that of the token is refreshed
+others_kept : (key : Key) (token : List ℕ) (timeout : Option ℕ) (now : ℕ) (locks : List DavLock) → AllByRecursion (λ t. bytes_eq token t ≡ false) (map token_of locks) → with_refreshed key token timeout now locks ≡ locks
+others_kept key token timeout now [] h = refl
+others_kept key token timeout now (lock ∷ locks) h =
+    ap (λ b. cond (b && is_at_or_below key lock.path.key) (refreshed timeout now lock) lock ∷ with_refreshed key token timeout now locks) h.0
+    ∙ ap (λ more. lock ∷ more) (others_kept key token timeout now locks h.1)
+
+-- a refreshed lock keeps its token
+pub tokens-refreshed : (key : Key) (token : List ℕ) (timeout : Option ℕ) (now : ℕ) (locks : List DavLock) → map token_of (with_refreshed key token timeout now locks) ≡ map token_of locks
+tokens-refreshed key token timeout now [] = refl
+tokens-refreshed key token timeout now (lock ∷ locks) =
+    elim (is_named key token lock) as (λ b. token_of (cond b (refreshed timeout now lock) lock) ∷ map token_of (with_refreshed key token timeout now locks) ≡ lock.token ∷ map token_of locks) [
+      | true ↦ ap (λ ts. lock.token ∷ ts) (tokens-refreshed key token timeout now locks)
+      | false ↦ ap (λ ts. lock.token ∷ ts) (tokens-refreshed key token timeout now locks)
+    ]
+
+-- a lock that is named has the token
+has_it : (token : List ℕ) (lock : DavLock) (at : Bool) → (has_token token lock && at) ≡ true → token ≡ lock.token
+has_it token lock at named = (bytes_eq-Decides token lock.token).0 (first_true (has_token token lock) named)
+  where
+    first_true : (b : Bool) → (b && at) ≡ true → b ≡ true
+    first_true true e = refl
+    first_true false e = absurd cc
+
+-- what the place of a named lock says: it is the first one found, and the one that a refreshing changes
+pub record IsNamedPlace (key : Key) (token : List ℕ) (locks : List DavLock) (i : ℕ) : Type 0 where
+  pub inside : i < length locks
+  pub found : (d : DavLock) → find (is_named key token) locks ≡ Some (get_or locks i d)
+  pub changed : (timeout : Option ℕ) (now : ℕ) (d : DavLock) → with_refreshed key token timeout now locks ≡ set locks i (refreshed timeout now (get_or locks i d))
+
+place_from : (key : Key) (token : List ℕ) (locks : List DavLock) → HasDistinctTokens locks → (n i : ℕ) → position_from (is_named key token) n locks ≡ Some i → (j : ℕ) × (i ≡ n + j) × IsNamedPlace key token locks j
+place_from key token [] distinct n i e = absurd cc
+place_from key token (lock ∷ locks) distinct n i is =
+    elim (is_named key token lock) as (λ b. is_named key token lock ≡ b → cond b (Some n) (position_from (is_named key token) (n + 1) locks) ≡ Some i → (j : ℕ) × (i ≡ n + j) × IsNamedPlace key token (lock ∷ locks) j) [
+      | true ↦ λ t e. (
+        zero,
+        (let same : n ≡ i = cc in omega arith),
+        record {
+          inside = omega arith;
+          found = λ d. ap (λ b. cond b (Some lock) (find (is_named key token) locks)) t;
+          changed = λ timeout now d.
+              ap (λ b. cond b (refreshed timeout now lock) lock ∷ with_refreshed key token timeout now locks) t
+              ∙ ap (λ more. refreshed timeout now lock ∷ more) (others_kept key token timeout now locks (
+              let P : List ℕ → Type 0 = λ k. AllByRecursion (λ other. bytes_eq k other ≡ false) (map token_of locks) in
+              subst P (sym (has_it token lock (is_at_or_below key lock.path.key) t)) (IsDistinct-head bytes_eq lock.token (map token_of locks) distinct)));
+        },
+      )
+      | false ↦ λ t e. later t (place_from key token locks (IsDistinct-tail bytes_eq lock.token (map token_of locks) distinct) (n + 1) i e)
+    ] refl is
+  where
+    later : is_named key token lock ≡ false → (j : ℕ) × (i ≡ n + 1 + j) × IsNamedPlace key token locks j → (j : ℕ) × (i ≡ n + j) × IsNamedPlace key token (lock ∷ locks) j
+    later t (j, at, place) = (
+      suc j,
+      omega arith,
+      record {
+        inside = let h = place.inside in omega arith;
+        found = λ d. ap (λ b. cond b (Some lock) (find (is_named key token) locks)) t ∙ place.found d;
+        changed = λ timeout now d. ap (λ b. cond b (refreshed timeout now lock) lock ∷ with_refreshed key token timeout now locks) t ∙ ap (λ more. lock ∷ more) (place.changed timeout now d);
+      },
+    )
+
+pub named_place : (key : Key) (token : List ℕ) (locks : List DavLock) (r : Option ℕ) (i : ℕ) → HasDistinctTokens locks → r ≡ position (is_named key token) locks → r ≡ Some i → IsNamedPlace key token locks i
+named_place key token locks r i distinct is e =
+    let (j, at, place) = place_from key token locks distinct zero i (sym (position_from-zero (is_named key token) locks) ∙ sym is ∙ e) in
+    subst (IsNamedPlace key token locks) (let back : j ≡ i = omega arith in back) place
+
+-- no place: no lock is named
+pub none_named : (key : Key) (token : List ℕ) (locks : List DavLock) → position (is_named key token) locks ≡ None → has_named key token locks ≡ false
+none_named key token locks e = none_from locks zero (sym (position_from-zero (is_named key token) locks) ∙ e)
+  where
+    none_from : (locks : List DavLock) (n : ℕ) → position_from (is_named key token) n locks ≡ None → list_any (is_named key token) locks ≡ false
+    none_from [] n e = refl
+    none_from (lock ∷ locks) n is =
+        elim (is_named key token lock) as (λ b. cond b (Some n) (position_from (is_named key token) (n + 1) locks) ≡ None → (b || list_any (is_named key token) locks) ≡ false) [
+          | true ↦ λ e. absurd cc
+          | false ↦ λ e. none_from locks (n + 1) e
+        ] is
+
+-- the lock at that place is refreshed, with a lock that is refreshed from the one that stood there
+pub refreshed-set : (key : Key) (token : List ℕ) (timeout : Option ℕ) (now : ℕ) (locks : List DavLock) (i : ℕ) (d new : DavLock) → IsNamedPlace key token locks i → d ≡ get_or locks i d → new ≡ refreshed timeout now d
+    → set locks i new ≡ with_refreshed key token timeout now locks
+refreshed-set key token timeout now locks i d new place read is = ap (set locks i) (is ∙ ap (refreshed timeout now) read) ∙ sym (place.changed timeout now d)
+
+pub distinct-refreshed : (key : Key) (token : List ℕ) (timeout : Option ℕ) (now : ℕ) (old new : List DavLock) → HasDistinctTokens old → new ≡ with_refreshed key token timeout now old → HasDistinctTokens new
+distinct-refreshed key token timeout now old new distinct is = subst (IsDistinct bytes_eq) (sym (ap (map token_of) is ∙ tokens-refreshed key token timeout now old)) distinct
+
+pub found-refreshed : (key : Key) (token : List ℕ) (timeout : Option ℕ) (now : ℕ) (locks : List DavLock) (i : ℕ) (d copy lock : DavLock) → IsNamedPlace key token locks i → d ≡ get_or locks i d → copy ≡ d → lock ≡ refreshed timeout now copy
+    → option_map (refreshed timeout now) (find (is_named key token) locks) ≡ Some lock
+found-refreshed key token timeout now locks i d copy lock place read same is =
+    ap (option_map (refreshed timeout now)) (place.found d) ∙ ap (λ l. Some (refreshed timeout now l)) (sym read ∙ sym same) ∙ ap Some (sym is)

@@ -1,0 +1,5 @@
+use Rattle.dav_store.proofs.LockLists.{distinct-filter}
+use Rattle.dav_store.proofs.memory_locks.MemLsDavLockSystem.unlock.Goals as goal
+
+pub invariant_of-self : goal.invariant_of-self
+invariant_of-self c = record { distinct_tokens = rw c.remove_named.ensures (distinct-filter _ c.args.self.now.locks.items c.args.self.now.distinct_tokens) }

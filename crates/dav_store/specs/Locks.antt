@@ -1,0 +1,69 @@
+-- Locks (RFC 4918, section 6): what a lock covers, which locks conflict, whether a request may go on, and whether a lock is granted.
+use Rattle.std.specs.Prelude.{ℕ, Bool, not, ◌&&◌, ◌||◌, bytes_eq, if◌then◌else◌, List, length, ◌==◌, Option}
+use Rattle.std.specs.List.{filter, list_all, list_any, starts_with}
+use Rattle.std.specs.Cmp.Lexicographic.{pointwise}
+use Rattle.std.specs.Option.{option_eq}
+use Rattle.dav_resource.specs.Key.{Key}
+use Rattle.dav_store.specs.declared.lock.DavLock.{DavLock}
+
+-- what contracts see of a lock system: its locks, the oldest first, and whether it removes a lock each time that it is told to
+pub record Locks : Type 0 where
+  pub list : List DavLock
+  pub dependable : Bool
+
+-- ---- where a lock stands
+
+abbrev pub is_same_key : Key → Key → Bool
+is_same_key = pointwise bytes_eq
+
+abbrev pub is_at_or_below : Key → Key → Bool
+is_at_or_below key above = starts_with bytes_eq key above
+
+-- it covers its own key, and where it is deep all keys below
+abbrev pub covers : DavLock → Key → Bool
+covers lock key = if lock.deep then is_at_or_below key lock.path.key else is_same_key key lock.path.key
+
+-- the locks that cover a key
+abbrev pub covering : List DavLock → Key → List DavLock
+covering locks key = filter (λ lock. covers lock key) locks
+
+-- the locks whose own keys are a key or below it
+abbrev pub at_or_below : List DavLock → Key → List DavLock
+at_or_below locks key = filter (λ lock. is_at_or_below lock.path.key key) locks
+
+-- the others
+abbrev pub elsewhere : List DavLock → Key → List DavLock
+elsewhere locks key = filter (λ lock. not (is_at_or_below lock.path.key key)) locks
+
+-- ---- whether a request may go on
+
+-- its token is among those given, and its principal is the given one, unless that is ignored
+abbrev pub is_submitted : Option (List ℕ) → Bool → List (List ℕ) → DavLock → Bool
+is_submitted principal ignore_principal tokens lock =
+    list_any (bytes_eq lock.token) tokens && (ignore_principal || option_eq bytes_eq lock.principal principal)
+
+-- each exclusive lock that covers the key is submitted and, where any lock covers it, one is
+abbrev pub permits_at : List DavLock → (DavLock → Bool) → Bool
+permits_at cover submitted = list_all (λ lock. lock.shared || submitted lock) cover && (length cover == 0 || list_any submitted cover)
+
+-- for a deep request each lock at the key or below it is submitted too
+abbrev pub permits : List DavLock → Key → Option (List ℕ) → Bool → Bool → List (List ℕ) → Bool
+permits locks key principal ignore_principal deep tokens =
+    permits_at (covering locks key) (is_submitted principal ignore_principal tokens)
+    && (not deep || list_all (is_submitted principal ignore_principal tokens) (at_or_below locks key))
+
+-- ---- whether a lock is granted
+
+-- unless both are shared
+abbrev pub conflicts : DavLock → DavLock → Bool
+conflicts a b = not (a.shared && b.shared)
+
+abbrev pub has_token : List ℕ → DavLock → Bool
+has_token token lock = bytes_eq token lock.token
+
+-- its token is free, and it conflicts with no lock that covers its key nor, where it is deep, with one at its key or below it
+abbrev pub grants : List DavLock → DavLock → Bool
+grants locks lock =
+    not (list_any (has_token lock.token) locks)
+    && not (list_any (conflicts lock) (covering locks lock.path.key))
+    && not (lock.deep && list_any (conflicts lock) (at_or_below locks lock.path.key))

@@ -1,0 +1,194 @@
+//! Locks on resources (RFC 4918, section 6).
+ghost use Rattle.std.specs.Prelude.{◌≡◌, IfOk, bytes_eq};
+ghost use Rattle.std.specs.List.{list_any};
+ghost use Rattle.std.specs.Option.{option_copied, option_eq};
+ghost use Rattle.dav_store.specs.Locks.{covers, is_at_or_below, is_submitted, conflicts, has_token};
+ghost use Rattle.dav_store.specs.LockCalls.{timeout_end, is_named, refreshed};
+
+use dav_resource::{DavPath, Element, Text};
+use std::alloc::{AllocError, AllocFailed};
+use thiserror::Error;
+
+/// A write lock (RFC 4918, section 7), which covers its path's key and, where it is deep, all keys below.
+#[derive(Drop, Debug)]
+pub struct DavLock {
+    /// The lock token (RFC 4918, section 6.5).
+    pub token: Text,
+    /// The path that was locked (RFC 4918, section 14.12).
+    pub path: DavPath,
+    /// Who locked it, where that is known.
+    pub principal: Option<Text>,
+    /// What the client said of who holds it (RFC 4918, section 14.17).
+    pub owner: Option<Element>,
+    /// How long it was asked for, in seconds (RFC 4918, section 10.7); none is without end.
+    pub timeout: Option<u64>,
+    /// When that time has passed, in whole seconds since 1970, at most the greatest `u64`.
+    pub timeout_at: Option<u64>,
+    /// Whether others may hold shared locks too (RFC 4918, section 6.2).
+    pub shared: bool,
+    /// Whether it covers all keys below (RFC 4918, section 7.4).
+    pub deep: bool,
+}
+
+impl DavLock {
+    /// A value of the same contents. Only memory can be lacking.
+    pub fn clone(&self) -> Result<DavLock, AllocError>
+        ensures { IfOk result (λ copy. copy ≡ self.now) }
+    {
+        Ok(DavLock {
+            token: self.token.clone()?,
+            path: self.path.clone()?,
+            principal: clone_principal(&self.principal)?,
+            owner: clone_owner(&self.owner)?,
+            timeout: self.timeout,
+            timeout_at: self.timeout_at,
+            shared: self.shared,
+            deep: self.deep,
+        })
+    }
+
+    /// Whether it covers what stands at the path.
+    pub(crate) fn covers(&self, path: &DavPath) -> bool
+        ensures { result ≡ covers self.now path.now.key }
+    {
+        if self.deep {
+            path.is_at_or_below(&self.path)
+        } else {
+            path.same_key(&self.path)
+        }
+    }
+
+    /// Whether its own path is at this one or below it.
+    pub(crate) fn is_at_or_below(&self, path: &DavPath) -> bool
+        ensures { result ≡ is_at_or_below self.now.path.key path.now.key }
+    {
+        self.path.is_at_or_below(path)
+    }
+
+    /// Whether its token is among these and, unless that is ignored, its principal is this one.
+    pub(crate) fn is_submitted(
+        &self,
+        principal: Option<&str>,
+        ignore_principal: bool,
+        tokens: &[Text],
+    ) -> bool
+        ensures { result ≡ is_submitted (option_copied principal.entry) ignore_principal tokens.now self.now }
+    {
+        self.is_among(tokens) && (ignore_principal || is_text(&self.principal, principal))
+    }
+
+    /// Whether its token is among these.
+    fn is_among(&self, tokens: &[Text]) -> bool
+        ensures { result ≡ list_any (bytes_eq self.now.token) tokens.now }
+    {
+        tokens
+            .iter()
+            .any(|token| self.token.as_str() == token.as_str())
+    }
+
+    /// Whether it can't stand beside the other.
+    pub(crate) fn conflicts(&self, other: &DavLock) -> bool
+        ensures { result ≡ conflicts self.now other.now }
+    {
+        !(self.shared && other.shared)
+    }
+
+    /// Whether it has this token.
+    pub(crate) fn has_token(&self, token: &str) -> bool
+        ensures { result ≡ has_token token.now self.now }
+    {
+        token == self.token.as_str()
+    }
+
+    /// Whether it has this token and stands at the path or above it.
+    pub(crate) fn is_named(&self, path: &DavPath, token: &str) -> bool
+        ensures { result ≡ is_named path.now.key token.now self.now }
+    {
+        self.has_token(token) && path.is_at_or_below(&self.path)
+    }
+
+    /// Gives it a timeout that begins now.
+    pub(crate) fn refresh(&mut self, timeout: Option<u64>, now: u64)
+        ensures { self.new ≡ refreshed timeout now self.old }
+    {
+        self.timeout = timeout;
+        self.timeout_at = timeout_end(now, timeout);
+    }
+}
+
+/// When a timeout that begins now has passed.
+pub(crate) fn timeout_end(now: u64, timeout: Option<u64>) -> Option<u64>
+    ensures { result ≡ timeout_end now timeout }
+{
+    timeout.map(|seconds| now.saturating_add(seconds))
+}
+
+/// Whether both are none, or one text.
+fn is_text(text: &Option<Text>, other: Option<&str>) -> bool
+    ensures { result ≡ option_eq bytes_eq text.now (option_copied other.entry) }
+{
+    match (text, other) {
+        (Some(text), Some(other)) => text.as_str() == other,
+        (None, None) => true,
+        _ => false,
+    }
+}
+
+/// The same principal again, where there is one.
+fn clone_principal(principal: &Option<Text>) -> Result<Option<Text>, AllocError>
+    ensures { IfOk result (λ copy. copy ≡ principal.now) }
+{
+    match principal {
+        Some(principal) => Ok(Some(principal.clone()?)),
+        None => Ok(None),
+    }
+}
+
+/// The same owner again, where there is one.
+fn clone_owner(owner: &Option<Element>) -> Result<Option<Element>, AllocError>
+    ensures { IfOk result (λ copy. copy ≡ owner.now) }
+{
+    match owner {
+        Some(owner) => Ok(Some(owner.clone()?)),
+        None => Ok(None),
+    }
+}
+
+/// Why a lock system refused a call.
+#[derive(Clone, Copy, Debug, PartialEq, Eq, Error)]
+pub enum LockError {
+    /// Another lock stands against it, or has the token already.
+    #[error("a lock conflicts")]
+    Conflict,
+    /// No lock there has the token.
+    #[error("no such lock")]
+    NotFound,
+    /// The lock system failed.
+    #[error("the lock system failed")]
+    Failed,
+    /// Memory was lacking, and nothing happened.
+    #[error("out of memory")]
+    Memory,
+}
+
+/// Want of memory.
+impl From<AllocError> for LockError {
+    ghost use Rattle.dav_store.specs.declared.lock.LockError.TheVariants.{Memory};
+
+    ghost from_gives = { λ _ e. e ≡ Memory };
+
+    fn from(_: AllocError) -> LockError {
+        LockError::Memory
+    }
+}
+
+/// Want of memory.
+impl<T: Drop> From<AllocFailed<T>> for LockError {
+    ghost use Rattle.dav_store.specs.declared.lock.LockError.TheVariants.{Memory};
+
+    ghost from_gives = { λ _ e. e ≡ Memory };
+
+    fn from(_: AllocFailed<T>) -> LockError {
+        LockError::Memory
+    }
+}

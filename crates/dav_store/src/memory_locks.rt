@@ -1,0 +1,155 @@
+//! A lock system in memory.
+ghost use Rattle.std.specs.Prelude.{◌≡◌, false, [], IfOk, IfErr, OnOk, OnErr};
+ghost use Rattle.std.specs.Option.{option_copied};
+ghost use Rattle.dav_store.specs.LockCalls.{HasDistinctTokens, RemovesLock, has_named, RemovesLocks};
+ghost use Rattle.std.proofs.Props.{props};
+ghost use Rattle.std.specs.List.{IsDistinct-prop};
+
+mod list;
+
+use crate::lock::timeout_end;
+use crate::{DavLock, DavLockSystem, LockError};
+use dav_resource::{DavPath, Element, Items, Text};
+use std::alloc::{AllocError, Global};
+
+/// A lock system in memory. It is dependable, and `unlock` and `delete` take no memory.
+#[derive(Debug, Drop)]
+pub struct MemLs {
+    locks: Vec<DavLock>,
+    ghost distinct_tokens: { HasDistinctTokens locks.items } by { Prim.hlevel (props, IsDistinct-prop) },
+}
+
+impl MemLs {
+    ghost use Rattle.dav_store.specs.MemLs.{list_of};
+
+    /// A lock system without a lock.
+    pub fn new(alloc: Global) -> MemLs
+        ensures { list_of result ≡ [] }
+    {
+        MemLs {
+            locks: Vec::new(alloc),
+        }
+    }
+
+    /// The locks, the oldest first.
+    pub fn locks(&self) -> &[DavLock]
+        ensures { result.now ≡ list_of self.now }
+    {
+        &self.locks
+    }
+}
+
+impl DavLockSystem for MemLs {
+    ghost use Rattle.dav_store.specs.MemLs.{list_of, locks_of};
+
+    ghost seen = { locks_of };
+
+    ghost distinct = { λ system. system.distinct_tokens };
+
+    fn check(
+        &self,
+        path: &DavPath,
+        principal: Option<&str>,
+        ignore_principal: bool,
+        deep: bool,
+        tokens: &[Text],
+    ) -> bool {
+        list::permits_at(&self.locks, path, principal, ignore_principal, tokens)
+            && (!deep
+                || list::permits_below(&self.locks, path, principal, ignore_principal, tokens))
+    }
+
+    fn lock(
+        &mut self,
+        path: &DavPath,
+        principal: Option<&str>,
+        owner: Option<&Element>,
+        timeout: Option<u64>,
+        shared: bool,
+        deep: bool,
+        token: &str,
+        now: u64,
+    ) -> Result<DavLock, LockError> {
+        let alloc = *self.locks.allocator();
+        let lock = DavLock {
+            token: Text::from_string(String::from_str(alloc, token)?),
+            path: path.clone()?,
+            principal: copy_principal(alloc, principal)?,
+            owner: copy_owner(owner)?,
+            timeout,
+            timeout_at: timeout_end(now, timeout),
+            shared,
+            deep,
+        };
+        if !list::grants(&self.locks, &lock) {
+            return Err(LockError::Conflict);
+        }
+        let copy = lock.clone()?;
+        self.locks.push(lock)?;
+        Ok(copy)
+    }
+
+    fn unlock(&mut self, path: &DavPath, token: &str) -> Result<(), LockError>
+        ensures removed { OnOk result (RemovesLock path.now.key token.now (locks_of self.old) (locks_of self.new)) }
+        ensures err { OnErr result (locks_of self.new ≡ locks_of self.old) }
+        ensures cause { IfErr result (λ e. (e ≡ LockError.NotFound) × (has_named path.now.key token.now (list_of self.old) ≡ false)) }
+    {
+        if !list::has_named(&self.locks, path, token) {
+            return Err(LockError::NotFound);
+        }
+        list::remove_named(&mut self.locks, path, token);
+        Ok(())
+    }
+
+    fn refresh(
+        &mut self,
+        path: &DavPath,
+        token: &str,
+        timeout: Option<u64>,
+        now: u64,
+    ) -> Result<DavLock, LockError> {
+        let Some(index) = list::named_index(&self.locks, path, token) else {
+            return Err(LockError::NotFound);
+        };
+        let mut copy = self.locks[index].clone()?;
+        copy.refresh(timeout, now);
+        self.locks[index].refresh(timeout, now);
+        Ok(copy)
+    }
+
+    fn discover(&self, path: &DavPath) -> Result<Items<DavLock>, LockError> {
+        let found = list::copy_covering(*self.locks.allocator(), &self.locks, path)?;
+        Ok(Items::from_vec(found))
+    }
+
+    fn delete(&mut self, path: &DavPath) -> Result<(), LockError>
+        ensures removed { RemovesLocks path.now.key (locks_of self.old) (locks_of self.new) }
+        ensures ok { result ≡ Ok tt }
+    {
+        list::remove_below(&mut self.locks, path);
+        Ok(())
+    }
+}
+
+/// The principal of a lock, where there is one.
+fn copy_principal(alloc: Global, principal: Option<&str>) -> Result<Option<Text>, AllocError>
+    ensures { IfOk result (λ copy. copy ≡ option_copied principal.entry) }
+{
+    match principal {
+        Some(principal) => Ok(Some(Text::from_string(String::from_str(alloc, principal)?))),
+        None => Ok(None),
+    }
+}
+
+/// The owner of a lock, where there is one.
+fn copy_owner(owner: Option<&Element>) -> Result<Option<Element>, AllocError>
+    ensures { IfOk result (λ copy. copy ≡ option_copied owner.entry) }
+{
+    match owner {
+        Some(owner) => Ok(Some(owner.clone()?)),
+        None => Ok(None),
+    }
+}
+
+#[cfg(test)]
+mod tests;
