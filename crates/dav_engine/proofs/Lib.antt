@@ -1,8 +1,9 @@
-pub mod Dialogues
 pub mod FieldText
 pub mod Granting
+pub mod Guarding
 pub mod Headers
 pub mod HttpDate
+pub mod Judging
 pub mod Making
 pub mod PutHeaders
 pub mod Putting

@@ -1,23 +1,24 @@
 -- The work of MKCOL.
-use Rattle.std.proofs.Common.{◌≡◌, [], ◌∷◌, Ok, Err, Some, Option, ◌⊎◌, inl, inr, refl, sym, append-nil}
-use Rattle.dav_resource.specs.declared.meta.Meta.{Meta}
+use Rattle.std.proofs.Common.{◌≡◌, [], ◌∷◌, Ok, Err, ◌⊎◌, inl, inr, refl, sym, append-nil}
 use Rattle.dav_resource.specs.declared.record.Outcome.TheVariants as outcomes
 use Rattle.dav_resource.specs.declared.error.FsError.{FsError}
 use Rattle.dav_resource.specs.declared.error.FsError.TheVariants as fs_errors
 use Rattle.dav_resource.specs.declared.error.DavError.TheVariants as dav_errors
-use Rattle.dav_resource.specs.declared.method.DavMethod.TheVariants.{MkCol}
 use Rattle.dav_resource.specs.declared.request.DavRequest.{DavRequest}
 use Rattle.dav_store.specs.Store.{Store}
 use Rattle.dav_store.specs.Calls.{record_of, Grants, Declines, create_dir_call, IsMadeAt}
-use Rattle.dav_engine.specs.Reply.{Reply}
-use Rattle.dav_engine.specs.Mkcol.{mkcol_error, mkcol_reply}
-use Rattle.dav_engine.specs.Step.{Works}
-use Rattle.dav_engine.proofs.Dialogues.{unlike, needs-declined}
+use Rattle.dav_engine.specs.Reply.{Reply, Answer}
+use Rattle.dav_engine.specs.Mkcol.{mkcol_error, mkcol_reply, MkcolWork, MkcolCut}
+use Rattle.dav_engine.specs.Step.{WorksOnStore}
+use Rattle.dav_parts.specs.Dialogues.{unlike, needs-declined}
 use Rattle.dav_engine.proofs.Granting.{not_granted}
 
-module _ (request : DavRequest) (found : Option Meta) where
+module _ (request : DavRequest) where
+  abbrev pub MakesCollection : Store → Answer → Store → Type 0
+  MakesCollection = WorksOnStore (MkcolWork request) MkcolCut
+
   -- no memory, and nothing happened
-  pub works_cut : (store : Store) → Works (Some MkCol) request found store (Err dav_errors.Memory) store
+  pub works_cut : (store : Store) → MakesCollection store (Err dav_errors.Memory) store
   works_cut store = record {
     records = [];
     told = sym (append-nil store.log);
@@ -27,7 +28,7 @@ module _ (request : DavRequest) (found : Option Meta) where
 
   -- the call isn't granted
   pub works_declined : (e : FsError) (old new : Store) → ((e ≡ fs_errors.Memory) × (new ≡ old)) ⊎ Declines (create_dir_call old.contents request.path.key) e old new
-      → Works (Some MkCol) request found old (Err (mkcol_error e)) new
+      → MakesCollection old (Err (mkcol_error e)) new
   works_declined e old new (inl h) = rw (h.0, h.1) (works_cut old)
   works_declined e old new (inr h) = record {
     records = record_of (create_dir_call old.contents request.path.key) h.outcome ∷ [];
@@ -41,7 +42,7 @@ module _ (request : DavRequest) (found : Option Meta) where
 
   -- the call is granted
   pub works_made : (old new : Store) (reply : Reply) → Grants (create_dir_call old.contents request.path.key) (IsMadeAt request.path.key) old new → reply ≡ mkcol_reply request.path
-      → Works (Some MkCol) request found old (Ok reply) new
+      → MakesCollection old (Ok reply) new
   works_made old new reply h is = record {
     records = record_of (create_dir_call old.contents request.path.key) outcomes.Granted ∷ [];
     told = h.told;

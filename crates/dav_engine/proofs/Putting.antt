@@ -12,7 +12,6 @@ use Rattle.dav_resource.specs.declared.error.FsError.{FsError}
 use Rattle.dav_resource.specs.declared.error.FsError.TheVariants as fs_errors
 use Rattle.dav_resource.specs.declared.error.DavError.{DavError}
 use Rattle.dav_resource.specs.declared.error.DavError.TheVariants as dav_errors
-use Rattle.dav_resource.specs.declared.method.DavMethod.TheVariants.{Put}
 use Rattle.dav_resource.specs.declared.request.ReqBody.{ReqBody}
 use Rattle.dav_resource.specs.declared.request.DavRequest.{DavRequest}
 use Rattle.dav_store.specs.Logged.{Logged}
@@ -20,13 +19,13 @@ use Rattle.dav_store.specs.Store.{Store, Contents, File}
 use Rattle.dav_store.specs.Calls.{Call, record_of, IsLawful, Grants, Declines, open_call, IsOpened, file_call, file_bar, written_at, bytes_at, Flushes, IsWritten}
 use Rattle.http.specs.declared.response.Response.{Response}
 use Rattle.dav_resource.specs.declared.request.Body.{Body}
-use Rattle.dav_engine.specs.Reply.{reply_of, answer_of}
+use Rattle.dav_engine.specs.Reply.{Answer, reply_of, answer_of}
 use Rattle.dav_engine.specs.PutReply.{put_reply}
-use Rattle.dav_engine.specs.Dialogue.{Dialogue, Refuses, Passed, GoesOn, needs, if_granted, LeadsTo, EndsIn, Judges, WasGranted}
-use Rattle.dav_engine.specs.Put.{body_bytes, new_bytes, put_body, body_verdict, put_options, put_open_error, on_file, put_write, look_by, put_steps, PutLeaves, WritesBody, look_at_file}
-use Rattle.dav_engine.specs.Step.{Works}
+use Rattle.dav_parts.specs.Dialogue.{Dialogue, Refuses, Passed, GoesOn, needs, if_granted, LeadsTo, EndsIn, Judges, WasGranted}
+use Rattle.dav_engine.specs.Put.{body_bytes, new_bytes, put_body, body_verdict, put_options, put_open_error, on_file, put_write, look_by, put_steps, PutLeaves, PutWork, PutCut, WritesBody, look_at_file}
+use Rattle.dav_engine.specs.Step.{WorksOnStore}
 use Rattle.dav_engine.proofs.Granting.{not_granted, not_this_op, WasGranted-first, WasGranted-either}
-use Rattle.dav_engine.proofs.Dialogues.{LeadsTo-more, unlike, needs-declined}
+use Rattle.dav_parts.specs.Dialogues.{LeadsTo-more, unlike, needs-declined}
 use Rattle.dav_engine.proofs.Trees.{get-inserted, insert-inserted}
 
 -- ---- the rules
@@ -57,6 +56,9 @@ written_at-start (b ∷ bytes) = ap (λ rest. (b ∷ bytes) ++ rest) (drop-nil (
 module _ (request : DavRequest) where
   abbrev place : Key
   place = request.path.key
+
+  abbrev pub PutWorks : Option Meta → Store → Answer → Store → Type 0
+  PutWorks found = WorksOnStore (PutWork request found) (PutCut request)
 
   -- what is left to be asked after the write
   abbrev last_steps : Option Meta → Dialogue (Option Meta)
@@ -99,7 +101,7 @@ module _ (request : DavRequest) where
   -- ---- want of memory, and refusals
 
   -- no call was made
-  pub works_unopened : (found : Option Meta) (store : Store) → Works (Some Put) request found store (Err dav_errors.Memory) store
+  pub works_unopened : (found : Option Meta) (store : Store) → PutWorks found store (Err dav_errors.Memory) store
   works_unopened found store = record {
     records = [];
     told = sym (append-nil store.log);
@@ -108,21 +110,21 @@ module _ (request : DavRequest) where
   }
 
   -- the file isn't opened
-  pub works_declined : (found : Option Meta) (e : FsError) (old new : Store) → ((e ≡ fs_errors.Memory) × (new ≡ old)) ⊎ Declines (open_call old.contents place put_options) e old new
-      → Works (Some Put) request found old (Err (put_open_error e)) new
+  pub works_declined : (found : Option Meta) (e : FsError) (old new : Store) → ((e ≡ fs_errors.Memory) × (new ≡ old)) ⊎ Declines (open_call old.contents place (put_options request)) e old new
+      → PutWorks found old (Err (put_open_error (put_options request) e)) new
   works_declined found e old new (inl h) = rw (h.0, h.1) (works_unopened found old)
   works_declined found e old new (inr h) = record {
-    records = record_of (open_call old.contents place put_options) h.outcome ∷ [];
+    records = record_of (open_call old.contents place (put_options request)) h.outcome ∷ [];
     told = h.told;
     fixed = h.fixed;
     done = inl (record {
-      answered = needs-declined (open_call old.contents place put_options) put_open_error _ e h.outcome h.cause h.lawful;
+      answered = needs-declined (open_call old.contents place (put_options request)) (put_open_error (put_options request)) _ e h.outcome h.cause h.lawful;
       leaves = record { untouched = λ _. h.same; emptied = λ g. absurd (not_granted OpenFile place _ g (unlike e h.outcome h.cause)); written = λ g. absurd (not_this_op WriteBytes place _ g (λ x. cc)) };
     });
   }
 
   -- memory ran out on the way
-  pub works_cut : (found : Option Meta) (old now : Store) (left : Option Meta → Dialogue (Option Meta)) → ((meta : Option Meta) → GoesOn (left meta)) → Reached old now left → Works (Some Put) request found old (Err dav_errors.Memory) now
+  pub works_cut : (found : Option Meta) (old now : Store) (left : Option Meta → Dialogue (Option Meta)) → ((meta : Option Meta) → GoesOn (left meta)) → Reached old now left → PutWorks found old (Err dav_errors.Memory) now
   works_cut found old now left goes_on h = record {
     records = h.records;
     told = h.told;
@@ -132,7 +134,7 @@ module _ (request : DavRequest) where
 
   -- a call on the file isn't granted
   pub works_stopped : (found : Option Meta) (op : Op) (old mid now : Store) (next : Option Meta → Dialogue (Option Meta)) (e : FsError) → Reached old mid (λ meta. needs (on_file op place) from_fs (next meta))
-      → ((e ≡ fs_errors.Memory) × (now ≡ mid)) ⊎ Declines (file_call op mid.contents place) e mid now → Works (Some Put) request found old (Err (from_fs e)) now
+      → ((e ≡ fs_errors.Memory) × (now ≡ mid)) ⊎ Declines (file_call op mid.contents place) e mid now → PutWorks found old (Err (from_fs e)) now
   works_stopped found op old mid now next e h (inl m) = rw (m.0, m.1) (works_cut found old mid _ (λ _. tt) h)
   works_stopped found op old mid now next e h (inr d) =
       let there = at_file op mid.contents place h.bytes h.there in
@@ -150,10 +152,10 @@ module _ (request : DavRequest) where
   -- ---- granted calls
 
   -- the file is opened
-  pub opened : (old mid : Store) (file : DavFile) → Grants (open_call old.contents place put_options) (IsOpened request.path put_options file) old mid
+  pub opened : (old mid : Store) (file : DavFile) → Grants (open_call old.contents place (put_options request)) (IsOpened request.path (put_options request) file) old mid
       → Reached old mid (λ meta. put_write (new_bytes request.body) place (last_steps meta))
   opened old mid file h = record {
-    records = record_of (open_call old.contents place put_options) outcomes.Granted ∷ [];
+    records = record_of (open_call old.contents place (put_options request)) outcomes.Granted ∷ [];
     told = h.told;
     fixed = h.fixed;
     calls = λ meta. (refl, h.allowed, refl);
@@ -167,7 +169,7 @@ module _ (request : DavRequest) where
   }
 
   -- the bytes are written, or there are none
-  pub filled : (old mid now : Store) (file : DavFile) (bytes : List ℕ) → new_bytes request.body ≡ bytes → Grants (open_call old.contents place put_options) (IsOpened request.path put_options file) old mid
+  pub filled : (old mid now : Store) (file : DavFile) (bytes : List ℕ) → new_bytes request.body ≡ bytes → Grants (open_call old.contents place (put_options request)) (IsOpened request.path (put_options request) file) old mid
       → WritesBody mid file bytes (Ok tt) now → Reached old now last_steps
   filled old mid now file [] is h w = rw w.1 (subst (λ bytes. Reached old mid (λ meta. put_write bytes place (last_steps meta))) is (opened old mid file h))
   filled old mid now file (b ∷ bytes) is h w =
@@ -178,13 +180,13 @@ module _ (request : DavRequest) where
       ∙ ap (λ t. insert t place (File (written_at [] 0 (b ∷ bytes)))) h.effect.tree
       ∙ insert-inserted old.contents.tree place (File []) (File (written_at [] 0 (b ∷ bytes)))
       ∙ ap (λ held. insert old.contents.tree place (File held)) (written_at-start (b ∷ bytes))) in
-      let records : List Logged = record_of (open_call old.contents place put_options) outcomes.Granted ∷ record_of (on_file WriteBytes place) outcomes.Granted ∷ [] in
-      let asked : (meta : Option Meta) → LeadsTo (needs (open_call old.contents place put_options) put_open_error (put_write (b ∷ bytes) place (last_steps meta))) records (last_steps meta) = (λ meta. (refl, h.allowed, (refl, refl, refl))) in
+      let records : List Logged = record_of (open_call old.contents place (put_options request)) outcomes.Granted ∷ record_of (on_file WriteBytes place) outcomes.Granted ∷ [] in
+      let asked : (meta : Option Meta) → LeadsTo (needs (open_call old.contents place (put_options request)) (put_open_error (put_options request)) (put_write (b ∷ bytes) place (last_steps meta))) records (last_steps meta) = (λ meta. (refl, h.allowed, (refl, refl, refl))) in
       record {
         records = records;
         told = rw (g.told, h.told, append_assoc);
         fixed = rw (g.fixed, h.fixed);
-        calls = λ meta. subst (λ body. LeadsTo (needs (open_call old.contents place put_options) put_open_error (put_write body place (last_steps meta))) records (last_steps meta)) (sym is) (asked meta);
+        calls = λ meta. subst (λ body. LeadsTo (needs (open_call old.contents place (put_options request)) (put_open_error (put_options request)) (put_write body place (last_steps meta))) records (last_steps meta)) (sym is) (asked meta);
         leaves = record {
           untouched = λ none. absurd (none (inl refl));
           emptied = λ _ unwritten. absurd (unwritten (inr (inl refl)));
@@ -210,7 +212,7 @@ module _ (request : DavRequest) where
 
   -- the bytes aren't written
   pub works_unfilled : (found : Option Meta) (old mid now : Store) (file : DavFile) (bytes : List ℕ) (e : FsError) → new_bytes request.body ≡ bytes
-      → Grants (open_call old.contents place put_options) (IsOpened request.path put_options file) old mid → WritesBody mid file bytes (Err e) now → Works (Some Put) request found old (Err (from_fs e)) now
+      → Grants (open_call old.contents place (put_options request)) (IsOpened request.path (put_options request) file) old mid → WritesBody mid file bytes (Err e) now → PutWorks found old (Err (from_fs e)) now
   works_unfilled found old mid now file [] e is h w = absurd (let no : Err e ≡ Ok tt = w.0 in cc)
   works_unfilled found old mid now file (b ∷ bytes) e is h w =
       works_stopped found WriteBytes old mid now last_steps e
@@ -255,10 +257,10 @@ module _ (request : DavRequest) where
 
   -- the last look had no memory
   pub works_unlooked : (found : Option Meta) (old mid now : Store) (e : DavError) → Reached old mid (look_by (on_file FileMetadata place)) → Judges (look_at_file mid.contents place) mid (Err e) now
-      → Works (Some Put) request found old (Err e) now
+      → PutWorks found old (Err e) now
   works_unlooked found old mid now e h j = ends j.ends
     where
-      ends : EndsIn (look_at_file mid.contents place) j.records (Err e) → Works (Some Put) request found old (Err e) now
+      ends : EndsIn (look_at_file mid.contents place) j.records (Err e) → PutWorks found old (Err e) now
       ends (inl r) = absurd (never _ _ j.records e r)
       ends (inr m) =
           let asked = subst (λ d. LeadsTo d j.records m.1.0) (as_steps mid.contents h.bytes h.there) m.1.1 in
@@ -279,7 +281,7 @@ module _ (request : DavRequest) where
 
   -- the reply is made, or there was no memory for it
   pub works_replied : (found meta : Option Meta) (old now : Store) (result : Result (Response Body) DavError) → Looked old now meta → IfOk result (λ reply. reply_of reply ≡ put_reply found meta) → IfErr result (λ e. e ≡ dav_errors.Memory)
-      → Works (Some Put) request found old (answer_of result) now
+      → PutWorks found old (answer_of result) now
   works_replied found meta old now (Ok reply) h is _ = record {
     records = h.records;
     told = h.told;

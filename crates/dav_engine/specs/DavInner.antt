@@ -1,17 +1,28 @@
--- What a contract sees of an engine: the store that was lent to it, and what it was made with.
-use Rattle.std.specs.Prelude.{ℕ, List, string_bytes}
+-- What a contract sees of an engine: the store and the lock system that were lent to it, and what it was made with.
+use Rattle.std.specs.Prelude.{ℕ, List, Option, option_map, string_bytes}
 use Rattle.std.specs.Borrow.{GName}
+use Rattle.dav_store.specs.Store.{Store}
+use Rattle.dav_store.specs.Locks.{Locks}
+use Rattle.dav_engine.specs.State.{Seen}
 use Rattle.dav_engine.specs.declared.inner.DavInner.{DavInner}
 
-module _ {C F : Type 0} where
+module _ {C F L : Type 0} where
   -- the store that it borrows, as it is now
-  abbrev pub lent : DavInner C F → F
+  abbrev pub lent : DavInner C F L → F
   lent engine = engine.fs.now
 
-  -- which borrow it is
-  abbrev pub loan : DavInner C F → GName
-  loan engine = engine.fs.ghost_name
+  -- the lock system that it borrows, where there is one
+  abbrev pub lent_locks : DavInner C F L → Option L
+  lent_locks engine = option_map (λ ls. ls.now) engine.ls
+
+  -- which borrows they are
+  abbrev pub loans : DavInner C F L → GName × Option GName
+  loans engine = (engine.fs.ghost_name, option_map (λ ls. ls.ghost_name) engine.ls)
 
   -- the prefix of its paths, and what the store knows the caller by
-  abbrev pub settings : DavInner C F → List ℕ × C
+  abbrev pub settings : DavInner C F L → List ℕ × C
   settings engine = (string_bytes engine.prefix, engine.credentials)
+
+  -- both, by what contracts see of each
+  abbrev pub seen_by : (F → Store) → (L → Locks) → DavInner C F L → Seen
+  seen_by see_store see_locks engine = record { store = see_store (lent engine); locks = option_map see_locks (lent_locks engine) }

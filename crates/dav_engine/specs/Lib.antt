@@ -3,8 +3,11 @@ pub mod Reply
 pub mod ReplyHeader
 pub mod HttpDate
 pub mod PutReply
-pub mod Dialogue
 pub mod Mkcol
 pub mod Put
 pub mod Methods
 pub mod Step
+pub mod State
+pub mod Answered
+pub mod Rules
+pub mod Guarded

@@ -1,9 +1,9 @@
 -- MKCOL (RFC 4918, section 9.3): makes a collection.
-use Rattle.std.specs.Prelude.{◌≡◌, if◌then◌else◌, List, [], ◌∷◌, codes, Option}
+use Rattle.std.specs.Prelude.{◌≡◌, if◌then◌else◌, List, [], codes, Option, Some, None}
+use Rattle.http_header.specs.FieldValue.{FieldValue, plain_value}
 use Rattle.dav_resource.specs.PathText.{PathValue, url_text}
 use Rattle.dav_resource.specs.PathForms.{is_collection, prefixed}
 use Rattle.dav_resource.specs.Errors.{from_fs}
-use Rattle.dav_resource.specs.declared.meta.Meta.{Meta}
 use Rattle.dav_resource.specs.declared.record.Op.TheVariants.{CreateDir}
 use Rattle.dav_resource.specs.declared.error.FsError.{FsError}
 use Rattle.dav_resource.specs.declared.error.FsError.TheVariants.{Exists, NotFound}
@@ -13,12 +13,10 @@ use Rattle.dav_resource.specs.declared.request.DavRequest.{DavRequest}
 use Rattle.dav_store.specs.Logged.{Logged}
 use Rattle.dav_store.specs.Store.{Contents}
 use Rattle.dav_store.specs.Calls.{create_dir_call, IsMadeAt}
-use Rattle.dav_engine.specs.Reply.{Reply, Answer, bare_reply, field}
-use Rattle.dav_engine.specs.Dialogue.{Dialogue, Passed, needs, look, IsAnswered, WasGranted}
-
--- a look at the path, whose refusal is passed over
-abbrev pub mkcol_rules : DavRequest → Contents → Dialogue (Option Meta)
-mkcol_rules request old = look old request.path.key
+use Rattle.dav_engine.specs.Reply.{Reply, Answer, bare_reply}
+use Rattle.dav_engine.specs.ReplyHeader.{optional_field}
+use Rattle.dav_parts.specs.Dialogue.{Dialogue, Passed, needs, WasGranted}
+use Rattle.dav_engine.specs.Answered.{IsAnswered}
 
 -- something is there: 405; its parent is no collection: 409
 abbrev pub mkcol_error : FsError → DavError
@@ -29,10 +27,13 @@ mkcol_error e = from_fs e
 abbrev pub mkcol_steps : DavRequest → Contents → Dialogue (Unit {0})
 mkcol_steps request old = needs (create_dir_call old request.path.key) mkcol_error (Passed tt)
 
--- 201, and the collection's path where the request's ended in a slash
+-- the collection's path, with the prefix, where the request's ended in a slash
+abbrev pub mkcol_location : PathValue → Option FieldValue
+mkcol_location path = if is_collection path then Some (plain_value (url_text (prefixed path))) else None
+
+-- 201, with that path
 abbrev pub mkcol_reply : PathValue → Reply
-mkcol_reply path =
-    bare_reply 201 (if is_collection path then field (codes "content-location") (url_text (prefixed path)) ∷ [] else [])
+mkcol_reply path = bare_reply 201 (optional_field (codes "content-location") (mkcol_location path))
 
 -- the collection is made where its call was granted; else all stays
 pub record MkcolLeaves (request : DavRequest) (records : List Logged) (old new : Contents) : Type 0 where

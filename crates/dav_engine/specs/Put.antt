@@ -1,9 +1,11 @@
 -- PUT (RFC 9110, section 9.3.4; RFC 4918, section 9.7): the body becomes what the file holds.
-use Rattle.std.specs.Prelude.{◌≡◌, ℕ, true, false, if◌then◌else◌, List, [], ◌∷◌, Option, Some, None, is_some, Result, Ok, Err}
+use Rattle.std.specs.Prelude.{◌≡◌, ℕ, true, false, if◌then◌else◌, List, [], ◌∷◌, Option, Some, None, is_some, Bool, not, ◌||◌, Result, Ok, Err}
 use Rattle.std.specs.Option.{option_map_or}
 use Rattle.std.specs.FinMap.{insert}
 use Rattle.dav_resource.specs.Key.{Key}
 use Rattle.dav_resource.specs.Errors.{from_fs}
+use Rattle.dav_resource.specs.declared.etag.ETagList.{ETagList}
+use Rattle.dav_resource.specs.declared.etag.ETagList.TheVariants.{Star, Tags}
 use Rattle.dav_resource.specs.declared.meta.Meta.{Meta}
 use Rattle.dav_resource.specs.declared.meta.OpenOptions.{OpenOptions}
 use Rattle.dav_resource.specs.declared.meta.DavFile.{DavFile}
@@ -16,12 +18,16 @@ use Rattle.dav_resource.specs.declared.error.DavError.TheVariants.{StatusClose}
 use Rattle.dav_resource.specs.declared.request.ReqBody.{ReqBody}
 use Rattle.dav_resource.specs.declared.request.ReqBody.TheVariants as bodies
 use Rattle.dav_resource.specs.declared.request.DavRequest.{DavRequest}
+use Rattle.dav_headers.specs.TagList.{if_match_of, if_none_match_of}
 use Rattle.dav_store.specs.Logged.{Logged}
 use Rattle.dav_store.specs.Store.{Store, Contents, File}
 use Rattle.dav_store.specs.Calls.{Call, limit_of, open_call, file_call, Writes}
 use Rattle.dav_engine.specs.Reply.{Answer}
 use Rattle.dav_engine.specs.PutReply.{put_reply}
-use Rattle.dav_engine.specs.Dialogue.{Dialogue, Asks, Refuses, Passed, GoesOn, needs, if_granted, look, ◌>>=◌, LeadsTo, IsAnswered, WasGranted}
+use Rattle.dav_engine.specs.State.{State}
+use Rattle.dav_engine.specs.Rules.{shallow_rules, closing}
+use Rattle.dav_parts.specs.Dialogue.{Dialogue, Asks, Refuses, Passed, GoesOn, needs, refusing, if_granted, ◌>>=◌, LeadsTo, WasGranted}
+use Rattle.dav_engine.specs.Answered.{IsAnswered}
 
 -- ---- the rules
 
@@ -43,30 +49,39 @@ put_body body found = if is_some (body_bytes body) then Passed found else Refuse
 abbrev pub body_verdict : ReqBody → Option Meta → Result (Option Meta) DavError
 body_verdict body found = if is_some (body_bytes body) then Ok found else Err (StatusClose 400)
 
--- a look at the path, whose refusal is passed over, and then the body
-abbrev pub put_rules : DavRequest → Contents → Dialogue (Option Meta)
-put_rules request old = look old request.path.key >>= put_body request.body
+-- the conditions and the locks of the path, and then the body; the connection is closed after a refusal
+abbrev pub put_rules : DavRequest → State → Dialogue (Option Meta)
+put_rules request state = refusing closing (shallow_rules request state) >>= put_body request.body
 
 -- ---- the work
 
--- a file is opened to be written, made where nothing is, and emptied
-abbrev pub put_options : OpenOptions
-put_options =
+-- the header asks for `*`
+abbrev pub is_star : Option ETagList → Bool
+is_star (Some Star) = true
+is_star (Some (Tags tags)) = false
+is_star None = false
+
+-- a file is opened to be written, and emptied; one is made where nothing is, unless If-Match asks that one be there, and only there where If-None-Match asks that none be
+abbrev pub put_options : DavRequest → OpenOptions
+put_options request =
     record {
       write = true;
-      create = true;
-      create_new = false;
+      create = not (is_star (if_match_of request.headers));
+      create_new = is_star (if_none_match_of request.headers);
       truncate = true;
       append = false;
       size = None;
       checksum = None;
     }
 
--- the parent is no collection: 409
-abbrev pub put_open_error : FsError → DavError
-put_open_error NotFound = StatusClose 409
-put_open_error Exists = StatusClose 409
-put_open_error e = from_fs e
+-- what was asked of the path isn't so any more: 412; else its parent is no collection: 409
+abbrev pub misplaced : OpenOptions → DavError
+misplaced options = StatusClose (if not options.create || options.create_new then 412 else 409)
+
+abbrev pub put_open_error : OpenOptions → FsError → DavError
+put_open_error options NotFound = misplaced options
+put_open_error options Exists = misplaced options
+put_open_error options e = from_fs e
 
 -- a call on the file that was opened, which is there
 abbrev pub on_file : Op → Key → Call
@@ -85,7 +100,7 @@ look_by call meta = Asks call (λ outcome. Passed (if_granted outcome meta))
 abbrev pub put_steps : DavRequest → Contents → Option Meta → Dialogue (Option Meta)
 put_steps request old meta =
     let key = request.path.key in
-    needs (open_call old key put_options) put_open_error (
+    needs (open_call old key (put_options request)) (put_open_error (put_options request)) (
     put_write (new_bytes request.body) key (
     needs (on_file Flush key) from_fs (
     look_by (on_file FileMetadata key) meta)))

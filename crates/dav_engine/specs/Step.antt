@@ -7,13 +7,15 @@ use Rattle.dav_resource.specs.declared.error.DavError.{DavError}
 use Rattle.dav_resource.specs.declared.error.DavError.TheVariants.{Memory}
 use Rattle.dav_resource.specs.declared.request.DavRequest.{DavRequest}
 use Rattle.dav_store.specs.Logged.{Logged}
-use Rattle.dav_store.specs.Store.{Contents, Store, IsWellFormed}
+use Rattle.dav_store.specs.Store.{Contents, Store}
 use Rattle.dav_engine.specs.Reply.{Answer}
-use Rattle.dav_engine.specs.Dialogue.{Dialogue, Refuses, Passed, LeadsTo}
+use Rattle.dav_parts.specs.Dialogue.{Dialogue, Refuses, Passed, LeadsTo}
+use Rattle.dav_engine.specs.State.{State, Seen, state_of, facts_of, IsLawfulState}
+use Rattle.dav_engine.specs.Guarded.{IsGuarded}
 use Rattle.dav_engine.specs.Methods.{IsServed, rules_of, Work, WorkCut}
 
 -- a request served as this method, from old to new, over these records
-module _ (method : Option DavMethod) (request : DavRequest) (old : Contents) (records : List Logged) (answer : Answer) (new : Contents) where
+module _ (method : Option DavMethod) (request : DavRequest) (old : State) (records : List Logged) (answer : Answer) (new : State) where
   -- a rule refuses: no call follows, and nothing changes
   pub record IsRefused : Type 0 where
     pub error : DavError
@@ -55,31 +57,39 @@ module _ (method : Option DavMethod) (request : DavRequest) (old : Contents) (re
     CutShort : IsCutShort → Step
     CutInWork : IsCutInWork → Step
 
--- a step whose records are what the log gained
-pub record Serves (method : Option DavMethod) (old : Store) (request : DavRequest) (answer : Answer) (new : Store) : Type 0 where
+-- a step whose records are what the log gained, and which changes only what the locks permit
+pub record Serves (method : Option DavMethod) (old : Seen) (request : DavRequest) (answer : Answer) (new : Seen) : Type 0 where
   pub records : List Logged
-  pub told : new.log ≡ old.log ++ records
-  pub fixed : new.keeps_properties ≡ old.keeps_properties
-  pub step : Step method request old.contents records answer new.contents
+  pub told : new.store.log ≡ old.store.log ++ records
+  pub fixed : facts_of new ≡ facts_of old
+  pub step : Step method request (state_of old) records answer (state_of new)
+  pub guarded : IsGuarded request (state_of old) (state_of new)
 
 -- the work of a request whose rules are passed, and what the log gained
-pub record Works (method : Option DavMethod) (request : DavRequest) (found : Option Meta) (old : Store) (answer : Answer) (new : Store) : Type 0 where
+pub record Works (method : Option DavMethod) (request : DavRequest) (found : Option Meta) (old : Seen) (answer : Answer) (new : Seen) : Type 0 where
+  pub records : List Logged
+  pub told : new.store.log ≡ old.store.log ++ records
+  pub fixed : facts_of new ≡ facts_of old
+  pub done : Work method request found (state_of old) records answer (state_of new) ⊎ ((answer ≡ Err Memory) × WorkCut method request (state_of old) records (state_of new))
+
+-- the same of work that knows the store alone
+pub record WorksOnStore (Done : Contents → List Logged → Answer → Contents → Type 0) (Cut : Contents → List Logged → Contents → Type 0) (old : Store) (answer : Answer) (new : Store) : Type 0 where
   pub records : List Logged
   pub told : new.log ≡ old.log ++ records
   pub fixed : new.keeps_properties ≡ old.keeps_properties
-  pub done : Work method request found old.contents records answer new.contents ⊎ ((answer ≡ Err Memory) × WorkCut method request old.contents records new.contents)
+  pub done : Done old.contents records answer new.contents ⊎ ((answer ≡ Err Memory) × Cut old.contents records new.contents)
 
--- one step after another, each as the request's own method, over its part of the records, and to a state that a store may have
-abbrev pub Run : Contents → List DavRequest → List Logged → List Answer → Contents → Type 0
+-- one step after another, each as the request's own method, over its part of the records, to a state that a store and a lock system may have, and guarded by the locks
+abbrev pub Run : State → List DavRequest → List Logged → List Answer → State → Type 0
 Run old [] records [] new = (records ≡ []) × (new ≡ old)
 Run old (request ∷ requests) records (answer ∷ answers) new =
-    (part rest : List Logged) × (mid : Contents) × (records ≡ part ++ rest) × Step (method_of request.method) request old part answer mid × IsWellFormed mid × Run mid requests rest answers new
+    (part rest : List Logged) × (mid : State) × (records ≡ part ++ rest) × Step (method_of request.method) request old part answer mid × IsGuarded request old mid × IsLawfulState mid × Run mid requests rest answers new
 Run old [] records (answer ∷ answers) new = ⊥
 Run old (request ∷ requests) records [] new = ⊥
 
 -- a run whose records are what the log gained
-pub record Runs (old : Store) (requests : List DavRequest) (answers : List Answer) (new : Store) : Type 0 where
+pub record Runs (old : Seen) (requests : List DavRequest) (answers : List Answer) (new : Seen) : Type 0 where
   pub records : List Logged
-  pub told : new.log ≡ old.log ++ records
-  pub fixed : new.keeps_properties ≡ old.keeps_properties
-  pub run : Run old.contents requests records answers new.contents
+  pub told : new.store.log ≡ old.store.log ++ records
+  pub fixed : facts_of new ≡ facts_of old
+  pub run : Run (state_of old) requests records answers (state_of new)

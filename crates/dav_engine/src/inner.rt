@@ -1,46 +1,51 @@
 //! The engine's struct, and what several methods share.
-ghost use Rattle.std.specs.Prelude.{◌≡◌, string_bytes};
-ghost use Rattle.dav_engine.specs.DavInner.{lent, loan, settings};
-ghost use Rattle.dav_engine.specs.Dialogue.{Judges, look as look_of};
+ghost use Rattle.std.specs.Prelude.{◌≡◌, option_map, option_copied, string_bytes};
+ghost use Rattle.dav_engine.specs.DavInner.{lent, lent_locks, loans, settings};
+ghost use Rattle.dav_parts.specs.Dialogue.{Judges, look as look_of};
 
 use dav_resource::{DavError, DavPath, DavResult, FsError, Meta};
-use dav_store::GuardedFileSystem;
+use dav_store::{DavLockSystem, GuardedFileSystem};
 
-/// An engine that serves requests over a store that it borrows.
+/// An engine that serves requests over a store and, where there is one, a lock system that it borrows.
 #[derive(Drop)]
-pub struct DavInner<'a, C, F> {
+pub struct DavInner<'a, C, F, L> {
     pub(crate) fs: &'a mut F,
+    pub(crate) ls: Option<&'a mut L>,
     pub(crate) prefix: String,
     pub(crate) credentials: C,
 }
 
-impl<'a, C: Drop, F: GuardedFileSystem<C>> DavInner<'a, C, F> {
-    /// An engine over this store. `prefix` is what the paths of requests begin with, and `credentials` what
-    /// the store knows the caller by.
-    pub fn new(fs: &'a mut F, prefix: String, credentials: C) -> Self
-        ensures same_store { loan result ≡ fs.entry.ghost_name }
+impl<'a, C: Drop, F: GuardedFileSystem<C>, L: DavLockSystem> DavInner<'a, C, F, L> {
+    /// An engine over this store and this lock system. `prefix` is what the paths of requests begin with,
+    /// and `credentials` what the store knows the caller by.
+    pub fn new(fs: &'a mut F, ls: Option<&'a mut L>, prefix: String, credentials: C) -> Self
+        ensures same_loans { loans result ≡ (fs.entry.ghost_name, option_map (λ l. l.ghost_name) ls.entry) }
         ensures store { lent result ≡ fs.old }
+        ensures locks { lent_locks result ≡ option_map (λ l. l.now) ls.entry }
         ensures settings { settings result ≡ (string_bytes prefix, credentials) }
     {
         DavInner {
             fs,
+            ls,
             prefix,
             credentials,
         }
     }
 
-    /// Hands the store back, as the requests have left it.
-    pub fn finish(self) -> &'a mut F
-        ensures same_store { result.ghost_name ≡ loan self.entry }
-        ensures store { result.now ≡ lent self.entry }
+    /// Hands the store and the lock system back, as the requests have left them.
+    pub fn finish(self) -> (&'a mut F, Option<&'a mut L>)
+        ensures same_loans { (result.0.ghost_name, option_map (λ l. l.ghost_name) result.1) ≡ loans self.entry }
+        ensures store { result.0.now ≡ lent self.entry }
+        ensures locks { option_map (λ l. l.now) result.1 ≡ lent_locks self.entry }
     {
-        self.fs
+        (self.fs, self.ls)
     }
 
     /// Looks at a path, where a refusal counts as nothing there.
     pub(crate) fn look(&mut self, path: &DavPath) -> DavResult<Option<Meta>>
-        ensures same_store { loan self.new ≡ loan self.old }
+        ensures same_loans { loans self.new ≡ loans self.old }
         ensures same_settings { settings self.new ≡ settings self.old }
+        ensures same_locks { lent_locks self.new ≡ lent_locks self.old }
         ensures rules { Judges (look_of (F.seen (lent self.old)).contents path.now.key) (F.seen (lent self.old)) result (F.seen (lent self.new)) }
     {
         match self.fs.metadata(path, &self.credentials) {

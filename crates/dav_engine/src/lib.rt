@@ -3,16 +3,24 @@
 
 mod http_date;
 mod inner;
+mod judge;
 mod machine;
 mod mkcol;
 mod put;
 mod put_reply;
 mod reply_header;
 
+pub use dav_headers::{
+    IfCondition, IfItem, IfList, read_if, read_if_match, read_if_none_match, read_place,
+    read_tagged_path,
+};
+pub use dav_parts::{
+    dav_if_match, etaglist_match, http_if_match, if_match, if_match_get_tokens, ifrange_match,
+};
 pub use dav_resource::{
     Body, ChildElements, DavError, DavFile, DavMethod, DavMethodSet, DavPath, DavProp, DavRequest,
     DavResult, Depth, DirEntry, ETag, ETagList, Element, FsError, FsResult, IfRange, Items, Meta,
     Op, OpenOptions, Outcome, Record, ReqBody, Text, XMLNode,
 };
-pub use dav_store::{GuardedFileSystem, MemFs};
+pub use dav_store::{DavLock, DavLockSystem, GuardedFileSystem, LockError, MemFs, MemLs};
 pub use inner::DavInner;

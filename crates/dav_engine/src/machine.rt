@@ -1,22 +1,22 @@
 //! A request to its method, and requests one after another.
 ghost use Rattle.std.specs.Prelude.{◌≡◌, Err, map, IfOk, OnErr};
 ghost use Rattle.dav_resource.specs.Methods.{method_of};
-ghost use Rattle.dav_engine.specs.DavInner.{lent, loan, settings};
+ghost use Rattle.dav_engine.specs.DavInner.{loans, settings, seen_by};
 ghost use Rattle.dav_engine.specs.Reply.{answer_of};
 ghost use Rattle.dav_engine.specs.Step.{Serves, Runs};
 
 use crate::DavInner;
 use dav_resource::{Body, DavError, DavMethod, DavRequest, DavResult};
-use dav_store::GuardedFileSystem;
+use dav_store::{DavLockSystem, GuardedFileSystem};
 use http::{Response, StatusCode};
 
-impl<'a, C: Drop, F: GuardedFileSystem<C>> DavInner<'a, C, F> {
+impl<'a, C: Drop, F: GuardedFileSystem<C>, L: DavLockSystem> DavInner<'a, C, F, L> {
     /// Serves a request by its method. A method that isn't served is answered 501, and nothing is asked of
     /// the store. The errors are those of the method's own call.
     pub fn serve(&mut self, request: &DavRequest) -> DavResult<Response<Body>>
-        ensures same_store { loan self.new ≡ loan self.old }
+        ensures same_loans { loans self.new ≡ loans self.old }
         ensures same_settings { settings self.new ≡ settings self.old }
-        ensures step { Serves (method_of request.entry.now.method) (F.seen (lent self.old)) request.entry.now (answer_of result) (F.seen (lent self.new)) }
+        ensures step { Serves (method_of request.entry.now.method) (seen_by F.seen L.seen self.old) request.entry.now (answer_of result) (seen_by F.seen L.seen self.new) }
     {
         let Some(method) = DavMethod::from_method(&request.method) else {
             return Err(DavError::Status(StatusCode::NOT_IMPLEMENTED));
@@ -31,10 +31,10 @@ impl<'a, C: Drop, F: GuardedFileSystem<C>> DavInner<'a, C, F> {
     /// Serves the requests in order, and answers each. The room for the replies is taken first: the only
     /// `Err` is `Memory`, and it has served nothing.
     pub fn run(&mut self, requests: &[DavRequest]) -> DavResult<Vec<DavResult<Response<Body>>>>
-        ensures same_store { loan self.new ≡ loan self.old }
+        ensures same_loans { loans self.new ≡ loans self.old }
         ensures same_settings { settings self.new ≡ settings self.old }
-        ensures run { IfOk result (λ replies. Runs (F.seen (lent self.old)) requests.now (map answer_of replies.items) (F.seen (lent self.new))) }
-        ensures memory { OnErr result ((result ≡ Err DavError.Memory) × (F.seen (lent self.new) ≡ F.seen (lent self.old))) }
+        ensures run { IfOk result (λ replies. Runs (seen_by F.seen L.seen self.old) requests.now (map answer_of replies.items) (seen_by F.seen L.seen self.new)) }
+        ensures memory { OnErr result ((result ≡ Err DavError.Memory) × (seen_by F.seen L.seen self.new ≡ seen_by F.seen L.seen self.old)) }
     {
         let mut replies = Vec::with_capacity(*self.prefix.allocator(), requests.len())?;
         for request in requests {

@@ -1,13 +1,13 @@
 use Rattle.std.proofs.Common.{arith}
 use Rattle.std.proofs.lemmas.Grind.{common_steps}
-use Rattle.dav_engine.proofs.Running.{run_goes_on}
+use Rattle.dav_engine.proofs.Running.{run_goes_on, lawful}
 use Rattle.dav_engine.proofs.inner.DavInner.run.Goals as goal
 
 pub loop-request-preserved : goal.loop-request-preserved
 loop-request-preserved g c = record {
-  same_store = grind (arith, common_steps);
+  same_loans = grind (arith, common_steps);
   same_settings = grind (arith, common_steps);
-  served = run_goes_on _ _ _ _ _ _ _ _ _ c.loop-request.invariant.served c.serve.ensures.step (g.met.F.GuardedFileSystem.well_formed _) (omega arith) c.request-item.is (grind (arith, common_steps));
+  served = run_goes_on _ _ _ _ _ _ _ _ _ c.loop-request.invariant.served c.serve.ensures.step (lawful g.F.GuardedFileSystem.seen g.L.DavLockSystem.seen g.met.F.GuardedFileSystem.well_formed g.met.L.DavLockSystem.distinct c.serve.new.self) (omega arith) c.request-item.is (grind (arith, common_steps));
   told = grind (arith, common_steps);
   room = grind (arith, common_steps);
 }

@@ -1,5 +1,5 @@
 use Rattle.std.proofs.Common.{◌≡◌, ◌≤◌, take, length, map, vec_len, vec_capacity}
-use Rattle.dav_engine.specs.DavInner.{settings}
+use Rattle.dav_engine.specs.DavInner.{loans, settings, seen_by}
 use Rattle.dav_engine.specs.Reply.{answer_of}
 use Rattle.dav_engine.specs.Step.{Runs}
 use Rattle.dav_engine.proofs.inner.DavInner.run.Given as goal
@@ -7,11 +7,11 @@ use Rattle.dav_engine.proofs.inner.DavInner.run.Given as goal
 -- the requests so far have their replies, and there is room for the others
 abbrev pub invariant-loop-request : goal.invariant-loop-request
 invariant-loop-request g l =
-    let seen = g.F.GuardedFileSystem.seen in
+    let seen = seen_by g.F.GuardedFileSystem.seen g.L.DavLockSystem.seen in
     record {
-      same_store : l.self.fs.ghost_name ≡ l.fn.self.fs.ghost_name;
+      same_loans : loans l.self ≡ loans l.fn.self;
       same_settings : settings l.self ≡ settings l.fn.self;
-      served : Runs (seen l.fn.self.fs.now) (take l.request-index l.requests) (map answer_of l.replies.items) (seen l.self.fs.now);
+      served : Runs (seen l.fn.self) (take l.request-index l.requests) (map answer_of l.replies.items) (seen l.self);
       told : vec_len l.replies ≡ l.request-index;
       room : length l.requests ≤ vec_capacity l.replies;
     }

@@ -11,7 +11,6 @@ use Rattle.dav_resource.specs.declared.error.DavError.TheVariants.{Memory}
 use Rattle.dav_store.specs.Logged.{Logged, logged}
 use Rattle.dav_store.specs.Store.{Store, Contents}
 use Rattle.dav_store.specs.Calls.{Call, record_of, IsLawful, metadata_call}
-use Rattle.dav_engine.specs.Reply.{Reply, Answer}
 
 -- a call whose outcome leads on; a refusal of the request; or the end, with a value
 pub data Dialogue (A : Type 0) : Type 0 where
@@ -31,6 +30,16 @@ unfoldable pub ◌>>=◌ : {A B : Type 0} → Dialogue A → (A → Dialogue B) 
 (Asks call next) >>= then = Asks call (λ outcome. next outcome >>= then)
 (Refuses e) >>= then = Refuses e
 (Passed a) >>= then = then a
+
+-- the same dialogue, whose refusals are told in another way
+unfoldable pub refusing : {A : Type 0} → (DavError → DavError) → Dialogue A → Dialogue A
+refusing change (Asks call next) = Asks call (λ outcome. refusing change (next outcome))
+refusing change (Refuses e) = Refuses (change e)
+refusing change (Passed a) = Passed a
+
+abbrev pub told_by : {A : Type 0} → (DavError → DavError) → Result A DavError → Result A DavError
+told_by change (Ok a) = Ok a
+told_by change (Err e) = Err (change e)
 
 -- a call that the request fails by, where it isn't granted
 abbrev pub needs : {A : Type 0} → Call → (FsError → DavError) → Dialogue A → Dialogue A
@@ -65,11 +74,6 @@ abbrev pub EndsIn : {A : Type 0} → Dialogue A → List Logged → Result A Dav
 EndsIn dialogue records (Ok a) = LeadsTo dialogue records (Passed a)
 EndsIn {A} dialogue records (Err e) = LeadsTo dialogue records (Refuses e) ⊎ ((e ≡ Memory) × ((left : Dialogue A) × LeadsTo dialogue records left))
 
--- over these records the dialogue ends in this answer; a value may be told by several replies
-abbrev pub IsAnswered : {A : Type 0} → Dialogue A → (A → Reply → Type 0) → List Logged → Answer → Type 0
-IsAnswered {A} dialogue Tells records (Ok reply) = (a : A) × LeadsTo dialogue records (Passed a) × Tells a reply
-IsAnswered dialogue Tells records (Err e) = LeadsTo dialogue records (Refuses e)
-
 -- a call of this op on this key was granted
 abbrev pub WasGranted : Op → Key → List Logged → Type 0
 WasGranted op key [] = ⊥
@@ -82,3 +86,11 @@ pub record Judges {A : Type 0} (dialogue : Dialogue A) (old : Store) (verdict : 
   pub same : new.contents ≡ old.contents
   pub fixed : new.keeps_properties ≡ old.keeps_properties
   pub ends : EndsIn dialogue records verdict
+
+-- the dialogue was held so far, and nothing changed but the log: this is left of it
+pub record Reaches {A : Type 0} (dialogue : Dialogue A) (old : Store) (left : Dialogue A) (new : Store) : Type 0 where
+  pub records : List Logged
+  pub told : new.log ≡ old.log ++ records
+  pub same : new.contents ≡ old.contents
+  pub fixed : new.keeps_properties ≡ old.keeps_properties
+  pub leads : LeadsTo dialogue records left

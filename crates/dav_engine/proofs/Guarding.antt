@@ -1,0 +1,117 @@
+-- That each change lies where the locks permit it.
+use Rattle.std.proofs.Common.{◌≡◌, ◌≢◌, ℕ, Bool, true, false, List, [], ◌∷◌, Option, Some, None, Err, ◌⊎◌, inl, inr, refl, sym, ap, ◌∙◌, cond}
+use Rattle.std.specs.Ordering.{eq_by_cmp}
+use Rattle.std.specs.FinMap.{get, insert, get-insert}
+use Rattle.dav_resource.specs.Key.{Key, key_cmp, key_cmp_total, tied_decides}
+use Rattle.dav_resource.specs.declared.error.DavError.TheVariants.{Memory, Status}
+use Rattle.dav_resource.specs.declared.meta.Meta.{Meta}
+use Rattle.dav_resource.specs.declared.method.DavMethod.{DavMethod}
+use Rattle.dav_resource.specs.declared.method.DavMethod.TheVariants.{Head, Get, Put, Patch, Options, PropFind, PropPatch, MkCol, Copy, Move, Delete, Lock, Unlock}
+use Rattle.dav_resource.specs.declared.request.DavRequest.{DavRequest}
+use Rattle.dav_store.specs.Logged.{Logged}
+use Rattle.dav_store.specs.Store.{Contents, Node, Tree}
+use Rattle.dav_parts.specs.Conditions.{conditions}
+use Rattle.dav_parts.specs.Dialogue.{Passed, Refuses, LeadsTo, look, refusing}
+use Rattle.dav_parts.specs.Dialogues.{LeadsTo-last, LeadsTo-unrefused}
+use Rattle.dav_engine.specs.Reply.{Answer}
+use Rattle.dav_engine.specs.State.{State}
+use Rattle.dav_engine.specs.Rules.{is_permitted, where_permitted, shallow_rules, closing}
+use Rattle.dav_engine.specs.Guarded.{IsChanged, IsPermitted, IsGuarded}
+use Rattle.dav_engine.specs.Mkcol.{MkcolLeaves}
+use Rattle.dav_engine.specs.Put.{PutLeaves, IsFileAt, put_body, put_rules}
+use Rattle.dav_engine.specs.Methods.{rules_of, Work, WorkCut}
+
+-- nothing is changed where nothing changes
+unchanged : (key : Key) (old new : Contents) → new ≡ old → IsChanged key old new → ⊥
+unchanged key old new same (inl other) = other (ap (λ (c : Contents). get c.tree key) (sym same))
+unchanged key old new same (inr other) = other (ap (λ (c : Contents). get c.properties key) (sym same))
+
+pub guarded_same : (request : DavRequest) (old new : State) → new ≡ old → IsGuarded request old new
+guarded_same request old new same key changed = absurd (unchanged key old.contents new.contents (ap (λ (s : State). s.contents) same) changed)
+
+-- ---- what the rules have asked
+
+permitted_passed : {A : Type 0} (permitted : Bool) (a b : A) (records : List Logged) → LeadsTo (where_permitted permitted a) records (Passed b) → permitted ≡ true
+permitted_passed true a b records h = refl
+permitted_passed false a b [] h = absurd cc
+permitted_passed false a b (r ∷ records) h = absurd h
+
+shallow_passed : (request : DavRequest) (state : State) (head : List Logged) (found : Option Meta) → LeadsTo (shallow_rules request state) head (Passed found) → is_permitted request state request.path.key false ≡ true
+shallow_passed request state head found h =
+    let looked = LeadsTo-last (look state.contents request.path.key) _ head found h in
+    let judged = LeadsTo-last (conditions state.contents state.locks request looked.0 request.path) _ looked.2 found looked.4 in
+    permitted_passed (is_permitted request state request.path.key false) looked.0 found judged.2 judged.4
+
+put_passed : (request : DavRequest) (state : State) (head : List Logged) (found : Option Meta) → LeadsTo (put_rules request state) head (Passed found) → is_permitted request state request.path.key false ≡ true
+put_passed request state head found h =
+    let rules = LeadsTo-last (refusing closing (shallow_rules request state)) (put_body request.body) head found h in
+    shallow_passed request state rules.1 rules.0 (LeadsTo-unrefused closing (shallow_rules request state) rules.1 rules.0 rules.3)
+
+-- ---- what the work has changed
+
+-- a node that is put at a key changes no other key
+other_node : (tree : Tree) (place key : Key) (n : Node) → (key ≢ place) → get (insert tree place n) key ≡ get tree key
+other_node tree place key n apart = get-insert key_cmp_total tree place n key ∙ kept (eq_by_cmp key_cmp key place) refl
+  where
+    kept : (b : Bool) → eq_by_cmp key_cmp key place ≡ b → cond b (Some n) (get tree key) ≡ get tree key
+    kept true same = absurd (apart ((tied_decides key place).0 same))
+    kept false same = refl
+
+put_elsewhere : (place key : Key) (n : Node) (old new : Contents) → new.tree ≡ insert old.tree place n → new.properties ≡ old.properties → (key ≢ place) → IsChanged key old new → ⊥
+put_elsewhere place key n old new tree properties apart (inl other) = other (sym (ap (λ t. get t key) tree ∙ other_node old.tree place key n apart))
+put_elsewhere place key n old new tree properties apart (inr other) = other (ap (λ p. get p key) (sym properties))
+
+mkcol_elsewhere : (request : DavRequest) (records : List Logged) (old new : Contents) (key : Key) → MkcolLeaves request records old new → (key ≢ request.path.key) → IsChanged key old new → ⊥
+mkcol_elsewhere request records old new key leaves apart changed =
+    unchanged key old new (leaves.untouched (λ granted. put_elsewhere request.path.key key _ old new (leaves.made granted).tree (leaves.made granted).properties apart changed)) changed
+
+put_work_elsewhere : (request : DavRequest) (records : List Logged) (old new : Contents) (key : Key) → PutLeaves request records old new → (key ≢ request.path.key) → IsChanged key old new → ⊥
+put_work_elsewhere request records old new key leaves apart changed =
+    let at : (bytes : List ℕ) → IsFileAt request.path.key bytes old new → ⊥ = λ bytes file. put_elsewhere request.path.key key _ old new file.tree file.properties apart changed in
+    unchanged key old new (leaves.untouched (λ opened. at _ (leaves.emptied opened (λ written. at _ (leaves.written written))))) changed
+
+-- ---- together
+
+-- the rules of a method that works at its path alone permit it there, and the work changes nothing else
+pub guarded_at : (request : DavRequest) (old new : State) → is_permitted request old request.path.key false ≡ true → ((key : Key) → (key ≢ request.path.key) → IsChanged key old.contents new.contents → ⊥) → IsGuarded request old new
+guarded_at request old new permitted elsewhere key changed = at (eq_by_cmp key_cmp key request.path.key) refl
+  where
+    at : (b : Bool) → eq_by_cmp key_cmp key request.path.key ≡ b → IsPermitted request old key
+    at true same = inl (let here : key ≡ request.path.key = (tied_decides key request.path.key).0 same in rw here permitted)
+    at false same = absurd (elsewhere key (λ here. absurd (let no : true ≡ false = sym ((tied_decides key request.path.key).1 here) ∙ same in cc)) changed)
+
+module _ (request : DavRequest) (found : Option Meta) (old new : State) (head records : List Logged) (answer : Answer) where
+  abbrev Passes : Option DavMethod → Type 0
+  Passes method = LeadsTo (rules_of method request old) head (Passed found)
+
+  abbrev Works : Option DavMethod → Type 0
+  Works method = Work method request found old records answer new ⊎ ((answer ≡ Err Memory) × WorkCut method request old records new)
+
+  no_work : (method : Option DavMethod) → rules_of method request old ≡ Refuses (Status 501) → Passes method → ⊥
+  no_work method is h = refused head (rw is at h)
+    where
+      refused : (records : List Logged) → LeadsTo {A = Option Meta} (Refuses (Status 501)) records (Passed found) → ⊥
+      refused [] h = cc
+      refused (r ∷ records) h = h
+
+  guarded : (method : Option DavMethod) → Passes method → Works method → IsGuarded request old new
+  guarded (Some MkCol) passed (inl work) = guarded_at request old new (shallow_passed request old head found passed) (λ key. mkcol_elsewhere request records old.contents new.contents key work.0.leaves)
+  guarded (Some MkCol) passed (inr cut) = guarded_at request old new (shallow_passed request old head found passed) (λ key apart changed. unchanged key old.contents new.contents cut.1.0.same changed)
+  guarded (Some Put) passed (inl work) = guarded_at request old new (put_passed request old head found passed) (λ key. put_work_elsewhere request records old.contents new.contents key work.0.leaves)
+  guarded (Some Put) passed (inr cut) = guarded_at request old new (put_passed request old head found passed) (λ key. put_work_elsewhere request records old.contents new.contents key cut.1.0.leaves)
+  guarded None passed works = absurd (no_work None refl passed)
+  guarded (Some Head) passed works = absurd (no_work (Some Head) refl passed)
+  guarded (Some Get) passed works = absurd (no_work (Some Get) refl passed)
+  guarded (Some Patch) passed works = absurd (no_work (Some Patch) refl passed)
+  guarded (Some Options) passed works = absurd (no_work (Some Options) refl passed)
+  guarded (Some PropFind) passed works = absurd (no_work (Some PropFind) refl passed)
+  guarded (Some PropPatch) passed works = absurd (no_work (Some PropPatch) refl passed)
+  guarded (Some Copy) passed works = absurd (no_work (Some Copy) refl passed)
+  guarded (Some Move) passed works = absurd (no_work (Some Move) refl passed)
+  guarded (Some Delete) passed works = absurd (no_work (Some Delete) refl passed)
+  guarded (Some Lock) passed works = absurd (no_work (Some Lock) refl passed)
+  guarded (Some Unlock) passed works = absurd (no_work (Some Unlock) refl passed)
+
+pub guarded_work : (method : Option DavMethod) (request : DavRequest) (found : Option Meta) (old new : State) (head records : List Logged) (answer : Answer) → LeadsTo (rules_of method request old) head (Passed found)
+    → Work method request found old records answer new ⊎ ((answer ≡ Err Memory) × WorkCut method request old records new) → IsGuarded request old new
+guarded_work method request found old new head records answer passed works = guarded request found old new head records answer method passed works

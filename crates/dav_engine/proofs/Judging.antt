@@ -1,0 +1,21 @@
+-- The rules, judged where nothing has changed yet.
+use Rattle.std.proofs.Common.{◌≡◌, ℕ, List, Option, Result, option_map, ap, subst}
+use Rattle.dav_resource.specs.PathText.{PathValue}
+use Rattle.dav_resource.specs.declared.error.DavError.{DavError}
+use Rattle.dav_resource.specs.declared.meta.Meta.{Meta}
+use Rattle.dav_resource.specs.declared.request.DavRequest.{DavRequest}
+use Rattle.dav_store.specs.Store.{Store, Contents}
+use Rattle.dav_store.specs.Locks.{Locks}
+use Rattle.dav_store.specs.declared.lock.DavLock.{DavLock}
+use Rattle.dav_parts.specs.Conditions.{conditions}
+use Rattle.dav_parts.specs.Dialogue.{Judges}
+
+-- the same lock system has the same locks
+pub same_list : {L : Type 0} (seen : L → Locks) (ls ms : Option L) → ls ≡ ms → option_map (λ (l : Locks). l.list) (option_map seen ls) ≡ option_map (λ (l : Locks). l.list) (option_map seen ms)
+same_list seen ls ms same = ap (λ o. option_map (λ (l : Locks). l.list) (option_map seen o)) same
+
+-- the conditions by the same contents and the same locks
+pub same_conditions : (request : DavRequest) (found : Option Meta) (path : PathValue) (contents now : Contents) (locks held : Option (List DavLock)) (mid new : Store) (verdict : Result (List (List ℕ)) DavError)
+    → now ≡ contents → held ≡ locks → Judges (conditions now held request found path) mid verdict new → Judges (conditions contents locks request found path) mid verdict new
+same_conditions request found path contents now locks held mid new verdict same kept h =
+    subst (λ c. Judges (conditions c locks request found path) mid verdict new) same (subst (λ l. Judges (conditions now l request found path) mid verdict new) kept h)

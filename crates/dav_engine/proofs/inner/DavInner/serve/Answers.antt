@@ -1,0 +1,17 @@
+use Rattle.std.proofs.Common.{◌∙◌, Some, None, refl, sym}
+use Rattle.dav_engine.proofs.Serving.{serves_none, serves_as, unserved}
+use Rattle.dav_engine.proofs.inner.DavInner.serve.Goals as goal
+
+pub returns-in_default-clause-step : goal.returns-in_default-clause-step
+returns-in_default-clause-step g c = serves_as None _ _ c.args.request.now _ _ (sym c.in_default.is ∙ c.from_method.ensures) (serves_none None c.args.request.now _ (λ state. refl))
+
+pub returns-in_default-method : goal.returns-in_default-method
+returns-in_default-method g c =
+    let method = c.in-Some.method in
+    record {
+      same_loans = refl;
+      same_settings = refl;
+      step =
+          serves_as (Some method) _ _ c.args.request.now _ _ (sym c.in-Some.is ∙ c.from_method.ensures)
+          (serves_none (Some method) c.args.request.now _ (unserved c.args.request.now method c.in_default-method.not-MkCol c.in_default-method.not-Put));
+    }

@@ -1,0 +1,10 @@
+-- Which reply a dialogue ends in.
+use Rattle.std.specs.Prelude.{List, Ok, Err}
+use Rattle.dav_store.specs.Logged.{Logged}
+use Rattle.dav_parts.specs.Dialogue.{Dialogue, Passed, Refuses, LeadsTo}
+use Rattle.dav_engine.specs.Reply.{Reply, Answer}
+
+-- over these records the dialogue ends in this answer; a value may be told by several replies
+abbrev pub IsAnswered : {A : Type 0} → Dialogue A → (A → Reply → Type 0) → List Logged → Answer → Type 0
+IsAnswered {A} dialogue Tells records (Ok reply) = (a : A) × LeadsTo dialogue records (Passed a) × Tells a reply
+IsAnswered dialogue Tells records (Err e) = LeadsTo dialogue records (Refuses e)

@@ -1,0 +1,22 @@
+-- That a request changes only what the locks let it change (RFC 4918, section 7).
+use Rattle.std.specs.Prelude.{◌≡◌, ◌≢◌, ◌⊎◌, true, false}
+use Rattle.std.specs.FinMap.{get}
+use Rattle.dav_resource.specs.Key.{Key}
+use Rattle.dav_resource.specs.declared.request.DavRequest.{DavRequest}
+use Rattle.dav_store.specs.Store.{Contents}
+use Rattle.dav_store.specs.Locks.{is_at_or_below}
+use Rattle.dav_engine.specs.State.{State}
+use Rattle.dav_engine.specs.Rules.{is_permitted}
+
+-- something else stands at the key, or with other properties
+abbrev pub IsChanged : Key → Contents → Contents → Type 0
+IsChanged key old new = (get old.tree key ≢ get new.tree key) ⊎ (get old.properties key ≢ get new.properties key)
+
+-- the locks let the request write at the key by itself, or at and below a key that is at or above it
+abbrev pub IsPermitted : DavRequest → State → Key → Type 0
+IsPermitted request state key =
+    (is_permitted request state key false ≡ true) ⊎ ((top : Key) × (is_at_or_below key top ≡ true) × (is_permitted request state top true ≡ true))
+
+-- for each key that was changed, the locks at entry permit it
+abbrev pub IsGuarded : DavRequest → State → State → Type 0
+IsGuarded request old new = (key : Key) → IsChanged key old.contents new.contents → IsPermitted request old key

@@ -1,0 +1,37 @@
+-- What is asked before a request changes anything: the conditions of the request, and the locks (RFC 4918, sections 7 and 10.4; RFC 7232).
+use Rattle.std.specs.Prelude.{ℕ, Bool, true, false, if◌then◌else◌, List, Option}
+use Rattle.std.specs.Option.{option_map_or}
+use Rattle.dav_resource.specs.Key.{Key}
+use Rattle.dav_resource.specs.declared.meta.Meta.{Meta}
+use Rattle.dav_resource.specs.declared.error.DavError.{DavError}
+use Rattle.dav_resource.specs.declared.error.DavError.TheVariants.{Status, StatusClose}
+use Rattle.dav_resource.specs.declared.request.DavRequest.{DavRequest}
+use Rattle.dav_store.specs.Locks.{permits}
+use Rattle.dav_store.specs.declared.lock.DavLock.{DavLock}
+use Rattle.dav_parts.specs.Conditions.{conditions, submitted_tokens}
+use Rattle.dav_parts.specs.Dialogue.{Dialogue, Refuses, Passed, look, ◌>>=◌}
+use Rattle.dav_engine.specs.State.{State}
+
+-- the locks let one who submits these tokens write at the key, or with `deep` at and below it; without a lock system all is let
+abbrev pub permits_by : Option (List DavLock) → Key → Option (List ℕ) → Bool → List (List ℕ) → Bool
+permits_by locks key principal deep tokens = option_map_or (λ list. permits list key principal false deep tokens) locks true
+
+-- the same for the request's principal and tokens
+abbrev pub is_permitted : DavRequest → State → Key → Bool → Bool
+is_permitted request state key deep = permits_by state.locks key request.principal deep (submitted_tokens request)
+
+-- what isn't permitted is refused: 423
+abbrev pub where_permitted : {A : Type 0} → Bool → A → Dialogue A
+where_permitted permitted a = if permitted then Passed a else Refuses (Status 423)
+
+-- a request that changes what stands at its path alone: a look at it, whose refusal is passed over, the conditions, and the locks of the path
+abbrev pub shallow_rules : DavRequest → State → Dialogue (Option Meta)
+shallow_rules request state =
+    look state.contents request.path.key >>= λ found.
+    conditions state.contents state.locks request found request.path >>= λ tokens.
+    where_permitted (is_permitted request state request.path.key false) found
+
+-- the same refusal, after which the connection is closed
+abbrev pub closing : DavError → DavError
+closing (Status status) = StatusClose status
+closing e = e

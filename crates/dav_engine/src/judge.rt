@@ -1,0 +1,118 @@
+//! What is asked before a request changes anything.
+ghost use Rattle.std.specs.Prelude.{◌≡◌, if◌then◌else◌, Ok, Err, IfOk, option_map, option_copied};
+ghost use Rattle.dav_resource.specs.declared.error.DavError.TheVariants.{Status};
+ghost use Rattle.dav_parts.specs.Dialogue.{Judges, told_by};
+ghost use Rattle.dav_parts.specs.Conditions.{conditions as conditions_of, submitted_tokens};
+ghost use Rattle.dav_engine.specs.DavInner.{lent, lent_locks, loans, settings, seen_by};
+ghost use Rattle.dav_engine.specs.State.{state_of};
+ghost use Rattle.dav_engine.specs.Rules.{permits_by, shallow_rules, closing as closing_error};
+
+use crate::DavInner;
+use dav_parts::if_match_get_tokens;
+use dav_resource::{DavError, DavPath, DavRequest, DavResult, Items, Meta, Text};
+use dav_store::{DavLockSystem, GuardedFileSystem};
+use http::StatusCode;
+
+impl<'a, C: Drop, F: GuardedFileSystem<C>, L: DavLockSystem> DavInner<'a, C, F, L> {
+    /// The rules of a request that changes what stands at its path alone: a look at the path, the
+    /// conditions, and the locks of the path. What was found passes.
+    pub(crate) fn judge_shallow(&mut self, request: &DavRequest) -> DavResult<Option<Meta>>
+        ensures same_loans { loans self.new ≡ loans self.old }
+        ensures same_settings { settings self.new ≡ settings self.old }
+        ensures same_locks { lent_locks self.new ≡ lent_locks self.old }
+        ensures rules { Judges (shallow_rules request.entry.now (state_of (seen_by F.seen L.seen self.old))) (F.seen (lent self.old)) result (F.seen (lent self.new)) }
+    {
+        let found = self.look(&request.path)?;
+        let tokens = self.judge_conditions(request, &found)?;
+        let permitted = self.is_permitted(request, tokens.as_slice(), &request.path, false);
+        where_permitted(permitted, found)
+    }
+
+    /// The tokens that the request submits, where its conditions hold.
+    fn judge_conditions(
+        &mut self,
+        request: &DavRequest,
+        found: &Option<Meta>,
+    ) -> DavResult<Items<Text>>
+        ensures same_loans { loans self.new ≡ loans self.old }
+        ensures same_settings { settings self.new ≡ settings self.old }
+        ensures same_locks { lent_locks self.new ≡ lent_locks self.old }
+        ensures tokens { IfOk result (λ tokens. tokens ≡ submitted_tokens request.entry.now) }
+        ensures rules { Judges (conditions_of (F.seen (lent self.old)).contents (state_of (seen_by F.seen L.seen self.old)).locks request.entry.now found.now request.entry.now.path) (F.seen (lent self.old)) result (F.seen (lent self.new)) }
+    {
+        let alloc = *self.prefix.allocator();
+        if_match_get_tokens(
+            alloc,
+            request,
+            found.as_ref(),
+            self.fs,
+            shared(&self.ls),
+            &request.path,
+            &self.credentials,
+        )
+    }
+
+    /// Whether the locks let the request, with these tokens, write at the path or, deep, at and below it.
+    fn is_permitted(
+        &self,
+        request: &DavRequest,
+        tokens: &[Text],
+        path: &DavPath,
+        deep: bool,
+    ) -> bool
+        ensures { result ≡ permits_by (state_of (seen_by F.seen L.seen self.now)).locks path.now.key request.entry.now.principal deep tokens.now }
+    {
+        match &self.ls {
+            Some(ls) => ls.check(path, principal(request), false, deep, tokens),
+            None => true,
+        }
+    }
+}
+
+/// The lock system, to be looked at.
+fn shared<'b, L>(ls: &'b Option<&mut L>) -> Option<&'b L>
+    ensures { option_copied result ≡ option_map (λ l. l.now) ls.now }
+{
+    match ls {
+        Some(ls) => Some(&**ls),
+        None => None,
+    }
+}
+
+/// Who sends the request, where that is known.
+fn principal(request: &DavRequest) -> Option<&str>
+    ensures { option_copied result ≡ request.entry.now.principal }
+{
+    match &request.principal {
+        Some(principal) => Some(principal.as_str()),
+        None => None,
+    }
+}
+
+/// Lets what was found pass, where that is permitted (RFC 4918, section 11.3).
+fn where_permitted(permitted: bool, found: Option<Meta>) -> DavResult<Option<Meta>>
+    ensures { result ≡ (if permitted then Ok found else Err (Status 423)) }
+{
+    if permitted {
+        Ok(found)
+    } else {
+        Err(DavError::Status(StatusCode::LOCKED))
+    }
+}
+
+/// The same verdict; a refusal closes the connection.
+pub(crate) fn closed(verdict: DavResult<Option<Meta>>) -> DavResult<Option<Meta>>
+    ensures { result ≡ told_by closing_error verdict }
+{
+    verdict.map_err(closing)
+}
+
+/// The same error, after which the connection is closed.
+fn closing(error: DavError) -> DavError
+    ensures { result ≡ closing_error error }
+{
+    match error {
+        DavError::Status(status) => DavError::StatusClose(status),
+        error => error,
+    }
+}

@@ -1,0 +1,185 @@
+-- Conditions of a request (RFC 7232, sections 3.1 and 3.2; RFC 4918, section 10.4), and which of them are asked of a store.
+use Rattle.std.specs.Prelude.{ℕ, nat_eq, Bool, true, false, not, ◌&&◌, if◌then◌else◌, List, [], ◌∷◌, codes, Option, Some, None, is_some, option_map}
+use Rattle.std.specs.Option.{option_map_or}
+use Rattle.std.specs.List.{list_any, filter_map, starts_with, flat_map}
+use Rattle.dav_resource.specs.Key.{Key}
+use Rattle.dav_resource.specs.PathText.{PathValue}
+use Rattle.dav_resource.specs.Methods.{method_of}
+use Rattle.dav_resource.specs.ETags.{strongly_equal, strong_tag}
+use Rattle.dav_resource.specs.declared.etag.ETag.{ETag}
+use Rattle.dav_resource.specs.declared.etag.ETagList.{ETagList}
+use Rattle.dav_resource.specs.declared.etag.ETagList.TheVariants.{Star, Tags}
+use Rattle.dav_resource.specs.declared.meta.Meta.{Meta}
+use Rattle.dav_resource.specs.declared.method.DavMethod.{DavMethod}
+use Rattle.dav_resource.specs.declared.method.DavMethod.TheVariants.{Get, Head}
+use Rattle.dav_resource.specs.declared.error.DavError.TheVariants.{Status}
+use Rattle.dav_resource.specs.declared.request.DavRequest.{DavRequest}
+use Rattle.dav_headers.specs.IfHeader.{if_of}
+use Rattle.dav_headers.specs.TagList.{if_match_of, if_none_match_of}
+use Rattle.dav_headers.specs.Place.{tagged_path}
+use Rattle.dav_headers.specs.declared.if_header.IfList.{IfList}
+use Rattle.dav_headers.specs.declared.if_header.IfCondition.{IfCondition}
+use Rattle.dav_headers.specs.declared.if_header.IfItem.{IfItem}
+use Rattle.dav_headers.specs.declared.if_header.IfItem.TheVariants.{StateToken, ETag as EntityTag}
+use Rattle.dav_store.specs.Store.{Contents}
+use Rattle.dav_store.specs.Calls.{metadata_call}
+use Rattle.dav_store.specs.Locks.{Locks, permits}
+use Rattle.dav_store.specs.declared.lock.DavLock.{DavLock}
+use Rattle.dav_parts.specs.Dialogue.{Dialogue, Asks, Refuses, Passed, if_granted, ◌>>=◌}
+
+-- ---- If-Match, If-None-Match, If-Range
+
+-- the tag is there, and strongly equal to this one
+abbrev pub is_tagged : ETag → Option ETag → Bool
+is_tagged tag current = option_map_or (strongly_equal tag) current false
+
+-- `*` is true of what is there; else one of the tags has to be the current one
+abbrev pub list_matches : ETagList → Bool → Option ETag → Bool
+list_matches Star exists current = exists
+list_matches (Tags tags) exists current = list_any (λ tag. is_tagged tag current) tags
+
+-- the entity tag of what was found
+abbrev pub current_tag : Option Meta → Option ETag
+current_tag found = option_map_or (λ (m : Meta). option_map strong_tag m.etag) found None
+
+-- an answer that isn't new to a GET or a HEAD is 304, each other condition that fails 412
+abbrev pub none_match_status : Option DavMethod → ℕ
+none_match_status (Some Get) = 304
+none_match_status (Some Head) = 304
+none_match_status _ = 412
+
+-- what If-Match refuses, where it is there: all that it doesn't match
+abbrev pub if_match_fails : Option ETagList → Bool → Option ETag → Bool
+if_match_fails None exists current = false
+if_match_fails (Some tags) exists current = not (list_matches tags exists current)
+
+-- what If-None-Match refuses, where it is there: all that it matches
+abbrev pub if_none_match_fails : Option ETagList → Bool → Option ETag → Bool
+if_none_match_fails None exists current = false
+if_none_match_fails (Some tags) exists current = list_matches tags exists current
+
+abbrev pub none_match_verdict : DavRequest → Bool → Option ETag → Option ℕ
+none_match_verdict request exists current =
+    if if_none_match_fails (if_none_match_of request.headers) exists current then Some (none_match_status (method_of request.method)) else None
+
+-- the status that refuses: If-Match's, which is judged first, else If-None-Match's
+abbrev pub http_verdict : DavRequest → Option Meta → Option ℕ
+http_verdict request found =
+    if if_match_fails (if_match_of request.headers) (is_some found) (current_tag found) then Some 412 else none_match_verdict request (is_some found) (current_tag found)
+
+-- ---- If
+
+-- the state tokens among conditions, in order, whether or not `Not` stands before them
+abbrev pub token_of : IfItem → Option (List ℕ)
+token_of (StateToken text) = Some text
+token_of (EntityTag tag) = None
+
+abbrev pub tokens_in : List IfCondition → List (List ℕ)
+tokens_in conditions = filter_map (λ (c : IfCondition). token_of c.item) conditions
+
+abbrev pub all_tokens : Option (List IfList) → List (List ℕ)
+all_tokens None = []
+all_tokens (Some lists) = flat_map (λ (list : IfList). tokens_in list.conditions) lists
+
+-- the tokens that a request submits: all of its header If, in order
+abbrev pub submitted_tokens : DavRequest → List (List ℕ)
+submitted_tokens request = all_tokens (if_of request.headers)
+
+-- the locks, where there is a lock system
+abbrev pub locks_in : {L : Type 0} → (L → Locks) → Option L → Option (List DavLock)
+locks_in seen ls = option_map (λ l. (seen l).list) ls
+
+-- a state token holds at a key where the locks let one write there with that token alone, whoever it is; no token of the `DAV:` scheme does
+abbrev pub token_holds : Option (List DavLock) → Key → List ℕ → Bool
+token_holds locks key token = not (starts_with nat_eq token (codes "DAV:")) && option_map_or (λ list. permits list key None true false (token ∷ [])) locks false
+
+-- an entity tag holds at a key where a look at it is granted, and the tag is the current one
+abbrev pub tag_holds : Contents → Key → ETag → Dialogue Bool
+tag_holds contents key tag = Asks (metadata_call contents key) (λ outcome. Passed (is_tagged tag (current_tag (if_granted outcome (contents.metas key)))))
+
+-- the opposite, where `Not` stands before it
+abbrev pub turned : Bool → Bool → Bool
+turned true holds = not holds
+turned false holds = holds
+
+-- go on, or stop with this
+abbrev pub while_true : Bool → Dialogue Bool → Dialogue Bool
+while_true true rest = rest
+while_true false rest = Passed false
+
+abbrev pub until_true : Bool → Dialogue Bool → Dialogue Bool
+until_true true rest = Passed true
+until_true false rest = rest
+
+module _ (contents : Contents) (locks : Option (List DavLock)) where
+  abbrev pub item_holds : Key → IfItem → Dialogue Bool
+  item_holds key (StateToken token) = Passed (token_holds locks key token)
+  item_holds key (EntityTag tag) = tag_holds contents key tag
+
+  -- nothing holds, and nothing is asked, where it can't be read which key it is about
+  abbrev pub item_holds_at : Option Key → IfItem → Dialogue Bool
+  item_holds_at None item = Passed false
+  item_holds_at (Some key) item = item_holds key item
+
+  -- `Not` turns it
+  abbrev pub condition_holds : Option Key → IfCondition → Dialogue Bool
+  condition_holds key condition = item_holds_at key condition.item >>= λ holds. Passed (turned condition.not holds)
+
+  -- each condition holds; none is asked after the first that doesn't
+  abbrev pub all_hold : Option Key → List IfCondition → Dialogue Bool
+  all_hold key [] = Passed true
+  all_hold key (condition ∷ conditions) = condition_holds key condition >>= λ holds. while_true holds (all_hold key conditions)
+
+  -- the key that a list is about: its tag's, else the request's
+  abbrev pub key_of_list : PathValue → Option (List ℕ) → Option Key
+  key_of_list path None = Some path.key
+  key_of_list path (Some tag) = option_map (λ p. p.key) (tagged_path tag path.prefix)
+
+  -- a list of no conditions doesn't hold
+  abbrev pub conditions_hold : Option Key → List IfCondition → Dialogue Bool
+  conditions_hold key [] = Passed false
+  conditions_hold key (first ∷ others) = all_hold key (first ∷ others)
+
+  abbrev pub list_holds : PathValue → IfList → Dialogue Bool
+  list_holds path list = conditions_hold (key_of_list path list.resource_tag) list.conditions
+
+  -- some list holds; none is asked after it
+  abbrev pub any_holds : PathValue → List IfList → Dialogue Bool
+  any_holds path [] = Passed false
+  any_holds path (list ∷ lists) = list_holds path list >>= λ holds. until_true holds (any_holds path lists)
+
+  -- without a readable header nothing is asked
+  abbrev pub lists_hold : PathValue → Option (List IfList) → Dialogue Bool
+  lists_hold path None = Passed true
+  lists_hold path (Some lists) = any_holds path lists
+
+  abbrev pub if_holds : DavRequest → PathValue → Dialogue Bool
+  if_holds request path = lists_hold path (if_of request.headers)
+
+-- ---- together
+
+-- what refuses a request whose header If has been judged: 412 where it doesn't hold
+abbrev pub verdict_after : Bool → DavRequest → Option Meta → Option ℕ
+verdict_after holds request found = if holds then http_verdict request found else Some 412
+
+-- a status that refuses, or what is asked without one
+abbrev pub unless_refused : {A : Type 0} → Option ℕ → Dialogue A → Dialogue A
+unless_refused (Some status) next = Refuses (Status status)
+unless_refused None next = next
+
+-- the tokens, where the header holds
+abbrev pub tokens_where : Bool × List (List ℕ) → Dialogue (List (List ℕ))
+tokens_where told = if told.0 then Passed told.1 else Refuses (Status 412)
+
+module _ (contents : Contents) (locks : Option (List DavLock)) (request : DavRequest) where
+  -- the header If, with the tokens
+  abbrev pub dav_if_match : PathValue → Dialogue (Bool × List (List ℕ))
+  dav_if_match path = if_holds contents locks request path >>= λ holds. Passed (holds, submitted_tokens request)
+
+  -- If is judged first, whatever the others say
+  abbrev pub if_match : Option Meta → PathValue → Dialogue (Option ℕ)
+  if_match found path = if_holds contents locks request path >>= λ holds. Passed (verdict_after holds request found)
+
+  -- If-Match and If-None-Match are judged first, and where they refuse nothing is asked
+  abbrev pub conditions : Option Meta → PathValue → Dialogue (List (List ℕ))
+  conditions found path = unless_refused (http_verdict request found) (dav_if_match path >>= tokens_where)

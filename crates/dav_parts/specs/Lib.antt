@@ -1,0 +1,3 @@
+pub mod Dialogue
+pub mod Dialogues
+pub mod Conditions

@@ -1,0 +1,220 @@
+//! The header If, judged list by list.
+ghost use Rattle.std.specs.Prelude.{◌≡◌, ◌++◌, IfOk, option_map, option_copied};
+ghost use Rattle.dav_parts.specs.Dialogue.{Judges};
+ghost use Rattle.dav_parts.specs.Conditions.{locks_in, token_of, tokens_in, all_tokens, token_holds, tag_holds, item_holds, item_holds_at, turned as turned_by, condition_holds, all_hold, conditions_hold, list_holds, any_holds, lists_hold};
+
+use dav_headers::{IfCondition, IfItem, IfList, read_tagged_path};
+use dav_resource::{DavError, DavPath, DavResult, ETag, FsError, Items, Text};
+use dav_store::{DavLockSystem, GuardedFileSystem};
+use std::alloc::{AllocError, Global};
+
+/// The state tokens of all lists, in order.
+pub(crate) fn submitted_tokens(
+    alloc: Global,
+    lists: &Option<Items<IfList>>,
+) -> Result<Items<Text>, AllocError>
+    ensures { IfOk result (λ tokens. tokens ≡ all_tokens lists.now) }
+{
+    let mut tokens = Vec::new(alloc);
+    if let Some(lists) = lists {
+        for list in lists.as_slice() {
+            append_tokens(&mut tokens, list.conditions.as_slice())?;
+        }
+    }
+    Ok(Items::from_vec(tokens))
+}
+
+/// Appends the state tokens among these conditions.
+fn append_tokens(tokens: &mut Vec<Text>, conditions: &[IfCondition]) -> Result<(), AllocError>
+    ensures { IfOk result (λ _. tokens.new.items ≡ tokens.old.items ++ tokens_in conditions.now) }
+{
+    for condition in conditions {
+        if let Some(token) = token_of(condition) {
+            tokens.push(token.clone()?)?;
+        }
+    }
+    Ok(())
+}
+
+/// The state token of a condition, where it has one, whether or not `Not` stands before it.
+fn token_of(condition: &IfCondition) -> Option<&Text>
+    ensures { option_copied result ≡ token_of condition.now.item }
+{
+    match &condition.item {
+        IfItem::StateToken(token) => Some(token),
+        IfItem::ETag(_) => None,
+    }
+}
+
+/// Whether the header If holds: it isn't there, or one of its lists holds.
+pub(crate) fn if_holds<C, F: GuardedFileSystem<C>, L: DavLockSystem>(
+    alloc: Global,
+    lists: &Option<Items<IfList>>,
+    fs: &mut F,
+    ls: Option<&L>,
+    path: &DavPath,
+    credentials: &C,
+) -> DavResult<bool>
+    ensures { Judges (lists_hold (F.seen fs.old).contents (locks_in L.seen (option_copied ls.entry)) path.now lists.now) (F.seen fs.old) result (F.seen fs.new) }
+{
+    match lists {
+        Some(lists) => any_holds(alloc, lists.as_slice(), fs, ls, path, credentials),
+        None => Ok(true),
+    }
+}
+
+fn any_holds<C, F: GuardedFileSystem<C>, L: DavLockSystem>(
+    alloc: Global,
+    lists: &[IfList],
+    fs: &mut F,
+    ls: Option<&L>,
+    path: &DavPath,
+    credentials: &C,
+) -> DavResult<bool>
+    ensures { Judges (any_holds (F.seen fs.old).contents (locks_in L.seen (option_copied ls.entry)) path.now lists.now) (F.seen fs.old) result (F.seen fs.new) }
+{
+    for list in lists {
+        if list_holds(alloc, list, fs, ls, path, credentials)? {
+            return Ok(true);
+        }
+    }
+    Ok(false)
+}
+
+/// Whether a list holds at the path that it is about: its tag's, else the request's.
+fn list_holds<C, F: GuardedFileSystem<C>, L: DavLockSystem>(
+    alloc: Global,
+    list: &IfList,
+    fs: &mut F,
+    ls: Option<&L>,
+    path: &DavPath,
+    credentials: &C,
+) -> DavResult<bool>
+    ensures { Judges (list_holds (F.seen fs.old).contents (locks_in L.seen (option_copied ls.entry)) path.now list.now) (F.seen fs.old) result (F.seen fs.new) }
+{
+    let conditions = list.conditions.as_slice();
+    match &list.resource_tag {
+        None => conditions_hold(conditions, fs, ls, Some(path), credentials),
+        Some(tag) => {
+            let tagged = read_tagged_path(alloc, tag.as_str(), path)?;
+            conditions_hold(conditions, fs, ls, tagged.as_ref(), credentials)
+        }
+    }
+}
+
+/// Whether there are conditions, and all hold.
+fn conditions_hold<C, F: GuardedFileSystem<C>, L: DavLockSystem>(
+    conditions: &[IfCondition],
+    fs: &mut F,
+    ls: Option<&L>,
+    path: Option<&DavPath>,
+    credentials: &C,
+) -> DavResult<bool>
+    ensures { Judges (conditions_hold (F.seen fs.old).contents (locks_in L.seen (option_copied ls.entry)) (option_map (λ p. p.now.key) path.entry) conditions.now) (F.seen fs.old) result (F.seen fs.new) }
+{
+    if conditions.is_empty() {
+        return Ok(false);
+    }
+    all_hold(conditions, fs, ls, path, credentials)
+}
+
+fn all_hold<C, F: GuardedFileSystem<C>, L: DavLockSystem>(
+    conditions: &[IfCondition],
+    fs: &mut F,
+    ls: Option<&L>,
+    path: Option<&DavPath>,
+    credentials: &C,
+) -> DavResult<bool>
+    ensures { Judges (all_hold (F.seen fs.old).contents (locks_in L.seen (option_copied ls.entry)) (option_map (λ p. p.now.key) path.entry) conditions.now) (F.seen fs.old) result (F.seen fs.new) }
+{
+    for condition in conditions {
+        if !condition_holds(condition, fs, ls, path, credentials)? {
+            return Ok(false);
+        }
+    }
+    Ok(true)
+}
+
+/// Whether a condition holds at a path, or none where that couldn't be read.
+fn condition_holds<C, F: GuardedFileSystem<C>, L: DavLockSystem>(
+    condition: &IfCondition,
+    fs: &mut F,
+    ls: Option<&L>,
+    path: Option<&DavPath>,
+    credentials: &C,
+) -> DavResult<bool>
+    ensures { Judges (condition_holds (F.seen fs.old).contents (locks_in L.seen (option_copied ls.entry)) (option_map (λ p. p.now.key) path.entry) condition.now) (F.seen fs.old) result (F.seen fs.new) }
+{
+    let holds = item_holds_at(&condition.item, fs, ls, path, credentials)?;
+    Ok(turned(condition.not, holds))
+}
+
+/// The opposite, where `Not` stands before it.
+fn turned(not: bool, holds: bool) -> bool
+    ensures { result ≡ turned_by not holds }
+{
+    holds != not
+}
+
+fn item_holds_at<C, F: GuardedFileSystem<C>, L: DavLockSystem>(
+    item: &IfItem,
+    fs: &mut F,
+    ls: Option<&L>,
+    path: Option<&DavPath>,
+    credentials: &C,
+) -> DavResult<bool>
+    ensures { Judges (item_holds_at (F.seen fs.old).contents (locks_in L.seen (option_copied ls.entry)) (option_map (λ p. p.now.key) path.entry) item.now) (F.seen fs.old) result (F.seen fs.new) }
+{
+    match path {
+        Some(path) => item_holds(item, fs, ls, path, credentials),
+        None => Ok(false),
+    }
+}
+
+fn item_holds<C, F: GuardedFileSystem<C>, L: DavLockSystem>(
+    item: &IfItem,
+    fs: &mut F,
+    ls: Option<&L>,
+    path: &DavPath,
+    credentials: &C,
+) -> DavResult<bool>
+    ensures { Judges (item_holds (F.seen fs.old).contents (locks_in L.seen (option_copied ls.entry)) path.now.key item.now) (F.seen fs.old) result (F.seen fs.new) }
+{
+    match item {
+        IfItem::StateToken(token) => Ok(token_holds(ls, path, token)),
+        IfItem::ETag(tag) => tag_holds(fs, path, tag, credentials),
+    }
+}
+
+/// Whether a state token holds at a path: there is a lock system, and it lets one write there with that
+/// token alone, whoever it is. No token of the `DAV:` scheme does.
+fn token_holds<L: DavLockSystem>(ls: Option<&L>, path: &DavPath, token: &Text) -> bool
+    ensures { result ≡ token_holds (locks_in L.seen (option_copied ls.entry)) path.now.key token.now }
+{
+    if token.as_str().starts_with("DAV:") {
+        return false;
+    }
+    match ls {
+        Some(ls) => ls.check(path, None, true, false, std::slice::from_ref(token)),
+        None => false,
+    }
+}
+
+/// Whether an entity tag holds at a path: it is strongly equal to that of what a look at the path finds.
+fn tag_holds<C, F: GuardedFileSystem<C>>(
+    fs: &mut F,
+    path: &DavPath,
+    tag: &ETag,
+    credentials: &C,
+) -> DavResult<bool>
+    ensures { Judges (tag_holds (F.seen fs.old).contents path.now.key tag.now) (F.seen fs.old) result (F.seen fs.new) }
+{
+    match fs.metadata(path, credentials) {
+        Ok(meta) => match ETag::from_meta(&meta)? {
+            Some(current) => Ok(tag.strong_eq(&current)),
+            None => Ok(false),
+        },
+        Err(FsError::Memory) => Err(DavError::Memory),
+        Err(_) => Ok(false),
+    }
+}
