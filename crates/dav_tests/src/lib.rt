@@ -1,29 +1,45 @@
-//! Tests that cross crates: the engine over a store in memory.
+//! Tests that cross crates: the engine over a store and a lock system in memory.
 #![tactic(auto)]
 
 ghost use Rattle.std.specs.Prelude.{◌≡◌, map, IfOk, OnErr};
 ghost use Rattle.dav_engine.specs.Reply.{answer_of};
+ghost use Rattle.dav_engine.specs.State.{seen_with};
 ghost use Rattle.dav_engine.specs.Step.{Runs};
 
-use dav_engine::{Body, DavInner, DavRequest, DavResult, GuardedFileSystem};
+use dav_engine::{Body, DavInner, DavLockSystem, DavRequest, DavResult, GuardedFileSystem};
 use http::Response;
 use std::alloc::Global;
 
-/// Serves the requests over a store that is borrowed for it. The caller knows what the store is afterwards, though
-/// the engine is gone: an `Err` has left it as it was.
-pub fn serve_over<F: GuardedFileSystem<()>>(
+/// Serves the requests over a store and a lock system that are lent for it, and hands both back: the caller
+/// knows what they are, though the engine is gone. An `Err` has left them as they were.
+pub fn serve_over<'a, F: GuardedFileSystem<()>, L: DavLockSystem>(
     alloc: Global,
-    store: &mut F,
+    store: &'a mut F,
+    locks: &'a mut L,
     requests: &[DavRequest],
-) -> DavResult<Vec<DavResult<Response<Body>>>>
-    ensures run { IfOk result (λ replies. Runs (F.seen store.old) requests.now (map answer_of replies.items) (F.seen store.new)) }
-    ensures err { OnErr result (F.seen store.new ≡ F.seen store.old) }
+) -> (
+    DavResult<Vec<DavResult<Response<Body>>>>,
+    &'a mut F,
+    &'a mut L,
+)
+    ensures same_store { result.1.ghost_name ≡ store.entry.ghost_name }
+    ensures same_locks { result.2.ghost_name ≡ locks.entry.ghost_name }
+    ensures run { IfOk result.0 (λ replies. Runs (seen_with (F.seen store.old) (L.seen locks.old)) requests.now (map answer_of replies.items) (seen_with (F.seen result.1.now) (L.seen result.2.now))) }
+    ensures err { OnErr result.0 (seen_with (F.seen result.1.now) (L.seen result.2.now) ≡ seen_with (F.seen store.old) (L.seen locks.old)) }
 {
-    let mut engine = DavInner::new(store, String::new(alloc), ());
+    let mut engine = DavInner::new(store, Some(locks), String::new(alloc), ());
     let replies = engine.run(requests);
-    engine.finish();
-    replies
+    let (store, locks) = engine.finish();
+    (replies, store, locks.unwrap())
 }
 
+#[cfg(test)]
+mod conditions;
+#[cfg(test)]
+mod fixture;
+#[cfg(test)]
+mod locks;
+#[cfg(test)]
+mod parts;
 #[cfg(test)]
 mod tests;

@@ -1,45 +1,16 @@
-use super::*;
-use dav_engine::{DavError, DavPath, FsError, Items, MemFs, Op, Outcome, Record, ReqBody, Text};
-use http::Method;
-use http_header::HeaderMap;
+//! The methods by themselves, without conditions and locks.
+use crate::fixture::{Server, records, request, status};
+use dav_engine::{DavInner, FsError, MemFs, MemLs, Op, Outcome, ReqBody};
+use std::alloc::Global;
 use std::test::Fail;
 
-fn request(alloc: Global, method: &str, path: &str, body: ReqBody) -> DavResult<DavRequest> {
-    let path = DavPath::from_str_and_prefix(alloc, path, "")?;
-    let method = Method::from_bytes(alloc, method.as_bytes()).map_err(|_| DavError::InvalidPath)?;
-    Ok(DavRequest {
-        method,
-        path,
-        headers: HeaderMap::new(alloc),
-        body,
-        principal: None,
-        token: Text::from_string(String::new(alloc)),
-        now: 0,
-    })
+/// Serves one request without a body, and gives its status.
+fn serve_one(alloc: Global, server: &mut Server, method: &str, path: &str) -> Result<u16, Fail> {
+    let request = request(alloc, method, path, &[], "")?;
+    Ok(status(&server.serve(alloc, request)?))
 }
 
-/// The status of a reply or of an error.
-fn status(reply: &DavResult<Response<Body>>) -> u16 {
-    match reply {
-        Ok(reply) => reply.status().as_u16(),
-        Err(error) => error.statuscode().as_u16(),
-    }
-}
-
-/// Serves one request of this method without a body, and gives its status.
-fn serve_one(
-    alloc: Global,
-    store: &mut MemFs,
-    method: &str,
-    path: &str,
-    body: ReqBody,
-) -> DavResult<u16> {
-    let request = request(alloc, method, path, body)?;
-    let replies = serve_over(alloc, store, &[request])?;
-    Ok(replies.first().map_or(0, status))
-}
-
-fn ops(alloc: Global, store: &MemFs) -> DavResult<Vec<Op>> {
+fn ops(alloc: Global, store: &MemFs) -> Result<Vec<Op>, Fail> {
     let mut ops = Vec::new(alloc);
     for record in records(store) {
         ops.push(record.op)?;
@@ -47,11 +18,7 @@ fn ops(alloc: Global, store: &MemFs) -> DavResult<Vec<Op>> {
     Ok(ops)
 }
 
-fn records<F: GuardedFileSystem<()>>(store: &F) -> &[Record] {
-    store.records()
-}
-
-fn outcomes(alloc: Global, store: &MemFs) -> DavResult<Vec<Outcome>> {
+fn outcomes(alloc: Global, store: &MemFs) -> Result<Vec<Outcome>, Fail> {
     let mut outcomes = Vec::new(alloc);
     for record in records(store) {
         outcomes.push(record.outcome)?;
@@ -62,7 +29,7 @@ fn outcomes(alloc: Global, store: &MemFs) -> DavResult<Vec<Outcome>> {
 #[test]
 fn collections_are_made_once(rt: HostRuntime) -> Result<(), Fail> {
     let alloc = rt.alloc();
-    let mut store = MemFs::new(alloc)?;
+    let mut server = Server::new(alloc)?;
     for (path, want) in [
         ("/d/", 201),
         ("/d/", 405),
@@ -70,7 +37,7 @@ fn collections_are_made_once(rt: HostRuntime) -> Result<(), Fail> {
         ("/x/y", 409),
         ("/", 405),
     ] {
-        let status = serve_one(alloc, &mut store, "MKCOL", path, ReqBody::None)?;
+        let status = serve_one(alloc, &mut server, "MKCOL", path)?;
         assert_eq!(rt; status, want, "MKCOL {path}");
     }
     Ok(())
@@ -79,11 +46,10 @@ fn collections_are_made_once(rt: HostRuntime) -> Result<(), Fail> {
 #[test]
 fn a_put_asks_five_calls(rt: HostRuntime) -> Result<(), Fail> {
     let alloc = rt.alloc();
-    let mut store = MemFs::new(alloc)?;
-    let body = ReqBody::Bytes(Items::from_vec(b"hi".to_vec(alloc)?));
-    let status = serve_one(alloc, &mut store, "PUT", "/a", body)?;
-    assert_eq!(rt; status, 201);
-    let ops = ops(alloc, &store)?;
+    let mut server = Server::new(alloc)?;
+    let reply = server.serve(alloc, request(alloc, "PUT", "/a", &[], "hi")?)?;
+    assert_eq!(rt; status(&reply), 201);
+    let ops = ops(alloc, &server.store)?;
     let want = [
         Op::Metadata,
         Op::OpenFile,
@@ -98,9 +64,9 @@ fn a_put_asks_five_calls(rt: HostRuntime) -> Result<(), Fail> {
 #[test]
 fn a_put_is_refused(rt: HostRuntime) -> Result<(), Fail> {
     let alloc = rt.alloc();
-    let mut store = MemFs::new(alloc)?;
+    let mut server = Server::new(alloc)?;
     for (path, want) in [("/", 403), ("/x/y", 409)] {
-        let status = serve_one(alloc, &mut store, "PUT", path, ReqBody::None)?;
+        let status = serve_one(alloc, &mut server, "PUT", path)?;
         assert_eq!(rt; status, want, "PUT {path}");
     }
     Ok(())
@@ -109,16 +75,17 @@ fn a_put_is_refused(rt: HostRuntime) -> Result<(), Fail> {
 #[test]
 fn a_malformed_body_is_refused_before_the_file_is_opened(rt: HostRuntime) -> Result<(), Fail> {
     let alloc = rt.alloc();
-    let mut store = MemFs::new(alloc)?;
-    let request = request(alloc, "PUT", "/a", ReqBody::Malformed)?;
-    let replies = serve_over(alloc, &mut store, &[request])?;
-    let Some(Err(error)) = replies.first() else {
+    let mut server = Server::new(alloc)?;
+    let mut request = request(alloc, "PUT", "/a", &[], "")?;
+    request.body = ReqBody::Malformed;
+    let reply = server.serve(alloc, request)?;
+    let Err(error) = reply else {
         panic!(rt; "the body was taken");
     };
     assert_eq!(rt; error.statuscode().as_u16(), 400);
     assert!(rt; error.must_close());
     // The look is the only call, and found nothing.
-    let outcomes = outcomes(alloc, &store)?;
+    let outcomes = outcomes(alloc, &server.store)?;
     assert_eq!(rt;
         outcomes.as_slice(),
         [Outcome::Barred(FsError::NotFound)].as_slice()
@@ -129,25 +96,37 @@ fn a_malformed_body_is_refused_before_the_file_is_opened(rt: HostRuntime) -> Res
 #[test]
 fn a_method_that_is_not_served_asks_nothing(rt: HostRuntime) -> Result<(), Fail> {
     let alloc = rt.alloc();
-    let mut store = MemFs::new(alloc)?;
+    let mut server = Server::new(alloc)?;
     for method in ["GET", "PROPFIND", "BREW", "put"] {
-        let status = serve_one(alloc, &mut store, method, "/", ReqBody::None)?;
+        let status = serve_one(alloc, &mut server, method, "/")?;
         assert_eq!(rt; status, 501, "{method}");
     }
-    assert_eq!(rt; records(&store).len(), 0);
+    assert_eq!(rt; records(&server.store).len(), 0);
     Ok(())
+}
+
+/// The statuses of two handlers, each called with a request of another method, and of `serve`.
+fn handled<'a>(
+    alloc: Global,
+    store: &'a mut MemFs,
+    locks: &'a mut MemLs,
+) -> Result<[u16; 3], Fail> {
+    let mut engine = DavInner::new(store, Some(locks), String::new(alloc), ());
+    let directory = request(alloc, "GET", "/d/", &[], "")?;
+    let file = request(alloc, "MKCOL", "/d/a", &[], "")?;
+    Ok([
+        status(&engine.handle_mkcol(&directory)),
+        status(&engine.handle_put(&file)),
+        status(&engine.serve(&file)),
+    ])
 }
 
 #[test]
 fn a_handler_serves_any_method_as_its_own(rt: HostRuntime) -> Result<(), Fail> {
     let alloc = rt.alloc();
-    let mut store = MemFs::new(alloc)?;
-    let mut engine = DavInner::new(&mut store, String::new(alloc), ());
-    let directory = request(alloc, "GET", "/d/", ReqBody::None)?;
-    assert_eq!(rt; status(&engine.handle_mkcol(&directory)), 201);
-    let file = request(alloc, "MKCOL", "/d/a", ReqBody::None)?;
-    assert_eq!(rt; status(&engine.handle_put(&file)), 201);
-    assert_eq!(rt; status(&engine.serve(&file)), 405);
-    assert_eq!(rt; records(engine.finish()).len(), 8);
+    let mut server = Server::new(alloc)?;
+    let statuses = handled(alloc, &mut server.store, &mut server.locks)?;
+    assert_eq!(rt; statuses, [201, 201, 405]);
+    assert_eq!(rt; records(&server.store).len(), 8);
     Ok(())
 }

@@ -7,7 +7,7 @@ ghost use Rattle.davrun.specs.Number.{is_number};
 ghost use Rattle.davrun.specs.Escape.{first_byte as first_byte_of, escaped_byte as escaped_byte_of, hex_byte as hex_byte_of, StandsFor, IsFaulty};
 
 use crate::script::{Block, Fault, LineError};
-use dav_resource::{Items, ReqBody};
+use dav_resource::{Items, ReqBody, Text};
 use std::alloc::Global;
 
 /// Reads a directive into its block, from its line without the `=`: a name, and where a space follows, a value.
@@ -25,6 +25,10 @@ pub fn read(block: &mut Block, line: &str) -> Result<(), LineError> {
             Some(now) => block.now = Some(now),
             None => return Err(Fault::BadValue.into()),
         },
+        "principal" => {
+            let principal = String::from_str(*block.path.allocator(), value)?;
+            block.principal = Some(Text::from_string(principal));
+        }
         _ => return Err(Fault::UnknownDirective.into()),
     }
     Ok(())

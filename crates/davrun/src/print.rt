@@ -1,10 +1,10 @@
-//! What is printed of a reply, and of a store at the end.
+//! What is printed of a reply, and of a store and a lock system at the end.
 use crate::outline::outline;
 use crate::quote::push_quoted_bytes;
 use crate::script::Block;
 use crate::trouble::Stopped;
 use dav_resource::{Body, DavProp, DavResult};
-use dav_store::MemFs;
+use dav_store::{DavLock, MemFs, MemLs};
 use http::{Response, StatusCode};
 use http_header::{HeaderMap, HeaderName, HeaderValue};
 use std::alloc::{AllocError, Global};
@@ -64,8 +64,13 @@ fn print_headers<O: Write>(
     Ok(())
 }
 
-/// Prints what the store holds, by the texts of the paths, and then the locks.
-pub fn print_end<O: Write>(alloc: Global, output: &mut O, store: &MemFs) -> Result<(), Stopped> {
+/// Prints what the store holds, by the texts of the paths, and then the locks, by their tokens.
+pub fn print_end<O: Write>(
+    alloc: Global,
+    output: &mut O,
+    store: &MemFs,
+    locks: &MemLs,
+) -> Result<(), Stopped> {
     output.write_all(b"resources\n")?;
     let mut lines = resource_lines(alloc, store)?;
     lines.sort_by(|one, other| one.0.as_str().cmp(other.0.as_str()))?;
@@ -73,7 +78,32 @@ pub fn print_end<O: Write>(alloc: Global, output: &mut O, store: &MemFs) -> Resu
         output.write_all(path.as_bytes())?;
         output.write_all(rest.as_bytes())?;
     }
-    Ok(output.write_all(b"locks\n")?)
+    print_locks(alloc, output, locks)
+}
+
+/// Prints a line for each lock: its token, whether it is exclusive or shared, its depth, its path and its timeout.
+fn print_locks<O: Write>(alloc: Global, output: &mut O, locks: &MemLs) -> Result<(), Stopped> {
+    output.write_all(b"locks\n")?;
+    let mut locks: Vec<&DavLock> = locks.locks().iter().collect(alloc)?;
+    locks.sort_by(|one, other| one.token.as_str().cmp(other.token.as_str()))?;
+    for lock in &locks {
+        let token = lock.token.as_str();
+        let scope = if lock.shared { "shared" } else { "exclusive" };
+        let depth = if lock.deep { "infinity" } else { "0" };
+        let path = lock.path.as_url_string()?;
+        write!(output, "{token} {scope} {depth} {path} ")?;
+        print_timeout(output, lock.timeout)?;
+    }
+    Ok(())
+}
+
+/// Prints a timeout as a lock's tree shows it, and ends the line.
+fn print_timeout<O: Write>(output: &mut O, timeout: Option<u64>) -> Result<(), Stopped> {
+    match timeout {
+        Some(seconds) => writeln!(output, "Second-{seconds}")?,
+        None => writeln!(output, "Infinite")?,
+    }
+    Ok(())
 }
 
 /// The text of each resource's path, and the rest of its lines: a file's bytes, and the names of its properties.

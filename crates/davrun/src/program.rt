@@ -1,4 +1,4 @@
-//! The program: a script in, replies and what the store holds at the end out.
+//! The program: a script in, replies and what the store and the lock system hold at the end out.
 ghost use Rattle.std.specs.Prelude.{◌≡◌, ◌⊎◌, ◌<◌, length, IfErr, IfOk, IfSome, IsErr, IsErrOf, IsOk, OnOk};
 ghost use Rattle.std.specs.Io.KnownBytes.{Appends, IsAtEnd};
 ghost use Rattle.dav_resource.specs.PathText.{read_prefix};
@@ -11,7 +11,7 @@ use crate::script::{Block, read_script};
 use crate::trouble::{Stopped, Trouble, report};
 use dav_engine::DavInner;
 use dav_resource::{Body, DavError, DavPath, DavRequest, DavResult, Text};
-use dav_store::MemFs;
+use dav_store::{MemFs, MemLs};
 use http::Response;
 use std::alloc::Global;
 use std::io::{Read, Write};
@@ -96,7 +96,7 @@ fn read_input<I: Read>(alloc: Global, input: &mut I) -> Result<Vec<u8>, Stopped>
     Ok(script)
 }
 
-/// Serves the blocks in order over one store, and prints the replies and then what the store holds.
+/// Serves the blocks in order over one store and one lock system, and prints the replies and then what both hold.
 fn serve_all<O: Write>(
     alloc: Global,
     prefix: &str,
@@ -106,13 +106,14 @@ fn serve_all<O: Write>(
     let mut session = Session {
         prefix,
         store: MemFs::new(alloc)?,
+        locks: MemLs::new(alloc),
         blocks: 0,
         now: 0,
     };
     for block in blocks {
         session.serve(alloc, block, output)?;
     }
-    print_end(alloc, output, &session.store)?;
+    print_end(alloc, output, &session.store, &session.locks)?;
     Ok(output.flush()?)
 }
 
@@ -121,6 +122,7 @@ fn serve_all<O: Write>(
 struct Session<'a> {
     prefix: &'a str,
     store: MemFs,
+    locks: MemLs,
     /// How many blocks came before.
     blocks: u64,
     /// The moment, in whole seconds since 1970.
@@ -167,7 +169,7 @@ impl<'a> Session<'a> {
             path,
             headers: block.headers,
             body: block.body,
-            principal: None,
+            principal: block.principal,
             token: Text::from_string(format!(in alloc; "urn:lock:{number}")?),
             now: self.now,
         })
@@ -180,10 +182,20 @@ impl<'a> Session<'a> {
         request: DavRequest,
     ) -> Result<Vec<DavResult<Response<Body>>>, Stopped> {
         let prefix = String::from_str(alloc, self.prefix)?;
-        let mut engine = DavInner::new(&mut self.store, prefix, ());
-        match engine.run(&[request]) {
+        match serve_request(&mut self.store, &mut self.locks, prefix, request) {
             Ok(replies) => Ok(replies),
             Err(_) => Err(Stopped::Memory),
         }
     }
+}
+
+/// Serves one request by an engine of its own over a store and a lock system.
+fn serve_request<'a>(
+    store: &'a mut MemFs,
+    locks: &'a mut MemLs,
+    prefix: String,
+    request: DavRequest,
+) -> DavResult<Vec<DavResult<Response<Body>>>> {
+    let mut engine = DavInner::new(store, Some(locks), prefix, ());
+    engine.run(&[request])
 }

@@ -2,7 +2,7 @@
 ghost use Rattle.std.specs.Prelude.{◌≡◌};
 
 use crate::directive;
-use dav_resource::ReqBody;
+use dav_resource::{ReqBody, Text};
 use http::Method;
 use http::method::MethodError;
 use http_header::{
@@ -47,6 +47,8 @@ pub struct Block {
     pub body: ReqBody,
     /// The request's moment, where the block sets one.
     pub now: Option<u64>,
+    /// Who sends the request, where the block says so.
+    pub principal: Option<Text>,
 }
 
 /// The blocks of a script, in order. The error is the fault of the first line that has one, or `Memory`.
@@ -119,6 +121,7 @@ impl Block {
             headers: HeaderMap::new(alloc),
             body: ReqBody::None,
             now: None,
+            principal: None,
         })
     }
 

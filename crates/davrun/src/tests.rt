@@ -1,7 +1,11 @@
 //! Scripts with what is printed of them, on readers and writers in memory.
 use crate::outline::outline;
+use crate::print::print_end;
+use crate::quote::push_quoted;
 use crate::run_script;
-use dav_resource::Element;
+use crate::script::read_script;
+use dav_resource::{DavPath, Element};
+use dav_store::{DavLockSystem, MemFs, MemLs};
 use std::alloc::Global;
 use std::io::{self, Read, Write};
 use std::process::Abort;
@@ -112,6 +116,68 @@ resources
 locks
 ";
     expect(&rt, rt.alloc(), &[], script, (0, wanted, ""))
+}
+
+#[test]
+fn conditions_are_judged(rt: HostRuntime) -> Result<(), Fail> {
+    let script =
+        b"PUT /a\nIf-None-Match: *\n=bytes hello\n\nPUT /a\nIf-None-Match: *\n=bytes x\n\nPUT /a\nIf: ()\n\nPUT /a\nIf: (<urn:any>)\n=bytes y\n";
+    let wanted = "\
+> PUT /a
+201 Created
+accept-ranges: bytes
+content-length: 0
+etag: \"2\"
+last-modified: Thu, 01 Jan 1970 00:00:00 GMT
+
+> PUT /a
+412 Precondition Failed
+
+> PUT /a
+412 Precondition Failed
+
+> PUT /a
+204 No Content
+accept-ranges: bytes
+etag: \"4\"
+last-modified: Thu, 01 Jan 1970 00:00:00 GMT
+
+resources
+/
+/a \"y\"
+locks
+";
+    expect(&rt, rt.alloc(), &[], script, (0, wanted, ""))
+}
+
+#[test]
+fn a_principal_is_no_fault(rt: HostRuntime) -> Result<(), Fail> {
+    let script = b"MKCOL /a\n=principal alice\n\nMKCOL /b\n=principal\n";
+    let wanted =
+        "> MKCOL /a\n201 Created\n\n> MKCOL /b\n201 Created\n\nresources\n/\n/a/\n/b/\nlocks\n";
+    expect(&rt, rt.alloc(), &[], script, (0, wanted, ""))
+}
+
+/// Who sends each request of a script, in a line each: the name in quotes, or `none`.
+fn principals(alloc: Global, script: &[u8]) -> Result<String, Fail> {
+    let mut lines = String::new(alloc);
+    for block in read_script(alloc, script)? {
+        match &block.principal {
+            Some(principal) => push_quoted(&mut lines, principal.as_str())?,
+            None => lines.push_str("none")?,
+        }
+        lines.push('\n')?;
+    }
+    Ok(lines)
+}
+
+#[test]
+fn a_principal_holds_for_its_block_alone(rt: HostRuntime) -> Result<(), Fail> {
+    let script =
+        b"PUT /a\n=principal alice\n\nPUT /a\n\nPUT /a\n=principal\n\nPUT /a\n=principal x\n=principal  b c ";
+    let found = principals(rt.alloc(), script)?;
+    assert_eq!(&rt; found.as_str(), "\"alice\"\nnone\n\"\"\n\" b c \"\n");
+    Ok(())
 }
 
 #[test]
@@ -345,6 +411,32 @@ D:multistatus xmlns:D=\"DAV:\"
   D:status
 ";
     assert_eq!(&rt; outline(alloc, &tree)?.as_str(), wanted);
+    Ok(())
+}
+
+/// A shared lock `u` of the root alone, without end, and then an exclusive deep one `t` of `/n`.
+fn two_locks(alloc: Global) -> Result<MemLs, Fail> {
+    let mut locks = MemLs::new(alloc);
+    let root = DavPath::root(alloc);
+    locks.lock(&root, None, None, None, true, false, "u", 0)?;
+    let path = DavPath::from_str_and_prefix(alloc, "/n", "")?;
+    locks.lock(&path, Some("alice"), None, Some(600), false, true, "t", 7)?;
+    Ok(locks)
+}
+
+#[test]
+fn locks_are_sorted_by_their_tokens(rt: HostRuntime) -> Result<(), Fail> {
+    let alloc = rt.alloc();
+    let mut output = Vec::new(alloc);
+    print_end(alloc, &mut output, &MemFs::new(alloc)?, &two_locks(alloc)?)?;
+    let wanted = "\
+resources
+/
+locks
+t exclusive infinity /n Second-600
+u shared 0 / Infinite
+";
+    assert_eq!(&rt; String::from_utf8(output)?.as_str(), wanted);
     Ok(())
 }
 
