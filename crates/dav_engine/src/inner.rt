@@ -1,5 +1,5 @@
 //! The engine's struct, and what several methods share.
-ghost use Rattle.std.specs.Prelude.{◌≡◌, option_map, option_copied, string_bytes};
+ghost use Rattle.std.specs.Prelude.{◌≡◌, OnErr, option_map, string_bytes};
 ghost use Rattle.dav_engine.specs.DavInner.{lent, lent_locks, loans, settings};
 ghost use Rattle.dav_parts.specs.Dialogue.{Judges, look as look_of};
 
@@ -47,6 +47,7 @@ impl<'a, C: Drop, F: GuardedFileSystem<C>, L: DavLockSystem> DavInner<'a, C, F, 
         ensures same_settings { settings self.new ≡ settings self.old }
         ensures same_locks { lent_locks self.new ≡ lent_locks self.old }
         ensures rules { Judges (look_of (F.seen (lent self.old)).contents path.now.key) (F.seen (lent self.old)) result (F.seen (lent self.new)) }
+        ensures memory { OnErr result (F.seen (lent self.new) ≡ F.seen (lent self.old)) }
     {
         match self.fs.metadata(path, &self.credentials) {
             Ok(meta) => Ok(Some(meta)),

@@ -1,5 +1,5 @@
 //! PUT (RFC 9110, section 9.3.4; RFC 4918, section 9.7).
-ghost use Rattle.std.specs.Prelude.{◌≡◌, ◌≤◌, ◌∷◌, if◌then◌else◌, IfOk, IfErr, OnOk, Some, Ok, is_some, option_map};
+ghost use Rattle.std.specs.Prelude.{◌≡◌, ◌≤◌, ◌∷◌, if◌then◌else◌, IfOk, IfErr, OnErr, Some, Ok, is_some, option_map};
 ghost use Rattle.std.specs.Option.{ForSome};
 ghost use Rattle.dav_resource.specs.declared.method.DavMethod.TheVariants.{Put};
 ghost use Rattle.dav_store.specs.Store.{IsTagText};
@@ -104,6 +104,7 @@ impl<'a, C: Drop, F: GuardedFileSystem<C>, L: DavLockSystem> DavInner<'a, C, F, 
         ensures same_settings { settings self.new ≡ settings self.old }
         ensures same_locks { lent_locks self.new ≡ lent_locks self.old }
         ensures looked { Judges (file_look (F.seen (lent self.old)).contents file.now.path.key) (F.seen (lent self.old)) result (F.seen (lent self.new)) }
+        ensures memory { OnErr result (F.seen (lent self.new) ≡ F.seen (lent self.old)) }
         ensures tag { IfOk result (λ meta. ForSome meta (λ m. ForSome m.etag IsTagText)) }
     {
         match self.fs.file_metadata(file, &self.credentials) {

@@ -1,6 +1,7 @@
 -- The status that the program ends with, by why it ends, and what it says then; this project's own choice.
 use Rattle.std.specs.Prelude.{◌≡◌, ℕ, List, [], ◌∷◌, ◌++◌, Option}
 use Rattle.std.specs.Io.KnownBytes.{Appends}
+use Rattle.davrun.specs.Arguments.{AreUsable}
 use Rattle.davrun.specs.Texts.{trouble_text}
 use Rattle.davrun.specs.declared.trouble.Trouble.{Trouble}
 use Rattle.davrun.specs.declared.trouble.Trouble.TheVariants.{Usage, Fault, Stopped}
@@ -15,6 +16,7 @@ status_of (Stopped stopped) = 3
 abbrev pub trouble_line : Trouble → List ℕ
 trouble_line trouble = trouble_text trouble ++ (10 ∷ [])
 
--- what is wrong with what the caller handed in was said, in one line
-abbrev pub SaysFault : Option (List ℕ) → Option (List ℕ) → Type 0
-SaysFault old new = (trouble : Trouble) × (status_of trouble ≡ 2) × Appends old new (trouble_line trouble)
+-- what is wrong with what the caller handed in was said, in one line: the usage only where the arguments can't be used
+abbrev pub SaysFault : List (List ℕ) → Option (List ℕ) → Option (List ℕ) → Type 0
+SaysFault arguments old new =
+    (trouble : Trouble) × (status_of trouble ≡ 2) × (trouble ≡ Usage → ¬ (AreUsable arguments)) × Appends old new (trouble_line trouble)

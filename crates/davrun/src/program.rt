@@ -41,7 +41,7 @@ pub fn run_script<I: Read, O: Write, E: Write>(
 
     // With 2 nothing was printed, and what is at fault was said.
     ensures refused { result ≡ 2 → output.new ≡ output.old }
-    ensures said { result ≡ 2 → SaysFault (E.contents errors.old) (E.contents errors.new) }
+    ensures said { result ≡ 2 → SaysFault (texts arguments.now) (E.contents errors.old) (E.contents errors.new) }
 {
     let (prefix, blocks) = match read_all(alloc, arguments, input) {
         Ok(read) => read,
@@ -61,6 +61,7 @@ fn read_all<'a, I: Read>(
 ) -> Result<(&'a str, Vec<Block>), Trouble>
     ensures usage { 1 < length arguments.now → IsErrOf result Trouble.Usage × (input.new ≡ input.old) }
     ensures usable { OnOk result (AreUsable (texts arguments.now)) }
+    ensures unusable { IfErr result (λ e. e ≡ Trouble.Usage → ¬ (AreUsable (texts arguments.now))) }
     ensures whole { OnOk result (IsAtEnd (I.remaining input.new)) }
 {
     let prefix = match arguments {

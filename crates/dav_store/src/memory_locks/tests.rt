@@ -217,3 +217,17 @@ fn drops_what_is_below(rt: HostRuntime) -> Result<(), Fail> {
     assert_eq!(rt; locks.locks()[0].token.as_str(), "e");
     Ok(())
 }
+
+#[test]
+fn errors_have_texts(rt: HostRuntime) -> Result<(), Fail> {
+    let wanted = [
+        (LockError::Conflict, "a lock conflicts"),
+        (LockError::NotFound, "no such lock"),
+        (LockError::Failed, "the lock system failed"),
+        (LockError::Memory, "out of memory"),
+    ];
+    for (error, text) in wanted {
+        assert_eq!(&rt; format!(in rt.alloc(); "{error}")?.as_str(), text);
+    }
+    Ok(())
+}
