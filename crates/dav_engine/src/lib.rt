@@ -1,4 +1,4 @@
-//! The engine: WebDAV requests over any store that keeps its contract.
+//! The engine: WebDAV requests over any store and lock system that keep their contracts.
 #![tactic(auto)]
 
 mod http_date;
