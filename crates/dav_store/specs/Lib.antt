@@ -1,11 +1,13 @@
 pub mod Logged
 pub mod Store
 pub mod Calls
+pub mod Members
 pub mod Memory
 pub mod MemoryCalls
 pub mod Entry
 pub mod Dump
 pub mod MemFs
+pub mod Refusing
 pub mod KeyProps
 pub mod Lawful
 pub mod Locks

@@ -5,10 +5,12 @@ mod lock;
 mod lock_system;
 mod memory;
 mod memory_locks;
+mod refusing;
 mod store;
 
 pub use lock::{DavLock, LockError};
 pub use lock_system::DavLockSystem;
 pub use memory::MemFs;
 pub use memory_locks::MemLs;
+pub use refusing::{Refusal, Refusing};
 pub use store::GuardedFileSystem;

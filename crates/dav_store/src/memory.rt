@@ -19,7 +19,7 @@ mod entry;
 
 use crate::GuardedFileSystem;
 use dav_resource::{
-    DavFile, DavPath, DavProp, FsError, FsResult, Items, Meta, Op, OpenOptions, Outcome, Record,
+    DavFile, DavPath, DavProp, DirEntry, FsError, FsResult, Items, Meta, Op, OpenOptions, Outcome, Record,
 };
 use entry::Entry;
 use std::alloc::Global;
@@ -281,6 +281,22 @@ impl<C> GuardedFileSystem<C> for MemFs {
         let paths = self.begin_record(path)?;
         let answer = self.make_directory(path);
         self.end_record(Op::CreateDir, paths, answer)
+    }
+
+    fn read_dir(
+        &mut self,
+        _path: &DavPath,
+        _credentials: &C,
+    ) -> FsResult<Vec<FsResult<DirEntry>>> {
+        Err(FsError::Memory)
+    }
+
+    fn remove_file(&mut self, _path: &DavPath, _credentials: &C) -> FsResult<()> {
+        Err(FsError::Memory)
+    }
+
+    fn remove_dir(&mut self, _path: &DavPath, _credentials: &C) -> FsResult<()> {
+        Err(FsError::Memory)
     }
 
     fn open(&mut self, path: &DavPath, options: &OpenOptions, _credentials: &C) -> FsResult<DavFile>

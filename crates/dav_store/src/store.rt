@@ -3,8 +3,9 @@ ghost use Rattle.std.specs.Prelude.{◌≡◌, ◌+◌, ◌<◌, ◌^◌, false,
 ghost use Rattle.dav_store.specs.Logged.{logged_of};
 ghost use Rattle.dav_store.specs.Store.{Store, IsWellFormed};
 ghost use Rattle.dav_store.specs.Calls.{Looks, MakesDirectory, Opens, Writes, Flushes, LooksAtFile, place_of};
+ghost use Rattle.dav_store.specs.Members.{ReadsDir, RemovesFile, RemovesDir};
 
-use dav_resource::{DavFile, DavPath, FsResult, Meta, OpenOptions, Record};
+use dav_resource::{DavFile, DavPath, DirEntry, FsResult, Meta, OpenOptions, Record};
 
 /// A store of resources, which keeps a log of its calls and may refuse any of them.
 ///
@@ -20,10 +21,30 @@ pub trait GuardedFileSystem<C> {
     fn metadata(&mut self, path: &DavPath, credentials: &C) -> FsResult<Meta>
         ensures { Looks (seen self.old) path.now.key result (seen self.new) };
 
+    /// The members of a directory, each once, with what is known of it or the store's refusal to show it,
+    /// which leaves a record of its own (`Op::Entry`), in the listing's order. Barred: nothing is there
+    /// (`NotFound`), or a file (`Forbidden`).
+    fn read_dir(
+        &mut self,
+        path: &DavPath,
+        credentials: &C,
+    ) -> FsResult<Vec<FsResult<DirEntry>>>
+        ensures { ReadsDir (seen self.old) path.now.key result (seen self.new) };
+
     /// Makes a directory without properties. Barred: something is there (`Exists`), or its parent is no
     /// directory (`NotFound`).
     fn create_dir(&mut self, path: &DavPath, credentials: &C) -> FsResult<()>
         ensures { MakesDirectory (seen self.old) path.now.key result (seen self.new) };
+
+    /// Removes a file and its properties. Barred: nothing is there (`NotFound`), or a directory (`Forbidden`).
+    fn remove_file(&mut self, path: &DavPath, credentials: &C) -> FsResult<()>
+        ensures { RemovesFile (seen self.old) path.now.key result (seen self.new) };
+
+    /// Removes a directory without members, and its properties. Barred: nothing is there (`NotFound`), a
+    /// file (`Forbidden`), the root (`Forbidden`, whether it has members or not), or a directory that has
+    /// members (`Exists`).
+    fn remove_dir(&mut self, path: &DavPath, credentials: &C) -> FsResult<()>
+        ensures { RemovesDir (seen self.old) path.now.key result (seen self.new) };
 
     /// Opens a file, with the place at its start, and makes or empties it where that is asked. Barred:
     /// something is there where a new file is to be made (`Exists`), a directory is there (`Forbidden`),
