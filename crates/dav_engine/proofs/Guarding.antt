@@ -13,7 +13,7 @@ use Rattle.dav_store.specs.Store.{Contents, Node, Tree}
 use Rattle.dav_parts.specs.Conditions.{conditions}
 use Rattle.dav_parts.specs.Dialogue.{Passed, Refuses, LeadsTo, look, refusing}
 use Rattle.dav_parts.specs.Dialogues.{LeadsTo-last, LeadsTo-unrefused}
-use Rattle.dav_engine.specs.Reply.{Answer}
+use Rattle.dav_parts.specs.Reply.{Answer}
 use Rattle.dav_engine.specs.State.{State}
 use Rattle.dav_engine.specs.Rules.{is_permitted, where_permitted, shallow_rules, closing}
 use Rattle.dav_engine.specs.Guarded.{IsChanged, IsPermitted, IsGuarded}

@@ -1,7 +1,6 @@
 pub mod FieldText
 pub mod Granting
 pub mod Guarding
-pub mod Headers
 pub mod HttpDate
 pub mod Judging
 pub mod Making

@@ -7,7 +7,7 @@ use Rattle.dav_resource.specs.declared.error.DavError.TheVariants as dav_errors
 use Rattle.dav_resource.specs.declared.request.DavRequest.{DavRequest}
 use Rattle.dav_store.specs.Store.{Store}
 use Rattle.dav_store.specs.Calls.{record_of, Grants, Declines, create_dir_call, IsMadeAt}
-use Rattle.dav_engine.specs.Reply.{Reply, Answer}
+use Rattle.dav_parts.specs.Reply.{Reply, Answer}
 use Rattle.dav_engine.specs.Mkcol.{mkcol_error, mkcol_reply, MkcolWork, MkcolCut}
 use Rattle.dav_engine.specs.Step.{WorksOnStore}
 use Rattle.dav_parts.specs.Dialogues.{unlike, needs-declined}

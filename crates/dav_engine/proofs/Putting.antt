@@ -19,7 +19,7 @@ use Rattle.dav_store.specs.Store.{Store, Contents, File}
 use Rattle.dav_store.specs.Calls.{Call, record_of, IsLawful, Grants, Declines, open_call, IsOpened, file_call, file_bar, written_at, bytes_at, Flushes, IsWritten}
 use Rattle.http.specs.declared.response.Response.{Response}
 use Rattle.dav_resource.specs.declared.request.Body.{Body}
-use Rattle.dav_engine.specs.Reply.{Answer, reply_of, answer_of}
+use Rattle.dav_parts.specs.Reply.{Answer, reply_of, answer_of}
 use Rattle.dav_engine.specs.PutReply.{put_reply}
 use Rattle.dav_parts.specs.Dialogue.{Dialogue, Refuses, Passed, GoesOn, needs, if_granted, LeadsTo, EndsIn, Judges, WasGranted}
 use Rattle.dav_engine.specs.Put.{body_bytes, new_bytes, put_body, body_verdict, put_options, put_open_error, on_file, put_write, look_by, put_steps, PutLeaves, PutWork, PutCut, WritesBody, look_at_file}

@@ -11,7 +11,7 @@ use Rattle.dav_store.specs.Logged.{Logged}
 use Rattle.dav_store.specs.Store.{Store, IsWellFormed}
 use Rattle.dav_store.specs.Locks.{Locks}
 use Rattle.dav_store.specs.LockCalls.{HasDistinctTokens}
-use Rattle.dav_engine.specs.Reply.{Answer, answer_of}
+use Rattle.dav_parts.specs.Reply.{Answer, answer_of}
 use Rattle.dav_engine.specs.State.{State, Seen, state_of, IsLawfulState}
 use Rattle.dav_engine.specs.DavInner.{lent, lent_locks, seen_by}
 use Rattle.dav_engine.specs.declared.inner.DavInner.{DavInner}

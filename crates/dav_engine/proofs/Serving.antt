@@ -13,7 +13,7 @@ use Rattle.dav_resource.specs.declared.request.DavRequest.{DavRequest}
 use Rattle.dav_store.specs.Store.{Store}
 use Rattle.dav_store.specs.Locks.{Locks}
 use Rattle.dav_parts.specs.Dialogue.{Refuses, EndsIn, Judges}
-use Rattle.dav_engine.specs.Reply.{Answer, answer_of}
+use Rattle.dav_parts.specs.Reply.{Answer, answer_of}
 use Rattle.dav_engine.specs.State.{State, Seen, state_of, facts_of}
 use Rattle.dav_engine.specs.Mkcol.{MkcolWork, MkcolCut}
 use Rattle.dav_engine.specs.Put.{PutWork, PutCut}

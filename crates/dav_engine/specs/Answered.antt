@@ -2,7 +2,7 @@
 use Rattle.std.specs.Prelude.{List, Ok, Err}
 use Rattle.dav_store.specs.Logged.{Logged}
 use Rattle.dav_parts.specs.Dialogue.{Dialogue, Passed, Refuses, LeadsTo}
-use Rattle.dav_engine.specs.Reply.{Reply, Answer}
+use Rattle.dav_parts.specs.Reply.{Reply, Answer}
 
 -- over these records the dialogue ends in this answer; a value may be told by several replies
 abbrev pub IsAnswered : {A : Type 0} → Dialogue A → (A → Reply → Type 0) → List Logged → Answer → Type 0

@@ -1,6 +1,4 @@
 pub mod DavInner
-pub mod Reply
-pub mod ReplyHeader
 pub mod HttpDate
 pub mod PutReply
 pub mod Mkcol

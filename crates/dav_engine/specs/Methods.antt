@@ -6,7 +6,7 @@ use Rattle.dav_resource.specs.declared.method.DavMethod.TheVariants.{Put, MkCol}
 use Rattle.dav_resource.specs.declared.error.DavError.TheVariants.{Status}
 use Rattle.dav_resource.specs.declared.request.DavRequest.{DavRequest}
 use Rattle.dav_store.specs.Logged.{Logged}
-use Rattle.dav_engine.specs.Reply.{Answer}
+use Rattle.dav_parts.specs.Reply.{Answer}
 use Rattle.dav_parts.specs.Dialogue.{Dialogue, Refuses}
 use Rattle.dav_engine.specs.State.{State}
 use Rattle.dav_engine.specs.Rules.{shallow_rules}

@@ -13,8 +13,8 @@ use Rattle.dav_resource.specs.declared.request.DavRequest.{DavRequest}
 use Rattle.dav_store.specs.Logged.{Logged}
 use Rattle.dav_store.specs.Store.{Contents}
 use Rattle.dav_store.specs.Calls.{create_dir_call, IsMadeAt}
-use Rattle.dav_engine.specs.Reply.{Reply, Answer, bare_reply}
-use Rattle.dav_engine.specs.ReplyHeader.{optional_field}
+use Rattle.dav_parts.specs.Reply.{Reply, Answer, bare_reply}
+use Rattle.dav_parts.specs.ReplyHeader.{optional_field}
 use Rattle.dav_parts.specs.Dialogue.{Dialogue, Passed, needs, WasGranted}
 use Rattle.dav_engine.specs.Answered.{IsAnswered}
 

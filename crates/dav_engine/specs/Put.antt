@@ -22,7 +22,7 @@ use Rattle.dav_headers.specs.TagList.{if_match_of, if_none_match_of}
 use Rattle.dav_store.specs.Logged.{Logged}
 use Rattle.dav_store.specs.Store.{Store, Contents, File}
 use Rattle.dav_store.specs.Calls.{Call, limit_of, open_call, file_call, Writes}
-use Rattle.dav_engine.specs.Reply.{Answer}
+use Rattle.dav_parts.specs.Reply.{Answer}
 use Rattle.dav_engine.specs.PutReply.{put_reply}
 use Rattle.dav_engine.specs.State.{State}
 use Rattle.dav_engine.specs.Rules.{shallow_rules, closing}

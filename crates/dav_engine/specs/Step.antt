@@ -8,7 +8,7 @@ use Rattle.dav_resource.specs.declared.error.DavError.TheVariants.{Memory}
 use Rattle.dav_resource.specs.declared.request.DavRequest.{DavRequest}
 use Rattle.dav_store.specs.Logged.{Logged}
 use Rattle.dav_store.specs.Store.{Contents, Store}
-use Rattle.dav_engine.specs.Reply.{Answer}
+use Rattle.dav_parts.specs.Reply.{Answer}
 use Rattle.dav_parts.specs.Dialogue.{Dialogue, Refuses, Passed, LeadsTo}
 use Rattle.dav_engine.specs.State.{State, Seen, state_of, facts_of, IsLawfulState}
 use Rattle.dav_engine.specs.Guarded.{IsGuarded}

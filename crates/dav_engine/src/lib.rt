@@ -8,7 +8,6 @@ mod machine;
 mod mkcol;
 mod put;
 mod put_reply;
-mod reply_header;
 
 pub use dav_headers::{
     IfCondition, IfItem, IfList, read_if, read_if_match, read_if_none_match, read_place,

@@ -2,7 +2,7 @@
 ghost use Rattle.std.specs.Prelude.{◌≡◌, Err, map, IfOk, OnErr};
 ghost use Rattle.dav_resource.specs.Methods.{method_of};
 ghost use Rattle.dav_engine.specs.DavInner.{loans, settings, seen_by};
-ghost use Rattle.dav_engine.specs.Reply.{answer_of};
+ghost use Rattle.dav_parts.specs.Reply.{answer_of};
 ghost use Rattle.dav_engine.specs.Step.{Serves, Runs};
 
 use crate::DavInner;

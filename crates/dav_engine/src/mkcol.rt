@@ -2,12 +2,12 @@
 ghost use Rattle.std.specs.Prelude.{◌≡◌, IfOk, IfErr, Some};
 ghost use Rattle.dav_resource.specs.declared.method.DavMethod.TheVariants.{MkCol};
 ghost use Rattle.dav_engine.specs.DavInner.{lent, lent_locks, loans, settings, seen_by};
-ghost use Rattle.dav_engine.specs.Reply.{reply_of, answer_of};
+ghost use Rattle.dav_parts.specs.Reply.{reply_of, answer_of};
 ghost use Rattle.dav_engine.specs.Mkcol.{mkcol_error as error_of_mkcol, mkcol_reply as reply_of_mkcol, mkcol_location as location_of_mkcol, MkcolWork, MkcolCut};
 ghost use Rattle.dav_engine.specs.Step.{Serves, WorksOnStore};
 
 use crate::DavInner;
-use crate::reply_header::{add_header, header_value};
+use dav_parts::{add_header, header_value};
 use dav_resource::{Body, DavError, DavPath, DavRequest, DavResult, FsError};
 use dav_store::{DavLockSystem, GuardedFileSystem};
 use http::{Response, StatusCode};

@@ -5,7 +5,7 @@ ghost use Rattle.dav_resource.specs.declared.method.DavMethod.TheVariants.{Put};
 ghost use Rattle.dav_store.specs.Store.{IsTagText};
 ghost use Rattle.dav_engine.specs.DavInner.{lent, lent_locks, loans, settings, seen_by};
 ghost use Rattle.dav_engine.specs.State.{state_of};
-ghost use Rattle.dav_engine.specs.Reply.{answer_of};
+ghost use Rattle.dav_parts.specs.Reply.{answer_of};
 ghost use Rattle.dav_parts.specs.Dialogue.{Judges};
 ghost use Rattle.dav_engine.specs.Put.{body_bytes as bytes_of_body, new_bytes as bytes_of_request, put_rules, put_options as options_of_put, is_star as is_star_list, misplaced as misplaced_by, put_open_error as error_of_open, PutWork, PutCut, WritesBody, look_at_file as file_look, body_verdict};
 ghost use Rattle.dav_engine.specs.Step.{Serves, WorksOnStore};

@@ -1,4 +1,5 @@
 pub mod Values
+pub mod Depth
 pub mod Place
 pub mod Repeated
 pub mod Tag

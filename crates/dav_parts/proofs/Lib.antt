@@ -1,1 +1,2 @@
 pub mod IfLists
+pub mod Headers

@@ -1,3 +1,6 @@
 pub mod Dialogue
 pub mod Dialogues
 pub mod Conditions
+pub mod Reply
+pub mod ReplyHeader
+pub mod Multistatus

@@ -1,9 +1,14 @@
-//! What several methods share: the conditions of a request.
+//! What several methods share: the conditions of a request, the statuses of several resources, and the
+//! header fields of a reply.
 #![tactic(auto)]
 
 mod conditional;
 mod if_header;
+mod multierror;
+mod reply_header;
 
 pub use conditional::{
     dav_if_match, etaglist_match, http_if_match, if_match, if_match_get_tokens, ifrange_match,
 };
+pub use multierror::{MultiError, multi_error};
+pub use reply_header::{add_header, header_value};

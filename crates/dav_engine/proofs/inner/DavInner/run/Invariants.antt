@@ -1,6 +1,6 @@
 use Rattle.std.proofs.Common.{◌≡◌, ◌≤◌, take, length, map, vec_len, vec_capacity}
 use Rattle.dav_engine.specs.DavInner.{loans, settings, seen_by}
-use Rattle.dav_engine.specs.Reply.{answer_of}
+use Rattle.dav_parts.specs.Reply.{answer_of}
 use Rattle.dav_engine.specs.Step.{Runs}
 use Rattle.dav_engine.proofs.inner.DavInner.run.Given as goal
 

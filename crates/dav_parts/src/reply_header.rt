@@ -2,14 +2,14 @@
 ghost use Rattle.std.specs.Prelude.{◌≡◌, ◌++◌, OnOk, IfOk, IfErr, string_bytes};
 ghost use Rattle.http_header.specs.FieldValue.{IsFieldValue, plain_value};
 ghost use Rattle.dav_resource.specs.declared.error.DavError.TheVariants.{Memory};
-ghost use Rattle.dav_engine.specs.ReplyHeader.{HasRoomFor, optional_field};
+ghost use Rattle.dav_parts.specs.ReplyHeader.{HasRoomFor, optional_field};
 
 use dav_resource::DavResult;
 use http_header::{HeaderMap, HeaderName, HeaderValue};
 
 /// Sets one more header field, the last, where there is a value for it; else the fields stay as they are.
 /// The only error is `Memory`, where memory is lacking.
-pub(crate) fn add_header(
+pub fn add_header(
     headers: &mut HeaderMap<HeaderValue>,
     name: HeaderName,
     value: Option<HeaderValue>,
@@ -26,7 +26,7 @@ pub(crate) fn add_header(
 }
 
 /// The value of a header field that shows this text. The only error is `Memory`, where memory is lacking.
-pub(crate) fn header_value(text: String) -> DavResult<HeaderValue>
+pub fn header_value(text: String) -> DavResult<HeaderValue>
     requires { IsFieldValue (string_bytes text) }
     ensures ok { IfOk result (λ value. value ≡ plain_value (string_bytes text)) }
     ensures err { IfErr result (λ e. e ≡ Memory) }

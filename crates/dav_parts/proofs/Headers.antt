@@ -3,7 +3,7 @@ use Rattle.std.proofs.Common.{◌≡◌, ℕ, List, [], ◌∷◌, ◌++◌}
 use Rattle.http_header.specs.HeaderMap.{Entries, insert}
 use Rattle.http_header.specs.FieldValue.{FieldValue}
 use Rattle.http_header.proofs.PlacesLemmas.{IsAbsent-from_index_of}
-use Rattle.dav_engine.specs.ReplyHeader.{HasRoomFor}
+use Rattle.dav_parts.specs.ReplyHeader.{HasRoomFor}
 
 -- a field whose name is new goes last
 pub insert-new : (headers : Entries FieldValue) (name : List ℕ) (value : FieldValue) → HasRoomFor headers name

@@ -1,6 +1,6 @@
 use Rattle.std.proofs.Common.{◌∙◌}
-use Rattle.dav_engine.proofs.Headers.{insert-new}
-use Rattle.dav_engine.proofs.reply_header.add_header.Goals as goal
+use Rattle.dav_parts.proofs.Headers.{insert-new}
+use Rattle.dav_parts.proofs.reply_header.add_header.Goals as goal
 
 pub returns-clause-ok : goal.returns-clause-ok
 returns-clause-ok c =

@@ -1,0 +1,73 @@
+//! The statuses of several resources, collected and answered.
+ghost use Rattle.std.specs.Prelude.{◌≡◌, [], ◌∷◌, ◌++◌, OnOk, OnErr, IfErr};
+ghost use Rattle.dav_resource.specs.Errors.{dav_status};
+ghost use Rattle.dav_resource.specs.Gives.{GivesBy};
+ghost use Rattle.dav_resource.specs.declared.error.DavError.TheVariants.{Memory};
+ghost use Rattle.dav_parts.specs.Reply.{reply_of};
+ghost use Rattle.dav_parts.specs.Multistatus.{multi_answer};
+
+use dav_resource::{Body, DavError, DavPath, DavResult};
+use http::{Response, StatusCode};
+use std::alloc::Global;
+use std::marker::Model;
+
+/// The statuses of several resources, in the order in which they were added (RFC 4918, section 13).
+#[derive(Drop, Debug)]
+pub struct MultiError {
+    items: Vec<(DavPath, StatusCode)>,
+}
+
+impl Model for MultiError {
+    ghost use Rattle.std.specs.Prelude.{List};
+    ghost use Rattle.dav_parts.specs.Multistatus.{Item};
+
+    ghost Value = { List Item };
+
+    ghost view = { λ m. m.items.items };
+}
+
+impl MultiError {
+    /// No status yet.
+    pub fn new(alloc: Global) -> MultiError
+        ensures { result ≡ [] }
+    {
+        MultiError {
+            items: Vec::new(alloc),
+        }
+    }
+
+    /// Adds the status of a resource, as the last one. The only error is `Memory`, where memory is lacking,
+    /// and then nothing has changed.
+    pub fn add_status<E: Into<DavError>>(&mut self, path: &DavPath, status: E) -> DavResult<()>
+        ensures ok { OnOk result ((e : DavError) × E.converts status e × (self.new ≡ self.old ++ (path.now, dav_status e) ∷ [])) }
+        ensures err { IfErr result (λ e. e ≡ Memory) }
+        ensures kept { OnErr result (self.new ≡ self.old) }
+    {
+        let error: DavError = status.into();
+        let path = path.clone()?;
+        self.items.push((path, error.statuscode()))?;
+        Ok(())
+    }
+
+    /// The resources with their statuses, in the order in which they were added.
+    pub fn into_items(self) -> Vec<(DavPath, StatusCode)>
+        ensures { result.items ≡ self }
+    {
+        self.items
+    }
+}
+
+/// The reply that tells the statuses of resources (RFC 4918, sections 11.1 and 13): one status of the
+/// request's own resource, whose key `req_path` has, is the reply's own, with no body; else it is 207 with a
+/// `multistatus` that has a response for each item in order, in which 204 is shown as 200.
+///
+/// Errors: `ChanError` where there is no item; `Memory`.
+pub fn multi_error(
+    alloc: Global,
+    req_path: &DavPath,
+    items: Vec<(DavPath, StatusCode)>,
+) -> DavResult<Response<Body>>
+    ensures { GivesBy reply_of result (multi_answer req_path.now items.items) }
+{
+    Err(DavError::Memory)
+}

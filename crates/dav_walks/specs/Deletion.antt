@@ -1,0 +1,178 @@
+-- DELETE (RFC 4918, section 9.6): what a deletion calls, leaves and names. Below the key p that is deleted,
+-- a key is said by the path x that leads down to it: `old x` is what stood there, and `calls x` the calls on it.
+use Rattle.std.specs.Prelude.{◌≡◌, ◌≢◌, ◌⊎◌, ◌↔◌, ◌≤◌, ◌*◌, filter, ℕ, Bool, true, false, if◌then◌else◌, List, [], ◌∷◌, ◌++◌, Option, Some, None, Result, Ok, Err, length, map, filter_map, option_map, IsTrue, IsPermutation}
+use Rattle.std.specs.FinMap.{get}
+use Rattle.dav_resource.specs.Key.{Key, parent}
+use Rattle.dav_resource.specs.PathText.{PathValue}
+use Rattle.dav_resource.specs.Errors.{fs_status}
+use Rattle.dav_resource.specs.declared.request.Depth.{Depth}
+use Rattle.dav_resource.specs.declared.request.Depth.TheVariants.{Zero, One, Infinity, Default}
+use Rattle.dav_resource.specs.declared.record.Op.{Op}
+use Rattle.dav_resource.specs.declared.record.Op.TheVariants.{ReadDir, RemoveFile, RemoveDir, Entry}
+use Rattle.dav_resource.specs.declared.record.Outcome.{Outcome}
+use Rattle.dav_resource.specs.declared.record.Outcome.TheVariants.{Granted, Barred, Refused}
+use Rattle.dav_resource.specs.declared.error.FsError.{FsError}
+use Rattle.dav_resource.specs.declared.error.FsError.TheVariants.{Forbidden}
+use Rattle.dav_resource.specs.declared.error.DavError.{DavError}
+use Rattle.dav_resource.specs.declared.error.DavError.TheVariants.{Status, Memory}
+use Rattle.dav_store.specs.Logged.{Logged}
+use Rattle.dav_store.specs.Store.{Store, Contents, Node, File, Directory, Tree}
+use Rattle.dav_store.specs.Calls.{Call, record_of, IsLawful, IsOwn, error_of, limit_of}
+use Rattle.dav_store.specs.Members.{IsIn, remove_file_call, remove_dir_call, IsRemovedAt}
+use Rattle.dav_parts.specs.Multistatus.{Item}
+use Rattle.dav_walks.specs.KeyCall.{KeyCall, logged_call, same_key, calls_at, standing, keys_below}
+
+-- the calls on each key below one
+abbrev pub Calls : Type 0
+Calls = Key → List (Op × Outcome)
+
+-- what stands at each key below one
+abbrev pub Look : Type 0
+Look = Key → Option Node
+
+abbrev pub look_below : Tree → Key → Look
+look_below tree p = λ x. get tree (p ++ x)
+
+abbrev pub calls_below : List KeyCall → Key → Calls
+calls_below calls p = λ x. calls_at calls (p ++ x)
+
+-- one step down
+abbrev pub under : {X : Type 0} → (Key → X) → List ℕ → Key → X
+under f name = λ x. f (name ∷ x)
+
+-- ---- what is withheld
+
+abbrev pub WasRefused : Outcome → Type 0
+WasRefused outcome = outcome ≢ Granted
+
+-- its parent's listing didn't show it
+abbrev pub IsUnseen : List (Op × Outcome) → Type 0
+IsUnseen calls = (outcome : Outcome) × IsIn (Entry, outcome) calls × WasRefused outcome
+
+-- its own listing was refused
+abbrev pub IsUnlisted : List (Op × Outcome) → Type 0
+IsUnlisted calls = (outcome : Outcome) × IsIn (ReadDir, outcome) calls × WasRefused outcome
+
+-- on the way down to the key, itself included, some key was withheld: it wasn't shown, or the listing above it was refused
+abbrev pub IsHidden : Calls → Key → Type 0
+IsHidden calls [] = IsUnseen (calls [])
+IsHidden calls (name ∷ x) = IsUnseen (calls []) ⊎ IsUnlisted (calls []) ⊎ IsHidden (under calls name) x
+
+-- a key that the deletion is on its way to: it was there, and neither it nor one above it is withheld
+abbrev pub IsReached : Look → Calls → Key → Type 0
+IsReached old calls x = (old x ≢ None) × (IsHidden calls x → ⊥)
+
+abbrev pub IsMemberOfReached : Look → Calls → Key → Type 0
+IsMemberOfReached old calls x = (y : Key) × (name : List ℕ) × (x ≡ y ++ name ∷ []) × IsReached old calls y
+
+-- ---- what is named
+
+-- the path at a key: the deletion's own, or one below it, with a slash for a directory
+abbrev pub path_at : PathValue → Bool → Key → PathValue
+path_at path slash key = if same_key key path.key then path else record path { star = false; slash = slash; key = key }
+
+-- a refused call names the path at its key; a member that wasn't shown, the directory above it
+abbrev pub named_path : PathValue → Op → Key → PathValue
+named_path path RemoveFile key = path_at path false key
+named_path path Entry key = path_at path true (parent key)
+named_path path _ key = path_at path true key
+
+-- with the status of the refusal
+abbrev pub named_by : PathValue → KeyCall → Option Item
+named_by path call = option_map (λ e. (named_path path call.op call.key, fs_status e)) (error_of call.outcome)
+
+abbrev pub named_in : PathValue → List KeyCall → List Item
+named_in path calls = filter_map (named_by path) calls
+
+-- a name stands at the key or below it, or the key is withheld, or below one that is
+abbrev pub IsLeft : List Item → Calls → Key → Key → Type 0
+IsLeft names calls p x = ((z : Key) × (item : Item) × IsIn item names × (item.0.key ≡ (p ++ x) ++ z)) ⊎ IsHidden calls x
+
+-- ---- which calls are made
+
+-- no two calls of one kind
+abbrev pub AreDifferent : List (Op × Outcome) → Type 0
+AreDifferent [] = Unit {0}
+AreDifferent (c ∷ cs) = ((d : Op × Outcome) → IsIn d cs → d.0 ≢ c.0) × AreDifferent cs
+
+-- of the calls only the root's removal is barred
+pub record IsRootRemoval (call : KeyCall) (e : FsError) : Type 0 where
+  pub root : call.key ≡ []
+  pub removal : call.op ≡ RemoveDir
+  pub forbidden : e ≡ Forbidden
+
+-- a member that wasn't shown is no call of its own
+abbrev pub is_call : Op → Bool
+is_call Entry = false
+is_call _ = true
+
+-- what a deletion of p may call and change at any moment
+pub record IsLawfulRemoval (p : Key) (old new : Contents) (calls : List KeyCall) : Type 0 where
+  -- each call is on a key at or below p that is reached, and each member that wasn't shown is of such a key
+  pub within : (call : KeyCall) → IsIn call calls → (x : Key) × (call.key ≡ p ++ x)
+  pub reached : (x : Key) (c : Op × Outcome) → IsIn c (calls_below calls p x) → (c.0 ≡ Entry) ⊎ IsReached (look_below old.tree p) (calls_below calls p) x
+  pub entries : (x : Key) (outcome : Outcome) → IsIn (Entry, outcome) (calls_below calls p x) → IsMemberOfReached (look_below old.tree p) (calls_below calls p) x
+  -- no kind of call is made twice on a key, at most two are made on each, and in all at most two for each key that was there
+  pub once : (x : Key) → AreDifferent (calls_below calls p x)
+  pub few : (x : Key) → length (calls_below calls p x) ≤ 2
+  pub bound : length (filter (λ call. is_call call.op) calls) ≤ 2 * length (keys_below old.tree p)
+  -- only the root's removal is barred, and each refusal is the store's own
+  pub barred : (call : KeyCall) (e : FsError) → IsIn call calls → call.outcome ≡ Barred e → IsRootRemoval call e
+  pub own : (call : KeyCall) (e : FsError) → IsIn call calls → call.outcome ≡ Refused e → IsOwn e
+  -- each key stands as it did, or is gone with its properties; outside nothing changes
+  pub kept_or_gone : (x : Key) → (standing new (p ++ x) ≡ standing old (p ++ x)) ⊎ (standing new (p ++ x) ≡ (None, None))
+  pub outside : (key : Key) → ((x : Key) → key ≢ p ++ x) → standing new key ≡ standing old key
+  pub limit : limit_of new ≡ limit_of old
+
+-- the deletion of what stands at the path and of all below it, by these calls and with these names
+pub record Deletes (path : PathValue) (old new : Contents) (calls : List KeyCall) (names : List Item) : Type 0 where
+  pub lawful : IsLawfulRemoval path.key old new calls
+  -- the names are those of the refused calls, each once, in some order
+  pub named : IsPermutation (named_in path calls) names
+  -- what has a name at or below it, or is withheld, is left as it was, and nothing else
+  pub left : (x : Key) → get new.tree (path.key ++ x) ≢ None → IsLeft names (calls_below calls path.key) path.key x
+  pub same : (x : Key) → IsLeft names (calls_below calls path.key) path.key x → standing new (path.key ++ x) ≡ standing old (path.key ++ x)
+
+-- ---- a deletion of Depth 0
+
+-- the call that removes what stands at a key alone
+abbrev pub removal_call : Contents → Key → Call
+removal_call old key = by_node (get old.tree key)
+  where
+    by_node : Option Node → Call
+    by_node (Some Directory) = remove_dir_call old key
+    by_node (Some (File bytes)) = remove_file_call old key
+    by_node None = remove_file_call old key
+
+-- the one call is made: it removes the resource, or is refused, and then names it and changes nothing
+pub record RemovesAlone (path : PathValue) (old new : Contents) (records : List Logged) (names : List Item) : Type 0 where
+  pub outcome : Outcome
+  pub called : records ≡ record_of (removal_call old path.key) outcome ∷ []
+  pub lawful : IsLawful (removal_call old path.key).bar outcome
+  pub granted : outcome ≡ Granted → IsRemovedAt path.key old new × (names ≡ [])
+  pub refused : (e : FsError) → error_of outcome ≡ Some e → (new ≡ old) × (names ≡ (path, fs_status e) ∷ [])
+
+-- ---- either
+
+-- the deletion of this depth, over these records
+abbrev pub Removes : Depth → PathValue → Contents → Contents → List Logged → List Item → Type 0
+Removes Zero path old new records names = RemovesAlone path old new records names
+Removes depth path old new records names = (calls : List KeyCall) × (records ≡ map logged_call calls) × Deletes path old new calls names
+
+-- a deletion that was broken off for want of memory, or that wasn't begun
+abbrev pub RemovesInPart : Depth → PathValue → Contents → Contents → List Logged → Type 0
+RemovesInPart Zero path old new records = ((records ≡ []) × (new ≡ old)) ⊎ ((names : List Item) × RemovesAlone path old new records names)
+RemovesInPart depth path old new records = (calls : List KeyCall) × (records ≡ map logged_call calls) × IsLawfulRemoval path.key old new calls
+
+-- the answer: whether something is named, and then the status of the first
+abbrev pub removal_answer : List Item → Result (Unit {0}) DavError
+removal_answer [] = Ok tt
+removal_answer (item ∷ names) = Err (Status item.1)
+
+-- the same from store to store, and from names to names
+pub record Removal (depth : Depth) (path : PathValue) (old new : Store) (had has : List Item) (answer : Result (Unit {0}) DavError) : Type 0 where
+  pub records : List Logged
+  pub told : new.log ≡ old.log ++ records
+  pub fixed : new.keeps_properties ≡ old.keeps_properties
+  pub done : ((names : List Item) × (has ≡ had ++ names) × Removes depth path old.contents new.contents records names × (answer ≡ removal_answer names))
+      ⊎ ((answer ≡ Err Memory) × RemovesInPart depth path old.contents new.contents records)

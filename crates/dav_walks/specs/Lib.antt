@@ -1,0 +1,3 @@
+pub mod KeyCall
+pub mod Deletion
+pub mod Trace

@@ -1,0 +1,106 @@
+-- A deletion, key by key: what was called on each key, and what became of it. It says nothing of the order of calls on different keys.
+use Rattle.std.specs.Prelude.{◌≡◌, ◌≢◌, ℕ, Bool, true, false, List, [], ◌∷◌, ◌++◌, Option, Some, None, map, IsPermutation}
+use Rattle.std.specs.FinMap.{get}
+use Rattle.dav_resource.specs.Key.{Key}
+use Rattle.dav_resource.specs.PathText.{PathValue}
+use Rattle.dav_resource.specs.declared.record.Op.{Op}
+use Rattle.dav_resource.specs.declared.record.Op.TheVariants.{ReadDir, RemoveFile, RemoveDir, Entry}
+use Rattle.dav_resource.specs.declared.record.Outcome.{Outcome}
+use Rattle.dav_resource.specs.declared.record.Outcome.TheVariants.{Granted, Barred, Refused}
+use Rattle.dav_resource.specs.declared.error.FsError.{FsError}
+use Rattle.dav_store.specs.Logged.{Logged}
+use Rattle.dav_store.specs.Store.{Contents, Node, File, Directory, IsWellFormed}
+use Rattle.dav_store.specs.Calls.{IsOwn, limit_of}
+use Rattle.dav_store.specs.Members.{IsIn}
+use Rattle.dav_parts.specs.Multistatus.{Item}
+use Rattle.dav_walks.specs.KeyCall.{KeyCall, logged_call, standing}
+use Rattle.dav_walks.specs.Deletion.{Calls, Look, look_below, calls_below, under, WasRefused, named_in, IsRootRemoval}
+
+-- a file, or a directory
+abbrev pub HasKind : Bool → Option Node → Type 0
+HasKind false node = (bytes : List ℕ) × (node ≡ Some (File bytes))
+HasKind true node = node ≡ Some Directory
+
+-- nothing was called on the key, and it is as it was
+pub record IsUntouched (old new : Look) (calls : Calls) (x : Key) : Type 0 where
+  pub uncalled : calls x ≡ []
+  pub same : new x ≡ old x
+
+-- the same of all that is strictly below
+abbrev pub IsUntouchedBelow : Look → Look → Calls → Type 0
+IsUntouchedBelow old new calls = (name : List ℕ) (x : Key) → IsUntouched old new calls (name ∷ x)
+
+-- what a removal leaves
+abbrev pub Leaves : Outcome → Option Node → Option Node → Type 0
+Leaves Granted old new = new ≡ None
+Leaves (Barred e) old new = new ≡ old
+Leaves (Refused e) old new = new ≡ old
+
+-- some call on the key or below it was refused
+abbrev pub IsRefused : Calls → Type 0
+IsRefused calls = (x : Key) × (c : Op × Outcome) × IsIn c (calls x) × WasRefused c.1
+
+-- each call strictly below was granted
+abbrev pub IsGrantedBelow : Calls → Type 0
+IsGrantedBelow calls = (name : List ℕ) (x : Key) (c : Op × Outcome) → IsIn c (calls (name ∷ x)) → c.1 ≡ Granted
+
+pub data Walked : Look → Look → Calls → Type 0 where
+  -- nothing was there
+  absent : {old new : Look} {calls : Calls} → ((x : Key) → old x ≡ None) → ((x : Key) → IsUntouched old new calls x) → Walked old new calls
+  -- its parent's listing didn't show it
+  unseen : {old new : Look} {calls : Calls} (e : FsError) → old [] ≢ None → calls [] ≡ (Entry, Refused e) ∷ [] → new [] ≡ old [] → IsUntouchedBelow old new calls → Walked old new calls
+  file : {old new : Look} {calls : Calls} (outcome : Outcome) → HasKind false (old []) → calls [] ≡ (RemoveFile, outcome) ∷ [] → Leaves outcome (old []) (new []) → ((name : List ℕ) (x : Key) → old (name ∷ x) ≡ None) → IsUntouchedBelow old new calls → Walked old new calls
+  -- a directory whose listing was refused
+  unlisted : {old new : Look} {calls : Calls} (outcome : Outcome) → WasRefused outcome → old [] ≡ Some Directory → calls [] ≡ (ReadDir, outcome) ∷ [] → new [] ≡ old [] → IsUntouchedBelow old new calls → Walked old new calls
+  -- a directory in which something was refused
+  kept : {old new : Look} {calls : Calls} → old [] ≡ Some Directory → calls [] ≡ (ReadDir, Granted) ∷ [] → new [] ≡ old [] → IsRefused calls → ((name : List ℕ) → Walked (under old name) (under new name) (under calls name)) → Walked old new calls
+  -- a directory in which nothing was refused
+  emptied : {old new : Look} {calls : Calls} (outcome : Outcome) → old [] ≡ Some Directory → calls [] ≡ (ReadDir, Granted) ∷ (RemoveDir, outcome) ∷ [] → Leaves outcome (old []) (new []) → IsGrantedBelow calls → ((name : List ℕ) → Walked (under old name) (under new name) (under calls name)) → Walked old new calls
+
+abbrev pub AllGranted : List KeyCall → Type 0
+AllGranted calls = (call : KeyCall) → IsIn call calls → call.outcome ≡ Granted
+
+abbrev pub SomeRefused : List KeyCall → Type 0
+SomeRefused calls = (call : KeyCall) × IsIn call calls × WasRefused call.outcome
+
+-- what stands afterwards stood there before, with its properties; where nothing stands there are none
+pub record IsKept (old new : Contents) : Type 0 where
+  pub there : (key : Key) → get new.tree key ≢ None → standing new key ≡ standing old key
+  pub gone : (key : Key) → get new.tree key ≡ None → get new.properties key ≡ None
+  pub limit : limit_of new ≡ limit_of old
+
+-- The walk of the key k and all below it, in the deletion of what stands at the path, from the old contents, log and names to the new ones. It is clean where nothing was refused.
+pub record Walks (path : PathValue) (old new : Contents) (before after : List Logged) (had has : List Item) (k : Key) (clean : Bool) : Type 0 where
+  pub calls : List KeyCall
+  pub log : after ≡ before ++ map logged_call calls
+  pub within : (call : KeyCall) → IsIn call calls → (x : Key) × (call.key ≡ k ++ x)
+  pub barred : (call : KeyCall) (e : FsError) → IsIn call calls → call.outcome ≡ Barred e → IsRootRemoval call e
+  pub own : (call : KeyCall) (e : FsError) → IsIn call calls → call.outcome ≡ Refused e → IsOwn e
+  pub no_entry : (outcome : Outcome) → IsIn (Entry, outcome) (calls_below calls k []) → ⊥
+  pub names : List Item
+  pub named : has ≡ had ++ names
+  pub bag : IsPermutation (named_in path calls) names
+  pub outside : (key : Key) → ((x : Key) → key ≢ k ++ x) → standing new key ≡ standing old key
+  pub walked : Walked (look_below old.tree k) (look_below new.tree k) (calls_below calls k)
+  pub is_kept : IsKept old new
+  pub well_formed : IsWellFormed new
+  pub granted : clean ≡ true → AllGranted calls
+  pub refused : clean ≡ false → SomeRefused calls
+
+-- a walk that was broken off: of a directory some members are walked, and others wait
+pub data Partly : Look → Look → Calls → Type 0 where
+  over : {old new : Look} {calls : Calls} → Walked old new calls → Partly old new calls
+  waiting : {old new : Look} {calls : Calls} → ((x : Key) → IsUntouched old new calls x) → Partly old new calls
+  halted : {old new : Look} {calls : Calls} → old [] ≡ Some Directory → calls [] ≡ (ReadDir, Granted) ∷ [] → new [] ≡ old [] → ((name : List ℕ) → Partly (under old name) (under new name) (under calls name)) → Partly old new calls
+
+-- the same, from the old contents and log to the new ones
+pub record Halts (old new : Contents) (before after : List Logged) (k : Key) : Type 0 where
+  pub calls : List KeyCall
+  pub log : after ≡ before ++ map logged_call calls
+  pub within : (call : KeyCall) → IsIn call calls → (x : Key) × (call.key ≡ k ++ x)
+  pub barred : (call : KeyCall) (e : FsError) → IsIn call calls → call.outcome ≡ Barred e → IsRootRemoval call e
+  pub own : (call : KeyCall) (e : FsError) → IsIn call calls → call.outcome ≡ Refused e → IsOwn e
+  pub no_entry : (outcome : Outcome) → IsIn (Entry, outcome) (calls_below calls k []) → ⊥
+  pub outside : (key : Key) → ((x : Key) → key ≢ k ++ x) → standing new key ≡ standing old key
+  pub is_kept : IsKept old new
+  pub partly : Partly (look_below old.tree k) (look_below new.tree k) (calls_below calls k)

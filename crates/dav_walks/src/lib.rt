@@ -1,0 +1,6 @@
+//! The walks of a tree over a store that may refuse any call.
+#![tactic(auto)]
+
+mod deletion;
+
+pub use deletion::delete_items;
