@@ -1,7 +1,8 @@
 -- That each change lies where the locks permit it.
-use Rattle.std.proofs.Common.{◌≡◌, ◌≢◌, ℕ, Bool, true, false, List, [], ◌∷◌, Option, Some, None, Err, ◌⊎◌, inl, inr, refl, sym, ap, ◌∙◌, cond}
+use Rattle.std.proofs.Common.{◌≡◌, ◌≢◌, ℕ, Bool, true, false, List, [], ◌∷◌, ◌++◌, Option, Some, None, Err, ◌⊎◌, inl, inr, refl, sym, ap, ◌∙◌, cond}
 use Rattle.std.specs.Ordering.{eq_by_cmp}
 use Rattle.std.specs.FinMap.{get, insert, get-insert}
+use Rattle.std.proofs.lemmas.Slice.Eq.{bytes_eq-Decides}
 use Rattle.dav_resource.specs.Key.{Key, key_cmp, key_cmp_total, tied_decides}
 use Rattle.dav_resource.specs.declared.error.DavError.TheVariants.{Memory, Status}
 use Rattle.dav_resource.specs.declared.meta.Meta.{Meta}
@@ -15,7 +16,11 @@ use Rattle.dav_parts.specs.Dialogue.{Passed, Refuses, LeadsTo, look, refusing}
 use Rattle.dav_parts.specs.Dialogues.{LeadsTo-last, LeadsTo-unrefused}
 use Rattle.dav_parts.specs.Reply.{Answer}
 use Rattle.dav_engine.specs.State.{State}
-use Rattle.dav_engine.specs.Rules.{is_permitted, where_permitted, shallow_rules, closing}
+use Rattle.dav_store.specs.Locks.{is_at_or_below}
+use Rattle.dav_walks.specs.KeyCall.{standing}
+use Rattle.dav_walks.specs.RemovalLaws.{removes_within, whole_in_part}
+use Rattle.dav_engine.specs.Rules.{is_permitted, where_permitted, shallow_rules, closing, judged, must_find}
+use Rattle.dav_engine.specs.Delete.{delete_depth, depth_verdict, delete_rules, fixed_path}
 use Rattle.dav_engine.specs.Guarded.{IsChanged, IsPermitted, IsGuarded}
 use Rattle.dav_engine.specs.Mkcol.{MkcolLeaves}
 use Rattle.dav_engine.specs.Put.{PutLeaves, IsFileAt, put_body, put_rules}
@@ -46,6 +51,13 @@ put_passed : (request : DavRequest) (state : State) (head : List Logged) (found 
 put_passed request state head found h =
     let rules = LeadsTo-last (refusing closing (shallow_rules request state)) (put_body request.body) head found h in
     shallow_passed request state rules.1 rules.0 (LeadsTo-unrefused closing (shallow_rules request state) rules.1 rules.0 rules.3)
+
+delete_passed : (request : DavRequest) (state : State) (head : List Logged) (found : Option Meta) → LeadsTo (delete_rules request state) head (Passed found) → is_permitted request state request.path.key true ≡ true
+delete_passed request state head found h =
+    let reached = LeadsTo-last (judged (depth_verdict (delete_depth request))) _ head found h in
+    let looked = LeadsTo-last (must_find state.contents request.path.key) _ reached.2 found reached.4 in
+    let held = LeadsTo-last (conditions state.contents state.locks request looked.0 request.path) _ looked.2 found looked.4 in
+    permitted_passed (is_permitted request state request.path.key true) looked.0 found held.2 held.4
 
 -- ---- what the work has changed
 
@@ -80,6 +92,25 @@ guarded_at request old new permitted elsewhere key changed = at (eq_by_cmp key_c
     at true same = inl (let here : key ≡ request.path.key = (tied_decides key request.path.key).0 same in rw here permitted)
     at false same = absurd (elsewhere key (λ here. absurd (let no : true ≡ false = sym ((tied_decides key request.path.key).1 here) ∙ same in cc)) changed)
 
+-- the rules of a method that works at its path and below it permit it there, and the work changes nothing else
+below_itself : (top x : Key) → is_at_or_below (top ++ x) top ≡ true
+below_itself [] x = refl
+below_itself (segment ∷ top) x = rw ((bytes_eq-Decides segment segment).1 refl) (below_itself top x)
+
+pub guarded_below : (request : DavRequest) (old new : State) → is_permitted request old request.path.key true ≡ true → ((key : Key) → ((x : Key) → key ≢ request.path.key ++ x) → standing new.contents key ≡ standing old.contents key) → IsGuarded request old new
+guarded_below request old new permitted elsewhere key changed = at (is_at_or_below key request.path.key) refl
+  where
+    at : (b : Bool) → is_at_or_below key request.path.key ≡ b → IsPermitted request old key
+    at true below = inr (request.path.key, below, permitted)
+    at false apart = absurd (unmoved changed)
+      where
+        same : standing new.contents key ≡ standing old.contents key
+        same = elsewhere key (λ x e. let no : true ≡ false = sym (below_itself request.path.key x) ∙ ap (λ k. is_at_or_below k request.path.key) (sym e) ∙ apart in cc)
+
+        unmoved : IsChanged key old.contents new.contents → ⊥
+        unmoved (inl other) = other (ap (λ s. s.0) (sym same))
+        unmoved (inr other) = other (ap (λ s. s.1) (sym same))
+
 module _ (request : DavRequest) (found : Option Meta) (old new : State) (head records : List Logged) (answer : Answer) where
   abbrev Passes : Option DavMethod → Type 0
   Passes method = LeadsTo (rules_of method request old) head (Passed found)
@@ -99,6 +130,12 @@ module _ (request : DavRequest) (found : Option Meta) (old new : State) (head re
   guarded (Some MkCol) passed (inr cut) = guarded_at request old new (shallow_passed request old head found passed) (λ key apart changed. unchanged key old.contents new.contents cut.1.0.same changed)
   guarded (Some Put) passed (inl work) = guarded_at request old new (put_passed request old head found passed) (λ key. put_work_elsewhere request records old.contents new.contents key work.0.leaves)
   guarded (Some Put) passed (inr cut) = guarded_at request old new (put_passed request old head found passed) (λ key. put_work_elsewhere request records old.contents new.contents key cut.1.0.leaves)
+  guarded (Some Delete) passed (inl work) =
+      guarded_below request old new (delete_passed request old head found passed)
+      (removes_within (delete_depth request) (fixed_path request.path found) old.contents new.contents records (whole_in_part _ _ _ _ _ work.names work.removed))
+  guarded (Some Delete) passed (inr cut) =
+      guarded_below request old new (delete_passed request old head found passed)
+      (removes_within (delete_depth request) (fixed_path request.path cut.1.found) old.contents new.contents records cut.1.removed)
   guarded None passed works = absurd (no_work None refl passed)
   guarded (Some Head) passed works = absurd (no_work (Some Head) refl passed)
   guarded (Some Get) passed works = absurd (no_work (Some Get) refl passed)
@@ -108,7 +145,6 @@ module _ (request : DavRequest) (found : Option Meta) (old new : State) (head re
   guarded (Some PropPatch) passed works = absurd (no_work (Some PropPatch) refl passed)
   guarded (Some Copy) passed works = absurd (no_work (Some Copy) refl passed)
   guarded (Some Move) passed works = absurd (no_work (Some Move) refl passed)
-  guarded (Some Delete) passed works = absurd (no_work (Some Delete) refl passed)
   guarded (Some Lock) passed works = absurd (no_work (Some Lock) refl passed)
   guarded (Some Unlock) passed works = absurd (no_work (Some Unlock) refl passed)
 

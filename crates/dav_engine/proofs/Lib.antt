@@ -1,3 +1,4 @@
+pub mod Deleting
 pub mod FieldText
 pub mod Granting
 pub mod Guarding

@@ -1,5 +1,6 @@
 -- Requests as rules and work.
-use Rattle.std.proofs.Common.{◌≡◌, ◌++◌, [], Option, Some, Ok, Err, ◌⊎◌, inl, inr, refl, sym, subst, append_assoc, append-nil, option_map, Result}
+use Rattle.std.proofs.Common.{◌≡◌, ◌++◌, [], Option, Some, Ok, Err, ◌⊎◌, inl, inr, refl, sym, subst, append_assoc, append-nil, option_map, Result, true}
+use Rattle.std.specs.Option.{option_map_or}
 use Rattle.std.specs.Result.{IsErrAnd}
 use Rattle.std.proofs.lemmas.Result.{err_from_is_err_and}
 use Rattle.http.specs.declared.response.Response.{Response}
@@ -30,7 +31,7 @@ same_facts : (locks : Option Locks) (old new : Store) → new.keeps_properties �
 same_facts locks old new fixed = λ i. (fixed i, option_map (λ (l : Locks). l.dependable) locks)
 
 same_state : (locks : Option Locks) (old new : Store) → new.contents ≡ old.contents → state_of (over new locks) ≡ state_of (over old locks)
-same_state locks old new same = λ i. record { contents = same i; locks = option_map (λ (l : Locks). l.list) locks }
+same_state locks old new same = λ i. record { contents = same i; locks = option_map (λ (l : Locks). l.list) locks; dependable = option_map_or (λ (l : Locks). l.dependable) locks true }
 
 module _ (method : Option DavMethod) (request : DavRequest) (locks : Option Locks) where
   -- the rules end it, by the exit of a `?`
@@ -83,20 +84,20 @@ pub serves_as : (read method : Option DavMethod) (old : Seen) (request : DavRequ
 serves_as read method old request answer new is served = subst (λ m. Serves m old request answer new) is served
 
 -- the methods that aren't served
-pub unserved : (request : DavRequest) (method : DavMethod) → ((method ≡ MkCol) → ⊥) → ((method ≡ Put) → ⊥) → (state : State) → rules_of (Some method) request state ≡ Refuses (Status 501)
-unserved request Head a b state = refl
-unserved request Get a b state = refl
-unserved request Put a b state = absurd (b refl)
-unserved request Patch a b state = refl
-unserved request Options a b state = refl
-unserved request PropFind a b state = refl
-unserved request PropPatch a b state = refl
-unserved request MkCol a b state = absurd (a refl)
-unserved request Copy a b state = refl
-unserved request Move a b state = refl
-unserved request Delete a b state = refl
-unserved request Lock a b state = refl
-unserved request Unlock a b state = refl
+pub unserved : (request : DavRequest) (method : DavMethod) → ((method ≡ MkCol) → ⊥) → ((method ≡ Put) → ⊥) → ((method ≡ Delete) → ⊥) → (state : State) → rules_of (Some method) request state ≡ Refuses (Status 501)
+unserved request Head a b d state = refl
+unserved request Get a b d state = refl
+unserved request Put a b d state = absurd (b refl)
+unserved request Patch a b d state = refl
+unserved request Options a b d state = refl
+unserved request PropFind a b d state = refl
+unserved request PropPatch a b d state = refl
+unserved request MkCol a b d state = absurd (a refl)
+unserved request Copy a b d state = refl
+unserved request Move a b d state = refl
+unserved request Delete a b d state = absurd (d refl)
+unserved request Lock a b d state = refl
+unserved request Unlock a b d state = refl
 
 -- ---- work that knows the store alone
 

@@ -3,6 +3,7 @@ pub mod HttpDate
 pub mod PutReply
 pub mod Mkcol
 pub mod Put
+pub mod Delete
 pub mod Methods
 pub mod Step
 pub mod State

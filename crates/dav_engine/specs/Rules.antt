@@ -1,15 +1,18 @@
 -- What is asked before a request changes anything: the conditions of the request, and the locks (RFC 4918, sections 7 and 10.4; RFC 7232).
-use Rattle.std.specs.Prelude.{ℕ, Bool, true, false, if◌then◌else◌, List, Option}
+use Rattle.std.specs.Prelude.{ℕ, Bool, true, false, if◌then◌else◌, List, Option, Some, Result, Ok, Err}
 use Rattle.std.specs.Option.{option_map_or}
 use Rattle.dav_resource.specs.Key.{Key}
 use Rattle.dav_resource.specs.declared.meta.Meta.{Meta}
 use Rattle.dav_resource.specs.declared.error.DavError.{DavError}
 use Rattle.dav_resource.specs.declared.error.DavError.TheVariants.{Status, StatusClose}
 use Rattle.dav_resource.specs.declared.request.DavRequest.{DavRequest}
+use Rattle.dav_resource.specs.Errors.{from_fs}
+use Rattle.dav_store.specs.Store.{Contents}
+use Rattle.dav_store.specs.Calls.{metadata_call}
 use Rattle.dav_store.specs.Locks.{permits}
 use Rattle.dav_store.specs.declared.lock.DavLock.{DavLock}
 use Rattle.dav_parts.specs.Conditions.{conditions, submitted_tokens}
-use Rattle.dav_parts.specs.Dialogue.{Dialogue, Refuses, Passed, look, ◌>>=◌}
+use Rattle.dav_parts.specs.Dialogue.{Dialogue, Refuses, Passed, look, needs, ◌>>=◌}
 use Rattle.dav_engine.specs.State.{State}
 
 -- the locks let one who submits these tokens write at the key, or with `deep` at and below it; without a lock system all is let
@@ -28,8 +31,22 @@ where_permitted permitted a = if permitted then Passed a else Refuses (Status 42
 abbrev pub shallow_rules : DavRequest → State → Dialogue (Option Meta)
 shallow_rules request state =
     look state.contents request.path.key >>= λ found.
-    conditions state.contents state.locks request found request.path >>= λ tokens.
+    conditions state.contents state.locks request found request.path >>= λ _.
     where_permitted (is_permitted request state request.path.key false) found
+
+-- a verdict that asks nothing
+abbrev pub judged : {A : Type 0} → Result A DavError → Dialogue A
+judged (Ok a) = Passed a
+judged (Err e) = Refuses e
+
+-- the verdict on metadata that is there, as one on what was found
+abbrev pub as_found : Result Meta DavError → Result (Option Meta) DavError
+as_found (Ok meta) = Ok (Some meta)
+as_found (Err e) = Err e
+
+-- a look at a key, whose refusal refuses the request
+abbrev pub must_find : Contents → Key → Dialogue (Option Meta)
+must_find contents key = needs (metadata_call contents key) from_fs (Passed (contents.metas key))
 
 -- the same refusal, after which the connection is closed
 abbrev pub closing : DavError → DavError

@@ -1,14 +1,17 @@
 -- What requests act on: what a store holds and, where there is a lock system, its locks (RFC 4918, sections 5 and 6).
-use Rattle.std.specs.Prelude.{Bool, List, Option, Some, option_map}
-use Rattle.std.specs.Option.{ForSome}
+use Rattle.std.specs.Prelude.{◌≡◌, ◌⊎◌, Bool, true, false, List, Option, Some, option_map}
+use Rattle.std.specs.Option.{ForSome, option_map_or}
+use Rattle.dav_resource.specs.Key.{Key}
 use Rattle.dav_store.specs.Store.{Store, Contents, IsWellFormed}
-use Rattle.dav_store.specs.Locks.{Locks}
+use Rattle.dav_store.specs.Locks.{Locks, elsewhere}
 use Rattle.dav_store.specs.LockCalls.{HasDistinctTokens}
 use Rattle.dav_store.specs.declared.lock.DavLock.{DavLock}
 
+-- a lock system is dependable where it removes a lock each time that it is told to; without one there is nothing to remove
 pub record State : Type 0 where
   pub contents : Contents
   pub locks : Option (List DavLock)
+  pub dependable : Bool
 
 -- a state that a store and a lock system may have
 pub record IsLawfulState (state : State) : Type 0 where
@@ -25,8 +28,29 @@ abbrev pub seen_with : Store → Locks → Seen
 seen_with store locks = record { store = store; locks = Some locks }
 
 abbrev pub state_of : Seen → State
-state_of seen = record { contents = seen.store.contents; locks = option_map (λ (l : Locks). l.list) seen.locks }
+state_of seen =
+    record {
+      contents = seen.store.contents;
+      locks = option_map (λ (l : Locks). l.list) seen.locks;
+      dependable = option_map_or (λ (l : Locks). l.dependable) seen.locks true;
+    }
 
 -- what no request changes: whether the store keeps properties, whether there is a lock system, and whether that is dependable
 abbrev pub facts_of : Seen → Bool × Option Bool
 facts_of seen = (seen.store.keeps_properties, option_map (λ (l : Locks). l.dependable) seen.locks)
+
+-- ---- what becomes of the locks
+
+-- they are as before
+abbrev pub LocksStay : State → State → Type 0
+LocksStay old new = new.locks ≡ old.locks
+
+-- those at the key and below it are dropped, unless a lock system that isn't dependable keeps them
+abbrev pub DropsLocks : Key → State → State → Type 0
+DropsLocks key old new = (new.locks ≡ option_map (λ list. elsewhere list key) old.locks) ⊎ ((old.dependable ≡ false) × LocksStay old new)
+
+-- the same of what is seen, where nothing else changes
+pub record DropsSeen (key : Key) (old new : Seen) : Type 0 where
+  pub dropped : DropsLocks key (state_of old) (state_of new)
+  pub store : new.store ≡ old.store
+  pub fixed : facts_of new ≡ facts_of old

@@ -23,28 +23,28 @@ impl<'a, C: Drop, F: GuardedFileSystem<C>, L: DavLockSystem> DavInner<'a, C, F, 
         ensures rules { Judges (shallow_rules request.entry.now (state_of (seen_by F.seen L.seen self.old))) (F.seen (lent self.old)) result (F.seen (lent self.new)) }
     {
         let found = self.look(&request.path)?;
-        let tokens = self.judge_conditions(request, &found)?;
+        let tokens = self.judge_conditions(request, found.as_ref())?;
         let permitted = self.is_permitted(request, tokens.as_slice(), &request.path, false);
         where_permitted(permitted, found)
     }
 
     /// The tokens that the request submits, where its conditions hold.
-    fn judge_conditions(
+    pub(crate) fn judge_conditions(
         &mut self,
         request: &DavRequest,
-        found: &Option<Meta>,
+        found: Option<&Meta>,
     ) -> DavResult<Items<Text>>
         ensures same_loans { loans self.new ≡ loans self.old }
         ensures same_settings { settings self.new ≡ settings self.old }
         ensures same_locks { lent_locks self.new ≡ lent_locks self.old }
         ensures tokens { IfOk result (λ tokens. tokens ≡ submitted_tokens request.entry.now) }
-        ensures rules { Judges (conditions_of (F.seen (lent self.old)).contents (state_of (seen_by F.seen L.seen self.old)).locks request.entry.now found.now request.entry.now.path) (F.seen (lent self.old)) result (F.seen (lent self.new)) }
+        ensures rules { Judges (conditions_of (F.seen (lent self.old)).contents (state_of (seen_by F.seen L.seen self.old)).locks request.entry.now (option_copied found.entry) request.entry.now.path) (F.seen (lent self.old)) result (F.seen (lent self.new)) }
     {
         let alloc = *self.prefix.allocator();
         if_match_get_tokens(
             alloc,
             request,
-            found.as_ref(),
+            found,
             self.fs,
             shared(&self.ls),
             &request.path,
@@ -53,7 +53,7 @@ impl<'a, C: Drop, F: GuardedFileSystem<C>, L: DavLockSystem> DavInner<'a, C, F, 
     }
 
     /// Whether the locks let the request, with these tokens, write at the path or, deep, at and below it.
-    fn is_permitted(
+    pub(crate) fn is_permitted(
         &self,
         request: &DavRequest,
         tokens: &[Text],
@@ -89,12 +89,12 @@ fn principal(request: &DavRequest) -> Option<&str>
     }
 }
 
-/// Lets what was found pass, where that is permitted (RFC 4918, section 11.3).
-fn where_permitted(permitted: bool, found: Option<Meta>) -> DavResult<Option<Meta>>
-    ensures { result ≡ (if permitted then Ok found else Err (Status 423)) }
+/// Lets a value pass, where that is permitted: else 423 (RFC 4918, section 11.3).
+pub(crate) fn where_permitted<T: Drop>(permitted: bool, value: T) -> DavResult<T>
+    ensures { result ≡ (if permitted then Ok value else Err (Status 423)) }
 {
     if permitted {
-        Ok(found)
+        Ok(value)
     } else {
         Err(DavError::Status(StatusCode::LOCKED))
     }

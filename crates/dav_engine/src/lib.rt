@@ -1,6 +1,7 @@
 //! The engine: WebDAV requests over any store and lock system that keep their contracts.
 #![tactic(auto)]
 
+mod delete;
 mod http_date;
 mod inner;
 mod judge;
@@ -10,16 +11,19 @@ mod put;
 mod put_reply;
 
 pub use dav_headers::{
-    IfCondition, IfItem, IfList, read_if, read_if_match, read_if_none_match, read_place,
-    read_tagged_path,
+    IfCondition, IfItem, IfList, read_depth, read_if, read_if_match, read_if_none_match,
+    read_place, read_tagged_path,
 };
 pub use dav_parts::{
-    dav_if_match, etaglist_match, http_if_match, if_match, if_match_get_tokens, ifrange_match,
+    MultiError, dav_if_match, etaglist_match, http_if_match, if_match, if_match_get_tokens,
+    ifrange_match, multi_error,
 };
 pub use dav_resource::{
     Body, ChildElements, DavError, DavFile, DavMethod, DavMethodSet, DavPath, DavProp, DavRequest,
     DavResult, Depth, DirEntry, ETag, ETagList, Element, FsError, FsResult, IfRange, Items, Meta,
     Op, OpenOptions, Outcome, Record, ReqBody, Text, XMLNode,
 };
-pub use dav_store::{DavLock, DavLockSystem, GuardedFileSystem, LockError, MemFs, MemLs};
+pub use dav_store::{
+    DavLock, DavLockSystem, GuardedFileSystem, LockError, MemFs, MemLs, Refusal, Refusing,
+};
 pub use inner::DavInner;

@@ -169,10 +169,15 @@ abbrev pub removal_answer : List Item → Result (Unit {0}) DavError
 removal_answer [] = Ok tt
 removal_answer (item ∷ names) = Err (Status item.1)
 
+-- it ended and added these names, or was broken off
+abbrev pub RemovesOrStops : Depth → PathValue → Contents → Contents → List Logged → List Item → List Item → Result (Unit {0}) DavError → Type 0
+RemovesOrStops depth path old new records had has answer =
+    ((names : List Item) × (has ≡ had ++ names) × Removes depth path old new records names × (answer ≡ removal_answer names))
+    ⊎ ((answer ≡ Err Memory) × RemovesInPart depth path old new records)
+
 -- the same from store to store, and from names to names
 pub record Removal (depth : Depth) (path : PathValue) (old new : Store) (had has : List Item) (answer : Result (Unit {0}) DavError) : Type 0 where
   pub records : List Logged
   pub told : new.log ≡ old.log ++ records
   pub fixed : new.keeps_properties ≡ old.keeps_properties
-  pub done : ((names : List Item) × (has ≡ had ++ names) × Removes depth path old.contents new.contents records names × (answer ≡ removal_answer names))
-      ⊎ ((answer ≡ Err Memory) × RemovesInPart depth path old.contents new.contents records)
+  pub done : RemovesOrStops depth path old.contents new.contents records had has answer

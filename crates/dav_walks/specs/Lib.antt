@@ -1,3 +1,4 @@
 pub mod KeyCall
 pub mod Deletion
 pub mod Trace
+pub mod RemovalLaws
