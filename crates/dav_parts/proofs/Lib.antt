@@ -1,2 +1,4 @@
 pub mod IfLists
 pub mod Headers
+pub mod Elements
+pub mod MultiAnswer

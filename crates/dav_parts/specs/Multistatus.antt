@@ -1,5 +1,5 @@
 -- The reply that tells the status of each of several resources (RFC 4918, sections 11.1, 13 and 14.16).
-use Rattle.std.specs.Prelude.{ℕ, ◌==◌, if◌then◌else◌, List, [], ◌∷◌, ◌++◌, map, codes, Ok, Err}
+use Rattle.std.specs.Prelude.{ℕ, ◌==◌, if◌then◌else◌, List, [], ◌∷◌, ◌++◌, map, codes, Option, Some, None, Ok, Err}
 use Rattle.std.specs.Option.{option_map_or}
 use Rattle.http.specs.StatusCode.{code_digits, reason_phrase}
 use Rattle.http.specs.declared.version.TheConstants.Version.{HTTP_11}
@@ -14,6 +14,11 @@ use Rattle.dav_parts.specs.Reply.{Reply, Answer, bare_reply, field}
 -- a resource and its status
 abbrev pub Item : Type 0
 Item = PathValue × ℕ
+
+-- the status of the first of them, if there is one
+abbrev pub first_status : List Item → Option ℕ
+first_status [] = None
+first_status (item ∷ items) = Some item.1
 
 -- the status as a reply's first line shows it, with its phrase where it has one
 abbrev pub status_line : ℕ → List ℕ

@@ -5,6 +5,7 @@
 mod conditional;
 mod if_header;
 mod multierror;
+mod multistatus;
 mod reply_header;
 
 pub use conditional::{

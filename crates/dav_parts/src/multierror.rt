@@ -1,11 +1,12 @@
 //! The statuses of several resources, collected and answered.
-ghost use Rattle.std.specs.Prelude.{◌≡◌, [], ◌∷◌, ◌++◌, OnOk, OnErr, IfErr};
+ghost use Rattle.std.specs.Prelude.{◌≡◌, [], ◌∷◌, ◌++◌, drop, length, OnOk, OnErr, IfErr};
 ghost use Rattle.dav_resource.specs.Errors.{dav_status};
 ghost use Rattle.dav_resource.specs.Gives.{GivesBy};
 ghost use Rattle.dav_resource.specs.declared.error.DavError.TheVariants.{Memory};
 ghost use Rattle.dav_parts.specs.Reply.{reply_of};
-ghost use Rattle.dav_parts.specs.Multistatus.{multi_answer};
+ghost use Rattle.dav_parts.specs.Multistatus.{first_status, multi_answer};
 
+use crate::multistatus::{bare_reply, multistatus_reply};
 use dav_resource::{Body, DavError, DavPath, DavResult};
 use http::{Response, StatusCode};
 use std::alloc::Global;
@@ -49,6 +50,23 @@ impl MultiError {
         Ok(())
     }
 
+    /// How many statuses were added.
+    pub fn len(&self) -> usize
+        ensures { result ≡ length self.now }
+    {
+        self.items.len()
+    }
+
+    /// The first status that was added after this many, if there is one.
+    pub fn first_status_after(&self, count: usize) -> Option<StatusCode>
+        ensures { result ≡ first_status (drop count self.now) }
+    {
+        match self.items.get(count) {
+            Some((_, status)) => Some(*status),
+            None => None,
+        }
+    }
+
     /// The resources with their statuses, in the order in which they were added.
     pub fn into_items(self) -> Vec<(DavPath, StatusCode)>
         ensures { result.items ≡ self }
@@ -69,5 +87,13 @@ pub fn multi_error(
 ) -> DavResult<Response<Body>>
     ensures { GivesBy reply_of result (multi_answer req_path.now items.items) }
 {
-    Err(DavError::Memory)
+    let listed = items.as_slice();
+    match listed {
+        [] => Err(DavError::ChanError),
+        [(path, status)] if req_path.same_key(path) => Ok(bare_reply(alloc, *status)),
+        _ => multistatus_reply(alloc, listed),
+    }
 }
+
+#[cfg(test)]
+mod tests;

@@ -14,6 +14,7 @@ use Rattle.dav_resource.specs.declared.error.FsError.TheVariants.{NotImplemented
 use Rattle.dav_store.specs.Logged.{Logged, logged}
 use Rattle.dav_store.specs.Store.{Node, File, Directory, Tree, Contents}
 use Rattle.dav_store.specs.Calls.{Answers, Declines, IsLawful, IsOwn, error_of, create_dir_bar, open_bar, file_bar, bytes_at, IsMadeAt, IsOpened, IsWritten}
+use Rattle.dav_store.specs.Members.{remove_file_bar, remove_dir_bar, read_dir_bar}
 use Rattle.dav_store.specs.Memory as memory
 use Rattle.dav_store.specs.Memory.{Stored, tree_of, stored_at, contents_of, seen_of, made, filled, with_bytes}
 use Rattle.dav_store.specs.MemoryCalls.{Gives, LogsAnswer, outcome_of, change_error, open_error, error_of_opening, opened, opened_from, file_error, write_error, written}
@@ -94,6 +95,28 @@ pub file_row : (at : Option Node) → IfSome (file_bar at) IsRowError
 file_row (Some (File bytes)) = tt
 file_row (Some Directory) = tt
 file_row None = tt
+
+pub remove_file_row : (at : Option Node) → IfSome (remove_file_bar at) IsRowError
+remove_file_row None = tt
+remove_file_row (Some Directory) = tt
+remove_file_row (Some (File bytes)) = tt
+
+pub remove_dir_row : (key : Key) (at : Option Node) (names : List (List ℕ)) → IfSome (remove_dir_bar key at names) IsRowError
+remove_dir_row key None names = tt
+remove_dir_row key (Some (File bytes)) names = tt
+remove_dir_row [] (Some Directory) names = tt
+remove_dir_row (segment ∷ key) (Some Directory) (name ∷ names) = tt
+remove_dir_row (segment ∷ key) (Some Directory) [] = tt
+
+pub read_dir_row : (at : Option Node) → IfSome (read_dir_bar at) IsRowError
+read_dir_row None = tt
+read_dir_row (Some Directory) = tt
+read_dir_row (Some (File bytes)) = tt
+
+-- an error of a row
+pub lawful-bar : (bar : Option FsError) (e : FsError) → IfSome bar IsRowError → bar ≡ Some e → IsLawful bar (outcome_of e) × (e ≢ Memory)
+lawful-bar None e row is = absurd cc
+lawful-bar (Some b) e row is = let same : b ≡ e = cc in lawful-row (Some b) e is (subst IsRowError same row)
 
 -- ---- answers
 

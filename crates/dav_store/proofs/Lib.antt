@@ -6,3 +6,10 @@ pub mod Rows
 pub mod Answering
 pub mod Dumps
 pub mod LockLists
+pub mod Removals
+pub mod MemoryListings
+pub mod Planning
+pub mod Refusals
+pub mod Listings
+pub mod Listed
+pub mod ListingCalls

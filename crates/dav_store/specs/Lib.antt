@@ -2,12 +2,15 @@ pub mod Logged
 pub mod Store
 pub mod Calls
 pub mod Members
+pub mod MemberLaws
 pub mod Memory
 pub mod MemoryCalls
 pub mod Entry
 pub mod Dump
 pub mod MemFs
+pub mod Plans
 pub mod Refusing
+pub mod InnerLends
 pub mod KeyProps
 pub mod Lawful
 pub mod Locks

@@ -1,5 +1,5 @@
 -- What a store in memory holds beside its log, and what its calls make of that: this project's own choice.
-use Rattle.std.specs.Prelude.{◌≡◌, ◌≢◌, ℕ, ◌+◌, Bool, true, false, cond, List, [], ◌∷◌, ◌++◌, length, map, slice_index_or, Option, Some, None}
+use Rattle.std.specs.Prelude.{◌≡◌, ◌≢◌, ℕ, ◌+◌, Bool, true, false, cond, not, filter, List, [], ◌∷◌, ◌++◌, length, map, slice_index_or, Option, Some, None}
 use Rattle.std.specs.Option.{option_map}
 use Rattle.std.specs.Ordering.{eq_by_cmp}
 use Rattle.std.specs.Fmt.{digits}
@@ -91,6 +91,10 @@ abbrev pub change_at : Key → (Stored → Stored) → List Stored → List Stor
 change_at key f [] = []
 change_at key f (s ∷ more) = cond (has_key key s) (f s ∷ more) (s ∷ change_at key f more)
 
+-- what is kept at other keys, in its order
+abbrev pub elsewhere : Key → List Stored → List Stored
+elsewhere key entries = filter (λ s. not (has_key key s)) entries
+
 -- a resource is made, as the last one
 abbrev pub made : Key → Node → Memory → Memory
 made key node old = record { entries = old.entries ++ fresh key node (old.version + 1) old.moment ∷ []; version = old.version + 1; moment = old.moment }
@@ -98,6 +102,10 @@ made key node old = record { entries = old.entries ++ fresh key node (old.versio
 -- the file at the key gets these bytes
 abbrev pub filled : Key → List ℕ → Memory → Memory
 filled key bytes old = record { entries = change_at key (with_bytes bytes (old.version + 1) old.moment) old.entries; version = old.version + 1; moment = old.moment }
+
+-- what is kept at the key is taken out, which counts as no change
+abbrev pub without : Key → Memory → Memory
+without key old = record { entries = elsewhere key old.entries; version = old.version; moment = old.moment }
 
 -- the root alone
 abbrev pub first_memory : Memory

@@ -1,10 +1,15 @@
 -- What each call of a store in memory answers, exactly: this project's own choice.
-use Rattle.std.specs.Prelude.{◌≡◌, ◌≢◌, ℕ, ◌-◌, ◌^◌, ◌==◌, if◌then◌else◌, List, [], ◌∷◌, ◌++◌, Option, Some, None, Result, Ok, Err, ◌⊎◌, IfOk, IfErr}
+use Rattle.std.specs.Prelude.{◌≡◌, ◌≢◌, Bool, false, ℕ, ◌-◌, ◌^◌, ◌==◌, if◌then◌else◌, List, [], ◌∷◌, ◌++◌, Option, Some, None, Result, Ok, Err, ◌⊎◌, IfOk, IfErr}
+use Rattle.std.specs.Option.{option_map}
+use Rattle.std.specs.List.{AllZip}
+use Rattle.std.specs.Ordering.{nat_cmp, is_lt}
+use Rattle.std.specs.Cmp.Lexicographic.{slice_cmp}
 use Rattle.std.specs.FinMap.{get}
 use Rattle.dav_resource.specs.Key.{Key, parent}
 use Rattle.dav_resource.specs.PathText.{PathValue}
 use Rattle.dav_resource.specs.declared.meta.OpenOptions.{OpenOptions}
 use Rattle.dav_resource.specs.declared.meta.DavFile.{DavFile}
+use Rattle.dav_resource.specs.declared.meta.DirEntry.{DirEntry}
 use Rattle.dav_resource.specs.declared.error.FsError.{FsError}
 use Rattle.dav_resource.specs.declared.error.FsError.TheVariants as errors
 use Rattle.dav_resource.specs.declared.record.Op.{Op}
@@ -14,7 +19,8 @@ use Rattle.dav_resource.specs.declared.record.Outcome.TheVariants.{Granted, Barr
 use Rattle.dav_store.specs.Logged.{Logged, logged}
 use Rattle.dav_store.specs.Store.{File}
 use Rattle.dav_store.specs.Calls.{metadata_bar, create_dir_bar, open_bar, file_bar, bytes_at, written_at, place_of}
-use Rattle.dav_store.specs.Memory.{Stored, Memory, tree_of, contents_of, stored_at, made, filled}
+use Rattle.dav_store.specs.Members.{members, member, remove_file_bar, remove_dir_bar, read_dir_bar}
+use Rattle.dav_store.specs.Memory.{Stored, Memory, tree_of, contents_of, stored_at, meta_of, made, filled}
 
 -- a call has no memory, and nothing happens; or it answers this error, where there is one, and nothing
 -- changes; or there is none, and what is held changes so
@@ -68,6 +74,38 @@ look_error key old = metadata_bar (get (tree_of old.entries) key)
 
 abbrev pub create_dir_error : Key → Memory → Option FsError
 create_dir_error key old = change_error (create_dir_bar (get (tree_of old.entries) key) (get (tree_of old.entries) (parent key))) old
+
+-- ---- read_dir
+
+abbrev pub read_dir_error : Key → Memory → Option FsError
+read_dir_error key old = read_dir_bar (get (tree_of old.entries) key)
+
+-- a member is shown by its name, and with what is known of it
+abbrev pub IsShown : Key → List Stored → List ℕ → Result DirEntry FsError → Type 0
+IsShown directory entries name (Ok entry) = (entry.name ≡ name) × (option_map meta_of (stored_at (member directory name) entries) ≡ Some entry.meta)
+IsShown directory entries name (Err e) = ⊥
+
+-- each member is shown, in the order of their names
+abbrev pub IsListing : Key → List Stored → List (Result DirEntry FsError) → Type 0
+IsListing directory entries listing = AllZip (IsShown directory entries) (members (tree_of entries) directory) listing
+
+-- what is shown comes behind the name
+abbrev pub is_behind : List ℕ → Result DirEntry FsError → Bool
+is_behind name (Ok entry) = is_lt (slice_cmp nat_cmp name entry.name)
+is_behind name (Err e) = false
+
+-- an entry goes before the first that comes behind it
+abbrev pub put_in : DirEntry → List (Result DirEntry FsError) → List (Result DirEntry FsError)
+put_in entry [] = Ok entry ∷ []
+put_in entry (shown ∷ more) = if is_behind entry.name shown then Ok entry ∷ shown ∷ more else shown ∷ put_in entry more
+
+-- ---- remove_file and remove_dir: no change is counted, so none is refused
+
+abbrev pub remove_file_error : Key → Memory → Option FsError
+remove_file_error key old = remove_file_bar (get (tree_of old.entries) key)
+
+abbrev pub remove_dir_error : Key → Memory → Option FsError
+remove_dir_error key old = remove_dir_bar key (get (tree_of old.entries) key) (members (tree_of old.entries) key)
 
 -- ---- open: a file that is there and isn't to be emptied stays as it is
 

@@ -1,14 +1,102 @@
--- What contracts see of a store that refuses by plan: this project's own choice.
-use Rattle.std.specs.Prelude.{List, map}
-use Rattle.dav_store.specs.Logged.{logged_of}
+-- What each call of a store that refuses by plan does: this project's own choice.
+use Rattle.std.specs.Prelude.{◌≡◌, ◌≢◌, List, [], ◌∷◌, ◌++◌, map, filter_map, Option, Some, None, Result, Ok, Err, Vec, ◌⊎◌}
+use Rattle.std.specs.declared.alloc.Global.{Global}
+use Rattle.dav_resource.specs.PathText.{PathValue}
+use Rattle.dav_resource.specs.declared.meta.DirEntry.{DirEntry}
+use Rattle.dav_resource.specs.declared.record.Op.{Op}
+use Rattle.dav_resource.specs.declared.record.Op.TheVariants.{ReadDir}
+use Rattle.dav_resource.specs.declared.record.Outcome.{Outcome}
+use Rattle.dav_resource.specs.declared.record.Outcome.TheVariants.{Granted, Refused}
+use Rattle.dav_resource.specs.declared.record.Record.{Record}
+use Rattle.dav_resource.specs.declared.error.FsError.{FsError}
+use Rattle.dav_resource.specs.declared.error.FsError.TheVariants.{Memory}
+use Rattle.dav_store.specs.Logged.{Logged, logged, logged_of}
 use Rattle.dav_store.specs.Store.{Store}
+use Rattle.dav_store.specs.Members.{Lists, ReadsDir, unseen_record}
+use Rattle.dav_store.specs.MemoryCalls.{record_on}
+use Rattle.dav_store.specs.Plans as plans
+use Rattle.dav_store.specs.Plans.{Planned, refusal_for, without_first, shown_by, left_by}
 use Rattle.dav_store.specs.declared.refusing.Refusing.{Refusing}
+
+-- how the last call ended that the records tell of
+abbrev pub last_outcome : List Logged → Outcome
+last_outcome [] = Granted
+last_outcome (r ∷ []) = r.outcome
+last_outcome (r ∷ next ∷ rs) = last_outcome (next ∷ rs)
 
 module _ {F : Type 0} where
   -- the store behind it
   abbrev pub inner_of : Refusing F → F
   inner_of store = store.inner
 
+  -- the refusals to come
+  abbrev pub plan_of : Refusing F → List Planned
+  plan_of store = plans.plan_of store.plan.refusals.items
+
+  -- its records, the oldest first
+  abbrev pub records_of : Refusing F → List Record
+  records_of store = store.log.items
+
   -- what it holds is what the store behind it holds; its log is its own
   abbrev pub seen_behind : (F → Store) → Refusing F → Store
   seen_behind see store = record (see store.inner) { log = map logged_of store.log.items }
+
+  -- ---- a call
+
+  -- nothing changes, the store behind it included
+  pub record IsKept (old new : Refusing F) : Type 0 where
+    pub inner : inner_of new ≡ inner_of old
+    pub plan : plan_of new ≡ plan_of old
+    pub records : records_of new ≡ records_of old
+
+  -- nothing changes that is seen
+  pub record LooksKept (see : F → Store) (old new : Refusing F) : Type 0 where
+    pub seen : seen_behind see new ≡ seen_behind see old
+    pub plan : plan_of new ≡ plan_of old
+    pub records : records_of new ≡ records_of old
+
+  -- the call is refused with the error of the plan's first refusal for it, which is used up; the store behind isn't asked
+  pub record Refuses (op : Op) (path : PathValue) (e : FsError) (old new : Refusing F) : Type 0 where
+    pub planned : refusal_for op path.key (plan_of old) ≡ Some e
+    pub inner : inner_of new ≡ inner_of old
+    pub plan : plan_of new ≡ without_first op path.key (plan_of old)
+    pub records : records_of new ≡ records_of old ++ record_on op (path ∷ []) (Refused e) ∷ []
+
+  -- the call is that of the store behind, with its answer and with its record's outcome
+  pub record Passes {A : Type 0} (see : F → Store) (op : Op) (path : PathValue) (Behind : Store → Result A FsError → Store → Type 0) (old : Refusing F) (answer : Result A FsError) (new : Refusing F) : Type 0 where
+    pub behind : Behind (see (inner_of old)) answer (see (inner_of new))
+    pub plan : plan_of new ≡ plan_of old
+    pub outcome : Outcome
+    pub told : (see (inner_of new)).log ≡ (see (inner_of old)).log ++ logged op (path.key ∷ []) outcome ∷ []
+    pub records : records_of new ≡ records_of old ++ record_on op (path ∷ []) outcome ∷ []
+
+  -- a call for which the plan has a refusal is refused; each other call is passed on
+  abbrev pub GoesByPlan : {A : Type 0} → Op → PathValue → (Refusing F → Result A FsError → Refusing F → Type 0) → Option FsError → Refusing F → Result A FsError → Refusing F → Type 0
+  GoesByPlan op path Passed (Some e) old answer new = (answer ≡ Err e) × Refuses op path e old new
+  GoesByPlan op path Passed None old answer new = Passed old answer new
+
+  -- so it goes, or memory is lacking, and then nothing changes that is seen
+  abbrev pub FollowsPlan : {A : Type 0} → (F → Store) → Op → PathValue → (Refusing F → Result A FsError → Refusing F → Type 0) → Refusing F → Result A FsError → Refusing F → Type 0
+  FollowsPlan see op path Passed old answer new =
+      ((answer ≡ Err Memory) × LooksKept see old new) ⊎ ((answer ≢ Err Memory) × GoesByPlan op path Passed (refusal_for op path.key (plan_of old)) old answer new)
+
+  -- a call that does so of the store behind
+  abbrev pub Follows : {A : Type 0} → (F → Store) → Op → PathValue → (Store → Result A FsError → Store → Type 0) → Refusing F → Result A FsError → Refusing F → Type 0
+  Follows see op path Behind = FollowsPlan see op path (Passes see op path Behind)
+
+  -- ---- read_dir
+
+  -- the listing of the store behind, but for the members for which the plan has a refusal: each is refused with it, and it is
+  -- used up; the records of the members that aren't shown follow that of the call, in the listing's order
+  pub record PassesListing (see : F → Store) (path : PathValue) (old : Refusing F) (answer : List (Result DirEntry FsError)) (new : Refusing F) : Type 0 where
+    pub listed : List (Result DirEntry FsError)
+    pub behind : Lists path.key (see (inner_of old)) listed (see (inner_of new))
+    pub shown : answer ≡ map (λ c. c.1) (shown_by (plan_of old) path.key behind.children)
+    pub plan : plan_of new ≡ left_by (plan_of old) path.key behind.children
+    pub unseen : List Record
+    pub told : map logged_of unseen ≡ filter_map (unseen_record path.key) (shown_by (plan_of old) path.key behind.children)
+    pub records : records_of new ≡ records_of old ++ record_on ReadDir (path ∷ []) Granted ∷ unseen
+
+  abbrev pub PassesReadDir : (F → Store) → PathValue → Refusing F → Result (Vec (Result DirEntry FsError) Global) FsError → Refusing F → Type 0
+  PassesReadDir see path old (Ok listing) new = PassesListing see path old listing.items new
+  PassesReadDir see path old (Err e) new = Passes see ReadDir path (λ s. ReadsDir s path.key) old (Err e) new

@@ -8,18 +8,21 @@ ghost use Rattle.dav_resource.specs.Texts.{texts};
 ghost use Rattle.dav_store.specs.Logged.{logged_of};
 ghost use Rattle.dav_store.specs.Store.{File, Directory};
 ghost use Rattle.dav_store.specs.Calls.{Looks, MakesDirectory, Opens, Writes, Flushes, LooksAtFile, file_bar, place_of};
-ghost use Rattle.dav_store.specs.Memory.{IsSound, tree_of, stored_at, index_of, IsFilePlace, contents_of, made, size_of};
+ghost use Rattle.dav_store.specs.Members.{ReadsDir, RemovesFile, RemovesDir};
+ghost use Rattle.dav_store.specs.Memory.{IsSound, tree_of, stored_at, index_of, IsFilePlace, contents_of, made, without, size_of};
 ghost use Rattle.dav_store.specs.Dump.{IsDump};
 ghost use Rattle.dav_store.specs.Lawful.{is_well_formed};
-ghost use Rattle.dav_store.specs.MemoryCalls.{Gives, LogsAnswer, Tells, kept, look_error, change_error, create_dir_error, open_error, opened, file_error, write_error, written};
+ghost use Rattle.dav_store.specs.MemoryCalls.{Gives, LogsAnswer, Tells, kept, look_error, read_dir_error, IsListing, change_error, create_dir_error, remove_file_error, remove_dir_error, open_error, opened, file_error, write_error, written};
 ghost use Rattle.std.proofs.Props.{props};
 ghost use Rattle.dav_store.specs.KeyProps.{IsKey-prop};
 
 mod entry;
+mod members;
 
 use crate::GuardedFileSystem;
 use dav_resource::{
-    DavFile, DavPath, DavProp, DirEntry, FsError, FsResult, Items, Meta, Op, OpenOptions, Outcome, Record,
+    DavFile, DavPath, DavProp, DirEntry, FsError, FsResult, Items, Meta, Op, OpenOptions, Outcome,
+    Record,
 };
 use entry::Entry;
 use std::alloc::Global;
@@ -169,6 +172,57 @@ impl MemFs {
         }
     }
 
+    /// The members of a directory.
+    fn list(&self, path: &DavPath) -> FsResult<Vec<FsResult<DirEntry>>>
+        ensures listing { IfOk result (λ listing. IsListing path.now.key self.now.entries.items listing.items) }
+        ensures answer { Gives (read_dir_error path.now.key (memory_of self.now)) kept (memory_of self.now) result (memory_of self.now) }
+    {
+        let Some(entry) = find(&self.entries, path.segments()) else {
+            return Err(FsError::NotFound);
+        };
+        if !entry.is_directory() {
+            return Err(FsError::Forbidden);
+        }
+        let alloc = *self.log.allocator();
+        Ok(members::list(alloc, &self.entries, path.segments())?)
+    }
+
+    /// Takes a file out.
+    fn take_file(&mut self, path: &DavPath) -> FsResult<()>
+        ensures log { self.new.log ≡ self.old.log }
+        ensures removed { Gives (remove_file_error path.now.key (memory_of self.old)) (without path.now.key) (memory_of self.old) result (memory_of self.new) }
+    {
+        let Some(entry) = find(&self.entries, path.segments()) else {
+            return Err(FsError::NotFound);
+        };
+        if entry.is_directory() {
+            return Err(FsError::Forbidden);
+        }
+        members::remove(&mut self.entries, path.segments());
+        Ok(())
+    }
+
+    /// Takes a directory out that has no members.
+    fn take_directory(&mut self, path: &DavPath) -> FsResult<()>
+        ensures log { self.new.log ≡ self.old.log }
+        ensures removed { Gives (remove_dir_error path.now.key (memory_of self.old)) (without path.now.key) (memory_of self.old) result (memory_of self.new) }
+    {
+        let Some(entry) = find(&self.entries, path.segments()) else {
+            return Err(FsError::NotFound);
+        };
+        if !entry.is_directory() {
+            return Err(FsError::Forbidden);
+        }
+        if path.segments().is_empty() {
+            return Err(FsError::Forbidden);
+        }
+        if members::has_any(&self.entries, path.segments()) {
+            return Err(FsError::Exists);
+        }
+        members::remove(&mut self.entries, path.segments());
+        Ok(())
+    }
+
     fn open_file(&mut self, path: &DavPath, options: &OpenOptions) -> FsResult<DavFile>
         ensures log { self.new.log ≡ self.old.log }
         ensures file { IfOk result (λ file. file ≡ record { path = path.now; pos = 0; append = options.now.append }) }
@@ -283,20 +337,35 @@ impl<C> GuardedFileSystem<C> for MemFs {
         self.end_record(Op::CreateDir, paths, answer)
     }
 
-    fn read_dir(
-        &mut self,
-        _path: &DavPath,
-        _credentials: &C,
-    ) -> FsResult<Vec<FsResult<DirEntry>>> {
-        Err(FsError::Memory)
+    fn read_dir(&mut self, path: &DavPath, _credentials: &C) -> FsResult<Vec<FsResult<DirEntry>>>
+        ensures seen { ReadsDir (store_of self.old) path.now.key result (store_of self.new) }
+        ensures listing { IfOk result (λ listing. IsListing path.now.key (memory_of self.old).entries listing.items) }
+        ensures memory { Gives (read_dir_error path.now.key (memory_of self.old)) kept (memory_of self.old) result (memory_of self.new) }
+        ensures record { Tells Op.ReadDir (path.now ∷ []) result (records_of self.old) (records_of self.new) }
+    {
+        let paths = self.begin_record(path)?;
+        let answer = self.list(path);
+        self.end_record(Op::ReadDir, paths, answer)
     }
 
-    fn remove_file(&mut self, _path: &DavPath, _credentials: &C) -> FsResult<()> {
-        Err(FsError::Memory)
+    fn remove_file(&mut self, path: &DavPath, _credentials: &C) -> FsResult<()>
+        ensures seen { RemovesFile (store_of self.old) path.now.key result (store_of self.new) }
+        ensures memory { Gives (remove_file_error path.now.key (memory_of self.old)) (without path.now.key) (memory_of self.old) result (memory_of self.new) }
+        ensures record { Tells Op.RemoveFile (path.now ∷ []) result (records_of self.old) (records_of self.new) }
+    {
+        let paths = self.begin_record(path)?;
+        let answer = self.take_file(path);
+        self.end_record(Op::RemoveFile, paths, answer)
     }
 
-    fn remove_dir(&mut self, _path: &DavPath, _credentials: &C) -> FsResult<()> {
-        Err(FsError::Memory)
+    fn remove_dir(&mut self, path: &DavPath, _credentials: &C) -> FsResult<()>
+        ensures seen { RemovesDir (store_of self.old) path.now.key result (store_of self.new) }
+        ensures memory { Gives (remove_dir_error path.now.key (memory_of self.old)) (without path.now.key) (memory_of self.old) result (memory_of self.new) }
+        ensures record { Tells Op.RemoveDir (path.now ∷ []) result (records_of self.old) (records_of self.new) }
+    {
+        let paths = self.begin_record(path)?;
+        let answer = self.take_directory(path);
+        self.end_record(Op::RemoveDir, paths, answer)
     }
 
     fn open(&mut self, path: &DavPath, options: &OpenOptions, _credentials: &C) -> FsResult<DavFile>

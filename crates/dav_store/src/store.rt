@@ -24,11 +24,7 @@ pub trait GuardedFileSystem<C> {
     /// The members of a directory, each once, with what is known of it or the store's refusal to show it,
     /// which leaves a record of its own (`Op::Entry`), in the listing's order. Barred: nothing is there
     /// (`NotFound`), or a file (`Forbidden`).
-    fn read_dir(
-        &mut self,
-        path: &DavPath,
-        credentials: &C,
-    ) -> FsResult<Vec<FsResult<DirEntry>>>
+    fn read_dir(&mut self, path: &DavPath, credentials: &C) -> FsResult<Vec<FsResult<DirEntry>>>
         ensures { ReadsDir (seen self.old) path.now.key result (seen self.new) };
 
     /// Makes a directory without properties. Barred: something is there (`Exists`), or its parent is no

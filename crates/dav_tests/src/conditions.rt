@@ -57,7 +57,7 @@ fn a_file_is_made_once(rt: HostRuntime) -> Result<(), Fail> {
     assert_eq!(rt; etag(&reply), "\"2\"");
     let reply = make(alloc, &mut server, "again")?;
     assert_eq!(rt; status(&reply), 412);
-    assert_eq!(rt; held(alloc, &server.store)?.as_str(), "/ /a=hello");
+    assert_eq!(rt; held(alloc, &mut server.store)?.as_str(), "/ /a=hello");
     Ok(())
 }
 

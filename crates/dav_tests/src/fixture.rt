@@ -1,8 +1,8 @@
 //! What the tests share: requests, and a store and a lock system to serve them over.
 use crate::serve_over;
 use dav_engine::{
-    Body, DavLockSystem, DavPath, DavRequest, DavResult, GuardedFileSystem, Items, MemFs, MemLs,
-    Record, ReqBody, Text,
+    Body, DavLockSystem, DavPath, DavRequest, DavResult, FsError, GuardedFileSystem, Items, MemFs,
+    MemLs, Op, Record, Refusing, ReqBody, Text,
 };
 use http::{Method, Response};
 use http_header::{HeaderMap, HeaderName, HeaderValue};
@@ -81,10 +81,14 @@ fn shown_etag(headers: &HeaderMap<HeaderValue>) -> &str {
 
 // ---- servers
 
-/// A store and a lock system in memory, over which requests are served one after another.
+/// What the tests serve requests over.
+pub type Store = Refusing<MemFs>;
+
+/// A store and a lock system in memory, over which requests are served one after another. The store refuses
+/// what it is told to.
 #[derive(Drop)]
 pub struct Server {
-    pub store: MemFs,
+    pub store: Store,
     pub locks: MemLs,
 }
 
@@ -92,7 +96,7 @@ impl Server {
     /// The root alone, and no lock.
     pub fn new(alloc: Global) -> Result<Server, Fail> {
         Ok(Server {
-            store: MemFs::new(alloc)?,
+            store: Refusing::new(alloc, MemFs::new(alloc)?, Vec::new(alloc)),
             locks: MemLs::new(alloc),
         })
     }
@@ -134,6 +138,34 @@ impl Server {
         Ok(())
     }
 
+    /// Makes these resources, a directory where the path ends in a slash and else a file that holds `1`. The log
+    /// is empty then.
+    pub fn with(alloc: Global, paths: &[&str]) -> Result<Server, Fail> {
+        let mut server = Server::new(alloc)?;
+        for path in paths {
+            let method = if path.ends_with('/') { "MKCOL" } else { "PUT" };
+            server.serve(alloc, request(alloc, method, path, &[], "1")?)??;
+        }
+        clear_log(&mut server.store);
+        Ok(server)
+    }
+
+    /// Lets the store refuse the next such call.
+    pub fn refuse(
+        &mut self,
+        alloc: Global,
+        op: Op,
+        path: &str,
+        error: FsError,
+    ) -> Result<(), Fail> {
+        let path = path_of(alloc, path)?;
+        match error {
+            FsError::NotFound | FsError::Exists | FsError::Memory => Err("not the store's own")?,
+            _ => self.store.add(op, path, error)?,
+        }
+        Ok(())
+    }
+
     /// The reply to a request.
     pub fn serve(
         &mut self,
@@ -148,7 +180,7 @@ impl Server {
     /// The status of the reply to a request, and what the store holds after it.
     pub fn outcome(&mut self, alloc: Global, request: DavRequest) -> Result<(u16, String), Fail> {
         let reply = self.serve(alloc, request)?;
-        Ok((status(&reply), held(alloc, &self.store)?))
+        Ok((status(&reply), held(alloc, &mut self.store)?))
     }
 }
 
@@ -158,8 +190,8 @@ impl Server {
 pub const FILLED: &str = "/ /d/ /f=old /g=old";
 
 /// What the store holds, in the order of the texts: a directory as its path, a file with its bytes.
-pub fn held(alloc: Global, store: &MemFs) -> Result<String, Fail> {
-    let mut texts = resource_texts(alloc, store)?;
+pub fn held(alloc: Global, store: &mut Store) -> Result<String, Fail> {
+    let mut texts = resource_texts(alloc, store.inner_mut())?;
     texts.sort()?;
     Ok(texts.as_slice().join(alloc, " ")?)
 }
@@ -190,7 +222,7 @@ fn clear_log<F: GuardedFileSystem<()>>(store: &mut F) {
 }
 
 /// The calls that the store has recorded, each with its path.
-pub fn calls(alloc: Global, store: &MemFs) -> Result<String, Fail> {
+pub fn calls(alloc: Global, store: &Store) -> Result<String, Fail> {
     let mut texts = Vec::new(alloc);
     for record in records(store) {
         texts.push(call_text(alloc, record)?)?;

@@ -36,6 +36,8 @@ pub fn serve_over<'a, F: GuardedFileSystem<()>, L: DavLockSystem>(
 #[cfg(test)]
 mod conditions;
 #[cfg(test)]
+mod delete;
+#[cfg(test)]
 mod fixture;
 #[cfg(test)]
 mod locks;

@@ -1,6 +1,6 @@
 //! Requests under locks, with the conditions that submit them (RFC 4918, sections 7 and 10.4).
-use crate::fixture::{FILLED, Server, request, status};
-use dav_engine::{DavInner, MemFs, MemLs, Text};
+use crate::fixture::{FILLED, Server, Store, request, status};
+use dav_engine::{DavInner, MemLs, Text};
 use std::alloc::Global;
 use std::test::Fail;
 
@@ -82,7 +82,7 @@ fn one_of_two_shared_locks_is_enough(rt: HostRuntime) -> Result<(), Fail> {
 /// The status of a PUT with this header If over the store alone, without a lock system.
 fn put_without_locks<'a>(
     alloc: Global,
-    store: &'a mut MemFs,
+    store: &'a mut Store,
     condition: &str,
 ) -> Result<u16, Fail> {
     let mut engine = DavInner::new(store, None::<&mut MemLs>, String::new(alloc), ());

@@ -1,7 +1,7 @@
 //! The conditions' own calls, with ample memory.
-use crate::fixture::{Server, path_of, request};
+use crate::fixture::{Server, Store, path_of, request};
 use dav_engine::{
-    DavRequest, ETag, ETagList, GuardedFileSystem, IfRange, Items, MemFs, MemLs, Meta, Text,
+    DavRequest, ETag, ETagList, GuardedFileSystem, IfRange, Items, MemLs, Meta, Text,
 };
 use dav_parts::{
     dav_if_match, etaglist_match, http_if_match, if_match, if_match_get_tokens, ifrange_match,
@@ -86,7 +86,7 @@ fn a_read_of_what_is_known_is_not_modified(rt: HostRuntime) -> Result<(), Fail> 
 /// Whether the header If of a GET of `/g` holds, and its tokens.
 fn judge(
     alloc: Global,
-    store: &mut MemFs,
+    store: &mut Store,
     locks: Option<&MemLs>,
     condition: &str,
 ) -> Result<(bool, String), Fail> {

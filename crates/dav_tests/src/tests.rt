@@ -1,6 +1,6 @@
 //! The methods by themselves, without conditions and locks.
-use crate::fixture::{Server, records, request, status};
-use dav_engine::{DavInner, FsError, MemFs, MemLs, Op, Outcome, ReqBody};
+use crate::fixture::{Server, Store, records, request, status};
+use dav_engine::{DavInner, FsError, MemLs, Op, Outcome, ReqBody};
 use std::alloc::Global;
 use std::test::Fail;
 
@@ -10,7 +10,7 @@ fn serve_one(alloc: Global, server: &mut Server, method: &str, path: &str) -> Re
     Ok(status(&server.serve(alloc, request)?))
 }
 
-fn ops(alloc: Global, store: &MemFs) -> Result<Vec<Op>, Fail> {
+fn ops(alloc: Global, store: &Store) -> Result<Vec<Op>, Fail> {
     let mut ops = Vec::new(alloc);
     for record in records(store) {
         ops.push(record.op)?;
@@ -18,7 +18,7 @@ fn ops(alloc: Global, store: &MemFs) -> Result<Vec<Op>, Fail> {
     Ok(ops)
 }
 
-fn outcomes(alloc: Global, store: &MemFs) -> Result<Vec<Outcome>, Fail> {
+fn outcomes(alloc: Global, store: &Store) -> Result<Vec<Outcome>, Fail> {
     let mut outcomes = Vec::new(alloc);
     for record in records(store) {
         outcomes.push(record.outcome)?;
@@ -108,7 +108,7 @@ fn a_method_that_is_not_served_asks_nothing(rt: HostRuntime) -> Result<(), Fail>
 /// The statuses of two handlers, each called with a request of another method, and of `serve`.
 fn handled<'a>(
     alloc: Global,
-    store: &'a mut MemFs,
+    store: &'a mut Store,
     locks: &'a mut MemLs,
 ) -> Result<[u16; 3], Fail> {
     let mut engine = DavInner::new(store, Some(locks), String::new(alloc), ());

@@ -1,12 +1,12 @@
 -- DELETE (RFC 4918, section 9.6): what a deletion calls, leaves and names. Below the key p that is deleted,
 -- a key is said by the path x that leads down to it: `old x` is what stood there, and `calls x` the calls on it.
-use Rattle.std.specs.Prelude.{◌≡◌, ◌≢◌, ◌⊎◌, ◌↔◌, ◌≤◌, ◌*◌, filter, ℕ, Bool, true, false, if◌then◌else◌, List, [], ◌∷◌, ◌++◌, Option, Some, None, Result, Ok, Err, length, map, filter_map, option_map, IsTrue, IsPermutation}
+use Rattle.std.specs.Prelude.{◌≡◌, ◌≢◌, ◌⊎◌, ◌≤◌, ◌*◌, filter, ℕ, Bool, true, false, if◌then◌else◌, List, [], ◌∷◌, ◌++◌, Option, Some, None, Result, Ok, Err, length, map, filter_map, option_map, IsPermutation}
 use Rattle.std.specs.FinMap.{get}
 use Rattle.dav_resource.specs.Key.{Key, parent}
 use Rattle.dav_resource.specs.PathText.{PathValue}
 use Rattle.dav_resource.specs.Errors.{fs_status}
 use Rattle.dav_resource.specs.declared.request.Depth.{Depth}
-use Rattle.dav_resource.specs.declared.request.Depth.TheVariants.{Zero, One, Infinity, Default}
+use Rattle.dav_resource.specs.declared.request.Depth.TheVariants.{Zero}
 use Rattle.dav_resource.specs.declared.record.Op.{Op}
 use Rattle.dav_resource.specs.declared.record.Op.TheVariants.{ReadDir, RemoveFile, RemoveDir, Entry}
 use Rattle.dav_resource.specs.declared.record.Outcome.{Outcome}

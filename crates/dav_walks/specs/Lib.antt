@@ -1,4 +1,5 @@
 pub mod KeyCall
 pub mod Deletion
 pub mod Trace
+pub mod Frames
 pub mod RemovalLaws

@@ -14,7 +14,7 @@ use Rattle.dav_store.specs.Calls.{IsOwn, limit_of}
 use Rattle.dav_store.specs.Members.{IsIn}
 use Rattle.dav_parts.specs.Multistatus.{Item}
 use Rattle.dav_walks.specs.KeyCall.{KeyCall, logged_call, standing}
-use Rattle.dav_walks.specs.Deletion.{Calls, Look, look_below, calls_below, under, WasRefused, named_in, IsRootRemoval}
+use Rattle.dav_walks.specs.Deletion.{Calls, Look, look_below, calls_below, under, WasRefused, named_in, IsRootRemoval, Deletes}
 
 -- a file, or a directory
 abbrev pub HasKind : Bool → Option Node → Type 0
@@ -104,3 +104,12 @@ pub record Halts (old new : Contents) (before after : List Logged) (k : Key) : T
   pub outside : (key : Key) → ((x : Key) → key ≢ k ++ x) → standing new key ≡ standing old key
   pub is_kept : IsKept old new
   pub partly : Partly (look_below old.tree k) (look_below new.tree k) (calls_below calls k)
+
+-- the walk of the path's key and of all below it, said of sets: what it calls, leaves and names
+pub record WalksWhole (path : PathValue) (old new : Contents) (before after : List Logged) (had has : List Item) (clean : Bool) : Type 0 where
+  pub calls : List KeyCall
+  pub log : after ≡ before ++ map logged_call calls
+  pub names : List Item
+  pub added : has ≡ had ++ names
+  pub deletes : Deletes path old new calls names
+  pub clean_is : (clean ≡ true → names ≡ []) × (names ≡ [] → clean ≡ true)

@@ -2,5 +2,6 @@
 #![tactic(auto)]
 
 mod deletion;
+mod frame;
 
 pub use deletion::delete_items;

@@ -6,12 +6,13 @@ ghost use Rattle.std.specs.Str.Parse.{digits_value};
 ghost use Rattle.davrun.specs.Number.{is_number};
 ghost use Rattle.davrun.specs.Escape.{first_byte as first_byte_of, escaped_byte as escaped_byte_of, hex_byte as hex_byte_of, StandsFor, IsFaulty};
 
+use crate::refuse::add_refusal;
 use crate::script::{Block, Fault, LineError};
 use dav_resource::{Items, ReqBody, Text};
 use std::alloc::Global;
 
 /// Reads a directive into its block, from its line without the `=`: a name, and where a space follows, a value.
-/// Of one that is given twice, and of two bodies, the last counts.
+/// Each `refuse` counts; of another that is given twice, and of two bodies, the last counts.
 pub fn read(block: &mut Block, line: &str) -> Result<(), LineError> {
     let (name, value) = line.split_once(' ').unwrap_or((line, ""));
     match name {
@@ -29,6 +30,7 @@ pub fn read(block: &mut Block, line: &str) -> Result<(), LineError> {
             let principal = String::from_str(*block.path.allocator(), value)?;
             block.principal = Some(Text::from_string(principal));
         }
+        "refuse" => add_refusal(&mut block.refusals, value)?,
         _ => return Err(Fault::UnknownDirective.into()),
     }
     Ok(())

@@ -7,6 +7,8 @@ mod outline;
 mod print;
 mod program;
 mod quote;
+mod refusal;
+mod refuse;
 mod script;
 mod trouble;
 

@@ -7,14 +7,16 @@ ghost use Rattle.davrun.specs.Arguments.{AreUsable};
 ghost use Rattle.davrun.specs.Status.{SaysFault, trouble_line};
 
 use crate::print::{print_end, print_reply, print_request};
+use crate::refusal::PlannedRefusal;
 use crate::script::{Block, read_script};
 use crate::trouble::{Stopped, Trouble, report};
 use dav_engine::DavInner;
 use dav_resource::{Body, DavError, DavPath, DavRequest, DavResult, Text};
-use dav_store::{MemFs, MemLs};
+use dav_store::{MemFs, MemLs, Refusing};
 use http::Response;
 use std::alloc::Global;
 use std::io::{Read, Write};
+use std::mem;
 
 /// Runs the program on its arguments without its name, and gives its status: 0 where the whole script was served,
 /// 2 where the arguments aren't one prefix or none or a line of the script is at fault, 3 where reading, writing
@@ -97,7 +99,8 @@ fn read_input<I: Read>(alloc: Global, input: &mut I) -> Result<Vec<u8>, Stopped>
     Ok(script)
 }
 
-/// Serves the blocks in order over one store and one lock system, and prints the replies and then what both hold.
+/// Serves the blocks in order over one store, which refuses what they plan, and one lock system, and prints the
+/// replies and then what both hold.
 fn serve_all<O: Write>(
     alloc: Global,
     prefix: &str,
@@ -106,7 +109,7 @@ fn serve_all<O: Write>(
 ) -> Result<(), Stopped> {
     let mut session = Session {
         prefix,
-        store: MemFs::new(alloc)?,
+        store: Refusing::new(alloc, MemFs::new(alloc)?, Vec::new(alloc)),
         locks: MemLs::new(alloc),
         blocks: 0,
         now: 0,
@@ -114,7 +117,12 @@ fn serve_all<O: Write>(
     for block in blocks {
         session.serve(alloc, block, output)?;
     }
-    print_end(alloc, output, &session.store, &session.locks)?;
+    let Session {
+        mut store,
+        locks,
+        ..
+    } = session;
+    print_end(alloc, output, store.inner_mut(), &locks)?;
     Ok(output.flush()?)
 }
 
@@ -122,7 +130,8 @@ fn serve_all<O: Write>(
 #[derive(Drop)]
 struct Session<'a> {
     prefix: &'a str,
-    store: MemFs,
+    /// The store, which refuses what the blocks so far plan.
+    store: Refusing<MemFs>,
     locks: MemLs,
     /// How many blocks came before.
     blocks: u64,
@@ -135,11 +144,12 @@ impl<'a> Session<'a> {
     fn serve<O: Write>(
         &mut self,
         alloc: Global,
-        block: Block,
+        mut block: Block,
         output: &mut O,
     ) -> Result<(), Stopped> {
         self.blocks = self.blocks.saturating_add(1);
         self.set_now(block.now);
+        self.plan(mem::replace(&mut block.refusals, Vec::new(alloc)))?;
         print_request(output, &block)?;
         match DavPath::from_str_and_prefix(alloc, block.path.as_str(), self.prefix) {
             Ok(path) => {
@@ -158,8 +168,17 @@ impl<'a> Session<'a> {
     fn set_now(&mut self, now: Option<u64>) {
         if let Some(now) = now {
             self.now = now;
-            self.store.set_now(now);
+            self.store.inner_mut().set_now(now);
         }
+    }
+
+    /// Plans these refusals, behind those that are planned and not used.
+    fn plan(&mut self, refusals: Vec<PlannedRefusal>) -> Result<(), Stopped> {
+        for refusal in refusals {
+            let PlannedRefusal { op, path, error } = refusal;
+            self.store.add(op, path, error)?;
+        }
+        Ok(())
     }
 
     /// The request of a block.
@@ -192,7 +211,7 @@ impl<'a> Session<'a> {
 
 /// Serves one request by an engine of its own over a store and a lock system.
 fn serve_request<'a>(
-    store: &'a mut MemFs,
+    store: &'a mut Refusing<MemFs>,
     locks: &'a mut MemLs,
     prefix: String,
     request: DavRequest,

@@ -2,6 +2,7 @@
 ghost use Rattle.std.specs.Prelude.{◌≡◌};
 
 use crate::directive;
+use crate::refusal::PlannedRefusal;
 use dav_resource::{ReqBody, Text};
 use http::Method;
 use http::method::MethodError;
@@ -49,6 +50,8 @@ pub struct Block {
     pub now: Option<u64>,
     /// Who sends the request, where the block says so.
     pub principal: Option<Text>,
+    /// The calls that are to be refused from this block on, in the order of their lines.
+    pub refusals: Vec<PlannedRefusal>,
 }
 
 /// The blocks of a script, in order. The error is the fault of the first line that has one, or `Memory`.
@@ -122,6 +125,7 @@ impl Block {
             body: ReqBody::None,
             now: None,
             principal: None,
+            refusals: Vec::new(alloc),
         })
     }
 

@@ -11,6 +11,8 @@ use std::io::{self, Read, Write};
 use std::process::Abort;
 use std::test::Fail;
 
+mod refuse;
+
 /// Runs a script over these arguments, and compares the status and what both writers got.
 fn expect(
     rt: &impl Abort,

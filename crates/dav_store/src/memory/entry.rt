@@ -1,8 +1,10 @@
 //! What a store in memory keeps of a resource.
 ghost use Rattle.std.specs.Prelude.{◌≡◌, ◌<◌, ◌+◌, ◌^◌, IfOk, OnOk, OnErr, false, [], ◌++◌, ◌-◌, ◌≤◌, length, take, drop, replicate, string_bytes};
+ghost use Rattle.std.specs.Option.{option_copied, option_map, is_some};
 ghost use Rattle.dav_resource.specs.Texts.{texts};
 ghost use Rattle.dav_store.specs.Store.{File, Directory};
 ghost use Rattle.dav_store.specs.Calls.{bytes_at, written_at};
+ghost use Rattle.dav_store.specs.Members.{name_in};
 ghost use Rattle.dav_store.specs.Memory.{has_key, is_directory, size_of, tag_text, meta_of, fresh, with_bytes};
 ghost use Rattle.dav_store.specs.Dump.{IsDumpOf};
 
@@ -69,6 +71,21 @@ impl Entry {
         ensures { result ≡ has_key (texts key.now) self.now }
     {
         self.path.segments() == key
+    }
+
+    /// The last segment of its path, where it stands directly in this directory.
+    pub fn name_in(&self, directory: &[String]) -> Option<&String>
+        ensures { option_map string_bytes (option_copied result) ≡ name_in (texts directory.now) self.now.key }
+    {
+        let (name, above) = self.path.segments().split_last()?;
+        if above == directory { Some(name) } else { None }
+    }
+
+    /// Whether it stands directly in this directory.
+    pub fn is_in(&self, directory: &[String]) -> bool
+        ensures { result ≡ is_some (name_in (texts directory.now) self.now.key) }
+    {
+        self.name_in(directory).is_some()
     }
 
     /// Whether it is a directory.

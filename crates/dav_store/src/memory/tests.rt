@@ -103,3 +103,126 @@ fn dumps_all(rt: HostRuntime) -> Result<(), Fail> {
     }
     Ok(())
 }
+
+fn make_file(alloc: Global, fs: &mut MemFs, text: &str) -> FsResult<()> {
+    fs.open(&path(alloc, text)?, &options(true, true, false), &())?;
+    Ok(())
+}
+
+/// Two directories, one in the other, and files in both.
+fn fill_both(alloc: Global, fs: &mut MemFs) -> FsResult<()> {
+    fs.create_dir(&path(alloc, "/d")?, &())?;
+    fs.create_dir(&path(alloc, "/d/c")?, &())?;
+    for text in ["/d/b", "/d/a-", "/d/c/x", "/d/a"] {
+        make_file(alloc, fs, text)?;
+    }
+    Ok(())
+}
+
+/// The names of a directory's members, with a slash behind each that is a directory, and a blank behind all.
+fn names(alloc: Global, fs: &mut MemFs, text: &str) -> FsResult<String> {
+    let mut names = String::new(alloc);
+    for shown in &fs.read_dir(&path(alloc, text)?, &())? {
+        if let Ok(entry) = shown {
+            names.push_str(entry.name.as_str())?;
+            names.push_str(if entry.meta.dir { "/ " } else { " " })?;
+        }
+    }
+    Ok(names)
+}
+
+/// Whether the names of a directory's members are these.
+fn lists(alloc: Global, fs: &mut MemFs, text: &str, expected: &str) -> FsResult<bool> {
+    Ok(names(alloc, fs, text)?.as_str() == expected)
+}
+
+#[test]
+fn lists_members_by_names(rt: HostRuntime) -> Result<(), Fail> {
+    let alloc = rt.alloc();
+    let mut fs = MemFs::new(alloc)?;
+    fill_both(alloc, &mut fs)?;
+    let answers = [
+        lists(alloc, &mut fs, "/d", "a a- b c/ "),
+        lists(alloc, &mut fs, "/", "d/ "),
+        lists(alloc, &mut fs, "/d/c", "x "),
+    ];
+    assert_eq!(rt; answers, [Ok(true), Ok(true), Ok(true)]);
+    Ok(())
+}
+
+fn read_dir(alloc: Global, fs: &mut MemFs, text: &str) -> FsResult<()> {
+    fs.read_dir(&path(alloc, text)?, &())?;
+    Ok(())
+}
+
+fn remove_file(alloc: Global, fs: &mut MemFs, text: &str) -> FsResult<()> {
+    fs.remove_file(&path(alloc, text)?, &())
+}
+
+fn remove_dir(alloc: Global, fs: &mut MemFs, text: &str) -> FsResult<()> {
+    fs.remove_dir(&path(alloc, text)?, &())
+}
+
+/// How many resources there are.
+fn count(fs: &MemFs) -> FsResult<usize> {
+    Ok(fs.dump()?.len())
+}
+
+/// Whether the record at a place is of this call, with this outcome.
+fn tells(fs: &MemFs, place: usize, op: Op, outcome: Outcome) -> bool {
+    match GuardedFileSystem::<()>::records(fs).get(place) {
+        Some(record) => record.op == op && record.outcome == outcome,
+        None => false,
+    }
+}
+
+#[test]
+fn bars_calls_on_members(rt: HostRuntime) -> Result<(), Fail> {
+    let alloc = rt.alloc();
+    let mut fs = MemFs::new(alloc)?;
+    fill(alloc, &mut fs)?;
+    GuardedFileSystem::<()>::clear_log(&mut fs);
+    let answers = [
+        read_dir(alloc, &mut fs, "/d/f"),
+        read_dir(alloc, &mut fs, "/x"),
+        remove_file(alloc, &mut fs, "/d"),
+        remove_file(alloc, &mut fs, "/x"),
+        remove_dir(alloc, &mut fs, "/d/f"),
+        remove_dir(alloc, &mut fs, "/"),
+        remove_dir(alloc, &mut fs, "/d"),
+        remove_dir(alloc, &mut fs, "/x"),
+    ];
+    assert_eq!(rt;
+        answers,
+        [
+            Err(FsError::Forbidden),
+            Err(FsError::NotFound),
+            Err(FsError::Forbidden),
+            Err(FsError::NotFound),
+            Err(FsError::Forbidden),
+            Err(FsError::Forbidden),
+            Err(FsError::Exists),
+            Err(FsError::NotFound)
+        ]
+    );
+    assert_eq!(rt; count(&fs), Ok(3));
+    assert!(rt; tells(&fs, 0, Op::ReadDir, Outcome::Barred(FsError::Forbidden)));
+    assert!(rt; tells(&fs, 6, Op::RemoveDir, Outcome::Barred(FsError::Exists)));
+    Ok(())
+}
+
+#[test]
+fn removes_without_a_change_counted(rt: HostRuntime) -> Result<(), Fail> {
+    let alloc = rt.alloc();
+    let mut fs = MemFs::new(alloc)?;
+    fill(alloc, &mut fs)?;
+    remove_file(alloc, &mut fs, "/d/f")?;
+    assert_eq!(rt; lists(alloc, &mut fs, "/d", ""), Ok(true));
+    remove_dir(alloc, &mut fs, "/d")?;
+    assert_eq!(rt; count(&fs), Ok(1));
+    assert!(rt; tells(&fs, 4, Op::RemoveFile, Outcome::Granted));
+    assert!(rt; tells(&fs, 6, Op::RemoveDir, Outcome::Granted));
+    fs.create_dir(&path(alloc, "/e")?, &())?;
+    assert_eq!(rt; etag(&mut fs, &path(alloc, "/e")?)?.as_str(), "4");
+    Ok(())
+}

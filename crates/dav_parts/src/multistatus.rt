@@ -1,0 +1,103 @@
+//! The replies that tell statuses, and the trees in them (RFC 4918, sections 11.1, 13 and 14).
+ghost use Rattle.std.specs.Prelude.{◌≡◌, codes, [], ◌∷◌, IfOk, IfErr, string_bytes};
+ghost use Rattle.dav_resource.specs.declared.error.DavError.TheVariants.{Memory};
+ghost use Rattle.dav_parts.specs.Reply.{reply_of, bare_reply as reply_without_body, field};
+ghost use Rattle.dav_parts.specs.Multistatus.{status_line as line_of_status, shown_status as status_shown_for, text_element as element_of_text, response_element as element_of_item, multistatus as tree_of_items, xml_type, multistatus_reply as reply_of_items};
+
+use crate::reply_header::add_header;
+use dav_resource::{Body, DavPath, DavResult, Element};
+use http::{Response, StatusCode};
+use http_header::{CONTENT_TYPE, HeaderMap, HeaderValue};
+use std::alloc::{AllocError, Global};
+
+/// A reply of this status, with no header field and no body.
+pub(crate) fn bare_reply(alloc: Global, status: StatusCode) -> Response<Body>
+    ensures { reply_of result ≡ reply_without_body status [] }
+{
+    let mut reply = Response::new(alloc, Body::Empty);
+    *reply.status_mut() = status;
+    reply
+}
+
+/// 207, with a response for each item in order. The only error is `Memory`, where memory is lacking.
+pub(crate) fn multistatus_reply(
+    alloc: Global,
+    items: &[(DavPath, StatusCode)],
+) -> DavResult<Response<Body>>
+    ensures ok { IfOk result (λ reply. reply_of reply ≡ reply_of_items items.now) }
+    ensures err { IfErr result (λ e. e ≡ Memory) }
+{
+    let tree = multistatus(alloc, items)?;
+    let headers = xml_headers(alloc)?;
+    let mut reply = Response::new(alloc, Body::Tree(tree));
+    *reply.status_mut() = StatusCode::MULTI_STATUS;
+    *reply.headers_mut() = headers;
+    Ok(reply)
+}
+
+/// The header fields of a reply whose body is a tree.
+fn xml_headers(alloc: Global) -> DavResult<HeaderMap<HeaderValue>>
+    ensures ok { IfOk result (λ headers. headers ≡ field (codes "content-type") xml_type ∷ []) }
+    ensures err { IfErr result (λ e. e ≡ Memory) }
+{
+    let mut headers = HeaderMap::new(alloc);
+    let xml = HeaderValue::from_static("application/xml; charset=utf-8");
+    add_header(&mut headers, CONTENT_TYPE, Some(xml))?;
+    Ok(headers)
+}
+
+/// A response for each item, in order.
+fn multistatus(alloc: Global, items: &[(DavPath, StatusCode)]) -> Result<Element, AllocError>
+    ensures { IfOk result (λ tree. tree ≡ tree_of_items items.now) }
+{
+    let mut tree = Element::new2(alloc, "D:multistatus")?.ns("D", "DAV:")?;
+    for (path, status) in items {
+        tree.push_element(response_element(alloc, path, *status)?)?;
+    }
+    Ok(tree)
+}
+
+/// The resource's path, with its prefix, and its status.
+fn response_element(
+    alloc: Global,
+    path: &DavPath,
+    status: StatusCode,
+) -> Result<Element, AllocError>
+    ensures { IfOk result (λ response. response ≡ element_of_item (path.now, status)) }
+{
+    let href = path.with_prefix()?.as_url_string()?;
+    let line = status_line(alloc, shown_status(status))?;
+    let mut response = Element::new2(alloc, "D:response")?;
+    response.push_element(text_element(alloc, "D:href", href.as_str())?)?;
+    response.push_element(text_element(alloc, "D:status", line.as_str())?)?;
+    Ok(response)
+}
+
+/// An element of this name that holds a text.
+fn text_element(alloc: Global, name: &str, text: &str) -> Result<Element, AllocError>
+    ensures { IfOk result (λ element. element ≡ element_of_text name.now text.now) }
+{
+    Element::new2(alloc, name)?.text(text)
+}
+
+/// The status as a reply's first line shows it, with its phrase where it has one.
+fn status_line(alloc: Global, status: StatusCode) -> Result<String, AllocError>
+    ensures { IfOk result (λ line. string_bytes line ≡ line_of_status status) }
+{
+    let digits = status.as_str();
+    match status.canonical_reason() {
+        Some(phrase) => format!(in alloc; "HTTP/1.1 {digits} {phrase}"),
+        None => format!(in alloc; "HTTP/1.1 {digits}"),
+    }
+}
+
+/// Nothing can be left out of a multistatus for want of content: 204 is shown as 200.
+fn shown_status(status: StatusCode) -> StatusCode
+    ensures { result ≡ status_shown_for status }
+{
+    if status == StatusCode::NO_CONTENT {
+        StatusCode::OK
+    } else {
+        status
+    }
+}
