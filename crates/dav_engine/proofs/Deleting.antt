@@ -1,5 +1,5 @@
 -- DELETE: its rules, and its work.
-use Rattle.std.proofs.Common.{◌≡◌, ◌≢◌, ◌⊎◌, ◌∙◌, ℕ, Bool, true, false, if◌then◌else◌, List, [], ◌∷◌, ◌++◌, Option, Some, None, Result, Ok, Err, inl, inr, refl, sym, ap, subst, append-nil, option_map}
+use Rattle.std.proofs.Common.{◌≡◌, ◌≢◌, ◌⊎◌, ◌∙◌, ℕ, Bool, true, false, if◌then◌else◌, List, [], ◌∷◌, ◌++◌, Option, Some, Result, Ok, Err, inl, inr, refl, sym, ap, subst, append-nil, option_map}
 use Rattle.std.specs.Option.{option_map_or}
 use Rattle.std.specs.Result.{IsErrAnd}
 use Rattle.http.specs.declared.response.Response.{Response}
@@ -17,10 +17,10 @@ use Rattle.dav_resource.specs.declared.record.Outcome.TheVariants as outcomes
 use Rattle.dav_resource.specs.declared.request.Body.{Body}
 use Rattle.dav_resource.specs.declared.request.Depth.{Depth}
 use Rattle.dav_resource.specs.declared.request.DavRequest.{DavRequest}
-use Rattle.dav_store.specs.Store.{Store, Contents}
+use Rattle.dav_store.specs.Store.{Store}
 use Rattle.dav_store.specs.Calls.{Grants, Declines, IsMetaAt, metadata_call, record_of}
 use Rattle.dav_store.specs.Locks.{Locks}
-use Rattle.dav_parts.specs.Dialogue.{Dialogue, Passed, Refuses, Judges}
+use Rattle.dav_parts.specs.Dialogue.{Passed, Refuses, Judges}
 use Rattle.dav_parts.specs.Conditions.{conditions}
 use Rattle.dav_parts.specs.Dialogues.{judges_exit, judges_then, judges_pure, judges_if, needs-declined}
 use Rattle.dav_parts.specs.Multistatus.{Item, multi_answer}

@@ -43,7 +43,7 @@ keys-change key f keeps (s ∷ entries) =
     ]
 
 -- a test that fails once fails of each equal key
-apart : (q key other : Key) → eq_by_cmp key_cmp key other ≡ false → eq_by_cmp key_cmp q other ≡ true → eq_by_cmp key_cmp q key ≡ false
+pub apart : (q key other : Key) → eq_by_cmp key_cmp key other ≡ false → eq_by_cmp key_cmp q other ≡ true → eq_by_cmp key_cmp q key ≡ false
 apart q key other fails holds =
     elim (eq_by_cmp key_cmp q key) as (λ b. eq_by_cmp key_cmp q key ≡ b → b ≡ false) [
       | true ↦ λ t. absurd (let e : eq_by_cmp key_cmp key other ≡ true = subst (λ k. eq_by_cmp key_cmp k other ≡ true) ((tied_decides q key).0 t) holds in cc)

@@ -10,7 +10,7 @@ use Rattle.dav_resource.specs.Key.{Key, key_cmp, tied_decides}
 use Rattle.dav_resource.specs.PathText.{IsKey, IsSegment}
 use Rattle.dav_resource.specs.declared.meta.DirEntry.{DirEntry}
 use Rattle.dav_resource.specs.declared.error.FsError.{FsError}
-use Rattle.dav_store.specs.Store.{Store, Tree, Contents, IsWellFormed}
+use Rattle.dav_store.specs.Store.{Store, Tree, IsWellFormed}
 use Rattle.dav_store.specs.Members.{Child, IsIn, name_in, members, names_of, IsShownAs, Lists}
 use Rattle.dav_store.specs.Plans.{HaveSegmentNames}
 

@@ -1,12 +1,11 @@
 -- Listings of a store that refuses by plan.
-use Rattle.std.proofs.Common.{◌≡◌, ◌≢◌, ◌∙◌, ℕ, Bool, true, false, cond, Option, Some, None, Result, Ok, Err, Vec, refl, sym, ap, subst, ◌⊎◌, inl, inr, List, [], ◌∷◌, ◌++◌, ◌<◌, ◌+◌, ◌-◌, All, map, filter_map, length, take, drop, suc, zero, arith, length-append}
+use Rattle.std.proofs.Common.{◌≡◌, ◌∙◌, ℕ, Option, Some, None, Result, Ok, Err, Vec, refl, sym, ap, subst, inl, inr, List, [], ◌∷◌, ◌++◌, ◌+◌, ◌-◌, All, map, filter_map, length, take, drop, suc, zero, arith, length-append}
 use Rattle.std.specs.declared.alloc.Global.{Global}
 use Rattle.std.proofs.lemmas.List.{map-append, drop_at, append_assoc, take_all, length-drop}
 use Rattle.std.specs.FinMap.{get}
 use Rattle.dav_resource.specs.Key.{Key}
 use Rattle.dav_resource.specs.PathText.{PathValue}
 use Rattle.dav_resource.specs.declared.meta.DirEntry.{DirEntry}
-use Rattle.dav_resource.specs.declared.record.Op.{Op}
 use Rattle.dav_resource.specs.declared.record.Op.TheVariants.{ReadDir, Entry}
 use Rattle.dav_resource.specs.declared.record.Outcome.TheVariants.{Granted}
 use Rattle.dav_resource.specs.declared.record.Record.{Record}
@@ -14,8 +13,8 @@ use Rattle.dav_resource.specs.declared.error.FsError.{FsError}
 use Rattle.dav_resource.specs.declared.error.FsError.TheVariants.{Memory}
 use Rattle.dav_store.specs.Logged.{Logged, logged, logged_of}
 use Rattle.dav_store.specs.Store.{Store, Contents}
-use Rattle.dav_store.specs.Calls.{IsOwn, record_of}
-use Rattle.dav_store.specs.Members.{Child, IsIn, AreChildren, IsShownAs, Lists, ReadsDir, member, names_of, read_dir_bar, read_dir_call, unseen_record}
+use Rattle.dav_store.specs.Calls.{IsOwn}
+use Rattle.dav_store.specs.Members.{Child, IsIn, AreChildren, IsShownAs, Lists, ReadsDir, member, names_of, read_dir_bar, unseen_record}
 use Rattle.dav_store.specs.MemoryCalls.{record_on}
 use Rattle.dav_store.specs.Plans as plans
 use Rattle.dav_store.specs.Plans.{Planned, is_for, refusal_for, without_first, shown_as, shown_by, IsNamed, IsListingOf, IsLetBy}

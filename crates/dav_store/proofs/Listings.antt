@@ -1,6 +1,6 @@
 -- What a plan leaves of a listing, member by member.
-use Rattle.std.proofs.Common.{◌≡◌, ◌≢◌, ◌∙◌, ℕ, Option, Some, None, Result, Ok, Err, refl, sym, ap, subst, inl, inr, List, [], ◌∷◌, ◌++◌, ◌<◌, ◌+◌, ◌≤◌, All, map, filter_map, length, take, drop, get_or, suc, zero, arith, append-nil, append_assoc, add-one, drop-cons}
-use Rattle.std.proofs.lemmas.List.{take_all, drop_all, drop-set, take_more_set, drop-set-lt}
+use Rattle.std.proofs.Common.{◌≡◌, ◌∙◌, ℕ, Option, Some, None, Result, Ok, Err, refl, sym, ap, subst, inl, inr, List, [], ◌∷◌, ◌++◌, ◌<◌, ◌+◌, ◌≤◌, map, filter_map, length, take, drop, get_or, arith, append-nil, append_assoc, add-one, drop-cons}
+use Rattle.std.proofs.lemmas.List.{take_all, drop_all, take_more_set, drop-set-lt}
 use Rattle.std.proofs.Math.ListN.{set}
 use Rattle.std.proofs.lemmas.List.Elements.{All-set}
 use Rattle.std.specs.Prelude.{IfOk}
@@ -13,8 +13,8 @@ use Rattle.dav_resource.specs.declared.record.Op.TheVariants.{Entry}
 use Rattle.dav_resource.specs.declared.record.Record.{Record}
 use Rattle.dav_resource.specs.declared.error.FsError.{FsError}
 use Rattle.dav_store.specs.Logged.{Logged, logged, logged_of}
-use Rattle.dav_store.specs.Members.{Child, IsIn, member, unseen_record}
-use Rattle.dav_store.specs.Plans.{Planned, refusal_for, without_first, shown_as, shown_by, left_by, IsNamed, AreNamed, IsListingOf, IsLetBy, HaveSegmentNames}
+use Rattle.dav_store.specs.Members.{Child, member, unseen_record}
+use Rattle.dav_store.specs.Plans.{Planned, refusal_for, without_first, shown_as, shown_by, left_by, AreNamed, IsListingOf, IsLetBy, HaveSegmentNames}
 
 abbrev pub Shown : Type 0
 Shown = Result DirEntry FsError

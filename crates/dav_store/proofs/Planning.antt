@@ -1,6 +1,5 @@
 -- Plans of refusals.
-use Rattle.std.proofs.Common.{◌≡◌, ◌∙◌, ℕ, Bool, true, false, cond, List, [], ◌∷◌, map, Option, Some, None, refl, sym, ap, subst, ◌<◌, ◌+◌, ◌&&◌, All, length, get_or, zero, suc, arith, nat_eq}
-use Rattle.std.specs.Prelude.{IfSome}
+use Rattle.std.proofs.Common.{◌≡◌, ◌∙◌, ℕ, true, false, cond, List, [], ◌∷◌, Option, Some, None, refl, sym, ap, subst, ◌<◌, ◌+◌, length, get_or, zero, suc, arith, nat_eq}
 use Rattle.std.proofs.lemmas.Iterator.Adapters.{position_from-zero}
 use Rattle.std.specs.List.{position, position_from, remove}
 use denote.Enum.Bare.{sameb}

@@ -1,5 +1,5 @@
 -- Calls of a store that refuses by plan.
-use Rattle.std.proofs.Common.{◌≡◌, ◌≢◌, ◌∙◌, ℕ, true, false, cond, Option, Some, None, Result, Ok, Err, refl, sym, ap, subst, ◌⊎◌, inl, inr, List, [], ◌∷◌, ◌++◌, ◌<◌, ◌+◌, ◌-◌, All, slice_get, map, length, suc, zero, arith}
+use Rattle.std.proofs.Common.{◌≡◌, ◌≢◌, ◌∙◌, ℕ, true, false, cond, Option, Some, None, Result, Ok, Err, refl, sym, ap, subst, ◌⊎◌, inl, inr, List, [], ◌∷◌, ◌++◌, ◌+◌, ◌-◌, All, slice_get, map, length, suc, zero, arith}
 use Rattle.std.proofs.lemmas.List.{map-append}
 use Rattle.dav_resource.specs.Key.{Key}
 use Rattle.dav_resource.specs.PathText.{PathValue}
@@ -11,11 +11,11 @@ use Rattle.dav_resource.specs.declared.error.FsError.{FsError}
 use Rattle.dav_resource.specs.declared.error.FsError.TheVariants.{Memory}
 use Rattle.dav_store.specs.Logged.{Logged, logged, logged_of}
 use Rattle.dav_store.specs.Store.{Store, Contents}
-use Rattle.dav_store.specs.Calls.{Answers, Declines, Grants, IsOwn}
+use Rattle.dav_store.specs.Calls.{Answers, Declines, IsOwn}
 use Rattle.dav_store.specs.MemoryCalls.{record_on}
 use Rattle.dav_store.specs.Plans as plans
 use Rattle.dav_store.specs.Plans.{Planned, is_for, refusal_for, without_first}
-use Rattle.dav_store.specs.Refusing.{last_outcome, inner_of, plan_of, records_of, seen_behind, IsKept, Refuses, Passes, GoesByPlan, FollowsPlan, Follows}
+use Rattle.dav_store.specs.Refusing.{last_outcome, inner_of, plan_of, records_of, seen_behind, IsKept, Refuses, Passes, GoesByPlan, Follows}
 use Rattle.dav_store.specs.declared.refusing.Refusing.{Refusing}
 use Rattle.dav_store.specs.declared.refusing.plan.Refusal.{Refusal}
 

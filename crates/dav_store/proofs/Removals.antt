@@ -13,23 +13,17 @@ use Rattle.dav_store.specs.Members.{name_in, member, members, IsIn, IsRemovedAt,
 use Rattle.dav_store.specs.MemberLaws.{name_in-member, member-name_in, member-parent, parent-member, there_members, no_members}
 use Rattle.dav_store.specs.Memory.{Stored, Memory, tree_of, has_key, stored_at, elsewhere, without, contents_of, is_directory, IsSound}
 use Rattle.dav_store.specs.Lawful.{node_in, key_in, get-tree}
+use Rattle.dav_store.proofs.Entries.{apart}
 
 -- ---- what is kept elsewhere
 
--- where a test holds of one key and not of another, the keys differ
-differs : (q key other : Key) → eq_by_cmp key_cmp key other ≡ true → eq_by_cmp key_cmp q other ≡ eq_by_cmp key_cmp q key
-differs q key other t = ap (eq_by_cmp key_cmp q) (sym ((tied_decides key other).0 t))
+-- two equal keys are tested alike
+alike : (q key other : Key) → eq_by_cmp key_cmp key other ≡ true → eq_by_cmp key_cmp q other ≡ eq_by_cmp key_cmp q key
+alike q key other t = ap (eq_by_cmp key_cmp q) (sym ((tied_decides key other).0 t))
 
 passed : (a b : Bool) (s : Stored) (rest left : Option Stored) → (b ≡ true → a ≡ false) → left ≡ cond a None rest → cond b (Some s) left ≡ cond a None (cond b (Some s) rest)
 passed a true s rest left off e = ap (λ t. cond t None (Some s)) (sym (off refl))
 passed a false s rest left off e = e
-
-apart : (q key other : Key) → eq_by_cmp key_cmp key other ≡ false → eq_by_cmp key_cmp q other ≡ true → eq_by_cmp key_cmp q key ≡ false
-apart q key other fails holds =
-    elim (eq_by_cmp key_cmp q key) as (λ b. eq_by_cmp key_cmp q key ≡ b → b ≡ false) [
-      | true ↦ λ t. absurd (let e : eq_by_cmp key_cmp key other ≡ true = subst (λ k. eq_by_cmp key_cmp k other ≡ true) ((tied_decides q key).0 t) holds in cc)
-      | false ↦ λ t. refl
-    ] refl
 
 shadowed : (b : Bool) (x : Option Stored) (s : Stored) → cond b None x ≡ cond b None (cond b (Some s) x)
 shadowed true x s = refl
@@ -40,7 +34,7 @@ stored_at-elsewhere key [] q = elim (eq_by_cmp key_cmp q key) as (λ b. stored_a
 stored_at-elsewhere key (s ∷ entries) q =
     let rest = stored_at-elsewhere key entries q in
     elim (has_key key s) as (λ b. has_key key s ≡ b → stored_at q (cond (not b) (s ∷ elsewhere key entries) (elsewhere key entries)) ≡ cond (eq_by_cmp key_cmp q key) None (cond (has_key q s) (Some s) (stored_at q entries))) [
-      | true ↦ λ t. rest ∙ shadowed (eq_by_cmp key_cmp q key) (stored_at q entries) s ∙ ap (λ b. cond (eq_by_cmp key_cmp q key) None (cond b (Some s) (stored_at q entries))) (sym (differs q key s.key t))
+      | true ↦ λ t. rest ∙ shadowed (eq_by_cmp key_cmp q key) (stored_at q entries) s ∙ ap (λ b. cond (eq_by_cmp key_cmp q key) None (cond b (Some s) (stored_at q entries))) (sym (alike q key s.key t))
       | false ↦ λ t. passed (eq_by_cmp key_cmp q key) (has_key q s) s (stored_at q entries) _ (apart q key s.key t) rest
     ] refl
 
@@ -69,15 +63,15 @@ distinct-elsewhere key (s ∷ entries) h =
 
 -- ---- what always holds
 
+nothing : (o : Option Node) → (o ≢ None → ⊥) → o ≡ None
+nothing None h = refl
+nothing (Some node) h = absurd (h (λ e. absurd cc))
+
 -- a file has no members
 pub file_alone : (entries : List Stored) (key : Key) (bytes : List ℕ) → IsSound entries → get (tree_of entries) key ≡ Some (File bytes) → (name : List ℕ) → get (tree_of entries) (member key name) ≡ None
 file_alone entries key bytes sound file name = nothing (get (tree_of entries) (member key name)) (λ some.
     let above : get (tree_of entries) key ≡ Some Directory = ap (get (tree_of entries)) (sym (parent-member key name)) ∙ sound.parents (member key name) some in
     let clash : Some (File bytes) ≡ Some Directory = sym file ∙ above in cc)
-  where
-    nothing : (o : Option Node) → (o ≢ None → ⊥) → o ≡ None
-    nothing None h = refl
-    nothing (Some node) h = absurd (h (λ e. absurd cc))
 
 -- what stands elsewhere stays
 removed-other : (tree : Tree) (key q : Key) → (q ≡ key → ⊥) → get (remove tree key) q ≡ get tree q
@@ -122,13 +116,13 @@ sound-elsewhere old new segment above sound is alone =
 pub removes : (key : Key) (old : Memory) → IsRemovedAt key (contents_of old.entries) (contents_of (without key old).entries)
 removes key old = record {
   tree = tree-elsewhere key old.entries;
-  properties = same_map key_cmp_total key_cmp_exact _ _ (λ q. get-empty key_cmp q ∙ sym (get-remove key_cmp_total empty key q ∙ nothing (eq_by_cmp key_cmp q key) _ (get-empty key_cmp q)));
+  properties = same_map key_cmp_total key_cmp_exact _ _ (λ q. get-empty key_cmp q ∙ sym (get-remove key_cmp_total empty key q ∙ none_either (eq_by_cmp key_cmp q key) _ (get-empty key_cmp q)));
   limit = refl;
 }
   where
-    nothing : {X : Type 0} (b : Bool) (o : Option X) → o ≡ None → cond b None o ≡ None
-    nothing true o e = refl
-    nothing false o e = e
+    none_either : {X : Type 0} (b : Bool) (o : Option X) → o ≡ None → cond b None o ≡ None
+    none_either true o e = refl
+    none_either false o e = e
 
 -- ---- members
 
@@ -186,10 +180,6 @@ any_member directory entries any is = (yes any is, no any is)
 
 pub alone_from : (entries : List Stored) (directory : Key) → members (tree_of entries) directory ≡ [] → (name : List ℕ) → get (tree_of entries) (member directory name) ≡ None
 alone_from entries directory none name = nothing (get (tree_of entries) (member directory name)) (λ some. subst (IsIn name) none (there_members (tree_of entries) directory name some))
-  where
-    nothing : (o : Option Node) → (o ≢ None → ⊥) → o ≡ None
-    nothing None h = refl
-    nothing (Some node) h = absurd (h (λ e. absurd cc))
 
 -- ---- rows
 

@@ -54,8 +54,8 @@ behind : {Y : Type 0} (o : Option Y) (ys : List Y) (y : Y) → IsIn y ys → IsI
 behind None ys y inside = inside
 behind (Some z) ys y inside = inr inside
 
--- what stands in a list, through a partial function
-kept_in : {X Y : Type 0} (h : X → Option Y) (xs : List X) (x : X) (y : Y) → h x ≡ Some y → IsIn x xs → IsIn y (filter_map h xs)
+-- what a member of a list gives is in the list of what all give
+pub kept_in : {X Y : Type 0} (h : X → Option Y) (xs : List X) (x : X) (y : Y) → h x ≡ Some y → IsIn x xs → IsIn y (filter_map h xs)
 kept_in h [] x y e inside = inside
 kept_in h (z ∷ xs) x y e (inl same) = rw (ap h same ∙ e) (inl refl)
 kept_in h (z ∷ xs) x y e (inr inside) = behind (h z) (filter_map h xs) y (kept_in h xs x y e inside)
@@ -63,7 +63,8 @@ kept_in h (z ∷ xs) x y e (inr inside) = behind (h z) (filter_map h xs) y (kept
 later : {X Y : Type 0} (h : X → Option Y) (z : X) (xs : List X) (y : Y) → (x : X) × IsIn x xs × (h x ≡ Some y) → (x : X) × IsIn x (z ∷ xs) × (h x ≡ Some y)
 later h z xs y (x, inside, e) = (x, inr inside, e)
 
-come_from : {X Y : Type 0} (h : X → Option Y) (xs : List X) (y : Y) → IsIn y (filter_map h xs) → (x : X) × IsIn x xs × (h x ≡ Some y)
+-- and what is in there is given by a member
+pub come_from : {X Y : Type 0} (h : X → Option Y) (xs : List X) (y : Y) → IsIn y (filter_map h xs) → (x : X) × IsIn x xs × (h x ≡ Some y)
 come_from h [] y inside = absurd inside
 come_from {X} {Y} h (z ∷ xs) y inside = first (h z) refl (come_from h xs y) inside
   where

@@ -21,7 +21,11 @@ use plan::Plan;
 pub use plan::Refusal;
 use std::alloc::Global;
 
-/// A store that refuses by plan.
+/// A store that refuses by plan: it stands before another store, and passes on each call for which its plan has no
+/// refusal. A refusal is used once. It is recorded in a log of its own, and so is each call that was passed on; a call
+/// that had no memory uses up no refusal and leaves no record.
+///
+/// A listing that was passed on shows no member for which the plan has a refusal of `Op::Entry`.
 #[derive(Debug, Drop)]
 pub struct Refusing<F> {
     inner: F,

@@ -1,6 +1,5 @@
 pub mod Alone
 pub mod Among
-pub mod Begun
 pub mod Bound
 pub mod Cleared
 pub mod Counting

@@ -1,6 +1,6 @@
 -- A walk is a deletion: what the trace says key by key, said of sets.
-use Rattle.std.proofs.Common.{◌≡◌, ◌≢◌, ◌⊎◌, Bool, true, false, List, [], ◌∷◌, ◌++◌, length, Option, None, Some, refl, sym, ap, ◌∙◌, subst, inl, inr, append_assoc, if◌then◌else◌}
-use Rattle.std.specs.Prelude.{IsPermutation, filter_map}
+use Rattle.std.proofs.Common.{◌≡◌, ◌≢◌, ◌⊎◌, Bool, true, false, List, [], ◌∷◌, ◌++◌, length, None, Some, refl, sym, ap, ◌∙◌, subst, inl, inr, append_assoc, if◌then◌else◌}
+use Rattle.std.specs.Prelude.{IsPermutation}
 use Rattle.std.specs.Option.{option_map}
 use Rattle.std.specs.List.{cons_option}
 use Rattle.std.proofs.lemmas.List.Sorted.{length_permutation}
@@ -17,7 +17,7 @@ use Rattle.dav_store.specs.Logged.{Logged}
 use Rattle.dav_store.specs.Store.{Contents, IsWellFormed}
 use Rattle.dav_store.specs.Calls.{error_of}
 use Rattle.dav_store.specs.Members.{IsIn}
-use Rattle.dav_store.specs.MemberLaws.{IsIn-permuted, IsIn-unpermuted}
+use Rattle.dav_store.specs.MemberLaws.{kept_in, come_from, IsIn-permuted, IsIn-unpermuted}
 use Rattle.dav_parts.specs.Multistatus.{Item}
 use Rattle.dav_walks.specs.KeyCall.{KeyCall, same_key, calls_at}
 use Rattle.dav_walks.specs.Deletion.{calls_below, WasRefused, IsHidden, path_at, named_path, named_by, named_in, IsLeft, IsLawfulRemoval}
@@ -26,24 +26,6 @@ use Rattle.dav_walks.proofs.Keys.{same_key_is, append-nothing, parent_above, par
 use Rattle.dav_walks.proofs.Facts.{HasName, HasRefusal, left_only, left_stays, on_reached, few_calls, partly_on_reached, partly_few_calls, entry_at, partly_entry_at, entry_below}
 use Rattle.dav_walks.proofs.Bound.{call_bound}
 use Rattle.dav_walks.proofs.Kept.{kept_or_gone, kept_same}
-
-IsIn-filter_map : {X Y : Type 0} (h : X → Option Y) (y : Y) (xs : List X) → IsIn y (filter_map h xs) → (x : X) × IsIn x xs × (h x ≡ Some y)
-IsIn-filter_map h y [] i = absurd i
-IsIn-filter_map {X} {Y} h y (x ∷ xs) i = go (h x) refl (IsIn-filter_map h y xs) i
-  where
-    go : (o : Option Y) → h x ≡ o → (IsIn y (filter_map h xs) → (w : X) × IsIn w xs × (h w ≡ Some y)) → IsIn y (cons_option o (filter_map h xs)) → (w : X) × IsIn w (x ∷ xs) × (h w ≡ Some y)
-    go None e further j = let f = further j in (f.0, inr f.1, f.2)
-    go (Some z) e further (inl p) = (x, inl refl, e ∙ ap Some p)
-    go (Some z) e further (inr j) = let f = further j in (f.0, inr f.1, f.2)
-
-filter_map-IsIn : {X Y : Type 0} (h : X → Option Y) (x : X) (y : Y) (xs : List X) → IsIn x xs → h x ≡ Some y → IsIn y (filter_map h xs)
-filter_map-IsIn h x y [] i e = absurd i
-filter_map-IsIn h x y (w ∷ xs) (inl p) e = subst (λ o. IsIn y (cons_option o (filter_map h xs))) (sym (ap h p ∙ e)) (inl refl)
-filter_map-IsIn {X} {Y} h x y (w ∷ xs) (inr i) e = go (h w) (filter_map-IsIn h x y xs i e)
-  where
-    go : (o : Option Y) → IsIn y (filter_map h xs) → IsIn y (cons_option o (filter_map h xs))
-    go None j = j
-    go (Some z) j = inr j
 
 -- ---- what a call names
 
@@ -105,11 +87,11 @@ module _ (path : PathValue) (calls : List KeyCall) (names : List Item) (bag : Is
       let item : Item = (named_path path call.op call.key, fs_status error.0) in
       let below = named_below c.0 (path.key ++ x) z h.4 in
       let named : named_by path call ≡ Some item = ap (option_map (λ e. (named_path path call.op call.key, fs_status e))) error.1 in
-      (below.0, item, IsIn-permuted _ _ _ bag (filter_map-IsIn (named_by path) call item calls j named), named_path-key path call.op call.key ∙ below.1)
+      (below.0, item, IsIn-permuted _ _ _ bag (kept_in (named_by path) calls call item named j), named_path-key path call.op call.key ∙ below.1)
 
   call_of_name : (x z : Key) (item : Item) → IsIn item names → item.0.key ≡ (path.key ++ x) ++ z → HasRefusal (calls_below calls path.key) x
   call_of_name x z item i at =
-      let f = IsIn-filter_map (named_by path) item calls (IsIn-unpermuted _ _ _ bag i) in
+      let f = come_from (named_by path) calls item (IsIn-unpermuted _ _ _ bag i) in
       let call = f.0 in let o = refused_there path call item f.2 in
       let above = named_above call.op call.key in
       let at_key : call.key ≡ path.key ++ (x ++ (z ++ above.0)) = above.1 ∙ ap (λ k. k ++ above.0) (o.1 ∙ at) ∙ append_assoc (path.key ++ x) z above.0 ∙ append_assoc path.key x (z ++ above.0) in
@@ -134,7 +116,7 @@ module _ (path : PathValue) (calls : List KeyCall) (names : List Item) (bag : Is
   some_named s none =
       let call = s.0 in let error = error_there call.outcome s.2 in
       let item : Item = (named_path path call.op call.key, fs_status error.0) in
-      let i = filter_map-IsIn (named_by path) call item calls s.1 (ap (option_map (λ e. (named_path path call.op call.key, fs_status e))) error.1) in
+      let i = kept_in (named_by path) calls call item (ap (option_map (λ e. (named_path path call.op call.key, fs_status e))) error.1) s.1 in
       subst (λ (l : List Item). IsIn item l) none (IsIn-permuted _ _ _ bag i)
 
 -- ---- the theorem

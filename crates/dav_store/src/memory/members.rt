@@ -27,7 +27,8 @@ pub fn remove(entries: &mut Vec<Entry>, key: &[String])
     entries.retain(|entry| !entry.has_key(key));
 }
 
-/// The members of a directory in the order of their names, each with what is known of it. Only memory can be lacking.
+/// The members of a directory in the order of their names, each with what is known of it. Only memory
+/// can be lacking.
 pub fn list(
     alloc: Global,
     entries: &[Entry],

@@ -105,3 +105,30 @@ fn refused_open_empties_nothing(rt: HostRuntime) -> Result<(), Fail> {
     assert_eq!(rt; write(&mut fs, &file), Err(FsError::InsufficientStorage));
     Ok(())
 }
+
+/// A planned member is refused in the listing, once, and its record follows that of the call.
+#[test]
+fn hides_planned_members(rt: HostRuntime) -> Result<(), Fail> {
+    let alloc = rt.alloc();
+    let mut fs = store(alloc)?;
+    make(alloc, &mut fs, "/a")?;
+    make(alloc, &mut fs, "/b")?;
+    GuardedFileSystem::<()>::clear_log(&mut fs);
+    fs.add(Op::Entry, path(alloc, "/b/")?, FsError::Forbidden)?;
+    let root = path(alloc, "/")?;
+    for hidden in [1, 0] {
+        let listing = fs.read_dir(&root, &())?;
+        assert_eq!(rt; listing.len(), 2);
+        assert_eq!(rt;
+            listing.iter().filter(|shown| shown.is_err()).count(),
+            hidden
+        );
+    }
+    let expected = [
+        Outcome::Granted,
+        Outcome::Refused(FsError::Forbidden),
+        Outcome::Granted,
+    ];
+    assert_eq!(rt; outcomes(alloc, &fs)?.as_slice(), expected.as_slice());
+    Ok(())
+}

@@ -1,6 +1,5 @@
-use Rattle.std.proofs.Common.{◌≡◌, ◌∙◌, Err, ap, option_map, sym}
+use Rattle.std.proofs.Common.{◌∙◌, Err, ap, option_map}
 use Rattle.std.proofs.lemmas.Result.{err_from_is_err_and}
-use Rattle.dav_resource.specs.Errors.{dav_status}
 use Rattle.dav_parts.specs.Reply.{answer_of}
 use Rattle.dav_engine.specs.DavInner.{seen_by}
 use Rattle.dav_engine.proofs.Deleting.{works_unbegun, works_stopped, works_untold, works_gone, works_named}

@@ -1,9 +1,9 @@
-use Rattle.std.proofs.Common.{◌≡◌, Ok, Err, map, refl, sym, subst, arith}
+use Rattle.std.proofs.Common.{Ok, Err, map, refl, sym, subst, arith}
 use Rattle.std.proofs.lemmas.List.{with_items_is}
 use Rattle.std.specs.Vec.{with_items}
 use Rattle.dav_resource.specs.declared.record.Op.TheVariants.{ReadDir}
 use Rattle.dav_store.specs.Logged.{logged_of}
-use Rattle.dav_store.specs.Plans.{plan_of, HaveSegmentNames, IsListingOf, IsLetBy}
+use Rattle.dav_store.specs.Plans.{plan_of, HaveSegmentNames, IsLetBy}
 use Rattle.dav_store.specs.Refusing.{FollowsPlan, PassesReadDir}
 use Rattle.dav_store.proofs.Refusals.{passes}
 use Rattle.dav_store.proofs.Listed.{listed_names}

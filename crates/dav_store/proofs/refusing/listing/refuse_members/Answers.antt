@@ -4,7 +4,7 @@ use Rattle.std.specs.Prelude.{IfOk}
 use Rattle.dav_resource.specs.PathText.{IsSegment}
 use Rattle.dav_store.specs.Logged.{logged_of}
 use Rattle.dav_store.specs.Plans.{plan_of, shown_as}
-use Rattle.dav_store.proofs.Listings.{begins, ends, let_be_seen, still_hidden, never_unrecorded, names_stay, no_records}
+use Rattle.dav_store.proofs.Listings.{ends, let_be_seen, still_hidden, never_unrecorded, names_stay, no_records}
 use Rattle.dav_store.proofs.refusing.listing.refuse_members.Goals.{in-Ok+in_ok-error-in-Ok+in-Some+in-Ok+in-Some-1, in-Ok+in_ok-error-in-Ok+in-Some+in-Ok+in-None-1, in-Ok+in_ok-error-in-Ok+in-Some+in-Err-1, in-Ok+in_ok-error-in-Ok+in_default, in-Err+in-Some-split_first+in_ok-clone-in-Err+in_ok-push-in-Err, in-Err+in_default-split_first}
 use Rattle.dav_store.proofs.refusing.listing.refuse_members.Goals as goal
 

@@ -1,4 +1,4 @@
-use Rattle.std.proofs.Common.{◌≡◌, ◌∙◌, ap, sym, Some}
+use Rattle.std.proofs.Common.{◌∙◌, ap, sym, Some}
 use Rattle.dav_resource.specs.Texts.{texts}
 use Rattle.dav_store.specs.Plans.{plan_of}
 use Rattle.dav_store.proofs.Planning.{first_place, no_place}
