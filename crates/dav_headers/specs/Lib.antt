@@ -1,4 +1,7 @@
 pub mod Values
+pub mod Number
+pub mod Range
+pub mod Body
 pub mod Depth
 pub mod Place
 pub mod Repeated

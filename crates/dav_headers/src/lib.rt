@@ -1,21 +1,29 @@
 //! Headers of a request, read by their grammars.
 //!
 //! A header's first value counts; for If-Match and If-None-Match the tags of all values do. A value
-//! that can't be read counts as absent.
+//! that can't be read counts as absent, but a Content-Range that can't be read is a bad request.
 #![tactic(auto)]
 
+mod body;
 mod depth;
 mod if_header;
 mod if_token;
+mod number;
 mod place;
+mod range;
 mod tag;
 mod tag_list;
 mod text;
 mod values;
 
+pub use body::{
+    read_checksum, read_content_length, read_content_type, read_expected_entity_length,
+};
 pub use depth::read_depth;
 pub use if_header::{IfCondition, IfItem, IfList, read_if};
+pub use number::read_number;
 pub use place::{read_place, read_tagged_path};
+pub use range::{ContentRange, UpdateRange, read_content_range, read_update_range};
 pub use tag_list::{read_if_match, read_if_none_match};
 
 #[cfg(test)]
