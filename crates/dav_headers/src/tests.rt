@@ -4,6 +4,9 @@ use http_header::{HeaderMap, HeaderName, HeaderValue};
 use std::alloc::Global;
 use std::test::Fail;
 
+mod body;
+mod range;
+
 /// A header of these values, in order.
 fn header_of(alloc: Global, name: &str, values: &[&str]) -> Result<HeaderMap<HeaderValue>, Fail> {
     let mut headers = HeaderMap::new(alloc);

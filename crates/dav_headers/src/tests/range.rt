@@ -1,0 +1,236 @@
+//! Tests of the headers X-Update-Range and Content-Range.
+use super::header_of;
+use crate::{ContentRange, UpdateRange, read_content_range, read_update_range};
+use std::alloc::Global;
+use std::test::Fail;
+
+/// What the header X-Update-Range of these values says.
+fn update_range_of(alloc: Global, values: &[&str]) -> Result<Option<UpdateRange>, Fail> {
+    let headers = header_of(alloc, "x-update-range", values)?;
+    Ok(read_update_range(&headers)?)
+}
+
+#[test]
+fn update_ranges(rt: HostRuntime) -> Result<(), Fail> {
+    let rows = [
+        ("append", UpdateRange::Append),
+        ("\t append ", UpdateRange::Append),
+        ("bytes=1-2", UpdateRange::FromTo(1, 2)),
+        (" bytes=1-2\t", UpdateRange::FromTo(1, 2)),
+        ("bytes=0-0", UpdateRange::FromTo(0, 0)),
+        ("bytes=5-2", UpdateRange::FromTo(5, 2)),
+        ("bytes=007-0010", UpdateRange::FromTo(7, 10)),
+        (
+            "bytes=18446744073709551614-18446744073709551615",
+            UpdateRange::FromTo(18446744073709551614, 18446744073709551615),
+        ),
+        ("bytes=3-", UpdateRange::AllFrom(3)),
+        ("bytes=0-", UpdateRange::AllFrom(0)),
+        (
+            "bytes=18446744073709551615-",
+            UpdateRange::AllFrom(18446744073709551615),
+        ),
+        ("bytes=-4", UpdateRange::Last(4)),
+        ("bytes=-0", UpdateRange::Last(0)),
+        (
+            "bytes=-18446744073709551615",
+            UpdateRange::Last(18446744073709551615),
+        ),
+    ];
+    for (value, want) in rows {
+        assert_eq!(rt;
+            update_range_of(rt.alloc(), &[value])?,
+            Some(want),
+            "{value}"
+        );
+    }
+    Ok(())
+}
+
+#[test]
+fn unreadable_update_ranges(rt: HostRuntime) -> Result<(), Fail> {
+    let rows = [
+        "",
+        "Append",
+        "append,",
+        "append\u{e9}",
+        "bytes",
+        "bytes=",
+        "bytes=-",
+        "bytes=1",
+        "Bytes=1-2",
+        "octets=1-2",
+        "=1-2",
+        "1-2",
+        "bytes==1-2",
+        "bytes 1-2",
+        "bytes =1-2",
+        "bytes= 1-2",
+        "bytes=1 -2",
+        "bytes=1- 2",
+        "bytes=1\t-",
+        "bytes=- 2",
+        "bytes=+1-2",
+        "bytes=1-+2",
+        "bytes=+1-",
+        "bytes=-+2",
+        "bytes=--2",
+        "bytes=1--2",
+        "bytes=1--",
+        "bytes=1-2-",
+        "bytes=1-2-3",
+        "bytes=1-2,3-4",
+        "bytes=1-2/5",
+        "bytes=x-2",
+        "bytes=1-x",
+        "bytes=1-2\u{e9}",
+        "bytes=1-18446744073709551616",
+        "bytes=18446744073709551616-1",
+        "bytes=18446744073709551616-",
+        "bytes=-18446744073709551616",
+    ];
+    for value in rows {
+        assert_eq!(rt; update_range_of(rt.alloc(), &[value])?, None, "{value}");
+    }
+    Ok(())
+}
+
+#[test]
+fn the_first_update_range_counts(rt: HostRuntime) -> Result<(), Fail> {
+    let rows: [(&[&str], Option<UpdateRange>); 4] = [
+        (&[], None),
+        (&["append", "bytes=1-2"], Some(UpdateRange::Append)),
+        (&["x", "append"], None),
+        (&["\u{e9}", "append"], None),
+    ];
+    for (values, want) in rows {
+        assert_eq!(rt; update_range_of(rt.alloc(), values)?, want);
+    }
+    Ok(())
+}
+
+/// What the header Content-Range of these values says.
+fn show_content_range(alloc: Global, values: &[&str]) -> Result<String, Fail> {
+    let headers = header_of(alloc, "content-range", values)?;
+    match read_content_range(&headers) {
+        Ok(Some(ContentRange { first, last })) => Ok(format!(in alloc; "{first} to {last}")?),
+        Ok(None) => Ok(String::from_str(alloc, "none")?),
+        Err(error) => {
+            let status = error.statuscode().as_u16();
+            let then = if error.must_close() {
+                "closes"
+            } else {
+                "stays"
+            };
+            Ok(format!(in alloc; "{status} {then}")?)
+        }
+    }
+}
+
+#[test]
+fn content_ranges(rt: HostRuntime) -> Result<(), Fail> {
+    let rows = [
+        ("bytes 1-2/5", "1 to 2"),
+        ("\t bytes 1-2/5 ", "1 to 2"),
+        ("bytes 0-0/*", "0 to 0"),
+        ("bytes 5-2/1", "5 to 2"),
+        ("bytes 007-0010/00", "7 to 10"),
+        (
+            "bytes 18446744073709551614-18446744073709551615/18446744073709551615",
+            "18446744073709551614 to 18446744073709551615",
+        ),
+        ("bytes */5", "none"),
+        ("bytes */0", "none"),
+        ("bytes */18446744073709551615", "none"),
+    ];
+    for (value, want) in rows {
+        let shown = show_content_range(rt.alloc(), &[value])?;
+        assert_eq!(rt; shown.as_str(), want, "{value}");
+    }
+    Ok(())
+}
+
+#[test]
+fn unreadable_content_ranges(rt: HostRuntime) -> Result<(), Fail> {
+    let rows = [
+        "",
+        "x",
+        "\u{e9}",
+        "*",
+        "bytes",
+        "bytes 1-2",
+        "bytes 1-2/",
+        "bytes /5",
+        "bytes -/5",
+        "bytes 1-/5",
+        "bytes -2/5",
+        "bytes 2/5",
+        "bytes */",
+        "bytes */*",
+        "bytes **/5",
+        "bytes *-2/5",
+        "bytes 1-2/**",
+        "bytes 1-2/x",
+        "bytes 1-2/5/6",
+        "bytes 1-2/5,3-4/5",
+        "bytes 1-2-3/5",
+        "bytes 1--2/5",
+        "Bytes 1-2/5",
+        "octets 1-2/5",
+        " 1-2/5",
+        "1-2/5",
+        "bytes=1-2/5",
+        "bytes1-2/5",
+        "bytes  1-2/5",
+        "bytes\t1-2/5",
+        "bytes \t1-2/5",
+        "bytes  */5",
+        "bytes 1 -2/5",
+        "bytes 1- 2/5",
+        "bytes 1-2 /5",
+        "bytes 1-2/ 5",
+        "bytes * /5",
+        "bytes +1-2/5",
+        "bytes 1-+2/5",
+        "bytes 1-2/+5",
+        "bytes */+5",
+        "bytes */-5",
+        "bytes 1-2/5\u{e9}",
+        "bytes 1-18446744073709551616/*",
+        "bytes 18446744073709551616-1/*",
+        "bytes 1-2/18446744073709551616",
+        "bytes */18446744073709551616",
+    ];
+    for value in rows {
+        let shown = show_content_range(rt.alloc(), &[value])?;
+        assert_eq!(rt; shown.as_str(), "400 closes", "{value}");
+    }
+    Ok(())
+}
+
+#[test]
+fn the_first_content_range_counts(rt: HostRuntime) -> Result<(), Fail> {
+    let rows: [(&[&str], &str); 5] = [
+        (&[], "none"),
+        (&["bytes 1-2/5", "x"], "1 to 2"),
+        (&["bytes */5", "bytes 1-2/5"], "none"),
+        (&["x", "bytes 1-2/5"], "400 closes"),
+        (&["\u{e9}", "bytes 1-2/5"], "400 closes"),
+    ];
+    for (values, want) in rows {
+        let shown = show_content_range(rt.alloc(), values)?;
+        assert_eq!(rt; shown.as_str(), want);
+    }
+    Ok(())
+}
+
+#[test]
+fn each_range_by_its_name(rt: HostRuntime) -> Result<(), Fail> {
+    let headers = header_of(rt.alloc(), "Content-Range", &["x"])?;
+    assert!(rt; read_content_range(&headers).is_err());
+    assert_eq!(rt; read_update_range(&headers)?, None);
+    let headers = header_of(rt.alloc(), "X-Update-Range", &["append"])?;
+    assert!(rt; read_update_range(&headers)?.is_some());
+    assert_eq!(rt; read_content_range(&headers)?, None);
+    Ok(())
+}
