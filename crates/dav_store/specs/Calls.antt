@@ -8,7 +8,7 @@ use Rattle.dav_resource.specs.declared.meta.Meta.{Meta}
 use Rattle.dav_resource.specs.declared.meta.OpenOptions.{OpenOptions}
 use Rattle.dav_resource.specs.declared.meta.DavFile.{DavFile}
 use Rattle.dav_resource.specs.declared.record.Op.{Op}
-use Rattle.dav_resource.specs.declared.record.Op.TheVariants.{Metadata, CreateDir, OpenFile, WriteBytes, Flush, FileMetadata}
+use Rattle.dav_resource.specs.declared.record.Op.TheVariants.{Metadata, CreateDir, OpenFile, Seek, WriteBytes, Flush, FileMetadata}
 use Rattle.dav_resource.specs.declared.record.Outcome.{Outcome}
 use Rattle.dav_resource.specs.declared.record.Outcome.TheVariants.{Granted, Barred, Refused}
 use Rattle.dav_resource.specs.declared.error.FsError.{FsError}
@@ -149,6 +149,14 @@ file_bar None = Some NotFound
 abbrev pub file_call : Op → Contents → Key → Call
 file_call op old key = record { op = op; keys = key ∷ []; bar = file_bar (get old.tree key) }
 
+-- a call that asks of the store only that the file is there, and changes nothing
+abbrev pub FindsFile : Op → Store → Key → Result (Unit {0}) FsError → Store → Type 0
+FindsFile op old key = Answers (file_call op old.contents key) (λ _ before after. after ≡ before) old
+
+-- the place is the handle's own, at the end of the file or past it: nothing of the store changes
+abbrev pub Seeks : Store → Key → Result (Unit {0}) FsError → Store → Type 0
+Seeks old key = FindsFile Seek old key
+
 -- the bytes with others written at a place; zeros fill a gap, and no bytes change nothing
 abbrev pub written_at : List ℕ → ℕ → List ℕ → List ℕ
 written_at bytes place [] = bytes
@@ -168,7 +176,7 @@ Writes old file more = Answers (file_call WriteBytes old.contents file.path.key)
 
 -- nothing is left to be done for the file, and nothing changes
 abbrev pub Flushes : Store → Key → Result (Unit {0}) FsError → Store → Type 0
-Flushes old key = Answers (file_call Flush old.contents key) (λ _ before after. after ≡ before) old
+Flushes old key = FindsFile Flush old key
 
 abbrev pub LooksAtFile : Store → Key → Result Meta FsError → Store → Type 0
 LooksAtFile old key = Answers (file_call FileMetadata old.contents key) (IsMetaAt key) old

@@ -7,7 +7,7 @@ ghost use Rattle.dav_resource.specs.PathText.{IsKey};
 ghost use Rattle.dav_resource.specs.Texts.{texts};
 ghost use Rattle.dav_store.specs.Logged.{logged_of};
 ghost use Rattle.dav_store.specs.Store.{File, Directory};
-ghost use Rattle.dav_store.specs.Calls.{Looks, MakesDirectory, Opens, Writes, Flushes, LooksAtFile, file_bar, place_of};
+ghost use Rattle.dav_store.specs.Calls.{Looks, MakesDirectory, Opens, Seeks, Writes, Flushes, LooksAtFile, file_bar, place_of};
 ghost use Rattle.dav_store.specs.Members.{ReadsDir, RemovesFile, RemovesDir};
 ghost use Rattle.dav_store.specs.Memory.{IsSound, tree_of, stored_at, index_of, IsFilePlace, contents_of, made, without, size_of};
 ghost use Rattle.dav_store.specs.Dump.{IsDump};
@@ -278,6 +278,16 @@ impl MemFs {
         self.keep(entry, version)
     }
 
+    /// Moves the place of a file that is there.
+    fn move_place(&self, file: &mut DavFile, pos: u64) -> FsResult<()>
+        ensures answer { Gives (file_error file.old.path.key (memory_of self.now)) kept (memory_of self.now) result (memory_of self.now) }
+        ensures place { MatchResult result (λ _. file.new ≡ record file.old { pos = pos }) (λ _. file.new ≡ file.old) }
+    {
+        self.check_file(file)?;
+        file.pos = pos;
+        Ok(())
+    }
+
     fn write_file(&mut self, file: &mut DavFile, bytes: &[u8]) -> FsResult<()>
         requires { file.old.append ≡ false → file.old.pos + length bytes.now < 2 ^ 64 }
         ensures log { self.new.log ≡ self.old.log }
@@ -376,6 +386,17 @@ impl<C> GuardedFileSystem<C> for MemFs {
         let paths = self.begin_record(path)?;
         let answer = self.open_file(path, options);
         self.end_record(Op::OpenFile, paths, answer)
+    }
+
+    fn seek(&mut self, file: &mut DavFile, pos: u64, _credentials: &C) -> FsResult<()>
+        ensures sought { Seeks (store_of self.old) file.old.path.key result (store_of self.new) }
+        ensures place { MatchResult result (λ _. file.new ≡ record file.old { pos = pos }) (λ _. file.new ≡ file.old) }
+        ensures memory { Gives (file_error file.old.path.key (memory_of self.old)) kept (memory_of self.old) result (memory_of self.new) }
+        ensures record { Tells Op.Seek (file.old.path ∷ []) result (records_of self.old) (records_of self.new) }
+    {
+        let paths = self.begin_record(&file.path)?;
+        let answer = self.move_place(file, pos);
+        self.end_record(Op::Seek, paths, answer)
     }
 
     fn write_bytes(&mut self, file: &mut DavFile, bytes: &[u8], _credentials: &C) -> FsResult<()>

@@ -2,7 +2,7 @@
 ghost use Rattle.std.specs.Prelude.{◌≡◌, ◌≢◌, ◌⊎◌, ◌<◌, ◌≤◌, ◌+◌, ◌^◌, [], ◌∷◌, ◌++◌, All, false, map, length, vec_len, vec_capacity, IfOk, IfErr, OnOk, OnErr, MatchResult, None};
 ghost use Rattle.std.specs.Borrow.{sem};
 ghost use Rattle.dav_store.specs.Logged.{logged_of};
-ghost use Rattle.dav_store.specs.Calls.{IsOwn, Looks, MakesDirectory, Opens, Writes, Flushes, LooksAtFile, place_of};
+ghost use Rattle.dav_store.specs.Calls.{IsOwn, Looks, MakesDirectory, Opens, Seeks, Writes, Flushes, LooksAtFile, place_of};
 ghost use Rattle.dav_store.specs.Members.{ReadsDir, RemovesFile, RemovesDir};
 ghost use Rattle.dav_store.specs.MemoryCalls.{record_on};
 ghost use Rattle.dav_store.specs.Plans as plans;
@@ -231,6 +231,17 @@ impl<C, F: GuardedFileSystem<C>> GuardedFileSystem<C> for Refusing<F> {
         let answer = self.inner.open(path, options, credentials);
         let outcome = last_outcome(self.inner.records());
         self.finish(Op::OpenFile, paths, outcome, answer)
+    }
+
+    fn seek(&mut self, file: &mut DavFile, pos: u64, credentials: &C) -> FsResult<()>
+        ensures sought { Seeks (seen_behind F.seen self.old) file.old.path.key result (seen_behind F.seen self.new) }
+        ensures place { MatchResult result (λ _. file.new ≡ record file.old { pos = pos }) (λ _. file.new ≡ file.old) }
+        ensures plan { Follows F.seen Op.Seek file.old.path (λ s. Seeks s file.old.path.key) self.old result self.new }
+    {
+        let paths = self.begin(Op::Seek, &file.path)?;
+        let answer = self.inner.seek(file, pos, credentials);
+        let outcome = last_outcome(self.inner.records());
+        self.finish(Op::Seek, paths, outcome, answer)
     }
 
     fn write_bytes(&mut self, file: &mut DavFile, bytes: &[u8], credentials: &C) -> FsResult<()>

@@ -2,7 +2,7 @@
 ghost use Rattle.std.specs.Prelude.{◌≡◌, ◌+◌, ◌<◌, ◌^◌, false, [], length, map, MatchResult, OnErr};
 ghost use Rattle.dav_store.specs.Logged.{logged_of};
 ghost use Rattle.dav_store.specs.Store.{Store, IsWellFormed};
-ghost use Rattle.dav_store.specs.Calls.{Looks, MakesDirectory, Opens, Writes, Flushes, LooksAtFile, place_of};
+ghost use Rattle.dav_store.specs.Calls.{Looks, MakesDirectory, Opens, Seeks, Writes, Flushes, LooksAtFile, place_of};
 ghost use Rattle.dav_store.specs.Members.{ReadsDir, RemovesFile, RemovesDir};
 
 use dav_resource::{DavFile, DavPath, DirEntry, FsResult, Meta, OpenOptions, Record};
@@ -47,6 +47,12 @@ pub trait GuardedFileSystem<C> {
     /// or nothing is there and no file may be made (`NotFound`).
     fn open(&mut self, path: &DavPath, options: &OpenOptions, credentials: &C) -> FsResult<DavFile>
         ensures { Opens (seen self.old) path.now options.now result (seen self.new) };
+
+    /// Moves the place of an open file, past its end too. Barred: the file isn't there (`NotFound`); the place
+    /// stays.
+    fn seek(&mut self, file: &mut DavFile, pos: u64, credentials: &C) -> FsResult<()>
+        ensures sought { Seeks (seen self.old) file.old.path.key result (seen self.new) }
+        ensures place { MatchResult result (λ _. file.new ≡ record file.old { pos = pos }) (λ _. file.new ≡ file.old) };
 
     /// Writes bytes at the file's place, or at its end for one that was opened to append; zero bytes fill
     /// a gap. The place moves behind them. Barred: the file isn't there (`NotFound`); the place stays.
