@@ -226,3 +226,72 @@ fn removes_without_a_change_counted(rt: HostRuntime) -> Result<(), Fail> {
     assert_eq!(rt; etag(&mut fs, &path(alloc, "/e")?)?.as_str(), "4");
     Ok(())
 }
+
+/// Whether what was made last is a file of these bytes.
+fn last_holds(fs: &MemFs, expected: &[u8]) -> FsResult<bool> {
+    let dumped = fs.dump()?;
+    Ok(match dumped.last() {
+        Some((_, Some(bytes), _)) => bytes.as_slice() == expected,
+        _ => false,
+    })
+}
+
+#[test]
+fn seeks_past_the_end(rt: HostRuntime) -> Result<(), Fail> {
+    let alloc = rt.alloc();
+    let mut fs = MemFs::new(alloc)?;
+    fill(alloc, &mut fs)?;
+    let mut file = fs.open(&path(alloc, "/d/f")?, &options(false, false, false), &())?;
+    fs.seek(&mut file, 7, &())?;
+    assert_eq!(rt; file.pos, 7);
+    fs.write_bytes(&mut file, b"x", &())?;
+    assert_eq!(rt; file.pos, 8);
+    assert_eq!(rt; last_holds(&fs, b"\0\0abc\0\0x"), Ok(true));
+    Ok(())
+}
+
+#[test]
+fn seeks_without_a_change(rt: HostRuntime) -> Result<(), Fail> {
+    let alloc = rt.alloc();
+    let mut fs = MemFs::new(alloc)?;
+    fill(alloc, &mut fs)?;
+    let mut file = fs.open(&path(alloc, "/d/f")?, &options(false, false, false), &())?;
+    fs.set_now(9);
+    fs.seek(&mut file, 99, &())?;
+    assert!(rt; tells(&fs, 5, Op::Seek, Outcome::Granted));
+    assert_eq!(rt; last_holds(&fs, b"\0\0abc"), Ok(true));
+    assert_eq!(rt; fs.file_metadata(&file, &())?.modified, Some(0));
+    make_file(alloc, &mut fs, "/e")?;
+    assert_eq!(rt; etag(&mut fs, &path(alloc, "/e")?)?.as_str(), "4");
+    Ok(())
+}
+
+#[test]
+fn bars_a_seek_in_a_removed_file(rt: HostRuntime) -> Result<(), Fail> {
+    let alloc = rt.alloc();
+    let mut fs = MemFs::new(alloc)?;
+    fill(alloc, &mut fs)?;
+    let mut file = fs.open(&path(alloc, "/d/f")?, &options(false, false, false), &())?;
+    fs.seek(&mut file, 3, &())?;
+    remove_file(alloc, &mut fs, "/d/f")?;
+    assert_eq!(rt; fs.seek(&mut file, 5, &()), Err(FsError::NotFound));
+    assert_eq!(rt; file.pos, 3);
+    assert!(rt; tells(&fs, 7, Op::Seek, Outcome::Barred(FsError::NotFound)));
+    Ok(())
+}
+
+/// No memory holds a file of this length: nothing changes, and nothing is recorded.
+#[test]
+fn grows_at_once_or_not_at_all(rt: HostRuntime) -> Result<(), Fail> {
+    let alloc = rt.alloc();
+    let mut fs = MemFs::new(alloc)?;
+    fill(alloc, &mut fs)?;
+    let mut file = fs.open(&path(alloc, "/d/f")?, &options(false, false, false), &())?;
+    fs.seek(&mut file, u64::MAX - 1, &())?;
+    assert_eq!(rt; fs.write_bytes(&mut file, b"x", &()), Err(FsError::Memory));
+    assert_eq!(rt; file.pos, u64::MAX - 1);
+    assert_eq!(rt; last_holds(&fs, b"\0\0abc"), Ok(true));
+    assert_eq!(rt; GuardedFileSystem::<()>::records(&fs).len(), 6);
+    assert_eq!(rt; etag(&mut fs, &path(alloc, "/d/f")?)?.as_str(), "3");
+    Ok(())
+}

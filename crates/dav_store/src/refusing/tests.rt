@@ -132,3 +132,23 @@ fn hides_planned_members(rt: HostRuntime) -> Result<(), Fail> {
     assert_eq!(rt; outcomes(alloc, &fs)?.as_slice(), expected.as_slice());
     Ok(())
 }
+
+/// A refused seek leaves the place, and the next one moves it.
+#[test]
+fn refuses_a_seek(rt: HostRuntime) -> Result<(), Fail> {
+    let alloc = rt.alloc();
+    let mut fs = store(alloc)?;
+    let mut file = fs.open(&path(alloc, "/f")?, &options(false), &())?;
+    fs.add(Op::Seek, path(alloc, "/f")?, FsError::Forbidden)?;
+    assert_eq!(rt; fs.seek(&mut file, 5, &()), Err(FsError::Forbidden));
+    assert_eq!(rt; file.pos, 0);
+    assert_eq!(rt; fs.seek(&mut file, 5, &()), Ok(()));
+    assert_eq!(rt; file.pos, 5);
+    let expected = [
+        Outcome::Granted,
+        Outcome::Refused(FsError::Forbidden),
+        Outcome::Granted,
+    ];
+    assert_eq!(rt; outcomes(alloc, &fs)?.as_slice(), expected.as_slice());
+    Ok(())
+}
