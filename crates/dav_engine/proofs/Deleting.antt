@@ -144,7 +144,7 @@ module _ (request : DavRequest) (meta : Meta) where
     records = [];
     told = sym (append-nil seen.store.log);
     fixed = refl;
-    done = inr (is, record { found = Some meta; removed = nothing_removed depth path seen.store.contents; locks = inl refl });
+    done = inr (is, record { removed = nothing_removed depth path seen.store.contents; locks = inl refl });
   }
 
   -- memory ran out in the deletion
@@ -160,10 +160,10 @@ module _ (request : DavRequest) (meta : Meta) where
       Same = ◌≡◌ {A = Answer} (Err Memory) (Err Memory)
 
       Ended : Type 0
-      Ended = DeleteWork request (Some meta) (state_of old) h.records (Err Memory) (state_of new) ⊎ (Same × DeleteCut request (state_of old) h.records (state_of new))
+      Ended = DeleteWork request (Some meta) (state_of old) h.records (Err Memory) (state_of new) ⊎ (Same × DeleteCut request (Some meta) (state_of old) h.records (state_of new))
 
-      cut : RemovesInPart depth path old.store.contents new.store.contents h.records → DeleteCut request (state_of old) h.records (state_of new)
-      cut part = record { found = Some meta; removed = part; locks = inl (same_locks old new locks) }
+      cut : RemovesInPart depth path old.store.contents new.store.contents h.records → DeleteCut request (Some meta) (state_of old) h.records (state_of new)
+      cut part = record { removed = part; locks = inl (same_locks old new locks) }
 
       by_end : RemovesOrStops depth path old.store.contents new.store.contents h.records had has (Err Memory) → Ended
       by_end (inl whole) = absurd (no_memory whole.0 whole.3)
@@ -194,7 +194,7 @@ module _ (request : DavRequest) (meta : Meta) where
       records = h.records;
       told = told_so;
       fixed = fixed_so;
-      done = inr (is, record { found = Some meta; removed = whole_in_part depth path _ _ _ [] all_gone.0; locks = inr (all_gone.0, let_go) });
+      done = inr (is, record { removed = whole_in_part depth path _ _ _ [] all_gone.0; locks = inr (all_gone.0, let_go) });
     }
 
     pub works_gone : (items : List Item) (result : Result (Response Body) DavError) → items ≡ has ++ (path, 204) ∷ [] → GivesBy reply_of result (multi_answer path items) → Deletes old (answer_of result) new
@@ -225,7 +225,7 @@ module _ (request : DavRequest) (meta : Meta) where
         records = h.records;
         told = h.told;
         fixed = same_facts old new h.fixed locks;
-        done = inr (memory, record { found = Some meta; removed = whole_in_part depth path _ _ _ names removed; locks = inl (same_locks old new locks) });
+        done = inr (memory, record { removed = whole_in_part depth path _ _ _ names removed; locks = inl (same_locks old new locks) });
       }
 
       by_end : RemovesOrStops depth path old.store.contents new.store.contents h.records [] has (Err e) → Deletes old (answer_of result) new

@@ -1,9 +1,9 @@
 -- Which calls were granted.
-use Rattle.std.proofs.Common.{◌≢◌, List, [], ◌∷◌, ◌++◌, ◌⊎◌, inl, inr, ap}
+use Rattle.std.proofs.Common.{◌≢◌, List, [], ◌∷◌, ◌++◌, ◌⊎◌, inl, inr, refl, ap}
 use Rattle.dav_resource.specs.Key.{Key}
 use Rattle.dav_resource.specs.declared.record.Op.{Op}
 use Rattle.dav_resource.specs.declared.record.Outcome.TheVariants as outcomes
-use Rattle.dav_store.specs.Logged.{Logged}
+use Rattle.dav_store.specs.Logged.{Logged, logged}
 use Rattle.dav_parts.specs.Dialogue.{WasGranted}
 
 -- a call that isn't granted is no granted one
@@ -22,6 +22,11 @@ module _ (op : Op) (key : Key) where
   WasGranted-first [] more h = absurd h
   WasGranted-first (r ∷ records) more (inl e) = inl e
   WasGranted-first (r ∷ records) more (inr h) = inr (WasGranted-first records more h)
+
+  -- the last of the records was granted
+  pub WasGranted-last : (records : List Logged) → WasGranted op key (records ++ logged op (key ∷ []) outcomes.Granted ∷ [])
+  WasGranted-last [] = inl refl
+  WasGranted-last (r ∷ records) = inr (WasGranted-last records)
 
   pub WasGranted-either : (records more : List Logged) → WasGranted op key (records ++ more) → WasGranted op key records ⊎ WasGranted op key more
   WasGranted-either [] more h = inr h

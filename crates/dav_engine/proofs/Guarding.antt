@@ -1,6 +1,7 @@
 -- That each change lies where the locks permit it.
 use Rattle.std.proofs.Common.{◌≡◌, ◌≢◌, ℕ, Bool, true, false, List, [], ◌∷◌, ◌++◌, Option, Some, None, Err, ◌⊎◌, inl, inr, refl, sym, ap, ◌∙◌, cond}
 use Rattle.std.specs.Ordering.{eq_by_cmp}
+use Rattle.std.specs.Result.{result_ok}
 use Rattle.std.specs.FinMap.{get, insert, get-insert}
 use Rattle.std.proofs.lemmas.Slice.Eq.{bytes_eq-Decides}
 use Rattle.dav_resource.specs.Key.{Key, key_cmp, key_cmp_total, tied_decides}
@@ -19,11 +20,13 @@ use Rattle.dav_engine.specs.State.{State}
 use Rattle.dav_store.specs.Locks.{is_at_or_below}
 use Rattle.dav_walks.specs.KeyCall.{standing}
 use Rattle.dav_walks.specs.RemovalLaws.{removes_within, whole_in_part}
-use Rattle.dav_engine.specs.Rules.{is_permitted, where_permitted, shallow_rules, closing, judged, must_find}
+use Rattle.dav_engine.specs.Rules.{is_permitted, where_permitted, path_rules, shallow_rules, closing, judged, must_find, look_closely}
+use Rattle.dav_engine.specs.Target.{target_of}
+use Rattle.dav_engine.specs.declared.target.Target.{Target}
 use Rattle.dav_engine.specs.Delete.{delete_depth, depth_verdict, delete_rules, fixed_path}
 use Rattle.dav_engine.specs.Guarded.{IsChanged, IsPermitted, IsGuarded}
 use Rattle.dav_engine.specs.Mkcol.{MkcolLeaves}
-use Rattle.dav_engine.specs.Put.{PutLeaves, IsFileAt, put_body, put_rules}
+use Rattle.dav_engine.specs.Put.{PutLeaves, IsFileAt, put_rules}
 use Rattle.dav_engine.specs.Methods.{rules_of, Work, WorkCut}
 
 -- nothing is changed where nothing changes
@@ -41,16 +44,22 @@ permitted_passed true a b records h = refl
 permitted_passed false a b [] h = absurd cc
 permitted_passed false a b (r ∷ records) h = absurd h
 
+path_passed : (request : DavRequest) (state : State) (looked : Option Meta) (head : List Logged) (found : Option Meta) → LeadsTo (path_rules request state looked) head (Passed found) → is_permitted request state request.path.key false ≡ true
+path_passed request state looked head found h =
+    let held = LeadsTo-last (conditions state.contents state.locks request looked request.path) _ head found h in
+    permitted_passed (is_permitted request state request.path.key false) looked found held.2 held.4
+
 shallow_passed : (request : DavRequest) (state : State) (head : List Logged) (found : Option Meta) → LeadsTo (shallow_rules request state) head (Passed found) → is_permitted request state request.path.key false ≡ true
 shallow_passed request state head found h =
     let looked = LeadsTo-last (look state.contents request.path.key) _ head found h in
-    let judged = LeadsTo-last (conditions state.contents state.locks request looked.0 request.path) _ looked.2 found looked.4 in
-    permitted_passed (is_permitted request state request.path.key false) looked.0 found judged.2 judged.4
+    path_passed request state looked.0 looked.2 found looked.4
 
-put_passed : (request : DavRequest) (state : State) (head : List Logged) (found : Option Meta) → LeadsTo (put_rules request state) head (Passed found) → is_permitted request state request.path.key false ≡ true
-put_passed request state head found h =
-    let rules = LeadsTo-last (refusing closing (shallow_rules request state)) (put_body request.body) head found h in
-    shallow_passed request state rules.1 rules.0 (LeadsTo-unrefused closing (shallow_rules request state) rules.1 rules.0 rules.3)
+put_passed : (partial : Bool) (request : DavRequest) (state : State) (head : List Logged) (found : Option Meta) → LeadsTo (put_rules partial request state) head (Passed found) → is_permitted request state request.path.key false ≡ true
+put_passed partial request state head found h =
+    let looked = LeadsTo-last (look_closely state.contents request.path.key) _ head found h in
+    let aimed = LeadsTo-last (judged (target_of partial request.headers looked.0)) _ looked.2 found looked.4 in
+    let rules = LeadsTo-last (refusing closing (path_rules request state (result_ok looked.0))) _ aimed.2 found aimed.4 in
+    path_passed request state (result_ok looked.0) rules.1 rules.0 (LeadsTo-unrefused closing (path_rules request state (result_ok looked.0)) rules.1 rules.0 rules.3)
 
 delete_passed : (request : DavRequest) (state : State) (head : List Logged) (found : Option Meta) → LeadsTo (delete_rules request state) head (Passed found) → is_permitted request state request.path.key true ≡ true
 delete_passed request state head found h =
@@ -77,10 +86,10 @@ mkcol_elsewhere : (request : DavRequest) (records : List Logged) (old new : Cont
 mkcol_elsewhere request records old new key leaves apart changed =
     unchanged key old new (leaves.untouched (λ granted. put_elsewhere request.path.key key _ old new (leaves.made granted).tree (leaves.made granted).properties apart changed)) changed
 
-put_work_elsewhere : (request : DavRequest) (records : List Logged) (old new : Contents) (key : Key) → PutLeaves request records old new → (key ≢ request.path.key) → IsChanged key old new → ⊥
-put_work_elsewhere request records old new key leaves apart changed =
+put_work_elsewhere : (request : DavRequest) (target : Target) (records : List Logged) (old new : Contents) (key : Key) → PutLeaves request target records old new → (key ≢ request.path.key) → IsChanged key old new → ⊥
+put_work_elsewhere request target records old new key leaves apart changed =
     let at : (bytes : List ℕ) → IsFileAt request.path.key bytes old new → ⊥ = λ bytes file. put_elsewhere request.path.key key _ old new file.tree file.properties apart changed in
-    unchanged key old new (leaves.untouched (λ opened. at _ (leaves.emptied opened (λ written. at _ (leaves.written written))))) changed
+    unchanged key old new (leaves.untouched (λ opened. at _ (leaves.opened opened (λ written. at _ (leaves.written written))))) changed
 
 -- ---- together
 
@@ -116,7 +125,7 @@ module _ (request : DavRequest) (found : Option Meta) (old new : State) (head re
   Passes method = LeadsTo (rules_of method request old) head (Passed found)
 
   abbrev Works : Option DavMethod → Type 0
-  Works method = Work method request found old records answer new ⊎ ((answer ≡ Err Memory) × WorkCut method request old records new)
+  Works method = Work method request found old records answer new ⊎ ((answer ≡ Err Memory) × WorkCut method request found old records new)
 
   no_work : (method : Option DavMethod) → rules_of method request old ≡ Refuses (Status 501) → Passes method → ⊥
   no_work method is h = refused head (rw is at h)
@@ -128,18 +137,19 @@ module _ (request : DavRequest) (found : Option Meta) (old new : State) (head re
   guarded : (method : Option DavMethod) → Passes method → Works method → IsGuarded request old new
   guarded (Some MkCol) passed (inl work) = guarded_at request old new (shallow_passed request old head found passed) (λ key. mkcol_elsewhere request records old.contents new.contents key work.0.leaves)
   guarded (Some MkCol) passed (inr cut) = guarded_at request old new (shallow_passed request old head found passed) (λ key apart changed. unchanged key old.contents new.contents cut.1.0.same changed)
-  guarded (Some Put) passed (inl work) = guarded_at request old new (put_passed request old head found passed) (λ key. put_work_elsewhere request records old.contents new.contents key work.0.leaves)
-  guarded (Some Put) passed (inr cut) = guarded_at request old new (put_passed request old head found passed) (λ key. put_work_elsewhere request records old.contents new.contents key cut.1.0.leaves)
+  guarded (Some Put) passed (inl work) = guarded_at request old new (put_passed false request old head found passed) (λ key. put_work_elsewhere request work.0.target records old.contents new.contents key work.0.leaves)
+  guarded (Some Put) passed (inr cut) = guarded_at request old new (put_passed false request old head found passed) (λ key. put_work_elsewhere request cut.1.0.target records old.contents new.contents key cut.1.0.leaves)
+  guarded (Some Patch) passed (inl work) = guarded_at request old new (put_passed true request old head found passed) (λ key. put_work_elsewhere request work.0.target records old.contents new.contents key work.0.leaves)
+  guarded (Some Patch) passed (inr cut) = guarded_at request old new (put_passed true request old head found passed) (λ key. put_work_elsewhere request cut.1.0.target records old.contents new.contents key cut.1.0.leaves)
   guarded (Some Delete) passed (inl work) =
       guarded_below request old new (delete_passed request old head found passed)
       (removes_within (delete_depth request) (fixed_path request.path found) old.contents new.contents records (whole_in_part _ _ _ _ _ work.names work.removed))
   guarded (Some Delete) passed (inr cut) =
       guarded_below request old new (delete_passed request old head found passed)
-      (removes_within (delete_depth request) (fixed_path request.path cut.1.found) old.contents new.contents records cut.1.removed)
+      (removes_within (delete_depth request) (fixed_path request.path found) old.contents new.contents records cut.1.removed)
   guarded None passed works = absurd (no_work None refl passed)
   guarded (Some Head) passed works = absurd (no_work (Some Head) refl passed)
   guarded (Some Get) passed works = absurd (no_work (Some Get) refl passed)
-  guarded (Some Patch) passed works = absurd (no_work (Some Patch) refl passed)
   guarded (Some Options) passed works = absurd (no_work (Some Options) refl passed)
   guarded (Some PropFind) passed works = absurd (no_work (Some PropFind) refl passed)
   guarded (Some PropPatch) passed works = absurd (no_work (Some PropPatch) refl passed)
@@ -149,5 +159,5 @@ module _ (request : DavRequest) (found : Option Meta) (old new : State) (head re
   guarded (Some Unlock) passed works = absurd (no_work (Some Unlock) refl passed)
 
 pub guarded_work : (method : Option DavMethod) (request : DavRequest) (found : Option Meta) (old new : State) (head records : List Logged) (answer : Answer) → LeadsTo (rules_of method request old) head (Passed found)
-    → Work method request found old records answer new ⊎ ((answer ≡ Err Memory) × WorkCut method request old records new) → IsGuarded request old new
+    → Work method request found old records answer new ⊎ ((answer ≡ Err Memory) × WorkCut method request found old records new) → IsGuarded request old new
 guarded_work method request found old new head records answer passed works = guarded request found old new head records answer method passed works

@@ -1,5 +1,6 @@
 -- The rules, judged where nothing has changed yet.
-use Rattle.std.proofs.Common.{◌≡◌, ℕ, List, Option, Result, option_map, ap, subst}
+use Rattle.std.proofs.Common.{◌≡◌, ℕ, true, List, Option, Result, option_map, ap, subst}
+use Rattle.std.specs.Option.{option_map_or}
 use Rattle.dav_resource.specs.PathText.{PathValue}
 use Rattle.dav_resource.specs.declared.error.DavError.{DavError}
 use Rattle.dav_resource.specs.declared.meta.Meta.{Meta}
@@ -9,10 +10,25 @@ use Rattle.dav_store.specs.Locks.{Locks}
 use Rattle.dav_store.specs.declared.lock.DavLock.{DavLock}
 use Rattle.dav_parts.specs.Conditions.{conditions}
 use Rattle.dav_parts.specs.Dialogue.{Judges}
+use Rattle.dav_engine.specs.State.{State}
+use Rattle.dav_engine.specs.Rules.{path_rules}
+
+abbrev state_over : Contents → Option Locks → State
+state_over contents locks =
+    record { contents = contents; locks = option_map (λ (l : Locks). l.list) locks; dependable = option_map_or (λ (l : Locks). l.dependable) locks true }
 
 -- the same lock system has the same locks
 pub same_list : {L : Type 0} (seen : L → Locks) (ls ms : Option L) → ls ≡ ms → option_map (λ (l : Locks). l.list) (option_map seen ls) ≡ option_map (λ (l : Locks). l.list) (option_map seen ms)
 same_list seen ls ms same = ap (λ o. option_map (λ (l : Locks). l.list) (option_map seen o)) same
+
+-- the same store and the same lock system are in the same state
+pub still : {L : Type 0} (seen : L → Locks) (old new : Contents) (ls ms : Option L) → new ≡ old → ms ≡ ls → state_over new (option_map seen ms) ≡ state_over old (option_map seen ls)
+still seen old new ls ms same kept = λ i. state_over (same i) (option_map seen (kept i))
+
+-- the rules of a path in the same state
+pub same_rules : (request : DavRequest) (found : Option Meta) (state now : State) (mid new : Store) (verdict : Result (Option Meta) DavError)
+    → now ≡ state → Judges (path_rules request now found) mid verdict new → Judges (path_rules request state found) mid verdict new
+same_rules request found state now mid new verdict same h = subst (λ s. Judges (path_rules request s found) mid verdict new) same h
 
 -- the conditions by the same contents and the same locks
 pub same_conditions : (request : DavRequest) (found : Option Meta) (path : PathValue) (contents now : Contents) (locks held : Option (List DavLock)) (mid new : Store) (verdict : Result (List (List ℕ)) DavError)

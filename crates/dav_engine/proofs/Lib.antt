@@ -1,9 +1,11 @@
+pub mod Aiming
 pub mod Deleting
 pub mod FieldText
 pub mod Granting
 pub mod Guarding
 pub mod HttpDate
 pub mod Judging
+pub mod Looking
 pub mod Making
 pub mod PutHeaders
 pub mod Putting

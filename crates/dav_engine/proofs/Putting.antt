@@ -1,42 +1,35 @@
--- The rules and the work of PUT.
-use Rattle.std.proofs.Common.{◌≡◌, ◌≢◌, ◌∙◌, ℕ, zero, suc, IfOk, IfErr, Bool, true, false, List, [], ◌∷◌, ◌++◌, Option, Some, Result, Ok, Err, if◌then◌else◌, ◌⊎◌, inl, inr, refl, sym, ap, subst, is_some, append-nil, append_assoc, ◌+◌, length, drop}
+-- The work of PUT and PATCH.
+use Rattle.std.proofs.Common.{◌≡◌, ◌≢◌, ◌∙◌, ℕ, IfOk, IfErr, Bool, true, false, not, List, [], ◌∷◌, ◌++◌, Option, Some, Result, Ok, Err, if◌then◌else◌, ◌⊎◌, inl, inr, refl, sym, ap, subst, append-nil, append_assoc, arith, ◌+◌, ◌-◌, length, drop, replicate}
 use Rattle.std.specs.FinMap.{get, insert}
 use Rattle.dav_resource.specs.Key.{Key}
 use Rattle.dav_resource.specs.Errors.{from_fs}
 use Rattle.dav_resource.specs.declared.meta.Meta.{Meta}
 use Rattle.dav_resource.specs.declared.meta.DavFile.{DavFile}
 use Rattle.dav_resource.specs.declared.record.Op.{Op}
-use Rattle.dav_resource.specs.declared.record.Op.TheVariants.{OpenFile, WriteBytes, Flush, FileMetadata}
+use Rattle.dav_resource.specs.declared.record.Op.TheVariants.{OpenFile, Seek, WriteBytes, Flush, FileMetadata}
 use Rattle.dav_resource.specs.declared.record.Outcome.TheVariants as outcomes
 use Rattle.dav_resource.specs.declared.error.FsError.{FsError}
 use Rattle.dav_resource.specs.declared.error.FsError.TheVariants as fs_errors
 use Rattle.dav_resource.specs.declared.error.DavError.{DavError}
 use Rattle.dav_resource.specs.declared.error.DavError.TheVariants as dav_errors
-use Rattle.dav_resource.specs.declared.request.ReqBody.{ReqBody}
 use Rattle.dav_resource.specs.declared.request.DavRequest.{DavRequest}
 use Rattle.dav_store.specs.Logged.{Logged}
 use Rattle.dav_store.specs.Store.{Store, Contents, File}
 use Rattle.dav_store.specs.Calls.{Call, record_of, IsLawful, Grants, Declines, open_call, IsOpened, file_call, file_bar, written_at, bytes_at, Flushes, IsWritten}
+use Rattle.dav_resource.specs.declared.meta.OpenOptions.{OpenOptions}
+use Rattle.std.proofs.Math.Seq.{drop-nil, take-length, drop-append-add}
 use Rattle.http.specs.declared.response.Response.{Response}
 use Rattle.dav_resource.specs.declared.request.Body.{Body}
 use Rattle.dav_parts.specs.Reply.{Answer, reply_of, answer_of}
 use Rattle.dav_engine.specs.PutReply.{put_reply}
 use Rattle.dav_parts.specs.Dialogue.{Dialogue, Refuses, Passed, GoesOn, needs, if_granted, LeadsTo, EndsIn, Judges, WasGranted}
-use Rattle.dav_engine.specs.Put.{body_bytes, new_bytes, put_body, body_verdict, put_options, put_open_error, on_file, put_write, look_by, put_steps, PutLeaves, PutWork, PutCut, WritesBody, look_at_file}
+use Rattle.dav_engine.specs.Target.{target_of}
+use Rattle.dav_engine.specs.declared.target.Target.{Target}
+use Rattle.dav_engine.specs.Put.{new_bytes, put_options, put_open_error, put_seek_error, on_file, put_seek, put_write, look_by, put_steps, IsFileAt, opened_bytes, final_bytes, as_looked, PutLeaves, PutWork, PutCut, SeeksIf, SeeksPlace, WritesBody, look_at_file}
 use Rattle.dav_engine.specs.Step.{WorksOnStore}
-use Rattle.dav_engine.proofs.Granting.{not_granted, not_this_op, WasGranted-first, WasGranted-either}
+use Rattle.dav_engine.proofs.Granting.{not_granted, not_this_op, WasGranted-first, WasGranted-last, WasGranted-either}
 use Rattle.dav_parts.specs.Dialogues.{LeadsTo-more, unlike, needs-declined}
 use Rattle.dav_engine.proofs.Trees.{get-inserted, insert-inserted}
-
--- ---- the rules
-
-by_bytes : (b : Bool) (found : Option Meta) (verdict : Result (Option Meta) DavError) → verdict ≡ (if b then Ok found else Err (dav_errors.StatusClose 400)) → EndsIn (if b then Passed found else Refuses (dav_errors.StatusClose 400)) [] verdict
-by_bytes true found verdict e = rw e refl
-by_bytes false found verdict e = rw e (inl refl)
-
--- the body is judged as the rules say
-pub judged_body : (body : ReqBody) (found : Option Meta) (verdict : Result (Option Meta) DavError) → verdict ≡ body_verdict body found → EndsIn (put_body body found) [] verdict
-judged_body body found verdict e = by_bytes (is_some (body_bytes body)) found verdict e
 
 -- ---- the work
 
@@ -44,50 +37,81 @@ judged_body body found verdict e = by_bytes (is_some (body_bytes body)) found ve
 at_file : (op : Op) (contents : Contents) (key : Key) (bytes : List ℕ) → get contents.tree key ≡ Some (File bytes) → file_call op contents key ≡ on_file op key
 at_file op contents key bytes there = λ i. record { op = op; keys = key ∷ []; bar = file_bar (there i) }
 
-drop-nil : (n : ℕ) → drop {A = ℕ} n [] ≡ []
-drop-nil zero = refl
-drop-nil (suc n) = refl
+-- ---- what bytes written make of those that were kept
 
--- what bytes written at the start of an empty file make
+-- written at the start of an empty file
 written_at-start : (bytes : List ℕ) → written_at [] 0 bytes ≡ bytes
 written_at-start [] = refl
 written_at-start (b ∷ bytes) = ap (λ rest. (b ∷ bytes) ++ rest) (drop-nil (0 + length (b ∷ bytes))) ∙ append-nil (b ∷ bytes)
 
-module _ (request : DavRequest) where
+-- written at the end
+written_at-end : (old bytes : List ℕ) → written_at old (length old) bytes ≡ old ++ bytes
+written_at-end old [] = sym (append-nil old)
+written_at-end old (b ∷ bytes) =
+    let gap : length old - length old ≡ 0 = omega arith in
+    let behind : drop (length old + length (b ∷ bytes)) old ≡ [] = ap (drop (length old + length (b ∷ bytes))) (sym (append-nil old)) ∙ drop-append-add old [] (length (b ∷ bytes)) ∙ drop-nil (length (b ∷ bytes)) in
+    let parts : written_at old (length old) (b ∷ bytes) ≡ old ++ [] ++ (b ∷ bytes) ++ [] = (λ i. take-length old i ++ replicate (gap i) 0 ++ (b ∷ bytes) ++ behind i) in
+    parts ∙ append-nil (old ++ [] ++ (b ∷ bytes)) ∙ ap (λ front. front ++ (b ∷ bytes)) (append-nil old)
+
+written_is : (part append : Bool) (start : ℕ) (old body : List ℕ)
+    → written_at (if part then old else []) (if append then length (if part then old else []) else (if part then start else 0)) body ≡ (if not part then body else (if append then old ++ body else written_at old start body))
+written_is true true start old body = written_at-end old body
+written_is true false start old body = refl
+written_is false true start old body = written_at-start body
+written_is false false start old body = written_at-start body
+
+module _ (request : DavRequest) (target : Target) where
   abbrev place : Key
   place = request.path.key
 
-  abbrev pub PutWorks : Option Meta → Store → Answer → Store → Type 0
-  PutWorks found = WorksOnStore (PutWork request found) (PutCut request)
+  abbrev options : OpenOptions
+  options = put_options request target
 
-  -- what is left to be asked after the write
+  -- what is left to be asked after the write, and before it
   abbrev last_steps : Option Meta → Dialogue (Option Meta)
   last_steps meta = needs (on_file Flush place) from_fs (look_by (on_file FileMetadata place) meta)
+
+  abbrev write_steps : Option Meta → Dialogue (Option Meta)
+  write_steps meta = put_write (new_bytes request.body) place (last_steps meta)
+
+  -- what the file held, and holds as it is opened
+  abbrev held : Contents → List ℕ
+  held old = bytes_at (get old.tree place)
+
+  abbrev kept : Contents → List ℕ
+  kept old = opened_bytes target (held old)
 
   -- the work so far: its records are the first calls, these are left, and the file is there
   pub record Reached (old now : Store) (left : Option Meta → Dialogue (Option Meta)) : Type 0 where
     pub records : List Logged
     pub told : now.log ≡ old.log ++ records
     pub fixed : now.keeps_properties ≡ old.keeps_properties
-    pub calls : (meta : Option Meta) → LeadsTo (put_steps request old.contents meta) records (left meta)
-    pub leaves : PutLeaves request records old.contents now.contents
+    pub calls : (meta : Option Meta) → LeadsTo (put_steps request target old.contents meta) records (left meta)
+    pub leaves : PutLeaves request target records old.contents now.contents
     pub bytes : List ℕ
     pub there : get now.contents.tree place ≡ Some (File bytes)
+
+  -- the same of a file that is open and as it was opened, with nothing written
+  pub record Waits (old now : Store) (left : Option Meta → Dialogue (Option Meta)) : Type 0 where
+    pub reached : Reached old now left
+    pub file : IsFileAt place (kept old.contents) old.contents now.contents
+    pub opened : WasGranted OpenFile place reached.records
+    pub unwritten : WasGranted WriteBytes place reached.records → ⊥
 
   -- the work, all calls asked
   pub record Looked (old now : Store) (meta : Option Meta) : Type 0 where
     pub records : List Logged
     pub told : now.log ≡ old.log ++ records
     pub fixed : now.keeps_properties ≡ old.keeps_properties
-    pub calls : LeadsTo (put_steps request old.contents (now.contents.metas place)) records (Passed meta)
-    pub leaves : PutLeaves request records old.contents now.contents
+    pub calls : LeadsTo (put_steps request target old.contents (now.contents.metas place)) records (Passed meta)
+    pub leaves : PutLeaves request target records old.contents now.contents
 
   -- a record of another op, or of a call that wasn't granted, leaves what was left
-  leaves_more : (records : List Logged) (r : Logged) (old mid new : Contents) → PutLeaves request records old mid → new ≡ mid
-      → (WasGranted OpenFile place (r ∷ []) → ⊥) → (WasGranted WriteBytes place (r ∷ []) → ⊥) → PutLeaves request (records ++ r ∷ []) old new
+  leaves_more : (records : List Logged) (r : Logged) (old mid new : Contents) → PutLeaves request target records old mid → new ≡ mid
+      → (WasGranted OpenFile place (r ∷ []) → ⊥) → (WasGranted WriteBytes place (r ∷ []) → ⊥) → PutLeaves request target (records ++ r ∷ []) old new
   leaves_more records r old mid new leaves same no_open no_write = rw same (record {
     untouched = λ none. leaves.untouched (λ g. none (WasGranted-first OpenFile place records (r ∷ []) g));
-    emptied = λ opened unwritten. leaves.emptied (earlier OpenFile no_open opened) (λ g. unwritten (WasGranted-first WriteBytes place records (r ∷ []) g));
+    opened = λ opened unwritten. leaves.opened (earlier OpenFile no_open opened) (λ g. unwritten (WasGranted-first WriteBytes place records (r ∷ []) g));
     written = λ wrote. leaves.written (earlier WriteBytes no_write wrote);
   })
     where
@@ -98,102 +122,105 @@ module _ (request : DavRequest) where
       earlier : (op : Op) → (WasGranted op place (r ∷ []) → ⊥) → WasGranted op place (records ++ r ∷ []) → WasGranted op place records
       earlier op other g = pick op other (WasGranted-either op place records (r ∷ []) g)
 
-  -- ---- want of memory, and refusals
-
-  -- no call was made
-  pub works_unopened : (found : Option Meta) (store : Store) → PutWorks found store (Err dav_errors.Memory) store
-  works_unopened found store = record {
-    records = [];
-    told = sym (append-nil store.log);
-    fixed = refl;
-    done = inr (refl, record { left = put_steps request store.contents (store.contents.metas place); calls = refl; goes_on = tt; leaves = record { untouched = λ _. refl; emptied = λ g. absurd g; written = λ g. absurd g } });
-  }
-
-  -- the file isn't opened
-  pub works_declined : (found : Option Meta) (e : FsError) (old new : Store) → ((e ≡ fs_errors.Memory) × (new ≡ old)) ⊎ Declines (open_call old.contents place (put_options request)) e old new
-      → PutWorks found old (Err (put_open_error (put_options request) e)) new
-  works_declined found e old new (inl h) = rw (h.0, h.1) (works_unopened found old)
-  works_declined found e old new (inr h) = record {
-    records = record_of (open_call old.contents place (put_options request)) h.outcome ∷ [];
-    told = h.told;
-    fixed = h.fixed;
-    done = inl (record {
-      answered = needs-declined (open_call old.contents place (put_options request)) (put_open_error (put_options request)) _ e h.outcome h.cause h.lawful;
-      leaves = record { untouched = λ _. h.same; emptied = λ g. absurd (not_granted OpenFile place _ g (unlike e h.outcome h.cause)); written = λ g. absurd (not_this_op WriteBytes place _ g (λ x. cc)) };
-    });
-  }
-
-  -- memory ran out on the way
-  pub works_cut : (found : Option Meta) (old now : Store) (left : Option Meta → Dialogue (Option Meta)) → ((meta : Option Meta) → GoesOn (left meta)) → Reached old now left → PutWorks found old (Err dav_errors.Memory) now
-  works_cut found old now left goes_on h = record {
-    records = h.records;
-    told = h.told;
-    fixed = h.fixed;
-    done = inr (refl, record { left = left (now.contents.metas place); calls = h.calls (now.contents.metas place); goes_on = goes_on (now.contents.metas place); leaves = h.leaves });
-  }
-
-  -- a call on the file isn't granted
-  pub works_stopped : (found : Option Meta) (op : Op) (old mid now : Store) (next : Option Meta → Dialogue (Option Meta)) (e : FsError) → Reached old mid (λ meta. needs (on_file op place) from_fs (next meta))
-      → ((e ≡ fs_errors.Memory) × (now ≡ mid)) ⊎ Declines (file_call op mid.contents place) e mid now → PutWorks found old (Err (from_fs e)) now
-  works_stopped found op old mid now next e h (inl m) = rw (m.0, m.1) (works_cut found old mid _ (λ _. tt) h)
-  works_stopped found op old mid now next e h (inr d) =
-      let there = at_file op mid.contents place h.bytes h.there in
-      let lawful = subst (λ call. IsLawful call.bar d.outcome) there d.lawful in
-      record {
-        records = h.records ++ record_of (on_file op place) d.outcome ∷ [];
-        told = rw (d.told, h.told, append_assoc);
-        fixed = rw (d.fixed, h.fixed);
-        done = inl (record {
-          answered = LeadsTo-more _ _ _ h.records _ (h.calls (now.contents.metas place)) (needs-declined (on_file op place) from_fs _ e d.outcome d.cause lawful);
-          leaves = leaves_more h.records _ _ _ _ h.leaves d.same (λ g. not_granted OpenFile place _ g (unlike e d.outcome d.cause)) (λ g. not_granted WriteBytes place _ g (unlike e d.outcome d.cause));
-        });
-      }
-
   -- ---- granted calls
 
   -- the file is opened
-  pub opened : (old mid : Store) (file : DavFile) → Grants (open_call old.contents place (put_options request)) (IsOpened request.path (put_options request) file) old mid
-      → Reached old mid (λ meta. put_write (new_bytes request.body) place (last_steps meta))
-  opened old mid file h = record {
-    records = record_of (open_call old.contents place (put_options request)) outcomes.Granted ∷ [];
-    told = h.told;
-    fixed = h.fixed;
-    calls = λ meta. (refl, h.allowed, refl);
-    leaves = record {
-      untouched = λ none. absurd (none (inl refl));
-      emptied = λ _ _. record { tree = h.effect.tree; properties = h.effect.properties; limit = h.effect.limit };
-      written = λ g. absurd (not_this_op WriteBytes place _ g (λ x. cc));
-    };
-    bytes = [];
-    there = rw h.effect.tree (get-inserted old.contents.tree place (File []));
-  }
+  pub opened : (old mid : Store) (file : DavFile) → Grants (open_call old.contents place options) (IsOpened request.path options file) old mid
+      → Waits old mid (λ meta. put_seek target place (write_steps meta))
+  opened old mid file h =
+      let is : IsFileAt place (kept old.contents) old.contents mid.contents =
+      (record { tree = h.effect.tree ∙ ap (λ bytes. insert old.contents.tree place (File bytes)) (emptied target.part (held old.contents)); properties = h.effect.properties; limit = h.effect.limit }) in
+      record {
+        reached = record {
+          records = record_of (open_call old.contents place options) outcomes.Granted ∷ [];
+          told = h.told;
+          fixed = h.fixed;
+          calls = λ meta. (refl, h.allowed, refl);
+          leaves = record {
+            untouched = λ none. absurd (none (inl refl));
+            opened = λ _ _. is;
+            written = λ g. absurd (not_this_op WriteBytes place _ g (λ x. cc));
+          };
+          bytes = kept old.contents;
+          there = rw is.tree (get-inserted old.contents.tree place (File (kept old.contents)));
+        };
+        file = is;
+        opened = inl refl;
+        unwritten = λ g. not_this_op WriteBytes place _ g (λ x. cc);
+      }
+    where
+      emptied : (part : Bool) (bytes : List ℕ) → (if not part then [] else bytes) ≡ (if part then bytes else [])
+      emptied true bytes = refl
+      emptied false bytes = refl
+
+  -- the place is sought, or there is none
+  pub sought : (old mid now : Store) (left : Option Meta → Dialogue (Option Meta)) → Waits old mid (λ meta. put_seek target place (left meta)) → SeeksPlace target mid place (Ok tt) now → Waits old now left
+  sought old mid now left h w = by_part target.part refl w
+    where
+      by_part : (part : Bool) → target.part ≡ part → SeeksIf part mid place (Ok tt) now → Waits old now left
+      by_part false is seek =
+          let done : Waits old mid left = subst (λ b. Waits old mid (λ meta. if b then needs (on_file Seek place) put_seek_error (left meta) else left meta)) is h in
+          rw seek.1 done
+      by_part true is seek =
+          let asked : Waits old mid (λ meta. needs (on_file Seek place) put_seek_error (left meta)) = subst (λ b. Waits old mid (λ meta. if b then needs (on_file Seek place) put_seek_error (left meta) else left meta)) is h in
+          let r = record_of (on_file Seek place) outcomes.Granted in
+          let g = seek.granted in
+          let no_open : WasGranted OpenFile place (r ∷ []) → ⊥ = λ w. not_this_op OpenFile place r w (λ x. cc) in
+          let no_write : WasGranted WriteBytes place (r ∷ []) → ⊥ = λ w. not_this_op WriteBytes place r w (λ x. cc) in
+          record {
+            reached = record {
+              records = asked.reached.records ++ r ∷ [];
+              told = rw (g.told, asked.reached.told, append_assoc);
+              fixed = rw (g.fixed, asked.reached.fixed);
+              calls = λ meta. LeadsTo-more _ _ _ asked.reached.records (r ∷ []) (asked.reached.calls meta) (refl, refl, refl);
+              leaves = leaves_more asked.reached.records r _ _ _ asked.reached.leaves g.effect no_open no_write;
+              bytes = asked.reached.bytes;
+              there = rw g.effect asked.reached.there;
+            };
+            file = rw g.effect asked.file;
+            opened = WasGranted-first OpenFile place asked.reached.records (r ∷ []) asked.opened;
+            unwritten = λ w. either (WasGranted-either WriteBytes place asked.reached.records (r ∷ []) w) asked.unwritten no_write;
+          }
+        where
+          either : {A B : Type 0} → A ⊎ B → (A → ⊥) → (B → ⊥) → ⊥
+          either (inl a) f g = f a
+          either (inr b) f g = g b
+
+  -- the file at its place
+  abbrev pub placed : DavFile
+  placed = record { path = request.path; pos = if target.part then target.start else 0; append = target.append }
+
+  pub is_placed : (handle file : DavFile) → handle ≡ record { path = request.path; pos = 0; append = target.append } → file ≡ record handle { pos = if target.part then target.start else handle.pos } → file ≡ placed
+  is_placed handle file opened at = at ∙ ap (λ (f : DavFile). record f { pos = if target.part then target.start else f.pos }) opened
 
   -- the bytes are written, or there are none
-  pub filled : (old mid now : Store) (file : DavFile) (bytes : List ℕ) → new_bytes request.body ≡ bytes → Grants (open_call old.contents place (put_options request)) (IsOpened request.path (put_options request) file) old mid
+  pub filled : (old mid now : Store) (file : DavFile) (bytes : List ℕ) → new_bytes request.body ≡ bytes → file ≡ placed → Waits old mid write_steps
       → WritesBody mid file bytes (Ok tt) now → Reached old now last_steps
-  filled old mid now file [] is h w = rw w.1 (subst (λ bytes. Reached old mid (λ meta. put_write bytes place (last_steps meta))) is (opened old mid file h))
-  filled old mid now file (b ∷ bytes) is h w =
-      let g : Grants (file_call WriteBytes mid.contents place) (IsWritten (record { path = request.path; pos = 0; append = false }) (b ∷ bytes)) mid now = rw h.effect.handle at w.granted in
-      let tree : now.contents.tree ≡ insert old.contents.tree place (File (b ∷ bytes)) =
+  filled old mid now file [] is at h w = rw w.1 (subst (λ bytes. Reached old mid (λ meta. put_write bytes place (last_steps meta))) is h.reached)
+  filled old mid now file (b ∷ bytes) is at h w =
+      let g : Grants (file_call WriteBytes mid.contents place) (IsWritten placed (b ∷ bytes)) mid now = rw at at w.granted in
+      let r = record_of (on_file WriteBytes place) outcomes.Granted in
+      let here : get mid.contents.tree place ≡ Some (File (kept old.contents)) = rw h.file.tree (get-inserted old.contents.tree place (File (kept old.contents))) in
+      let tree : now.contents.tree ≡ insert old.contents.tree place (File (final_bytes target (b ∷ bytes) (held old.contents))) =
       (g.effect.tree
-      ∙ ap (λ held. insert mid.contents.tree place (File (written_at (bytes_at held) 0 (b ∷ bytes)))) (ap (λ t. get t place) h.effect.tree ∙ get-inserted old.contents.tree place (File []))
-      ∙ ap (λ t. insert t place (File (written_at [] 0 (b ∷ bytes)))) h.effect.tree
-      ∙ insert-inserted old.contents.tree place (File []) (File (written_at [] 0 (b ∷ bytes)))
-      ∙ ap (λ held. insert old.contents.tree place (File held)) (written_at-start (b ∷ bytes))) in
-      let records : List Logged = record_of (open_call old.contents place (put_options request)) outcomes.Granted ∷ record_of (on_file WriteBytes place) outcomes.Granted ∷ [] in
-      let asked : (meta : Option Meta) → LeadsTo (needs (open_call old.contents place (put_options request)) (put_open_error (put_options request)) (put_write (b ∷ bytes) place (last_steps meta))) records (last_steps meta) = (λ meta. (refl, h.allowed, (refl, refl, refl))) in
+      ∙ ap (λ node. insert mid.contents.tree place (File (written_at (bytes_at node) (if target.append then length (bytes_at node) else placed.pos) (b ∷ bytes)))) here
+      ∙ ap (λ t. insert t place (File (written_at (kept old.contents) (if target.append then length (kept old.contents) else placed.pos) (b ∷ bytes)))) h.file.tree
+      ∙ insert-inserted old.contents.tree place (File (kept old.contents)) (File (written_at (kept old.contents) (if target.append then length (kept old.contents) else placed.pos) (b ∷ bytes)))
+      ∙ ap (λ bytes. insert old.contents.tree place (File bytes)) (written_is target.part target.append target.start (held old.contents) (b ∷ bytes))) in
+      let asked : (meta : Option Meta) → LeadsTo (put_steps request target old.contents meta) h.reached.records (needs (on_file WriteBytes place) from_fs (last_steps meta)) =
+      (λ meta. subst (λ body. LeadsTo (put_steps request target old.contents meta) h.reached.records (put_write body place (last_steps meta))) is (h.reached.calls meta)) in
       record {
-        records = records;
-        told = rw (g.told, h.told, append_assoc);
-        fixed = rw (g.fixed, h.fixed);
-        calls = λ meta. subst (λ body. LeadsTo (needs (open_call old.contents place (put_options request)) (put_open_error (put_options request)) (put_write body place (last_steps meta))) records (last_steps meta)) (sym is) (asked meta);
+        records = h.reached.records ++ r ∷ [];
+        told = rw (g.told, h.reached.told, append_assoc);
+        fixed = rw (g.fixed, h.reached.fixed);
+        calls = λ meta. LeadsTo-more _ _ _ h.reached.records (r ∷ []) (asked meta) (refl, refl, refl);
         leaves = record {
-          untouched = λ none. absurd (none (inl refl));
-          emptied = λ _ unwritten. absurd (unwritten (inr (inl refl)));
-          written = λ _. record { tree = rw is tree; properties = rw (g.effect.properties, h.effect.properties); limit = rw (g.effect.limit, h.effect.limit) };
+          untouched = λ none. absurd (none (WasGranted-first OpenFile place h.reached.records (r ∷ []) h.opened));
+          opened = λ _ unwritten. absurd (unwritten (WasGranted-last WriteBytes place h.reached.records));
+          written = λ _. record { tree = rw is tree; properties = rw (g.effect.properties, h.file.properties); limit = rw (g.effect.limit, h.file.limit) };
         };
-        bytes = b ∷ bytes;
-        there = rw tree (get-inserted old.contents.tree place (File (b ∷ bytes)));
+        bytes = final_bytes target (b ∷ bytes) (held old.contents);
+        there = rw tree (get-inserted old.contents.tree place (File (final_bytes target (b ∷ bytes) (held old.contents))));
       }
 
   -- the writing is ended
@@ -210,15 +237,6 @@ module _ (request : DavRequest) where
         there = rw w.granted.effect h.there;
       }
 
-  -- the bytes aren't written
-  pub works_unfilled : (found : Option Meta) (old mid now : Store) (file : DavFile) (bytes : List ℕ) (e : FsError) → new_bytes request.body ≡ bytes
-      → Grants (open_call old.contents place (put_options request)) (IsOpened request.path (put_options request) file) old mid → WritesBody mid file bytes (Err e) now → PutWorks found old (Err (from_fs e)) now
-  works_unfilled found old mid now file [] e is h w = absurd (let no : Err e ≡ Ok tt = w.0 in cc)
-  works_unfilled found old mid now file (b ∷ bytes) e is h w =
-      works_stopped found WriteBytes old mid now last_steps e
-      (subst (λ bytes. Reached old mid (λ meta. put_write bytes place (last_steps meta))) is (opened old mid file h))
-      (rw h.effect.handle at w.declined)
-
   -- ---- the last look
 
   -- the look as the work has it
@@ -226,8 +244,8 @@ module _ (request : DavRequest) where
   as_steps mid bytes there = ap (λ call. look_by call (mid.metas place)) (at_file FileMetadata mid place bytes there)
 
   -- its one record is of no change
-  leaves_looked : (records more : List Logged) (old mid new : Contents) (left : Dialogue (Option Meta)) → PutLeaves request records old mid → new ≡ mid
-      → LeadsTo (look_by (on_file FileMetadata place) (mid.metas place)) more left → PutLeaves request (records ++ more) old new
+  leaves_looked : (records more : List Logged) (old mid new : Contents) (left : Dialogue (Option Meta)) → PutLeaves request target records old mid → new ≡ mid
+      → LeadsTo (look_by (on_file FileMetadata place) (mid.metas place)) more left → PutLeaves request target (records ++ more) old new
   leaves_looked records [] old mid new left leaves same h = rw (append-nil records, same) leaves
   leaves_looked records (r ∷ []) old mid new left leaves same h =
       let other : (op : Op) → FileMetadata ≢ op → r.op ≢ op = λ op apart e. apart (sym (ap (λ (l : Logged). l.op) h.0) ∙ e) in
@@ -245,25 +263,117 @@ module _ (request : DavRequest) where
         leaves = leaves_looked h.records j.records _ _ _ _ h.leaves j.same asked;
       }
 
-  never : (call : Call) (meta : Option Meta) (records : List Logged) (e : DavError) → LeadsTo (look_by call meta) records (Refuses e) → ⊥
-  never call meta [] e h = absurd cc
-  never call meta (r ∷ []) e h = absurd (let p : Refuses e ≡ Passed (if_granted r.outcome meta) = h.2 in cc)
-  never call meta (r ∷ s ∷ records) e h = absurd h.2
+never : (call : Call) (meta : Option Meta) (records : List Logged) (e : DavError) → LeadsTo (look_by call meta) records (Refuses e) → ⊥
+never call meta [] e h = absurd cc
+never call meta (r ∷ []) e h = absurd (let p : Refuses e ≡ Passed (if_granted r.outcome meta) = h.2 in cc)
+never call meta (r ∷ s ∷ records) e h = absurd h.2
 
-  goes : (call : Call) (meta : Option Meta) (records : List Logged) (left : Dialogue (Option Meta)) → LeadsTo (look_by call meta) records left → GoesOn left
-  goes call meta [] left h = subst (λ d. GoesOn d) (sym h) tt
-  goes call meta (r ∷ []) left h = subst (λ d. GoesOn d) (sym h.2) tt
-  goes call meta (r ∷ s ∷ records) left h = absurd h.2
+goes : (call : Call) (meta : Option Meta) (records : List Logged) (left : Dialogue (Option Meta)) → LeadsTo (look_by call meta) records left → GoesOn left
+goes call meta [] left h = subst (λ d. GoesOn d) (sym h) tt
+goes call meta (r ∷ []) left h = subst (λ d. GoesOn d) (sym h.2) tt
+goes call meta (r ∷ s ∷ records) left h = absurd h.2
+
+-- ---- want of memory, refusals and the reply
+
+module _ (partial : Bool) (request : DavRequest) (found : Option Meta) (target : Target) (aimed : target_of partial request.headers (as_looked found) ≡ Ok target) where
+  abbrev at_key : Key
+  at_key = request.path.key
+
+  abbrev pub PutWorks : Store → Answer → Store → Type 0
+  PutWorks = WorksOnStore (PutWork partial request found) (PutCut partial request found)
+
+  -- no call was made
+  pub works_unopened : (store : Store) → PutWorks store (Err dav_errors.Memory) store
+  works_unopened store = record {
+    records = [];
+    told = sym (append-nil store.log);
+    fixed = refl;
+    done = inr (
+      refl,
+      record {
+        target = target;
+        aimed = aimed;
+        left = put_steps request target store.contents (store.contents.metas at_key);
+        calls = refl;
+        goes_on = tt;
+        leaves = record { untouched = λ _. refl; opened = λ g. absurd g; written = λ g. absurd g };
+      },
+    );
+  }
+
+  -- the file isn't opened
+  pub works_declined : (e : FsError) (old new : Store) → ((e ≡ fs_errors.Memory) × (new ≡ old)) ⊎ Declines (open_call old.contents at_key (put_options request target)) e old new
+      → PutWorks old (Err (put_open_error (put_options request target) e)) new
+  works_declined e old new (inl h) = rw (h.0, h.1) (works_unopened old)
+  works_declined e old new (inr h) = record {
+    records = record_of (open_call old.contents at_key (put_options request target)) h.outcome ∷ [];
+    told = h.told;
+    fixed = h.fixed;
+    done = inl (record {
+      target = target;
+      aimed = aimed;
+      answered = needs-declined (open_call old.contents at_key (put_options request target)) (put_open_error (put_options request target)) _ e h.outcome h.cause h.lawful;
+      leaves = record { untouched = λ _. h.same; opened = λ g. absurd (not_granted OpenFile at_key _ g (unlike e h.outcome h.cause)); written = λ g. absurd (not_this_op WriteBytes at_key _ g (λ x. cc)) };
+    });
+  }
+
+  -- memory ran out on the way
+  pub works_cut : (old now : Store) (left : Option Meta → Dialogue (Option Meta)) → ((meta : Option Meta) → GoesOn (left meta)) → Reached request target old now left → PutWorks old (Err dav_errors.Memory) now
+  works_cut old now left goes_on h = record {
+    records = h.records;
+    told = h.told;
+    fixed = h.fixed;
+    done = inr (refl, record { target = target; aimed = aimed; left = left (now.contents.metas at_key); calls = h.calls (now.contents.metas at_key); goes_on = goes_on (now.contents.metas at_key); leaves = h.leaves });
+  }
+
+  -- a call on the file isn't granted
+  pub works_stopped : (op : Op) (error : FsError → DavError) (old mid now : Store) (next : Option Meta → Dialogue (Option Meta)) (e : FsError) → error fs_errors.Memory ≡ dav_errors.Memory
+      → Reached request target old mid (λ meta. needs (on_file op at_key) error (next meta)) → ((e ≡ fs_errors.Memory) × (now ≡ mid)) ⊎ Declines (file_call op mid.contents at_key) e mid now → PutWorks old (Err (error e)) now
+  works_stopped op error old mid now next e memory h (inl m) = rw (m.0, m.1, memory) (works_cut old mid _ (λ _. tt) h)
+  works_stopped op error old mid now next e memory h (inr d) =
+      let there = at_file op mid.contents at_key h.bytes h.there in
+      let lawful = subst (λ call. IsLawful call.bar d.outcome) there d.lawful in
+      record {
+        records = h.records ++ record_of (on_file op at_key) d.outcome ∷ [];
+        told = rw (d.told, h.told, append_assoc);
+        fixed = rw (d.fixed, h.fixed);
+        done = inl (record {
+          target = target;
+          aimed = aimed;
+          answered = LeadsTo-more _ _ _ h.records _ (h.calls (now.contents.metas at_key)) (needs-declined (on_file op at_key) error _ e d.outcome d.cause lawful);
+          leaves = leaves_more request target h.records _ _ _ _ h.leaves d.same (λ g. not_granted OpenFile at_key _ g (unlike e d.outcome d.cause)) (λ g. not_granted WriteBytes at_key _ g (unlike e d.outcome d.cause));
+        });
+      }
+
+  -- the place isn't sought
+  pub works_unsought : (old mid now : Store) (e : FsError) (left : Option Meta → Dialogue (Option Meta)) → Waits request target old mid (λ meta. put_seek target at_key (left meta)) → SeeksPlace target mid at_key (Err e) now
+      → PutWorks old (Err (put_seek_error e)) now
+  works_unsought old mid now e left h w = by_part target.part refl w
+    where
+      by_part : (part : Bool) → target.part ≡ part → SeeksIf part mid at_key (Err e) now → PutWorks old (Err (put_seek_error e)) now
+      by_part false is seek = absurd (let no : Err e ≡ Ok tt = seek.0 in cc)
+      by_part true is seek =
+          works_stopped Seek put_seek_error old mid now left e refl
+          (subst (λ b. Reached request target old mid (λ meta. if b then needs (on_file Seek at_key) put_seek_error (left meta) else left meta)) is h.reached) seek.declined
+
+  -- the bytes aren't written
+  pub works_unfilled : (old mid now : Store) (file : DavFile) (bytes : List ℕ) (e : FsError) → new_bytes request.body ≡ bytes → file ≡ placed request target
+      → Waits request target old mid (write_steps request target) → WritesBody mid file bytes (Err e) now → PutWorks old (Err (from_fs e)) now
+  works_unfilled old mid now file [] e is at h w = absurd (let no : Err e ≡ Ok tt = w.0 in cc)
+  works_unfilled old mid now file (b ∷ bytes) e is at h w =
+      works_stopped WriteBytes from_fs old mid now (last_steps request target) e refl
+      (subst (λ bytes. Reached request target old mid (λ meta. put_write bytes at_key (last_steps request target meta))) is h.reached)
+      (rw at at w.declined)
 
   -- the last look had no memory
-  pub works_unlooked : (found : Option Meta) (old mid now : Store) (e : DavError) → Reached old mid (look_by (on_file FileMetadata place)) → Judges (look_at_file mid.contents place) mid (Err e) now
-      → PutWorks found old (Err e) now
-  works_unlooked found old mid now e h j = ends j.ends
+  pub works_unlooked : (old mid now : Store) (e : DavError) → Reached request target old mid (look_by (on_file FileMetadata at_key)) → Judges (look_at_file mid.contents at_key) mid (Err e) now
+      → PutWorks old (Err e) now
+  works_unlooked old mid now e h j = ends j.ends
     where
-      ends : EndsIn (look_at_file mid.contents place) j.records (Err e) → PutWorks found old (Err e) now
+      ends : EndsIn (look_at_file mid.contents at_key) j.records (Err e) → PutWorks old (Err e) now
       ends (inl r) = absurd (never _ _ j.records e r)
       ends (inr m) =
-          let asked = subst (λ d. LeadsTo d j.records m.1.0) (as_steps mid.contents h.bytes h.there) m.1.1 in
+          let asked = subst (λ d. LeadsTo d j.records m.1.0) (as_steps request target mid.contents h.bytes h.there) m.1.1 in
           rw m.0 (record {
             records = h.records ++ j.records;
             told = rw (j.told, h.told, append_assoc);
@@ -271,26 +381,28 @@ module _ (request : DavRequest) where
             done = inr (
               refl,
               record {
+                target = target;
+                aimed = aimed;
                 left = m.1.0;
-                calls = rw j.same (LeadsTo-more _ _ _ h.records j.records (h.calls (mid.contents.metas place)) asked);
+                calls = rw j.same (LeadsTo-more _ _ _ h.records j.records (h.calls (mid.contents.metas at_key)) asked);
                 goes_on = goes _ _ j.records m.1.0 asked;
-                leaves = leaves_looked h.records j.records _ _ _ _ h.leaves j.same asked;
+                leaves = leaves_looked request target h.records j.records _ _ _ _ h.leaves j.same asked;
               },
             );
           })
 
   -- the reply is made, or there was no memory for it
-  pub works_replied : (found meta : Option Meta) (old now : Store) (result : Result (Response Body) DavError) → Looked old now meta → IfOk result (λ reply. reply_of reply ≡ put_reply found meta) → IfErr result (λ e. e ≡ dav_errors.Memory)
-      → PutWorks found old (answer_of result) now
-  works_replied found meta old now (Ok reply) h is _ = record {
+  pub works_replied : (meta : Option Meta) (old now : Store) (result : Result (Response Body) DavError) → Looked request target old now meta → IfOk result (λ reply. reply_of reply ≡ put_reply found meta) → IfErr result (λ e. e ≡ dav_errors.Memory)
+      → PutWorks old (answer_of result) now
+  works_replied meta old now (Ok reply) h is _ = record {
     records = h.records;
     told = h.told;
     fixed = h.fixed;
-    done = inl (record { answered = (meta, h.calls, is); leaves = h.leaves });
+    done = inl (record { target = target; aimed = aimed; answered = (meta, h.calls, is); leaves = h.leaves });
   }
-  works_replied found meta old now (Err e) h _ memory = rw memory (record {
+  works_replied meta old now (Err e) h _ memory = rw memory (record {
     records = h.records;
     told = h.told;
     fixed = h.fixed;
-    done = inr (refl, record { left = Passed meta; calls = h.calls; goes_on = tt; leaves = h.leaves });
+    done = inr (refl, record { target = target; aimed = aimed; left = Passed meta; calls = h.calls; goes_on = tt; leaves = h.leaves });
   })

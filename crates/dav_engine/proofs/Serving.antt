@@ -1,5 +1,5 @@
 -- Requests as rules and work.
-use Rattle.std.proofs.Common.{◌≡◌, ◌++◌, [], Option, Some, Ok, Err, ◌⊎◌, inl, inr, refl, sym, subst, append_assoc, append-nil, option_map, Result, true}
+use Rattle.std.proofs.Common.{◌≡◌, ◌++◌, [], Option, Some, Ok, Err, ◌⊎◌, inl, inr, refl, sym, subst, append_assoc, append-nil, option_map, Result, Bool, true, false, if◌then◌else◌}
 use Rattle.std.specs.Option.{option_map_or}
 use Rattle.std.specs.Result.{IsErrAnd}
 use Rattle.std.proofs.lemmas.Result.{err_from_is_err_and}
@@ -17,7 +17,7 @@ use Rattle.dav_parts.specs.Dialogue.{Refuses, EndsIn, Judges}
 use Rattle.dav_parts.specs.Reply.{Answer, answer_of}
 use Rattle.dav_engine.specs.State.{State, Seen, state_of, facts_of}
 use Rattle.dav_engine.specs.Mkcol.{MkcolWork, MkcolCut}
-use Rattle.dav_engine.specs.Put.{PutWork, PutCut}
+use Rattle.dav_engine.specs.Put.{put_rules, PutWork, PutCut}
 use Rattle.dav_engine.specs.Methods.{IsServed, rules_of, Work, WorkCut}
 use Rattle.dav_engine.specs.Step.{Serves, Works, WorksOnStore, Step, Refused, Done, CutShort, CutInWork}
 use Rattle.dav_engine.proofs.Guarding.{guarded_same, guarded_work}
@@ -64,7 +64,7 @@ module _ (method : Option DavMethod) (request : DavRequest) (locks : Option Lock
         guarded = guarded_work method request found _ _ h.records works.records answer h.ends done;
       }
     where
-      step : Work method request found (state_of (over old locks)) works.records answer (state_of new) ⊎ ((answer ≡ Err Memory) × WorkCut method request (state_of (over old locks)) works.records (state_of new))
+      step : Work method request found (state_of (over old locks)) works.records answer (state_of new) ⊎ ((answer ≡ Err Memory) × WorkCut method request found (state_of (over old locks)) works.records (state_of new))
           → Step method request (state_of (over old locks)) (h.records ++ works.records) answer (state_of new)
       step (inl work) = Done (record { head = h.records; rest = works.records; cut = refl; found = found; passed = h.ends; work = work })
       step (inr cut) = CutInWork (record { head = h.records; rest = works.records; cut = refl; found = found; passed = h.ends; told = cut.0; work = cut.1 })
@@ -84,20 +84,20 @@ pub serves_as : (read method : Option DavMethod) (old : Seen) (request : DavRequ
 serves_as read method old request answer new is served = subst (λ m. Serves m old request answer new) is served
 
 -- the methods that aren't served
-pub unserved : (request : DavRequest) (method : DavMethod) → ((method ≡ MkCol) → ⊥) → ((method ≡ Put) → ⊥) → ((method ≡ Delete) → ⊥) → (state : State) → rules_of (Some method) request state ≡ Refuses (Status 501)
-unserved request Head a b d state = refl
-unserved request Get a b d state = refl
-unserved request Put a b d state = absurd (b refl)
-unserved request Patch a b d state = refl
-unserved request Options a b d state = refl
-unserved request PropFind a b d state = refl
-unserved request PropPatch a b d state = refl
-unserved request MkCol a b d state = absurd (a refl)
-unserved request Copy a b d state = refl
-unserved request Move a b d state = refl
-unserved request Delete a b d state = absurd (d refl)
-unserved request Lock a b d state = refl
-unserved request Unlock a b d state = refl
+pub unserved : (request : DavRequest) (method : DavMethod) → ((method ≡ MkCol) → ⊥) → ((method ≡ Put) → ⊥) → ((method ≡ Patch) → ⊥) → ((method ≡ Delete) → ⊥) → (state : State) → rules_of (Some method) request state ≡ Refuses (Status 501)
+unserved request Head a b p d state = refl
+unserved request Get a b p d state = refl
+unserved request Put a b p d state = absurd (b refl)
+unserved request Patch a b p d state = absurd (p refl)
+unserved request Options a b p d state = refl
+unserved request PropFind a b p d state = refl
+unserved request PropPatch a b p d state = refl
+unserved request MkCol a b p d state = absurd (a refl)
+unserved request Copy a b p d state = refl
+unserved request Move a b p d state = refl
+unserved request Delete a b p d state = absurd (d refl)
+unserved request Lock a b p d state = refl
+unserved request Unlock a b p d state = refl
 
 -- ---- work that knows the store alone
 
@@ -105,14 +105,33 @@ pub works_mkcol : (request : DavRequest) (found : Option Meta) (locks : Option L
 works_mkcol request found locks old new answer h = record { records = h.records; told = h.told; fixed = same_facts locks old new h.fixed; done = done h.done }
   where
     done : MkcolWork request old.contents h.records answer new.contents ⊎ ((answer ≡ Err Memory) × MkcolCut old.contents h.records new.contents)
-        → Work (Some MkCol) request found (state_of (over old locks)) h.records answer (state_of (over new locks)) ⊎ ((answer ≡ Err Memory) × WorkCut (Some MkCol) request (state_of (over old locks)) h.records (state_of (over new locks)))
+        → Work (Some MkCol) request found (state_of (over old locks)) h.records answer (state_of (over new locks)) ⊎ ((answer ≡ Err Memory) × WorkCut (Some MkCol) request found (state_of (over old locks)) h.records (state_of (over new locks)))
     done (inl work) = inl (work, refl)
     done (inr cut) = inr (cut.0, (cut.1, refl))
 
-pub works_put : (request : DavRequest) (found : Option Meta) (locks : Option Locks) (old new : Store) (answer : Answer) → WorksOnStore (PutWork request found) (PutCut request) old answer new → Works (Some Put) request found (over old locks) answer (over new locks)
+pub works_put : (request : DavRequest) (found : Option Meta) (locks : Option Locks) (old new : Store) (answer : Answer) → WorksOnStore (PutWork false request found) (PutCut false request found) old answer new → Works (Some Put) request found (over old locks) answer (over new locks)
 works_put request found locks old new answer h = record { records = h.records; told = h.told; fixed = same_facts locks old new h.fixed; done = done h.done }
   where
-    done : PutWork request found old.contents h.records answer new.contents ⊎ ((answer ≡ Err Memory) × PutCut request old.contents h.records new.contents)
-        → Work (Some Put) request found (state_of (over old locks)) h.records answer (state_of (over new locks)) ⊎ ((answer ≡ Err Memory) × WorkCut (Some Put) request (state_of (over old locks)) h.records (state_of (over new locks)))
+    done : PutWork false request found old.contents h.records answer new.contents ⊎ ((answer ≡ Err Memory) × PutCut false request found old.contents h.records new.contents)
+        → Work (Some Put) request found (state_of (over old locks)) h.records answer (state_of (over new locks)) ⊎ ((answer ≡ Err Memory) × WorkCut (Some Put) request found (state_of (over old locks)) h.records (state_of (over new locks)))
     done (inl work) = inl (work, refl)
     done (inr cut) = inr (cut.0, (cut.1, refl))
+
+pub works_patch : (request : DavRequest) (found : Option Meta) (locks : Option Locks) (old new : Store) (answer : Answer) → WorksOnStore (PutWork true request found) (PutCut true request found) old answer new → Works (Some Patch) request found (over old locks) answer (over new locks)
+works_patch request found locks old new answer h = record { records = h.records; told = h.told; fixed = same_facts locks old new h.fixed; done = done h.done }
+  where
+    done : PutWork true request found old.contents h.records answer new.contents ⊎ ((answer ≡ Err Memory) × PutCut true request found old.contents h.records new.contents)
+        → Work (Some Patch) request found (state_of (over old locks)) h.records answer (state_of (over new locks)) ⊎ ((answer ≡ Err Memory) × WorkCut (Some Patch) request found (state_of (over old locks)) h.records (state_of (over new locks)))
+    done (inl work) = inl (work, refl)
+    done (inr cut) = inr (cut.0, (cut.1, refl))
+
+-- the rules of a PUT or a PATCH, and its work, as the method that it is
+pub serves_put : (partial : Bool) (request : DavRequest) (locks : Option Locks) (found : Option Meta) (old mid new : Store) (answer : Answer) → Judges (put_rules partial request (state_of (over old locks))) old (Ok found) mid
+    → WorksOnStore (PutWork partial request found) (PutCut partial request found) mid answer new → Serves (Some (if partial then Patch else Put)) (over old locks) request answer (over new locks)
+serves_put true request locks found old mid new answer judged work = serves_work (Some Patch) request locks found old mid (over new locks) answer judged (works_patch request found locks mid new answer work)
+serves_put false request locks found old mid new answer judged work = serves_work (Some Put) request locks found old mid (over new locks) answer judged (works_put request found locks mid new answer work)
+
+pub serves_put_exit : (partial : Bool) (request : DavRequest) (locks : Option Locks) (old new : Store) (e : DavError) (result : Result (Response Body) DavError) → IsErrAnd result (λ d. d ≡ e)
+    → Judges (put_rules partial request (state_of (over old locks))) old (Err e) new → Serves (Some (if partial then Patch else Put)) (over old locks) request (answer_of result) (over new locks)
+serves_put_exit true request locks old new e result exit judged = serves_exit (Some Patch) request locks tt old new e result exit judged
+serves_put_exit false request locks old new e result exit judged = serves_exit (Some Put) request locks tt old new e result exit judged

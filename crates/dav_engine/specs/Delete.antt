@@ -61,7 +61,6 @@ pub record DeleteWork (request : DavRequest) (found : Option Meta) (old : State)
   pub answered : answer ≡ multi_answer (fixed_path request.path found) (told_items (fixed_path request.path found) names)
 
 -- memory ran out on the way: what was removed stays so, and no lock is dropped before all is gone
-pub record DeleteCut (request : DavRequest) (old : State) (records : List Logged) (new : State) : Type 0 where
-  pub found : Option Meta
+pub record DeleteCut (request : DavRequest) (found : Option Meta) (old : State) (records : List Logged) (new : State) : Type 0 where
   pub removed : RemovesInPart (delete_depth request) (fixed_path request.path found) old.contents new.contents records
   pub locks : LocksStay old new ⊎ (Removes (delete_depth request) (fixed_path request.path found) old.contents new.contents records [] × DropsLocks request.path.key old new)

@@ -10,3 +10,4 @@ pub mod State
 pub mod Answered
 pub mod Rules
 pub mod Guarded
+pub mod Target

@@ -48,7 +48,7 @@ module _ (method : Option DavMethod) (request : DavRequest) (old : State) (recor
     pub found : Option Meta
     pub passed : LeadsTo (rules_of method request old) head (Passed found)
     pub told : answer ≡ Err Memory
-    pub work : WorkCut method request old rest new
+    pub work : WorkCut method request found old rest new
 
   -- from old, the engine may give this answer over these records, and go on to new
   pub data Step : Type 0 where
@@ -70,7 +70,7 @@ pub record Works (method : Option DavMethod) (request : DavRequest) (found : Opt
   pub records : List Logged
   pub told : new.store.log ≡ old.store.log ++ records
   pub fixed : facts_of new ≡ facts_of old
-  pub done : Work method request found (state_of old) records answer (state_of new) ⊎ ((answer ≡ Err Memory) × WorkCut method request (state_of old) records (state_of new))
+  pub done : Work method request found (state_of old) records answer (state_of new) ⊎ ((answer ≡ Err Memory) × WorkCut method request found (state_of old) records (state_of new))
 
 -- the same of work that knows the store alone
 pub record WorksOnStore (Done : Contents → List Logged → Answer → Contents → Type 0) (Cut : Contents → List Logged → Contents → Type 0) (old : Store) (answer : Answer) (new : Store) : Type 0 where

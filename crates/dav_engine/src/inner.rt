@@ -2,8 +2,9 @@
 ghost use Rattle.std.specs.Prelude.{◌≡◌, OnErr, option_map, string_bytes};
 ghost use Rattle.dav_engine.specs.DavInner.{lent, lent_locks, loans, settings};
 ghost use Rattle.dav_parts.specs.Dialogue.{Judges, look as look_of};
+ghost use Rattle.dav_engine.specs.Rules.{look_closely as close_look_of};
 
-use dav_resource::{DavError, DavPath, DavResult, FsError, Meta};
+use dav_resource::{DavError, DavPath, DavResult, FsError, FsResult, Meta};
 use dav_store::{DavLockSystem, GuardedFileSystem};
 
 /// An engine that serves requests over a store and, where there is one, a lock system that it borrows.
@@ -49,10 +50,20 @@ impl<'a, C: Drop, F: GuardedFileSystem<C>, L: DavLockSystem> DavInner<'a, C, F, 
         ensures rules { Judges (look_of (F.seen (lent self.old)).contents path.now.key) (F.seen (lent self.old)) result (F.seen (lent self.new)) }
         ensures memory { OnErr result (F.seen (lent self.new) ≡ F.seen (lent self.old)) }
     {
+        Ok(self.look_closely(path)?.ok())
+    }
+
+    /// Looks at a path, and tells a refusal too.
+    pub(crate) fn look_closely(&mut self, path: &DavPath) -> DavResult<FsResult<Meta>>
+        ensures same_loans { loans self.new ≡ loans self.old }
+        ensures same_settings { settings self.new ≡ settings self.old }
+        ensures same_locks { lent_locks self.new ≡ lent_locks self.old }
+        ensures rules { Judges (close_look_of (F.seen (lent self.old)).contents path.now.key) (F.seen (lent self.old)) result (F.seen (lent self.new)) }
+        ensures memory { OnErr result (F.seen (lent self.new) ≡ F.seen (lent self.old)) }
+    {
         match self.fs.metadata(path, &self.credentials) {
-            Ok(meta) => Ok(Some(meta)),
             Err(FsError::Memory) => Err(DavError::Memory),
-            Err(_) => Ok(None),
+            looked => Ok(looked),
         }
     }
 }

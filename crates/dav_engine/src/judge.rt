@@ -5,7 +5,7 @@ ghost use Rattle.dav_parts.specs.Dialogue.{Judges, told_by};
 ghost use Rattle.dav_parts.specs.Conditions.{conditions as conditions_of, submitted_tokens};
 ghost use Rattle.dav_engine.specs.DavInner.{lent, lent_locks, loans, settings, seen_by};
 ghost use Rattle.dav_engine.specs.State.{state_of};
-ghost use Rattle.dav_engine.specs.Rules.{permits_by, shallow_rules, closing as closing_error};
+ghost use Rattle.dav_engine.specs.Rules.{permits_by, path_rules, shallow_rules, closing as closing_error};
 
 use crate::DavInner;
 use dav_parts::if_match_get_tokens;
@@ -23,6 +23,21 @@ impl<'a, C: Drop, F: GuardedFileSystem<C>, L: DavLockSystem> DavInner<'a, C, F, 
         ensures rules { Judges (shallow_rules request.entry.now (state_of (seen_by F.seen L.seen self.old))) (F.seen (lent self.old)) result (F.seen (lent self.new)) }
     {
         let found = self.look(&request.path)?;
+        self.judge_path(request, found)
+    }
+
+    /// The conditions, and the locks of the path. What was found passes.
+    pub(crate) fn judge_path(
+        &mut self,
+        request: &DavRequest,
+        found: Option<Meta>,
+    ) -> DavResult<Option<Meta>>
+        ensures same_loans { loans self.new ≡ loans self.old }
+        ensures same_settings { settings self.new ≡ settings self.old }
+        ensures same_locks { lent_locks self.new ≡ lent_locks self.old }
+        ensures found { IfOk result (λ passed. passed ≡ found) }
+        ensures rules { Judges (path_rules request.entry.now (state_of (seen_by F.seen L.seen self.old)) found) (F.seen (lent self.old)) result (F.seen (lent self.new)) }
+    {
         let tokens = self.judge_conditions(request, found.as_ref())?;
         let permitted = self.is_permitted(request, tokens.as_slice(), &request.path, false);
         where_permitted(permitted, found)

@@ -9,10 +9,12 @@ mod machine;
 mod mkcol;
 mod put;
 mod put_reply;
+mod target;
 
 pub use dav_headers::{
-    IfCondition, IfItem, IfList, read_depth, read_if, read_if_match, read_if_none_match,
-    read_place, read_tagged_path,
+    ContentRange, IfCondition, IfItem, IfList, UpdateRange, read_checksum, read_content_length,
+    read_content_range, read_content_type, read_depth, read_expected_entity_length, read_if,
+    read_if_match, read_if_none_match, read_place, read_tagged_path, read_update_range,
 };
 pub use dav_parts::{
     MultiError, dav_if_match, etaglist_match, http_if_match, if_match, if_match_get_tokens,

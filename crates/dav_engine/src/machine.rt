@@ -23,7 +23,7 @@ impl<'a, C: Drop, F: GuardedFileSystem<C>, L: DavLockSystem> DavInner<'a, C, F, 
         };
         match method {
             DavMethod::MkCol => self.handle_mkcol(request),
-            DavMethod::Put => self.handle_put(request),
+            DavMethod::Put | DavMethod::Patch => self.handle_put(request),
             DavMethod::Delete => self.handle_delete(request),
             _ => Err(DavError::Status(StatusCode::NOT_IMPLEMENTED)),
         }

@@ -1,10 +1,16 @@
-use Rattle.std.proofs.Common.{Some}
-use Rattle.dav_resource.specs.declared.method.DavMethod.TheVariants.{Put}
-use Rattle.dav_engine.proofs.Serving.{serves_work, works_put}
+use Rattle.std.proofs.Common.{◌∙◌, ap}
+use Rattle.dav_engine.specs.Put.{is_patch}
+use Rattle.dav_engine.proofs.Serving.{serves_put, serves_put_exit}
 use Rattle.dav_engine.proofs.inner.DavInner.handle_put.Goals as goal
+
+pub returns-in_err-found-clause-step : goal.returns-in_err-found-clause-step
+returns-in_err-found-clause-step g c =
+    let judged = c.in_err-found.ensures in
+    let read = c.is_patch-partial.ensures ∙ ap is_patch c.from_method.ensures in
+    rw (← read, judged.same_locks) (serves_put_exit _ c.args.request.now _ _ _ _ _ c.from_residual.ensures.1 judged.rules)
 
 pub returns-clause-step : goal.returns-clause-step
 returns-clause-step g c =
-    let request = c.args.request.now in
     let judged = c.in_ok-found.ensures in
-    rw (c.write_file.ensures.same_locks, judged.same_locks) (serves_work (Some Put) request _ _ _ _ _ _ judged.rules (works_put request _ _ _ _ _ c.write_file.ensures.work))
+    let read = c.is_patch-partial.ensures ∙ ap is_patch c.from_method.ensures in
+    rw (← read, c.write_file.ensures.same_locks, judged.same_locks) (serves_put _ c.args.request.now _ _ _ _ _ _ judged.rules c.write_file.ensures.work)
