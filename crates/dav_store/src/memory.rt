@@ -38,6 +38,7 @@ pub struct MemFs {
 }
 
 impl MemFs {
+    ghost use Rattle.std.specs.Prelude.{◌≢◌};
     ghost use Rattle.dav_store.specs.MemFs.{memory_of, store_of, records_of};
     ghost use Rattle.dav_store.specs.Memory.{first_memory};
 
@@ -190,6 +191,7 @@ impl MemFs {
     /// Takes a file out.
     fn take_file(&mut self, path: &DavPath) -> FsResult<()>
         ensures log { self.new.log ≡ self.old.log }
+        ensures memory { result ≢ Err FsError.Memory }
         ensures removed { Gives (remove_file_error path.now.key (memory_of self.old)) (without path.now.key) (memory_of self.old) result (memory_of self.new) }
     {
         let Some(entry) = find(&self.entries, path.segments()) else {
@@ -205,6 +207,7 @@ impl MemFs {
     /// Takes a directory out that has no members.
     fn take_directory(&mut self, path: &DavPath) -> FsResult<()>
         ensures log { self.new.log ≡ self.old.log }
+        ensures memory { result ≢ Err FsError.Memory }
         ensures removed { Gives (remove_dir_error path.now.key (memory_of self.old)) (without path.now.key) (memory_of self.old) result (memory_of self.new) }
     {
         let Some(entry) = find(&self.entries, path.segments()) else {
