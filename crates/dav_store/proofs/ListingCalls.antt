@@ -1,5 +1,5 @@
 -- Listings of a store that refuses by plan.
-use Rattle.std.proofs.Common.{◌≡◌, ◌∙◌, ℕ, Option, Some, None, Result, Ok, Err, Vec, refl, sym, ap, subst, inl, inr, List, [], ◌∷◌, ◌++◌, ◌+◌, ◌-◌, All, map, filter_map, length, take, drop, suc, zero, arith, length-append}
+use Rattle.std.proofs.Common.{◌≡◌, ◌≢◌, ◌∙◌, ℕ, Option, Some, None, Result, Ok, Err, Vec, refl, sym, ap, subst, ◌⊎◌, inl, inr, List, [], ◌∷◌, ◌++◌, ◌+◌, ◌-◌, All, map, filter_map, length, take, drop, suc, zero, arith, length-append}
 use Rattle.std.specs.declared.alloc.Global.{Global}
 use Rattle.std.proofs.lemmas.List.{map-append, drop_at, append_assoc, take_all, length-drop}
 use Rattle.std.specs.FinMap.{get}
@@ -7,7 +7,7 @@ use Rattle.dav_resource.specs.Key.{Key}
 use Rattle.dav_resource.specs.PathText.{PathValue}
 use Rattle.dav_resource.specs.declared.meta.DirEntry.{DirEntry}
 use Rattle.dav_resource.specs.declared.record.Op.TheVariants.{ReadDir, Entry}
-use Rattle.dav_resource.specs.declared.record.Outcome.TheVariants.{Granted}
+use Rattle.dav_resource.specs.declared.record.Outcome.TheVariants.{Granted, Refused}
 use Rattle.dav_resource.specs.declared.record.Record.{Record}
 use Rattle.dav_resource.specs.declared.error.FsError.{FsError}
 use Rattle.dav_resource.specs.declared.error.FsError.TheVariants.{Memory}
@@ -17,11 +17,11 @@ use Rattle.dav_store.specs.Calls.{IsOwn}
 use Rattle.dav_store.specs.Members.{Child, IsIn, AreChildren, IsShownAs, Lists, ReadsDir, member, names_of, read_dir_bar, unseen_record}
 use Rattle.dav_store.specs.MemoryCalls.{record_on}
 use Rattle.dav_store.specs.Plans as plans
-use Rattle.dav_store.specs.Plans.{Planned, is_for, refusal_for, without_first, shown_as, shown_by, IsNamed, IsListingOf, IsLetBy}
-use Rattle.dav_store.specs.Refusing.{inner_of, plan_of, records_of, seen_behind, IsKept, Passes, GoesByPlan, FollowsPlan, Follows, PassesListing, PassesReadDir}
+use Rattle.dav_store.specs.Plans.{Planned, is_for, refusal_for, without_first, shown_as, shown_by, refused_record, told_by, IsNamed, IsListingOf, IsLetBy}
+use Rattle.dav_store.specs.Refusing.{inner_of, plan_of, records_of, seen_behind, IsKept, Passes, GoesByPlan, Follows, PassesListing, PassesReadDir, HasListed, KeepsReading, FollowsReading}
 use Rattle.dav_store.specs.declared.refusing.Refusing.{Refusing}
 use Rattle.dav_store.specs.declared.refusing.plan.Refusal.{Refusal}
-use Rattle.dav_store.proofs.Refusals.{CallBehind, AllOwn, own_first, own_without, own_plan, lawful}
+use Rattle.dav_store.proofs.Refusals.{CallBehind, AllOwn, own_first, own_without, own_plan, looks_kept, lawful}
 
 abbrev pub Listing : Type 0
 Listing = Vec (Result DirEntry FsError) Global
@@ -52,6 +52,23 @@ named old directory (name, Err e) is = tt
 
 -- ---- the records of members that the store behind doesn't show
 
+-- the keys of the records are those of the members that aren't shown
+told-keys : (plan : List Planned) (directory : PathValue) (children : List Child) (hidden : List Record) → map logged_of hidden ≡ filter_map (unseen_record directory.key) children
+    → map logged_of (told_by plan directory children hidden) ≡ filter_map (unseen_record directory.key) (shown_by plan directory.key children)
+told-keys plan directory [] hidden are = refl
+told-keys plan directory ((name, Ok entry) ∷ children) hidden are =
+    by_error (refusal_for Entry (member directory.key name) plan) _ (shown_by (without_first Entry (member directory.key name) plan) directory.key children) (told-keys (without_first Entry (member directory.key name) plan) directory children hidden are)
+  where
+    by_error : (o : Option FsError) (told : List Record) (shown : List Child) → map logged_of told ≡ filter_map (unseen_record directory.key) shown
+        → map logged_of (refused_record directory name o ++ told) ≡ filter_map (unseen_record directory.key) ((name, shown_as o entry) ∷ shown)
+    by_error None told shown is = is
+    by_error (Some e) told shown is = ap (λ l. logged Entry (member directory.key name ∷ []) (Refused e) ∷ l) is
+told-keys plan directory ((name, Err e) ∷ children) [] are = absurd cc
+told-keys plan directory ((name, Err e) ∷ children) (r ∷ hidden) are =
+    let first : logged_of r ≡ logged Entry (member directory.key name ∷ []) (Refused e) = cc in
+    let more : map logged_of hidden ≡ filter_map (unseen_record directory.key) children = cc in
+    λ i. first i ∷ told-keys plan directory children hidden more i
+
 map-drop : (n : ℕ) (xs : List Record) → map logged_of (drop n xs) ≡ drop n (map logged_of xs)
 map-drop zero xs = refl
 map-drop (suc n) [] = refl
@@ -70,6 +87,9 @@ hidden_are before after hidden old_log new_log r others b a told is =
     ∙ drop_at (map logged_of before ++ r ∷ []) others (length before + 1) count
 
 module _ {F : Type 0} (see : F → Store) (path : PathValue) where
+  abbrev pub HadMemory : Result Listing FsError → Type 0
+  HadMemory answer = answer ≢ Err Memory
+
   -- ---- a listing that is declined
 
   abbrev pub NoEffect : Listing → Contents → Contents → Type 0
@@ -81,28 +101,36 @@ module _ {F : Type 0} (see : F → Store) (path : PathValue) where
   pub declined : (old new : Store) (e : FsError) → CallBehind {A = Listing} ReadDir path.key bar_of NoEffect old (Err e) new → ReadsDir old path.key (Err e) new
   declined old new e h = record { granted = tt; declined = h.declined }
 
-  pub as_listing : (old new : Refusing F) (e : FsError) → Follows see ReadDir path (CallBehind ReadDir path.key bar_of NoEffect) old (Err e) new → FollowsPlan see ReadDir path (PassesReadDir see path) old (Err e) new
-  as_listing old new e (inl h) = inl h
+  pub as_listing : (old new : Refusing F) (e : FsError) → Follows see ReadDir path (CallBehind ReadDir path.key bar_of NoEffect) old (Err e) new → FollowsReading see path old (Err e) new
+  as_listing old new e (inl h) = inl (h.0, record { inner = inl h.1.inner; plan = h.1.plan; records = h.1.records })
   as_listing old new e (inr h) = inr (h.0, by_plan (refusal_for ReadDir path.key (plan_of old)) h.1)
     where
       by_plan : (r : Option FsError) → GoesByPlan ReadDir path (Passes see ReadDir path (CallBehind ReadDir path.key bar_of NoEffect)) r old (Err e) new → GoesByPlan ReadDir path (PassesReadDir see path) r old (Err e) new
       by_plan (Some e') h = h
       by_plan None h = record { behind = declined _ _ e h.behind; plan = h.plan; outcome = h.outcome; told = h.told; records = h.records }
 
-  as_call : (old new : Refusing F) (e : FsError) → FollowsPlan see ReadDir path (PassesReadDir see path) old (Err e) new → Follows see ReadDir path (CallBehind ReadDir path.key bar_of NoEffect) old (Err e) new
-  as_call old new e (inl h) = inl h
-  as_call old new e (inr h) = inr (h.0, by_plan (refusal_for ReadDir path.key (plan_of old)) h.1)
+  as_call : (old new : Refusing F) (e : FsError) → HadMemory (Err e) → GoesByPlan ReadDir path (PassesReadDir see path) (refusal_for ReadDir path.key (plan_of old)) old (Err e) new → Follows see ReadDir path (CallBehind ReadDir path.key bar_of NoEffect) old (Err e) new
+  as_call old new e not_memory goes = inr (not_memory, by_plan (refusal_for ReadDir path.key (plan_of old)) goes)
     where
       by_plan : (r : Option FsError) → GoesByPlan ReadDir path (PassesReadDir see path) r old (Err e) new → GoesByPlan ReadDir path (Passes see ReadDir path (CallBehind ReadDir path.key bar_of NoEffect)) r old (Err e) new
       by_plan (Some e') h = h
       by_plan None h = record { behind = record { granted = tt; declined = h.behind.declined }; plan = h.plan; outcome = h.outcome; told = h.told; records = h.records }
+
+  -- ---- a listing without memory
+
+  reading_kept : (old new : Refusing F) → KeepsReading see path old new → seen_behind see new ≡ seen_behind see old
+  reading_kept old new kept = by_inner kept.inner
+    where
+      by_inner : (see (inner_of new) ≡ see (inner_of old)) ⊎ HasListed see path old new → seen_behind see new ≡ seen_behind see old
+      by_inner (inl same) = looks_kept see old new same kept.records
+      by_inner (inr h) = λ i. record { contents = h.behind.same i; keeps_properties = h.behind.fixed i; log = map logged_of (kept.records i) }
 
   -- ---- a listing that is granted
 
   pub lists : (old begun ended : Refusing F) (called : F) (paths : List PathValue) (listed shown : List (Result DirEntry FsError)) (before after hidden unseen : List Record) (left : List Refusal)
       → paths ≡ path ∷ [] → IsKept old begun → Lists path.key (see (inner_of begun)) listed (see called)
       → map logged_of before ≡ (see (inner_of begun)).log → map logged_of after ≡ (see called).log → hidden ≡ take (length after - (length before + 1)) (drop (length before + 1) after)
-      → ((children : List Child) → IsListingOf path.key children listed (map logged_of hidden) → IsLetBy (plan_of begun) path.key children shown (map logged_of unseen) (plans.plan_of left))
+      → ((children : List Child) → IsListingOf path.key children listed hidden → IsLetBy (plan_of begun) path children hidden shown unseen (plans.plan_of left))
       → inner_of ended ≡ called → plan_of ended ≡ plans.plan_of left → records_of ended ≡ records_of begun ++ record_on ReadDir paths Granted ∷ unseen
       → PassesListing see path old shown ended
   lists old begun ended called paths listed shown before after hidden unseen left ps kept g b a hidden_is lets inner plan records =
@@ -123,9 +151,9 @@ module _ {F : Type 0} (see : F → Store) (path : PathValue) where
         };
         shown = let_by.shown ∙ ap (λ p. map (λ c. c.1) (shown_by p path.key g.children)) kept.plan;
         plan = plan ∙ let_by.left_is ∙ ap (λ p. plans.left_by p path.key g.children) kept.plan;
-        unseen = unseen;
-        told = let_by.told ∙ ap (λ p. filter_map (unseen_record path.key) (shown_by p path.key g.children)) kept.plan;
-        records = records ∙ (λ i. kept.records i ++ record_on ReadDir (ps i) Granted ∷ unseen);
+        hidden = hidden;
+        told = hide;
+        records = records ∙ (λ i. kept.records i ++ record_on ReadDir (ps i) Granted ∷ let_by.told i) ∙ ap (λ p. records_of old ++ record_on ReadDir (path ∷ []) Granted ∷ told_by p path g.children hidden) kept.plan;
       }
 
   pub lawful_listing : (old new : Refusing F) (shown : List (Result DirEntry FsError)) → All (λ r. IsOwn r.error) old.plan.refusals.items → PassesListing see path old shown new → Lists path.key (seen_behind see old) shown (seen_behind see new)
@@ -138,20 +166,22 @@ module _ {F : Type 0} (see : F → Store) (path : PathValue) where
     };
     listed = h.shown;
     same = h.behind.same;
-    told = ap (map logged_of) h.records ∙ map-append logged_of (records_of old) (record_on ReadDir (path ∷ []) Granted ∷ h.unseen) ∙ ap (λ l. map logged_of (records_of old) ++ logged ReadDir (path.key ∷ []) Granted ∷ l) h.told;
+    told = ap (map logged_of) h.records ∙ map-append logged_of (records_of old) (record_on ReadDir (path ∷ []) Granted ∷ told_by (plan_of old) path h.behind.children h.hidden)
+        ∙ ap (λ l. map logged_of (records_of old) ++ logged ReadDir (path.key ∷ []) Granted ∷ l) (told-keys (plan_of old) path h.behind.children h.hidden h.told);
     fixed = h.behind.fixed;
   }
 
   pub follows_listing : (old new : Refusing F) (listing : Listing) (shown : List (Result DirEntry FsError)) → refusal_for ReadDir path.key (plan_of old) ≡ None → listing.items ≡ shown → PassesListing see path old shown new
-      → FollowsPlan see ReadDir path (PassesReadDir see path) old (Ok listing) new
+      → FollowsReading see path old (Ok listing) new
   follows_listing old new listing shown free is h =
       inr ((λ e. absurd cc), subst (λ r. GoesByPlan ReadDir path (PassesReadDir see path) r old (Ok listing) new) (sym free) (subst (λ l. PassesListing see path old l new) (sym is) h))
 
   -- ---- and that is lawful
 
-  pub lawful_reading : (old new : Refusing F) (answer : Result Listing FsError) → All (λ r. IsOwn r.error) old.plan.refusals.items → FollowsPlan see ReadDir path (PassesReadDir see path) old answer new
+  pub lawful_reading : (old new : Refusing F) (answer : Result Listing FsError) → All (λ r. IsOwn r.error) old.plan.refusals.items → FollowsReading see path old answer new
       → ReadsDir (seen_behind see old) path.key answer (seen_behind see new)
-  lawful_reading old new (Err e) own h = declined (seen_behind see old) (seen_behind see new) e (lawful see ReadDir path bar_of NoEffect old new (Err e) own (as_call old new e h))
+  lawful_reading old new (Err e) own (inl h) = record { granted = tt; declined = inl ((let same : e ≡ Memory = (let both = h.0 in cc) in same), reading_kept old new h.1) }
+  lawful_reading old new (Err e) own (inr h) = declined (seen_behind see old) (seen_behind see new) e (lawful see ReadDir path bar_of NoEffect old new (Err e) own (as_call old new e h.0 h.1))
   lawful_reading old new (Ok listing) own (inl h) = absurd (let no : Ok listing ≡ Err Memory = h.0 in cc)
   lawful_reading old new (Ok listing) own (inr h) = by_plan (refusal_for ReadDir path.key (plan_of old)) h.1
     where

@@ -69,6 +69,10 @@ own_without op key [] own = tt
 own_without op key (p ∷ plan) own =
     elim (is_for op key p) as (λ b. AllOwn (cond b plan (p ∷ without_first op key plan))) [ true ↦ own.1 | false ↦ (own.0, own_without op key plan own.1) ]
 
+-- where nothing behind changes, and no record is added, nothing changes that is seen
+pub looks_kept : {F : Type 0} (see : F → Store) (old new : Refusing F) → see (inner_of new) ≡ see (inner_of old) → records_of new ≡ records_of old → seen_behind see new ≡ seen_behind see old
+looks_kept see old new inner records = λ i. record (inner i) { log = map logged_of (records i) }
+
 -- ---- a call of the store behind
 
 abbrev pub CallBehind : {A : Type 0} → Op → Key → (Contents → Option FsError) → (A → Contents → Contents → Type 0) → Store → Result A FsError → Store → Type 0
@@ -104,11 +108,7 @@ module _ {F : Type 0} (see : F → Store) (op : Op) (path : PathValue) {A : Type
       by_cause : ((e ≡ Memory) × (see (inner_of new) ≡ see (inner_of old))) ⊎ Declines (record { op = op; keys = path.key ∷ []; bar = bar (see (inner_of old)).contents }) e (see (inner_of old)) (see (inner_of new)) → Follows see op path Behind old (Err e) new
       by_cause (inl (m, same)) = inl (
         ap Err m,
-        record {
-          seen = λ i. record (same i) { log = map logged_of (memory (ap Err m) i) };
-          plan = plan;
-          records = memory (ap Err m);
-        },
+        record { inner = same; plan = plan; records = memory (ap Err m) },
       )
       by_cause (inr d) = goes_on old new outcome d.outcome (Err e) free behind plan is d.told records (λ m. d.not_memory (let same : e ≡ Memory = cc in same))
 
@@ -132,7 +132,7 @@ module _ {F : Type 0} (see : F → Store) (op : Op) (path : PathValue) {A : Type
 
   pub lawful : (old new : Refusing F) (answer : Result A FsError) → All (λ r. IsOwn r.error) old.plan.refusals.items → Follows see op path Behind old answer new
       → Behind (seen_behind see old) answer (seen_behind see new)
-  lawful old new answer own (inl (m, kept)) = subst (λ r. Behind (seen_behind see old) r (seen_behind see new)) (sym m) (record { granted = tt; declined = inl (refl, kept.seen) })
+  lawful old new answer own (inl (m, kept)) = subst (λ r. Behind (seen_behind see old) r (seen_behind see new)) (sym m) (record { granted = tt; declined = inl (refl, looks_kept see old new kept.inner kept.records) })
   lawful old new answer own (inr (not_memory, goes)) = by_plan (refusal_for op path.key (plan_of old)) refl goes
     where
       refused : (e : FsError) → IsOwn e → Refuses op path e old new → Behind (seen_behind see old) (Err e) (seen_behind see new)

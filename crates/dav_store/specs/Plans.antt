@@ -1,14 +1,18 @@
 -- Plans of refusals, and what a listing of members becomes by one: this project's own choice.
-use Rattle.std.specs.Prelude.{◌≡◌, ℕ, nat_eq, Bool, ◌&&◌, if◌then◌else◌, List, [], ◌∷◌, map, filter_map, All, IfOk, Option, Some, None, Ok, Err, Result}
+use Rattle.std.specs.Prelude.{◌≡◌, ℕ, nat_eq, Bool, ◌&&◌, if◌then◌else◌, List, [], ◌∷◌, ◌++◌, map, filter_map, All, IfOk, Option, Some, None, Ok, Err, Result}
 use Rattle.std.specs.Ordering.{eq_by_cmp}
 use Rattle.dav_resource.specs.Key.{Key, key_cmp}
 use Rattle.dav_resource.specs.declared.meta.DirEntry.{DirEntry}
 use Rattle.dav_resource.specs.declared.record.Op.{Op}
 use Rattle.dav_resource.specs.declared.record.Op.TheVariants.{Metadata, ReadDir, CreateDir, OpenFile, RemoveFile, RemoveDir, Copy, Rename, Seek, WriteBytes, Flush, FileMetadata, GetProp, GetProps, PatchProps, GetQuota, Entry}
+use Rattle.dav_resource.specs.declared.record.Outcome.TheVariants.{Refused}
+use Rattle.dav_resource.specs.declared.record.Record.{Record}
 use Rattle.dav_resource.specs.declared.error.FsError.{FsError}
-use Rattle.dav_resource.specs.PathText.{IsSegment}
-use Rattle.dav_store.specs.Logged.{Logged}
+use Rattle.dav_resource.specs.PathText.{IsSegment, PathValue}
+use Rattle.dav_resource.specs.PathForms.{member_path}
+use Rattle.dav_store.specs.Logged.{logged_of}
 use Rattle.dav_store.specs.Members.{Child, member, IsIn, unseen_record}
+use Rattle.dav_store.specs.MemoryCalls.{record_on}
 use Rattle.dav_store.specs.declared.refusing.plan.Refusal.{Refusal}
 
 -- the place of a kind of call among them all
@@ -84,6 +88,19 @@ left_by plan directory [] = plan
 left_by plan directory ((name, Ok entry) ∷ children) = left_by (without_first Entry (member directory name) plan) directory children
 left_by plan directory ((name, Err e) ∷ children) = left_by plan directory children
 
+-- the record of a member that the plan refuses, by the directory's path with the member's name
+abbrev pub refused_record : PathValue → List ℕ → Option FsError → List Record
+refused_record directory name None = []
+refused_record directory name (Some e) = record_on Entry (member_path directory name ∷ []) (Refused e) ∷ []
+
+-- the records of the members that aren't shown, in the listing's order; a member that isn't shown anyway keeps its record
+abbrev pub told_by : List Planned → PathValue → List Child → List Record → List Record
+told_by plan directory [] hidden = []
+told_by plan directory ((name, Ok entry) ∷ children) hidden =
+    refused_record directory name (refusal_for Entry (member directory.key name) plan) ++ told_by (without_first Entry (member directory.key name) plan) directory children hidden
+told_by plan directory ((name, Err e) ∷ children) [] = []
+told_by plan directory ((name, Err e) ∷ children) (r ∷ hidden) = r ∷ told_by plan directory children hidden
+
 -- the names of the entries may stand in a key
 abbrev pub HaveSegmentNames : List (Result DirEntry FsError) → Type 0
 HaveSegmentNames listing = All (λ shown. IfOk shown (λ entry. IsSegment entry.name)) listing
@@ -96,14 +113,14 @@ IsNamed (name, Err e) = Unit {0}
 abbrev pub AreNamed : List Child → Type 0
 AreNamed children = (c : Child) → IsIn c children → IsNamed c
 
--- the listing shows these members
-pub record IsListingOf (directory : Key) (children : List Child) (listing : List (Result DirEntry FsError)) (unseen : List Logged) : Type 0 where
+-- the listing shows these members, and these are the records of those that it doesn't show
+pub record IsListingOf (directory : Key) (children : List Child) (listing : List (Result DirEntry FsError)) (hidden : List Record) : Type 0 where
   pub named : AreNamed children
   pub listed : listing ≡ map (λ c. c.1) children
-  pub told : unseen ≡ filter_map (unseen_record directory) children
+  pub told : map logged_of hidden ≡ filter_map (unseen_record directory) children
 
--- it shows them as the plan lets them be seen, and this is left of the plan
-pub record IsLetBy (plan : List Planned) (directory : Key) (children : List Child) (listing : List (Result DirEntry FsError)) (unseen : List Logged) (left : List Planned) : Type 0 where
-  pub shown : listing ≡ map (λ c. c.1) (shown_by plan directory children)
-  pub told : unseen ≡ filter_map (unseen_record directory) (shown_by plan directory children)
-  pub left_is : left ≡ left_by plan directory children
+-- it shows them as the plan lets them be seen; these are the records of those that it doesn't show now, and this is left of the plan
+pub record IsLetBy (plan : List Planned) (directory : PathValue) (children : List Child) (hidden : List Record) (listing : List (Result DirEntry FsError)) (unseen : List Record) (left : List Planned) : Type 0 where
+  pub shown : listing ≡ map (λ c. c.1) (shown_by plan directory.key children)
+  pub told : unseen ≡ told_by plan directory children hidden
+  pub left_is : left ≡ left_by plan directory.key children

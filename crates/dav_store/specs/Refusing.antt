@@ -15,7 +15,7 @@ use Rattle.dav_store.specs.Store.{Store}
 use Rattle.dav_store.specs.Members.{Lists, ReadsDir, unseen_record}
 use Rattle.dav_store.specs.MemoryCalls.{record_on}
 use Rattle.dav_store.specs.Plans as plans
-use Rattle.dav_store.specs.Plans.{Planned, refusal_for, without_first, shown_by, left_by}
+use Rattle.dav_store.specs.Plans.{Planned, refusal_for, without_first, shown_by, told_by, left_by}
 use Rattle.dav_store.specs.declared.refusing.Refusing.{Refusing}
 
 -- how the last call ended that the records tell of
@@ -49,9 +49,9 @@ module _ {F : Type 0} where
     pub plan : plan_of new ≡ plan_of old
     pub records : records_of new ≡ records_of old
 
-  -- nothing changes that is seen
+  -- nothing changes that is seen, here or of the store behind it
   pub record LooksKept (see : F → Store) (old new : Refusing F) : Type 0 where
-    pub seen : seen_behind see new ≡ seen_behind see old
+    pub inner : see (inner_of new) ≡ see (inner_of old)
     pub plan : plan_of new ≡ plan_of old
     pub records : records_of new ≡ records_of old
 
@@ -75,28 +75,45 @@ module _ {F : Type 0} where
   GoesByPlan op path Passed (Some e) old answer new = (answer ≡ Err e) × Refuses op path e old new
   GoesByPlan op path Passed None old answer new = Passed old answer new
 
-  -- so it goes, or memory is lacking, and then nothing changes that is seen
-  abbrev pub FollowsPlan : {A : Type 0} → (F → Store) → Op → PathValue → (Refusing F → Result A FsError → Refusing F → Type 0) → Refusing F → Result A FsError → Refusing F → Type 0
-  FollowsPlan see op path Passed old answer new =
-      ((answer ≡ Err Memory) × LooksKept see old new) ⊎ ((answer ≢ Err Memory) × GoesByPlan op path Passed (refusal_for op path.key (plan_of old)) old answer new)
+  -- so it goes, or memory is lacking, and then this much stays as it was
+  abbrev pub FollowsPlan : {A : Type 0} → (Refusing F → Refusing F → Type 0) → Op → PathValue → (Refusing F → Result A FsError → Refusing F → Type 0) → Refusing F → Result A FsError → Refusing F → Type 0
+  FollowsPlan Kept op path Passed old answer new =
+      ((answer ≡ Err Memory) × Kept old new) ⊎ ((answer ≢ Err Memory) × GoesByPlan op path Passed (refusal_for op path.key (plan_of old)) old answer new)
 
-  -- a call that does so of the store behind
+  -- a call that does so of the store behind; without memory nothing changes that is seen
   abbrev pub Follows : {A : Type 0} → (F → Store) → Op → PathValue → (Store → Result A FsError → Store → Type 0) → Refusing F → Result A FsError → Refusing F → Type 0
-  Follows see op path Behind = FollowsPlan see op path (Passes see op path Behind)
+  Follows see op path Behind = FollowsPlan (LooksKept see) op path (Passes see op path Behind)
 
   -- ---- read_dir
 
   -- the listing of the store behind, but for the members for which the plan has a refusal: each is refused with it, and it is
-  -- used up; the records of the members that aren't shown follow that of the call, in the listing's order
+  -- used up; the records of the members that aren't shown follow that of the call, in the listing's order, and those of the
+  -- members that the store behind doesn't show have the keys and outcomes of its own
   pub record PassesListing (see : F → Store) (path : PathValue) (old : Refusing F) (answer : List (Result DirEntry FsError)) (new : Refusing F) : Type 0 where
     pub listed : List (Result DirEntry FsError)
     pub behind : Lists path.key (see (inner_of old)) listed (see (inner_of new))
     pub shown : answer ≡ map (λ c. c.1) (shown_by (plan_of old) path.key behind.children)
     pub plan : plan_of new ≡ left_by (plan_of old) path.key behind.children
-    pub unseen : List Record
-    pub told : map logged_of unseen ≡ filter_map (unseen_record path.key) (shown_by (plan_of old) path.key behind.children)
-    pub records : records_of new ≡ records_of old ++ record_on ReadDir (path ∷ []) Granted ∷ unseen
+    pub hidden : List Record
+    pub told : map logged_of hidden ≡ filter_map (unseen_record path.key) behind.children
+    pub records : records_of new ≡ records_of old ++ record_on ReadDir (path ∷ []) Granted ∷ told_by (plan_of old) path behind.children hidden
 
   abbrev pub PassesReadDir : (F → Store) → PathValue → Refusing F → Result (Vec (Result DirEntry FsError) Global) FsError → Refusing F → Type 0
   PassesReadDir see path old (Ok listing) new = PassesListing see path old listing.items new
   PassesReadDir see path old (Err e) new = Passes see ReadDir path (λ s. ReadsDir s path.key) old (Err e) new
+
+  -- the plan has no refusal for the listing, and the store behind has listed the directory, which changes its log alone
+  pub record HasListed (see : F → Store) (path : PathValue) (old new : Refusing F) : Type 0 where
+    pub free : refusal_for ReadDir path.key (plan_of old) ≡ None
+    pub listed : List (Result DirEntry FsError)
+    pub behind : Lists path.key (see (inner_of old)) listed (see (inner_of new))
+
+  -- nothing changes that is seen, here or of the store behind it, but that the latter may have listed the directory
+  pub record KeepsReading (see : F → Store) (path : PathValue) (old new : Refusing F) : Type 0 where
+    pub inner : (see (inner_of new) ≡ see (inner_of old)) ⊎ HasListed see path old new
+    pub plan : plan_of new ≡ plan_of old
+    pub records : records_of new ≡ records_of old
+
+  -- a listing goes by the plan; without memory the store behind it may have listed the directory
+  abbrev pub FollowsReading : (F → Store) → PathValue → Refusing F → Result (Vec (Result DirEntry FsError) Global) FsError → Refusing F → Type 0
+  FollowsReading see path = FollowsPlan (KeepsReading see path) ReadDir path (PassesReadDir see path)

@@ -25,7 +25,10 @@ use std::alloc::Global;
 /// refusal. A refusal is used once. It is recorded in a log of its own, and so is each call that was passed on; a call
 /// that had no memory uses up no refusal and leaves no record.
 ///
-/// A listing that was passed on shows no member for which the plan has a refusal of `Op::Entry`.
+/// A listing that was passed on shows no member for which the plan has a refusal of `Op::Entry`. The record of such a
+/// member has the listing's path with the member's name, and no slash at its end.
+///
+/// Where memory is lacking the store behind is as it was, but that its log may tell of a listing.
 #[derive(Debug, Drop)]
 pub struct Refusing<F> {
     inner: F,
@@ -156,7 +159,7 @@ impl<F> Refusing<F> {
 }
 
 impl<C, F: GuardedFileSystem<C>> GuardedFileSystem<C> for Refusing<F> {
-    ghost use Rattle.dav_store.specs.Refusing.{seen_behind, inner_of, plan_of, records_of, FollowsPlan, Follows, PassesReadDir};
+    ghost use Rattle.dav_store.specs.Refusing.{seen_behind, inner_of, plan_of, records_of, Follows, FollowsReading};
 
     ghost seen = { seen_behind F.seen };
 
@@ -174,7 +177,7 @@ impl<C, F: GuardedFileSystem<C>> GuardedFileSystem<C> for Refusing<F> {
 
     fn read_dir(&mut self, path: &DavPath, credentials: &C) -> FsResult<Vec<FsResult<DirEntry>>>
         ensures seen { ReadsDir (seen_behind F.seen self.old) path.now.key result (seen_behind F.seen self.new) }
-        ensures plan { FollowsPlan F.seen Op.ReadDir path.now (PassesReadDir F.seen path.now) self.old result self.new }
+        ensures plan { FollowsReading F.seen path.now self.old result self.new }
     {
         let paths = self.begin(Op::ReadDir, path)?;
         let told = self.inner.records().len();

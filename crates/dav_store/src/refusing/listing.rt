@@ -1,9 +1,8 @@
 //! What a plan leaves of a listing.
-ghost use Rattle.std.specs.Prelude.{◌≡◌, List, [], ◌∷◌, ◌++◌, map, IfOk, IfErr, filter_map};
+ghost use Rattle.std.specs.Prelude.{◌≡◌, List, [], ◌∷◌, ◌++◌, IfOk, IfErr};
 ghost use Rattle.dav_resource.specs.PathText.{IsSegment};
-ghost use Rattle.dav_store.specs.Logged.{logged_of};
-ghost use Rattle.dav_store.specs.Members.{Child, member, unseen_record};
-ghost use Rattle.dav_store.specs.Plans.{plan_of, refusal_for, without_first, shown_as, HaveSegmentNames, IsListingOf, IsLetBy};
+ghost use Rattle.dav_store.specs.Members.{Child, member};
+ghost use Rattle.dav_store.specs.Plans.{plan_of, refusal_for, without_first, refused_record, HaveSegmentNames, IsListingOf, IsLetBy};
 
 use super::plan::Plan;
 use dav_resource::{DavPath, DirEntry, FsError, FsResult, Items, Op, Outcome, Record};
@@ -20,7 +19,7 @@ pub(super) fn refuse_members(
     hidden: &[Record],
 ) -> FsResult<Vec<Record>>
     requires { HaveSegmentNames listing.old }
-    ensures let_by { IfOk result (λ unseen. (children : List Child) → IsListingOf path.now.key children listing.old (map logged_of hidden.now) → IsLetBy (plan_of plan.old.refusals.items) path.now.key children listing.new (map logged_of unseen.items) (plan_of plan.new.refusals.items)) }
+    ensures let_by { IfOk result (λ unseen. (children : List Child) → IsListingOf path.now.key children listing.old hidden.now → IsLetBy (plan_of plan.old.refusals.items) path.now children hidden.now listing.new unseen.items (plan_of plan.new.refusals.items)) }
     ensures err { IfErr result (λ e. e ≡ FsError.Memory) }
 {
     let mut rest = hidden;
@@ -53,7 +52,7 @@ fn refuse_member(
     requires { IsSegment entry.now.name }
     ensures error { IfOk result (λ error. error ≡ refusal_for Op.Entry (member path.now.key entry.now.name) (plan_of plan.old.refusals.items)) }
     ensures left { IfOk result (λ error. plan_of plan.new.refusals.items ≡ without_first Op.Entry (member path.now.key entry.now.name) (plan_of plan.old.refusals.items)) }
-    ensures told { IfOk result (λ error. map logged_of unseen.new.items ≡ map logged_of unseen.old.items ++ filter_map (unseen_record path.now.key) ((entry.now.name, shown_as error entry.now) ∷ [])) }
+    ensures told { IfOk result (λ error. unseen.new.items ≡ unseen.old.items ++ refused_record path.now entry.now.name error) }
     ensures err { IfErr result (λ e. e ≡ FsError.Memory) }
 {
     let alloc = *unseen.allocator();

@@ -1,10 +1,9 @@
-use Rattle.std.proofs.Common.{Ok, Err, map, refl, sym, subst, arith}
+use Rattle.std.proofs.Common.{Ok, Err, ◌+◌, ◌-◌, length, take, drop, refl, sym, subst, arith}
 use Rattle.std.proofs.lemmas.List.{with_items_is}
 use Rattle.std.specs.Vec.{with_items}
 use Rattle.dav_resource.specs.declared.record.Op.TheVariants.{ReadDir}
-use Rattle.dav_store.specs.Logged.{logged_of}
 use Rattle.dav_store.specs.Plans.{plan_of, HaveSegmentNames, IsLetBy}
-use Rattle.dav_store.specs.Refusing.{FollowsPlan, PassesReadDir}
+use Rattle.dav_store.specs.Refusing.{FollowsReading}
 use Rattle.dav_store.proofs.Refusals.{passes}
 use Rattle.dav_store.proofs.Listed.{listed_names}
 use Rattle.dav_store.proofs.ListingCalls.{lists, follows_listing, lawful_reading, as_listing, bar_of, NoEffect}
@@ -22,7 +21,7 @@ returns-in_ok-keep_listing-in-Ok-clause-plan g c =
     (lists g.F.GuardedFileSystem.seen c.args.path.now c.args.self.now c.begin.new.self c.keep_listing.new.self c.read_dir.new.self c.in_ok-paths.paths c.in-Ok.listing.items c.refuse_members.new.listing
     c.records-told.result.now c.records.result.now _ c.in_ok-unseen-in-Ok.unseen.items c.refuse_members.new.plan.refusals.items
     c.in_ok-paths.ensures.paths c.in_ok-paths.ensures.kept c.in-Ok.ensures.granted c.records-told.ensures c.records.ensures refl
-    (λ children is. subst (λ p. IsLetBy (plan_of p) c.args.path.now.key children c.refuse_members.new.listing (map logged_of c.in_ok-unseen-in-Ok.unseen.items) (plan_of c.refuse_members.new.plan.refusals.items)) c.in_ok-plan-in-Ok.ensures
+    (λ children is. subst (λ p. IsLetBy (plan_of p) c.args.path.now children (take (length c.records.result.now - (length c.records-told.result.now + 1)) (drop (length c.records-told.result.now + 1) c.records.result.now)) c.refuse_members.new.listing c.in_ok-unseen-in-Ok.unseen.items (plan_of c.refuse_members.new.plan.refusals.items)) c.in_ok-plan-in-Ok.ensures
     (c.in_ok-unseen-in-Ok.ensures.let_by children (rw c.deref_mut.ensures.value is)))
     c.keep_listing.ensures.inner c.in_ok-keep_listing-in-Ok.ensures.plan c.in_ok-keep_listing-in-Ok.ensures.records)
 
@@ -32,7 +31,7 @@ returns-in_ok-keep_listing-in-Ok-clause-seen g c =
 
 pub returns-in-Err-clause-plan : goal.returns-in-Err-clause-plan
 returns-in-Err-clause-plan g c =
-    subst (λ r. FollowsPlan g.F.GuardedFileSystem.seen ReadDir c.args.path.now (PassesReadDir g.F.GuardedFileSystem.seen c.args.path.now) c.args.self.now r c.finish.new.self) (sym c.finish.ensures.answer)
+    subst (λ r. FollowsReading g.F.GuardedFileSystem.seen c.args.path.now c.args.self.now r c.finish.new.self) (sym c.finish.ensures.answer)
     (as_listing g.F.GuardedFileSystem.seen c.args.path.now c.args.self.now c.finish.new.self c.in-Err.error
     (passes g.F.GuardedFileSystem.seen ReadDir c.args.path.now (bar_of g.F.GuardedFileSystem.seen c.args.path.now) (NoEffect g.F.GuardedFileSystem.seen c.args.path.now)
     c.args.self.now c.begin.new.self c.finish.new.self c.read_dir.new.self c.in_ok-paths.paths c.last_outcome-outcome.result c.records-in-Err.result.now (Err c.in-Err.error) (Err c.in-Err.error)

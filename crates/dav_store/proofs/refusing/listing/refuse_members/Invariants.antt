@@ -1,5 +1,4 @@
-use Rattle.std.proofs.Common.{List, map}
-use Rattle.dav_store.specs.Logged.{logged_of}
+use Rattle.std.proofs.Common.{List}
 use Rattle.dav_store.specs.Members.{Child}
 use Rattle.dav_store.specs.Plans.{plan_of, HaveSegmentNames, IsListingOf}
 use Rattle.dav_store.proofs.Listings.{Underway}
@@ -9,6 +8,6 @@ use Rattle.dav_store.proofs.refusing.listing.refuse_members.Given as goal
 abbrev pub invariant-loop-shown : goal.invariant-loop-shown
 invariant-loop-shown l = record {
   names : HaveSegmentNames l.listing;
-  under : (children : List Child) → IsListingOf l.path.key children l.initial.listing (map logged_of l.hidden)
-      → Underway l.path.key children (plan_of l.initial.plan.refusals.items) l.shown-index l.listing (map logged_of l.unseen.items) (plan_of l.plan.refusals.items) (map logged_of l.rest);
+  under : (children : List Child) → IsListingOf l.path.key children l.initial.listing l.hidden
+      → Underway l.path children (plan_of l.initial.plan.refusals.items) l.hidden l.shown-index l.listing l.unseen.items (plan_of l.plan.refusals.items) l.rest;
 }
