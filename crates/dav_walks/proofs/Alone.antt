@@ -60,13 +60,16 @@ module _ (path : PathValue) (old new : Store) where
         let declined : Declines call r.error old new = subst (λ c. Declines c r.error old new) by_kind r.declined in
         record { records = record_of call declined.outcome ∷ []; told = declined.told; fixed = declined.fixed; names = (path, fs_status r.error) ∷ []; added = r.named; removes = alone_declined r.error declined }
 
-    pub alone_off : IsCut (removal_by dir old.contents path.key) old new → BreaksOff Zero path old new
-    alone_off (inl same) = record {
+    pub alone_off : (had : Names) → IsCut (removal_by dir old.contents path.key) old new → BreaksOff Zero path old new had had
+    alone_off had (inl same) = record {
       records = [];
       told = ap (λ (s : Store). s.log) same ∙ sym (append-nil old.log);
       fixed = ap (λ (s : Store). s.keeps_properties) same;
       part = inl (refl, ap (λ (s : Store). s.contents) same);
+      names = [];
+      added = sym (append-nil had);
+      named = refl;
     }
-    alone_off (inr d) =
+    alone_off had (inr d) =
         let declined : Declines call d.0 old new = subst (λ c. Declines c d.0 old new) by_kind d.1 in
-        record { records = record_of call declined.outcome ∷ []; told = declined.told; fixed = declined.fixed; part = inr ((path, fs_status d.0) ∷ [], alone_declined d.0 declined) }
+        record { records = record_of call declined.outcome ∷ []; told = declined.told; fixed = declined.fixed; part = inr ((path, fs_status d.0) ∷ [], alone_declined d.0 declined); names = []; added = sym (append-nil had); named = refl }

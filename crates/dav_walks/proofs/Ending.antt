@@ -75,41 +75,42 @@ back_smaller old frame parents rest parent clean is =
     omega arith
 
 -- What was broken off in the innermost directory was broken off in all.
-suspended_halts : (path : PathValue) (old new : Store) (had : Names) (frames : List Frame) (start : Store) (held : Names) (k : Key)
-    → Suspended frames path old had start held k → Halts start.contents new.contents start.log new.log k → Halts old.contents new.contents old.log new.log path.key
-suspended_halts path old new had [] start held k e halts =
-    subst (λ j. Halts old.contents new.contents old.log new.log j) e.0 (subst (λ (s : Store). Halts s.contents new.contents s.log new.log k) e.1 halts)
-suspended_halts path old new had (frame ∷ frames) start held k s halts =
+suspended_halts : (path : PathValue) (old new : Store) (had finally : Names) (frames : List Frame) (start : Store) (held : Names) (k : Key)
+    → Suspended frames path old had start held k → Halts path start.contents new.contents start.log new.log held finally k → Halts path old.contents new.contents old.log new.log had finally path.key
+suspended_halts path old new had finally [] start held k e halts =
+    subst (λ j. Halts path old.contents new.contents old.log new.log had finally j) e.0
+    (subst (λ (s : Store). Halts path s.contents new.contents s.log new.log had finally k) e.1 (subst (λ l. Halts path start.contents new.contents start.log new.log l finally k) e.2 halts))
+suspended_halts path old new had finally (frame ∷ frames) start held k s halts =
     let waits = s.2 in
-    suspended_halts path old new had frames s.0 s.1 frame.path.key s.3
-    (child_halts waits.half.so_far new waits.small waits.default waits.entry waits.shown (subst (λ j. Halts start.contents new.contents start.log new.log j) waits.key halts))
+    suspended_halts path old new had finally frames s.0 s.1 frame.path.key s.3
+    (child_halts waits.half.so_far new finally waits.small waits.default waits.entry waits.shown (subst (λ j. Halts path start.contents new.contents start.log new.log held finally j) waits.key halts))
 
 module _ {path : PathValue} {old mid : Store} {had names : Names} {frame : Frame} {parents : List Frame} (going : Going path old mid had names frame parents) where
   open going use {half}
 
   -- between two entries
-  pub going_halts : Halts old.contents mid.contents old.log mid.log path.key
-  going_halts = suspended_halts path old mid had (reverse parents) going.start going.held frame.path.key going.suspended (listed_halts half.so_far)
+  pub going_halts : Halts path old.contents mid.contents old.log mid.log had names path.key
+  going_halts = suspended_halts path old mid had names (reverse parents) going.start going.held frame.path.key going.suspended (listed_halts half.so_far)
 
   -- in the walk of an entry's member
   module _ (small : frame.next < length frame.listing.items) (d : Shown) (entry : DirEntry) (is : get_or frame.listing.items frame.next d ≡ Ok entry) where
-    member_halts : (new : Store) → Halts mid.contents new.contents mid.log new.log (member frame.path.key entry.name) → Halts old.contents new.contents old.log new.log path.key
-    member_halts new halts = suspended_halts path old new had (reverse parents) going.start going.held frame.path.key going.suspended (child_halts half.so_far new small d entry is halts)
+    member_halts : (new : Store) (finally : Names) → Halts path mid.contents new.contents mid.log new.log names finally (member frame.path.key entry.name) → Halts path old.contents new.contents old.log new.log had finally path.key
+    member_halts new finally halts = suspended_halts path old new had finally (reverse parents) going.start going.held frame.path.key going.suspended (child_halts half.so_far new finally small d entry is halts)
 
     module _ (value : PathValue) (at_member : value ≡ path_of_entry frame.path entry) (new : Store) where
-      pub going_child_halts : IsWellFormed new.contents → IsCut (entering_call entry.meta.dir mid.contents value.key) mid new → Halts old.contents new.contents old.log new.log path.key
-      going_child_halts sound cut = member_halts new (subst (λ k. Halts mid.contents new.contents mid.log new.log k) (key_of going small d entry is value at_member)
+      pub going_child_halts : IsWellFormed new.contents → IsCut (entering_call entry.meta.dir mid.contents value.key) mid new → Halts path old.contents new.contents old.log new.log had names path.key
+      going_child_halts sound cut = member_halts new names (subst (λ k. Halts path mid.contents new.contents mid.log new.log names names k) (key_of going small d entry is value at_member)
           (entering_cut path value mid new names names half.so_far.came.well_formed sound entry.meta.dir (at_value going small d entry is value at_member) (kind_of going small d entry is value at_member) cut))
 
-      pub going_opened_halts : (finally : Names) (inner : Frame) → Enters entry.meta.dir value mid new names finally (Opened inner) → Halts old.contents new.contents old.log new.log path.key
-      going_opened_halts finally inner enters = member_halts new (subst (λ k. Halts mid.contents new.contents mid.log new.log k) (inner_key going small d entry is value at_member new finally inner enters)
+      pub going_opened_halts : (finally : Names) (inner : Frame) → Enters entry.meta.dir value mid new names finally (Opened inner) → Halts path old.contents new.contents old.log new.log had finally path.key
+      going_opened_halts finally inner enters = member_halts new finally (subst (λ k. Halts path mid.contents new.contents mid.log new.log names finally k) (inner_key going small d entry is value at_member new finally inner enters)
           (listed_halts (inside going small d entry is value at_member new finally inner enters).so_far))
 
   -- at the end of a directory
-  pub going_close_halts : (new : Store) → length frame.listing.items ≤ frame.next → frame.clean ≡ true → IsCut (removal_by true mid.contents frame.path.key) mid new → Halts old.contents new.contents old.log new.log path.key
-  going_close_halts new done clean (inl same) = subst (λ (s : Store). Halts old.contents s.contents old.log s.log path.key) (sym same) going_halts
-  going_close_halts new done clean (inr d) = suspended_halts path old new had (reverse parents) going.start going.held frame.path.key going.suspended
-      (walk_halts (listed_stuck half.so_far done clean d.0 d.1 refl))
+  pub going_close_halts : (new : Store) → length frame.listing.items ≤ frame.next → frame.clean ≡ true → IsCut (removal_by true mid.contents frame.path.key) mid new → Halts path old.contents new.contents old.log new.log had names path.key
+  going_close_halts new done clean (inl same) = subst (λ (s : Store). Halts path old.contents s.contents old.log s.log had names path.key) (sym same) going_halts
+  going_close_halts new done clean (inr d) = suspended_halts path old new had names (reverse parents) going.start going.held frame.path.key going.suspended
+      (walk_halts (listed_stuck half.so_far done clean d.0 d.1 refl) half.so_far.came.names _ names half.so_far.came.named refl)
 
 -- ---- the whole
 
@@ -126,10 +127,13 @@ walked_all path old new had has clean formed fixed walks =
       removes = (whole.calls, refl, whole.deletes);
     }
 
-pub halted_off : (path : PathValue) (old new : Store) → new.keeps_properties ≡ old.keeps_properties → Halts old.contents new.contents old.log new.log path.key → BreaksOff Infinity path old new
-halted_off path old new fixed halts = record {
+pub halted_off : (path : PathValue) (old new : Store) (had has : Names) → new.keeps_properties ≡ old.keeps_properties → Halts path old.contents new.contents old.log new.log had has path.key → BreaksOff Infinity path old new had has
+halted_off path old new had has fixed halts = record {
   records = map logged_call halts.calls;
   told = halts.log;
   fixed = fixed;
-  part = (halts.calls, refl, halt_lawful old.contents new.contents old.log new.log path.key halts);
+  part = (halts.calls, refl, halt_lawful path old.contents new.contents old.log new.log had has path.key halts);
+  names = halts.names;
+  added = halts.named;
+  named = (halts.calls, refl, halts.some);
 }

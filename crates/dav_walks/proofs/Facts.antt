@@ -21,14 +21,14 @@ HasName calls x = (z : Key) × (c : Call) × IsIn c (calls (x ++ z)) × WasRefus
 abbrev pub HasRefusal : Calls → Key → Type 0
 HasRefusal calls x = (z : Key) × (c : Call) × IsIn c (calls (x ++ z)) × WasRefused c.1
 
-only_call : (c d : Call) (cs : List Call) → cs ≡ d ∷ [] → IsIn c cs → c ≡ d
+pub only_call : (c d : Call) (cs : List Call) → cs ≡ d ∷ [] → IsIn c cs → c ≡ d
 only_call c d cs e i = go (subst (λ (ds : List Call). IsIn c ds) e i)
   where
     go : IsIn c (d ∷ []) → c ≡ d
     go (inl is) = sym is
     go (inr none) = absurd none
 
-two_calls : (c a b : Call) (cs : List Call) → cs ≡ a ∷ b ∷ [] → IsIn c cs → (c ≡ a) ⊎ (c ≡ b)
+pub two_calls : (c a b : Call) (cs : List Call) → cs ≡ a ∷ b ∷ [] → IsIn c cs → (c ≡ a) ⊎ (c ≡ b)
 two_calls c a b cs e i = go (subst (λ (ds : List Call). IsIn c ds) e i)
   where
     go : IsIn c (a ∷ b ∷ []) → (c ≡ a) ⊎ (c ≡ b)
@@ -36,13 +36,13 @@ two_calls c a b cs e i = go (subst (λ (ds : List Call). IsIn c ds) e i)
     go (inr (inl is)) = inr (sym is)
     go (inr (inr none)) = absurd none
 
-no_call : (c : Call) (cs : List Call) → cs ≡ [] → IsIn c cs → ⊥
+pub no_call : (c : Call) (cs : List Call) → cs ≡ [] → IsIn c cs → ⊥
 no_call c cs e i = subst (λ (ds : List Call). IsIn c ds) e i
 
-first_call : (d : Call) (ds cs : List Call) → cs ≡ d ∷ ds → IsIn d cs
+pub first_call : (d : Call) (ds cs : List Call) → cs ≡ d ∷ ds → IsIn d cs
 first_call d ds cs e = subst (λ (bs : List Call). IsIn d bs) (sym e) (inl refl)
 
-second_call : (a b : Call) (ds cs : List Call) → cs ≡ a ∷ b ∷ ds → IsIn b cs
+pub second_call : (a b : Call) (ds cs : List Call) → cs ≡ a ∷ b ∷ ds → IsIn b cs
 second_call a b ds cs e = subst (λ (bs : List Call). IsIn b bs) (sym e) (inr (inl refl))
 
 entry_is_no_removal : Entry ≡ RemoveDir → ⊥

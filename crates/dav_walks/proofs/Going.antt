@@ -2,7 +2,7 @@
 use Rattle.std.proofs.Common.{◌≡◌, ◌≢◌, ◌⊎◌, ◌≤◌, ◌<◌, ◌+◌, ◌*◌, ℕ, Bool, true, false, List, [], ◌∷◌, ◌++◌, length, get_or, map, drop, reverse, None, Some, Ok, Err, refl, sym, ap, ◌∙◌, subst, inl, inr, arith}
 use Rattle.std.specs.Prelude.{◌&&◌}
 use Rattle.std.specs.FinMap.{get, keys}
-use Rattle.std.proofs.lemmas.List.{reverse-append, drop_more}
+use Rattle.std.proofs.lemmas.List.{append-nil, reverse-append, drop_more}
 use Rattle.dav_resource.specs.Key.{Key}
 use Rattle.dav_resource.specs.PathText.{PathValue, IsSegment}
 use Rattle.dav_resource.specs.Errors.{fs_status}
@@ -35,10 +35,10 @@ module _ (path value : PathValue) (old new : Store) (had has : Names) (formed : 
 
   -- and one that was cut at its first call
   pub entering_cut : (dir : Bool) → IsAt path dir value → HasKind dir (get old.contents.tree value.key) → IsCut (entering_call dir old.contents value.key) old new
-      → Halts old.contents new.contents old.log new.log value.key
-  entering_cut dir at_path is (inl same) = subst (λ (s : Store). Halts old.contents s.contents old.log s.log value.key) (sym same) (nothing_halts old.contents old.log value.key formed)
-  entering_cut false at_path is (inr d) = walk_halts (file_kept path old new value.key formed had _ d.0 is d.1 refl)
-  entering_cut true at_path is (inr d) = walk_halts (listing_refused path old new value.key formed had _ d.0 is d.1 refl)
+      → Halts path old.contents new.contents old.log new.log had had value.key
+  entering_cut dir at_path is (inl same) = subst (λ (s : Store). Halts path old.contents s.contents old.log s.log had had value.key) (sym same) (nothing_halts path old.contents old.log had value.key formed)
+  entering_cut false at_path is (inr d) = walk_halts (file_kept path old new value.key formed had _ d.0 is d.1 refl) [] _ had (sym (append-nil had)) refl
+  entering_cut true at_path is (inr d) = walk_halts (listing_refused path old new value.key formed had _ d.0 is d.1 refl) [] _ had (sym (append-nil had)) refl
 
 -- ---- the state of the walk
 
@@ -124,8 +124,8 @@ module _ (path value : PathValue) (old new : Store) (had has : Names) (formed : 
   pub begins_over : (clean : Bool) → Enters dir value old new had has (Over clean) → Walks path old.contents new.contents old.log new.log had has path.key clean
   begins_over clean enters = subst (λ k. Walks path old.contents new.contents old.log new.log had has k clean) key_itself (entered_over path value old new had has formed sound dir clean at_itself kind_itself enters)
 
-  pub begins_cut : IsCut (entering_call dir old.contents value.key) old new → Halts old.contents new.contents old.log new.log path.key
-  begins_cut cut = subst (λ k. Halts old.contents new.contents old.log new.log k) key_itself (entering_cut path value old new had has formed sound dir at_itself kind_itself cut)
+  pub begins_cut : IsCut (entering_call dir old.contents value.key) old new → Halts path old.contents new.contents old.log new.log had had path.key
+  begins_cut cut = subst (λ k. Halts path old.contents new.contents old.log new.log had had k) key_itself (entering_cut path value old new had has formed sound dir at_itself kind_itself cut)
 
   pub going_begins : (frame : Frame) → Enters dir value old new had has (Opened frame) → Going path old new had has frame []
   going_begins frame enters =

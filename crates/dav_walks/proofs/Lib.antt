@@ -11,8 +11,10 @@ pub mod Kept
 pub mod Keys
 pub mod Listed
 pub mod Listings
+pub mod Missing
 pub mod Paths
 pub mod Progress
+pub mod Removed
 pub mod Single
 pub mod Theorem
 pub mod Visiting

@@ -41,6 +41,7 @@ progress_none path contents names k formed = record {
   well_formed = formed;
   granted = λ p. ((λ r i. absurd i), (λ n error i. i));
   refused = λ p. not_refused p;
+  untouched = λ none. refl;
 }
 
 pub IsIn-push : {X : Type 0} (x y : X) (xs : List X) → IsIn x (xs ++ y ∷ []) → IsIn x xs ⊎ (y ≡ x)
@@ -67,6 +68,7 @@ progress_unseen path old new had has finally k seen calls clean n error came nam
   well_formed = came.well_formed;
   granted = λ p. not_clean p;
   refused = λ p. inr (n, error, IsIn-right _ seen _ (inl refl));
+  untouched = came.untouched;
 }
   where
     moved : IsPermutation (filter_map (unseen_name path k) (seen ++ (n, Err error) ∷ []) ++ named_in path calls) ((filter_map (unseen_name path k) seen ++ named_in path calls) ++ (path_at path true k, fs_status error) ∷ [])
@@ -82,6 +84,12 @@ rootless k n x p = nonempty k (sym (child_below k n x) ∙ p)
     nonempty : (j : Key) → j ++ n ∷ x ≡ [] → ⊥
     nonempty [] q = cc
     nonempty (a ∷ j) q = cc
+
+-- the names after one member more
+pub names_after : (path : PathValue) (k : Key) (seen : List Child) (n : List ℕ) (entry : DirEntry) (calls more : List KeyCall)
+    → filter_map (unseen_name path k) (seen ++ (n, Ok entry) ∷ []) ++ named_in path (calls ++ more) ≡ (filter_map (unseen_name path k) seen ++ named_in path calls) ++ named_in path more
+names_after path k seen n entry calls more =
+    (λ i. (filter_map-append (unseen_name path k) seen ((n, Ok entry) ∷ []) ∙ append-nil _) i ++ filter_map-append (named_by path) calls more i) ∙ sym (append_assoc _ (named_in path calls) (named_in path more))
 
 -- one member more, which was walked
 pub progress_child : (path : PathValue) (old mid new : Contents) (before after : List Logged) (had has finally : Names) (k : Key) (seen : List Child) (calls : List KeyCall) (clean : Bool) (n : List ℕ) (entry : DirEntry) (ok now : Bool)
@@ -100,7 +108,7 @@ progress_child path old mid new before after had has finally k seen calls clean 
   own = λ r error i b. elim (IsIn-append r calls w.calls i) [ inl j ↦ came.own r error j b | inr j ↦ w.own r error j b ];
   names = came.names ++ w.names;
   named = w.named ∙ ap (λ l. l ++ w.names) came.named ∙ append_assoc had came.names w.names;
-  bag = subst (λ l. IsPermutation l (came.names ++ w.names)) (sym names_are) (IsPermutation-append _ _ _ _ came.bag w.bag);
+  bag = subst (λ l. IsPermutation l (came.names ++ w.names)) (sym (names_after path k seen n entry calls w.calls)) (IsPermutation-append _ _ _ _ came.bag w.bag);
   others = λ q apart. w.outside q (λ x p. apart n entry x (IsIn-right _ seen _ (inl refl)) (p ∙ child_below k n x)) ∙ came.others q (λ m e x i. apart m e x (IsIn-left _ seen _ i));
   walked = λ m e i. elim (IsIn-push _ _ seen i) [ inl j ↦ earlier m e j | inr p ↦ latest m (ap (λ (c : Child). c.0) p) ];
   is_kept = kept_further old mid new came.is_kept w.is_kept;
@@ -116,11 +124,9 @@ progress_child path old mid new before after had has finally k seen calls clean 
     ]
     | inr failed ↦ let s = w.refused failed in inl (s.0, IsIn-right _ calls w.calls s.1, s.2)
   ];
+  untouched = λ none. w.untouched (λ r i. none r (IsIn-right r calls w.calls i)) ∙ came.untouched (λ r i. none r (IsIn-left r calls w.calls i));
 }
   where
-    names_are : filter_map (unseen_name path k) (seen ++ (n, Ok entry) ∷ []) ++ named_in path (calls ++ w.calls) ≡ (filter_map (unseen_name path k) seen ++ named_in path calls) ++ named_in path w.calls
-    names_are = (λ i. (filter_map-append (unseen_name path k) seen ((n, Ok entry) ∷ []) ∙ append-nil _) i ++ filter_map-append (named_by path) calls w.calls i) ∙ sym (append_assoc _ (named_in path calls) (named_in path w.calls))
-
     earlier : (m : List ℕ) (e : DirEntry) → IsIn {X = Child} (m, Ok e) seen → Walked (look_below old.tree (member k m)) (look_below new.tree (member k m)) (calls_below (calls ++ w.calls) (member k m))
     earlier m e j =
         let apart : (x y : Key) → member k m ++ x ≢ member k n ++ y = λ x y p. fresh (subst (λ a. IsIn a (names_of seen)) (same_head k m n x y (sym (child_below k m x) ∙ p ∙ child_below k n y)) (IsIn-name (m, Ok e) seen j)) in

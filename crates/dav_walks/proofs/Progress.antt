@@ -21,7 +21,7 @@ use Rattle.dav_store.specs.Calls.{IsLawful, IsOwn, error_of}
 use Rattle.dav_store.specs.Members.{IsIn, AreDistinct, members, member, Child, names_of, AreChildren, remove_dir_bar, IsRemovedAt}
 use Rattle.dav_store.specs.MemberLaws.{no_members}
 use Rattle.dav_walks.specs.KeyCall.{KeyCall, logged_call, same_key, calls_at, standing}
-use Rattle.dav_walks.specs.Deletion.{look_below, calls_below, under, WasRefused, path_at, named_by, named_in, IsHidden}
+use Rattle.dav_walks.specs.Deletion.{look_below, calls_below, under, WasRefused, path_at, named_by, named_in, IsHidden, NothingRemoved}
 use Rattle.dav_walks.specs.Trace.{Leaves, IsGrantedBelow, Walked, absent, unseen, kept, emptied, AllGranted, SomeRefused, IsKept, Walks}
 use Rattle.dav_walks.proofs.Keys.{same_key_itself, other_key, child_below, below_cancel, append-nothing, IsIn-left, IsIn-right, IsIn-append, calls_at-append, calls_at-none, calls_at-IsIn, record_of_call}
 use Rattle.dav_walks.proofs.Kept.{none_or, kept_itself, kept_further, removal_others, removal_keeps}
@@ -42,6 +42,7 @@ pub record Progress (path : PathValue) (old new : Contents) (had has : Names) (k
   pub well_formed : IsWellFormed new
   pub granted : clean ≡ true → AllGranted calls × AllShown seen
   pub refused : clean ≡ false → SomeRefused calls ⊎ SomeUnseen seen
+  pub untouched : NothingRemoved calls → new ≡ old
 
 -- a key below a member that wasn't shown, or isn't there, and the end of a directory's walk
 module _ (path : PathValue) (old mid : Contents) (had has : Names) (k : Key) (cs : List Child) (calls : List KeyCall) (clean : Bool)
@@ -173,6 +174,7 @@ module _ (path : PathValue) (old mid : Contents) (had has : Names) (k : Key) (cs
     well_formed = came.well_formed;
     granted = λ p. not_clean p;
     refused = λ p. some_refused unclean;
+    untouched = λ none. came.untouched (λ r i. none r (IsIn-right r (listed k cs) calls i));
   }
 
   -- where nothing was refused, the directory has no members
@@ -243,10 +245,10 @@ module _ (path : PathValue) (old mid : Contents) (had has : Names) (k : Key) (cs
         → finally ≡ has ++ last → named_in path (call_on k RemoveDir outcome ∷ []) ≡ last
         → ((error : FsError) → outcome ≡ Barred error → IsRootBar k error) → ((error : FsError) → outcome ≡ Refused error → IsOwn error)
         → ((q : Key) → q ≢ k → standing final q ≡ standing mid q) → Leaves outcome (get mid.tree k) (get final.tree k) → IsKept mid final
-        → IsWellFormed final → (removed ≡ true → outcome ≡ Granted) → (removed ≡ false → WasRefused outcome)
+        → IsWellFormed final → (removed ≡ true → outcome ≡ Granted) → (removed ≡ false → WasRefused outcome) → (WasRefused outcome → final ≡ mid)
         → Walks path old final before after had finally k removed
     unfolding closing
-    closed before after finally last removed log named last_is root owned apart leaves fewer sound granted refused = record {
+    closed before after finally last removed log named last_is root owned apart leaves fewer sound granted refused unmoved = record {
       calls = listed k cs ++ closing;
       log = log ∙ logs_three;
       within = λ r i. elim (closing_cases r i) [ inl j ↦ within_listed r j | inr p ↦ ([], ap (λ (s : KeyCall). s.key) (sym p) ∙ sym (append-nothing k)) ];
@@ -267,6 +269,8 @@ module _ (path : PathValue) (old mid : Contents) (had has : Names) (k : Key) (cs
       well_formed = sound;
       granted = λ p r i. elim (closing_cases r i) [ inl j ↦ listed_granted r j | inr q ↦ ap (λ (s : KeyCall). s.outcome) (sym q) ∙ granted p ];
       refused = λ p. (call_on k RemoveDir outcome, IsIn-right _ (listed k cs) closing (IsIn-right _ calls _ (inl refl)), refused p);
+      untouched = λ none. unmoved (none (call_on k RemoveDir outcome) (IsIn-right _ (listed k cs) closing (IsIn-right _ calls _ (inl refl))) (inr refl))
+          ∙ came.untouched (λ r i. none r (IsIn-right r (listed k cs) closing (IsIn-left r calls _ i)));
     }
       where
         logs_three : ((before ++ map logged_call (listed k cs)) ++ map logged_call calls) ++ logged_call (call_on k RemoveDir outcome) ∷ [] ≡ before ++ map logged_call (listed k cs ++ (calls ++ call_on k RemoveDir outcome ∷ []))
@@ -289,7 +293,7 @@ module _ (path : PathValue) (old mid : Contents) (had has : Names) (k : Key) (cs
     walk_emptied new removed sound last =
         closed e Granted new before after has [] true (last ∙ ap (λ l. l ++ logged_call (call_on k RemoveDir Granted) ∷ []) log) (sym (append-nil has)) refl
         (λ error p. granted_barred p) (λ error p. granted_refused p) (removal_others k mid new removed) (removed_here mid new k removed) (removal_keeps k mid new came.well_formed removed)
-        sound (λ p. refl) (λ p. not_refused p)
+        sound (λ p. refl) (λ p. not_refused p) (λ refused. absurd (refused refl))
 
     pub walk_stuck : (outcome : Outcome) (error : FsError) (finally : Names) → error_of outcome ≡ Some error → IsLawful (remove_dir_bar k (get mid.tree k) (members mid.tree k)) outcome
         → after ≡ between ++ logged_call (call_on k RemoveDir outcome) ∷ [] → finally ≡ has ++ (path_at path true k, fs_status error) ∷ [] → Walks path old mid before after had finally k false
@@ -297,4 +301,4 @@ module _ (path : PathValue) (old mid : Contents) (had has : Names) (k : Key) (cs
         closed e outcome mid before after finally ((path_at path true k, fs_status error) ∷ []) false (last ∙ ap (λ l. l ++ logged_call (call_on k RemoveDir outcome) ∷ []) log) named
         (ap (λ o. cons_option (option_map (λ (f : FsError). (path_at path true k, fs_status f)) o) []) cause)
         (λ f p. root_bar k f (sym (λ i. remove_dir_bar k (directory_still i) (no_members_left e i)) ∙ bar_of _ _ f lawful p)) (λ f p. own_of _ _ f lawful p)
-        (λ q apart. refl) (stays outcome error _ cause) (kept_itself mid came.well_formed) came.well_formed (λ p. not_clean p) (λ p. has_error outcome error cause)
+        (λ q apart. refl) (stays outcome error _ cause) (kept_itself mid came.well_formed) came.well_formed (λ p. not_clean p) (λ p. has_error outcome error cause) (λ refused. refl)

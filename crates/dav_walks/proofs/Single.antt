@@ -125,6 +125,7 @@ one_refusal path old before after had has k op outcome error formed log is root 
   well_formed = formed;
   granted = λ p. not_clean p;
   refused = λ p. (call_on k op outcome, inl refl, has_error outcome error is);
+  untouched = λ none. refl;
 }
 
 -- a file that the store wouldn't remove
@@ -160,6 +161,7 @@ module _ (path : PathValue) (old new : Store) (k : Key) (formed : IsWellFormed o
     well_formed = sound;
     granted = λ p r i. ap (λ (s : KeyCall). s.outcome) (sym (only_call _ _ i));
     refused = λ p. not_refused p;
+    untouched = λ none. absurd (none (call_on k RemoveFile Granted) (inl refl) (inl refl) refl);
   }
 
   pub file_kept : (had has : Names) (error : FsError) → HasKind false (get old.contents.tree k) → Declines (remove_file_call old.contents k) error old new

@@ -24,6 +24,7 @@ use Rattle.dav_walks.specs.Deletion.{calls_below, WasRefused, IsHidden, path_at,
 use Rattle.dav_walks.specs.Trace.{AllGranted, SomeRefused, Walks, Halts, WalksWhole}
 use Rattle.dav_walks.proofs.Keys.{same_key_is, append-nothing, parent_above, parent-append, calls_at-IsIn, record_of_call}
 use Rattle.dav_walks.proofs.Facts.{HasName, HasRefusal, left_only, left_stays, on_reached, few_calls, partly_on_reached, partly_few_calls, entry_at, partly_entry_at, entry_below}
+use Rattle.dav_walks.proofs.Removed.{walked_fits, partly_fits, call_fits, removed_gone, partly_removed_gone, gone_removed, partly_gone_removed}
 use Rattle.dav_walks.proofs.Bound.{call_bound}
 use Rattle.dav_walks.proofs.Kept.{kept_or_gone, kept_same}
 
@@ -134,6 +135,7 @@ walk_deletes path old new before after had has clean formed w = record {
       reached = on_reached w.walked;
       entries = λ x o i. entry_below _ _ x o w.no_entry i (entry_at w.walked x o i);
       once = λ x. (few_calls w.walked x).0;
+      fits = call_fits old.tree path.key w.calls w.within (walked_fits w.walked);
       few = λ x. (few_calls w.walked x).1;
       bound = call_bound old.tree path.key w.calls w.within (on_reached w.walked) (λ x. (few_calls w.walked x).1);
       barred = w.barred;
@@ -141,6 +143,9 @@ walk_deletes path old new before after had has clean formed w = record {
       kept_or_gone = λ x. kept_or_gone old new w.is_kept (path.key ++ x);
       outside = w.outside;
       limit = w.is_kept.limit;
+      removed = removed_gone w.walked;
+      gone = gone_removed w.walked;
+      untouched = w.untouched;
     };
     named = w.bag;
     left = λ x there. left_from path w.calls w.names w.bag x (left_only w.walked x there);
@@ -153,12 +158,13 @@ walk_deletes path old new before after had has clean formed w = record {
     go true e none = e
     go false e none = absurd (some_named path w.calls w.names w.bag (w.refused e) none)
 
-pub halt_lawful : (old new : Contents) (before after : List Logged) (p : Key) (h : Halts old new before after p) → IsLawfulRemoval p old new h.calls
-halt_lawful old new before after p h = record {
+pub halt_lawful : (path : PathValue) (old new : Contents) (before after : List Logged) (had has : List Item) (p : Key) (h : Halts path old new before after had has p) → IsLawfulRemoval p old new h.calls
+halt_lawful path old new before after had has p h = record {
   within = h.within;
   reached = partly_on_reached h.partly;
   entries = λ x o i. entry_below _ _ x o h.no_entry i (partly_entry_at h.partly x o i);
   once = λ x. (partly_few_calls h.partly x).0;
+  fits = call_fits old.tree p h.calls h.within (partly_fits h.partly);
   few = λ x. (partly_few_calls h.partly x).1;
   bound = call_bound old.tree p h.calls h.within (partly_on_reached h.partly) (λ x. (partly_few_calls h.partly x).1);
   barred = h.barred;
@@ -166,4 +172,7 @@ halt_lawful old new before after p h = record {
   kept_or_gone = λ x. kept_or_gone old new h.is_kept (p ++ x);
   outside = h.outside;
   limit = h.is_kept.limit;
+  removed = partly_removed_gone h.partly;
+  gone = partly_gone_removed h.partly;
+  untouched = h.untouched;
 }

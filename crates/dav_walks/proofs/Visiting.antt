@@ -51,8 +51,8 @@ module _ {path : PathValue} {old mid : Store} {had names : Names} {frame : Frame
 
   module _ (new : Store) (sound : IsWellFormed new.contents) where
     -- memory was lacking
-    pub visit_cut : IsCutNext frame mid new → Halts old.contents new.contents old.log new.log path.key
-    visit_cut (inl same) = subst (λ (s : Store). Halts old.contents s.contents old.log s.log path.key) (sym same) (going_halts going)
+    pub visit_cut : IsCutNext frame mid new → Halts path old.contents new.contents old.log new.log had names path.key
+    visit_cut (inl same) = subst (λ (s : Store). Halts path old.contents s.contents old.log s.log had names path.key) (sym same) (going_halts going)
     visit_cut (inr (entry, (small, at_place), cut)) = going_child_halts going small (Ok entry) entry at_place (path_of_entry frame.path entry) refl new sound cut
 
     module _ (finally : Names) (after : Frame) where
@@ -76,7 +76,7 @@ module _ {path : PathValue} {old mid : Store} {had names : Names} {frame : Frame
 
       -- or in the one that was opened, while the other waits
       abbrev GoesDown : Frame → List Frame → Type 0
-      GoesDown inner waiting = Going path old new had finally inner waiting × (work_left old.contents.tree inner waiting < work_left old.contents.tree frame parents) × Halts old.contents new.contents old.log new.log path.key
+      GoesDown inner waiting = Going path old new had finally inner waiting × (work_left old.contents.tree inner waiting < work_left old.contents.tree frame parents) × Halts path old.contents new.contents old.log new.log had finally path.key
 
       down_here : (inner : Frame) (shown : Shown) → IsNext frame shown → VisitsShown shown frame after mid new names finally (Some inner) → GoesDown inner (parents ++ after ∷ [])
       down_here inner (Err error) next (opened, same, named, is) = not_opened (sym opened)

@@ -95,6 +95,26 @@ abbrev pub AreDifferent : List (Op × Outcome) → Type 0
 AreDifferent [] = Unit {0}
 AreDifferent (c ∷ cs) = ((d : Op × Outcome) → IsIn d cs → d.0 ≢ c.0) × AreDifferent cs
 
+-- The calls that a deletion makes where this stood: a file is removed, a directory is listed and removed.
+-- Either may have been a member that wasn't shown.
+abbrev pub Fits : Option Node → Op → Type 0
+Fits (Some node) Entry = Unit {0}
+Fits (Some (File bytes)) RemoveFile = Unit {0}
+Fits (Some Directory) ReadDir = Unit {0}
+Fits (Some Directory) RemoveDir = Unit {0}
+Fits _ _ = ⊥
+
+abbrev pub IsRemoval : Op → Type 0
+IsRemoval op = (op ≡ RemoveFile) ⊎ (op ≡ RemoveDir)
+
+-- one of the calls on a key is its removal, and was granted
+abbrev pub WasRemoved : List (Op × Outcome) → Type 0
+WasRemoved calls = (op : Op) × IsRemoval op × IsIn (op, Granted) calls
+
+-- none of all the calls is a removal that was granted
+abbrev pub NothingRemoved : List KeyCall → Type 0
+NothingRemoved calls = (call : KeyCall) → IsIn call calls → IsRemoval call.op → WasRefused call.outcome
+
 -- of the calls only the root's removal is barred
 pub record IsRootRemoval (call : KeyCall) (e : FsError) : Type 0 where
   pub root : call.key ≡ []
@@ -112,6 +132,8 @@ pub record IsLawfulRemoval (p : Key) (old new : Contents) (calls : List KeyCall)
   pub within : (call : KeyCall) → IsIn call calls → (x : Key) × (call.key ≡ p ++ x)
   pub reached : (x : Key) (c : Op × Outcome) → IsIn c (calls_below calls p x) → (c.0 ≡ Entry) ⊎ IsReached (look_below old.tree p) (calls_below calls p) x
   pub entries : (x : Key) (outcome : Outcome) → IsIn (Entry, outcome) (calls_below calls p x) → IsMemberOfReached (look_below old.tree p) (calls_below calls p) x
+  -- each call fits what stood at its key
+  pub fits : (call : KeyCall) → IsIn call calls → Fits (get old.tree call.key) call.op
   -- no kind of call is made twice on a key, at most two are made on each, and in all at most two for each key that was there
   pub once : (x : Key) → AreDifferent (calls_below calls p x)
   pub few : (x : Key) → length (calls_below calls p x) ≤ 2
@@ -123,6 +145,10 @@ pub record IsLawfulRemoval (p : Key) (old new : Contents) (calls : List KeyCall)
   pub kept_or_gone : (x : Key) → (standing new (p ++ x) ≡ standing old (p ++ x)) ⊎ (standing new (p ++ x) ≡ (None, None))
   pub outside : (key : Key) → ((x : Key) → key ≢ p ++ x) → standing new key ≡ standing old key
   pub limit : limit_of new ≡ limit_of old
+  -- gone is what had its removal granted, and nothing else; where no removal was granted, nothing at all changes
+  pub removed : (x : Key) → WasRemoved (calls_below calls p x) → get new.tree (p ++ x) ≡ None
+  pub gone : (x : Key) → get old.tree (p ++ x) ≢ None → get new.tree (p ++ x) ≡ None → WasRemoved (calls_below calls p x)
+  pub untouched : NothingRemoved calls → new ≡ old
 
 -- the deletion of what stands at the path and of all below it, by these calls and with these names
 pub record Deletes (path : PathValue) (old new : Contents) (calls : List KeyCall) (names : List Item) : Type 0 where
@@ -164,16 +190,26 @@ abbrev pub RemovesInPart : Depth → PathValue → Contents → Contents → Lis
 RemovesInPart Zero path old new records = ((records ≡ []) × (new ≡ old)) ⊎ ((names : List Item) × RemovesAlone path old new records names)
 RemovesInPart depth path old new records = (calls : List KeyCall) × (records ≡ map logged_call calls) × IsLawfulRemoval path.key old new calls
 
+-- some of these, each at most as often as it is there
+abbrev pub AreSomeOf : List Item → List Item → Type 0
+AreSomeOf names all = (missing : List Item) × IsPermutation all (names ++ missing)
+
+-- What a deletion that was broken off has named: for Depth 0 nothing, else refused calls, each at most once.
+-- Some may be missing.
+abbrev pub NamesInPart : Depth → PathValue → List Logged → List Item → Type 0
+NamesInPart Zero path records names = names ≡ []
+NamesInPart depth path records names = (calls : List KeyCall) × (records ≡ map logged_call calls) × AreSomeOf names (named_in path calls)
+
 -- the answer: whether something is named, and then the status of the first
 abbrev pub removal_answer : List Item → Result (Unit {0}) DavError
 removal_answer [] = Ok tt
 removal_answer (item ∷ names) = Err (Status item.1)
 
--- it ended and added these names, or was broken off
+-- it ended and added these names, or was broken off, and some of its names may be missing
 abbrev pub RemovesOrStops : Depth → PathValue → Contents → Contents → List Logged → List Item → List Item → Result (Unit {0}) DavError → Type 0
 RemovesOrStops depth path old new records had has answer =
     ((names : List Item) × (has ≡ had ++ names) × Removes depth path old new records names × (answer ≡ removal_answer names))
-    ⊎ ((answer ≡ Err Memory) × RemovesInPart depth path old new records)
+    ⊎ ((answer ≡ Err Memory) × RemovesInPart depth path old new records × ((names : List Item) × (has ≡ had ++ names) × NamesInPart depth path records names))
 
 -- the same from store to store, and from names to names
 pub record Removal (depth : Depth) (path : PathValue) (old new : Store) (had has : List Item) (answer : Result (Unit {0}) DavError) : Type 0 where

@@ -50,6 +50,7 @@ none_lawful p old = record {
   reached = λ x c i. absurd i;
   entries = λ x outcome i. absurd i;
   once = λ x. tt;
+  fits = λ call i. absurd i;
   few = λ x. omega arith;
   bound = omega arith;
   barred = λ call e i. absurd i;
@@ -57,6 +58,9 @@ none_lawful p old = record {
   kept_or_gone = λ x. inl refl;
   outside = λ key h. refl;
   limit = refl;
+  removed = λ x r. absurd r.2;
+  gone = λ x there none. absurd (there none);
+  untouched = λ none. refl;
 }
 
 pub nothing_removed : (depth : Depth) (path : PathValue) (old : Contents) → RemovesInPart depth path old old []

@@ -14,7 +14,7 @@ use Rattle.dav_store.specs.Calls.{IsOwn, limit_of}
 use Rattle.dav_store.specs.Members.{IsIn}
 use Rattle.dav_parts.specs.Multistatus.{Item}
 use Rattle.dav_walks.specs.KeyCall.{KeyCall, logged_call, standing}
-use Rattle.dav_walks.specs.Deletion.{Calls, Look, look_below, calls_below, under, WasRefused, named_in, IsRootRemoval, Deletes}
+use Rattle.dav_walks.specs.Deletion.{Calls, Look, look_below, calls_below, under, WasRefused, named_in, IsRootRemoval, NothingRemoved, AreSomeOf, Deletes}
 
 -- a file, or a directory
 abbrev pub HasKind : Bool → Option Node → Type 0
@@ -86,6 +86,7 @@ pub record Walks (path : PathValue) (old new : Contents) (before after : List Lo
   pub well_formed : IsWellFormed new
   pub granted : clean ≡ true → AllGranted calls
   pub refused : clean ≡ false → SomeRefused calls
+  pub untouched : NothingRemoved calls → new ≡ old
 
 -- a walk that was broken off: of a directory some members are walked, and others wait
 pub data Partly : Look → Look → Calls → Type 0 where
@@ -93,8 +94,8 @@ pub data Partly : Look → Look → Calls → Type 0 where
   waiting : {old new : Look} {calls : Calls} → ((x : Key) → IsUntouched old new calls x) → Partly old new calls
   halted : {old new : Look} {calls : Calls} → old [] ≡ Some Directory → calls [] ≡ (ReadDir, Granted) ∷ [] → new [] ≡ old [] → ((name : List ℕ) → Partly (under old name) (under new name) (under calls name)) → Partly old new calls
 
--- the same, from the old contents and log to the new ones
-pub record Halts (old new : Contents) (before after : List Logged) (k : Key) : Type 0 where
+-- the same, from the old contents, log and names to the new ones; some names may be missing
+pub record Halts (path : PathValue) (old new : Contents) (before after : List Logged) (had has : List Item) (k : Key) : Type 0 where
   pub calls : List KeyCall
   pub log : after ≡ before ++ map logged_call calls
   pub within : (call : KeyCall) → IsIn call calls → (x : Key) × (call.key ≡ k ++ x)
@@ -104,6 +105,10 @@ pub record Halts (old new : Contents) (before after : List Logged) (k : Key) : T
   pub outside : (key : Key) → ((x : Key) → key ≢ k ++ x) → standing new key ≡ standing old key
   pub is_kept : IsKept old new
   pub partly : Partly (look_below old.tree k) (look_below new.tree k) (calls_below calls k)
+  pub names : List Item
+  pub named : has ≡ had ++ names
+  pub some : AreSomeOf names (named_in path calls)
+  pub untouched : NothingRemoved calls → new ≡ old
 
 -- the walk of the path's key and of all below it, said of sets: what it calls, leaves and names
 pub record WalksWhole (path : PathValue) (old new : Contents) (before after : List Logged) (had has : List Item) (clean : Bool) : Type 0 where

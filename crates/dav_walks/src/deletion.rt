@@ -53,7 +53,7 @@ fn delete_to_depth<C, F: GuardedFileSystem<C>>(
     requires there { HasKind dir (get (F.seen fs.old).contents.tree path.now.key) }
     ensures done { OnOk result (RemovesAll depth path.now (F.seen fs.old) (F.seen fs.new) res.old res.new) }
     ensures err { IfErr result (λ e. e ≡ DavError.Memory) }
-    ensures stopped { OnErr result (BreaksOff depth path.now (F.seen fs.old) (F.seen fs.new)) }
+    ensures stopped { OnErr result (BreaksOff depth path.now (F.seen fs.old) (F.seen fs.new) res.old res.new) }
 {
     match depth {
         Depth::Zero => {
@@ -79,7 +79,7 @@ fn delete_tree<C, F: GuardedFileSystem<C>>(
     requires there { HasKind dir (get (F.seen fs.old).contents.tree path.now.key) }
     ensures done { OnOk result (RemovesAll Infinity path.now (F.seen fs.old) (F.seen fs.new) res.old res.new) }
     ensures err { IfErr result (λ e. e ≡ DavError.Memory) }
-    ensures stopped { OnErr result (BreaksOff Infinity path.now (F.seen fs.old) (F.seen fs.new)) }
+    ensures stopped { OnErr result (BreaksOff Infinity path.now (F.seen fs.old) (F.seen fs.new) res.old res.new) }
 {
     let mut frame = match enter(fs, credentials, res, dir, path.clone()?)? {
         Entered::Over(_) => return Ok(()),

@@ -41,6 +41,7 @@ pub(crate) fn remove<C, F: GuardedFileSystem<C>>(
     ensures done { IfOk result (RemovesOne dir path.now (F.seen fs.old) (F.seen fs.new) res.old res.new) }
     ensures fixed { (F.seen fs.new).keeps_properties ≡ (F.seen fs.old).keeps_properties }
     ensures err { IfErr result (λ e. e ≡ DavError.Memory) }
+    ensures unnamed { OnErr result (res.new ≡ res.old) }
     ensures stopped { OnErr result (IsCut (removal_by dir (F.seen fs.old).contents path.now.key) (F.seen fs.old) (F.seen fs.new)) }
 {
     let removed = if dir {
@@ -70,6 +71,7 @@ pub(crate) fn enter<C, F: GuardedFileSystem<C>>(
     ensures done { IfOk result (Enters dir path (F.seen fs.old) (F.seen fs.new) res.old res.new) }
     ensures fixed { (F.seen fs.new).keeps_properties ≡ (F.seen fs.old).keeps_properties }
     ensures err { IfErr result (λ e. e ≡ DavError.Memory) }
+    ensures unnamed { OnErr result (res.new ≡ res.old) }
     ensures stopped { OnErr result (IsCut (entering_call dir (F.seen fs.old).contents path.key) (F.seen fs.old) (F.seen fs.new)) }
 {
     if !dir {
@@ -103,6 +105,7 @@ pub(crate) fn visit<C, F: GuardedFileSystem<C>>(
     ensures done { IfOk result (Visits frame.old frame.new (F.seen fs.old) (F.seen fs.new) res.old res.new) }
     ensures fixed { (F.seen fs.new).keeps_properties ≡ (F.seen fs.old).keeps_properties }
     ensures err { IfErr result (λ e. e ≡ DavError.Memory) }
+    ensures unnamed { OnErr result (res.new ≡ res.old) }
     ensures stopped { OnErr result (IsCutNext frame.old (F.seen fs.old) (F.seen fs.new)) }
 {
     match &frame.listing[frame.next] {
@@ -138,6 +141,7 @@ pub(crate) fn close<C, F: GuardedFileSystem<C>>(
     ensures done { IfOk result (Closes frame.now.clean frame.now.path (F.seen fs.old) (F.seen fs.new) res.old res.new) }
     ensures fixed { (F.seen fs.new).keeps_properties ≡ (F.seen fs.old).keeps_properties }
     ensures err { IfErr result (λ e. e ≡ DavError.Memory) }
+    ensures unnamed { OnErr result (res.new ≡ res.old) }
     ensures clean { OnErr result (frame.now.clean ≡ true) }
     ensures stopped { OnErr result (IsCut (removal_by true (F.seen fs.old).contents frame.now.path.key) (F.seen fs.old) (F.seen fs.new)) }
 {

@@ -12,13 +12,13 @@ use Rattle.dav_walks.proofs.deletion.delete_tree.Goals as goal
 pub returns-in_err-clone-clause-stopped : goal.returns-in_err-clone-clause-stopped
 returns-in_err-clone-clause-stopped g c =
     let p = err_from_is_err_and c.from_residual.result c.from_residual.ensures.1 in
-    rw p.1 (halted_off _ _ _ refl (nothing_halts _ _ _ (g.met.F.GuardedFileSystem.well_formed c.args.fs.now)))
+    rw p.1 (halted_off _ _ _ _ _ refl (nothing_halts c.args.path.now _ _ c.args.res.now _ (g.met.F.GuardedFileSystem.well_formed c.args.fs.now)))
 
 pub returns-in_err-enter-clause-stopped : goal.returns-in_err-enter-clause-stopped
 returns-in_err-enter-clause-stopped g c =
     let p = err_from_is_err_and c.from_residual-in_err-enter.result c.from_residual-in_err-enter.ensures.1 in
     let formed = g.met.F.GuardedFileSystem.well_formed in
-    rw p.1 (halted_off _ _ _ c.in_err-enter.ensures.fixed (begins_cut c.args.path.now _ _ _ c.args.res.now c.args.res.now (formed c.args.fs.now) (formed c.enter.new.fs) c.in_ok-clone.ensures c.args.dir c.requires.there c.in_err-enter.ensures.stopped))
+    rw (p.1, c.in_err-enter.ensures.unnamed) (halted_off _ _ _ _ _ c.in_err-enter.ensures.fixed (begins_cut c.args.path.now _ _ _ c.args.res.now c.args.res.now (formed c.args.fs.now) (formed c.enter.new.fs) c.in_ok-clone.ensures c.args.dir c.requires.there c.in_err-enter.ensures.stopped))
 
 pub returns-in-Over-clause-done : goal.returns-in-Over-clause-done
 returns-in-Over-clause-done g c =
@@ -41,13 +41,13 @@ visit-requires-clause-names g c = next_segment c.walk.invariant.going
 pub returns-in_err-inner-clause-stopped : goal.returns-in_err-inner-clause-stopped
 returns-in_err-inner-clause-stopped g c =
     let p = err_from_is_err_and c.from_residual-in_err-inner.result c.from_residual-in_err-inner.ensures.1 in
-    rw p.1 (halted_off _ _ _ (c.in_err-inner.ensures.fixed ∙ c.walk.invariant.fixed) (visit_cut c.walk.invariant.going _ (g.met.F.GuardedFileSystem.well_formed c.visit.new.fs) c.in_err-inner.ensures.stopped))
+    rw (p.1, c.in_err-inner.ensures.unnamed) (halted_off _ _ _ _ _ (c.in_err-inner.ensures.fixed ∙ c.walk.invariant.fixed) (visit_cut c.walk.invariant.going _ (g.met.F.GuardedFileSystem.well_formed c.visit.new.fs) c.in_err-inner.ensures.stopped))
 
 pub returns-in_err-push-clause-stopped : goal.returns-in_err-push-clause-stopped
 returns-in_err-push-clause-stopped g c =
     let p = err_from_is_err_and c.from_residual-in_err-push.result c.from_residual-in_err-push.ensures.1 in
     let went = visit_opened c.walk.invariant.going (g.F.GuardedFileSystem.seen c.visit.new.fs) (g.met.F.GuardedFileSystem.well_formed c.visit.new.fs) c.visit.new.res c.visit.new.frame c.in-Some.inner _ refl (rw c.in-Some.is at c.in_ok-inner.ensures.done) in
-    rw p.1 (halted_off _ _ _ (c.in_ok-inner.ensures.fixed ∙ c.walk.invariant.fixed) went.2)
+    rw p.1 (halted_off _ _ _ _ _ (c.in_ok-inner.ensures.fixed ∙ c.walk.invariant.fixed) went.2)
 
 pub walk-smaller-in-Some : goal.walk-smaller-in-Some
 walk-smaller-in-Some g c =
@@ -76,7 +76,7 @@ pub returns-in_err-clean-clause-stopped : goal.returns-in_err-clean-clause-stopp
 returns-in_err-clean-clause-stopped g c =
     let p = err_from_is_err_and c.from_residual-in_err-clean.result c.from_residual-in_err-clean.ensures.1 in
     let done : length c.walk.frame.listing.items ≤ c.walk.frame.next = omega (arith, c.len.ensures, c.walk.frame.listing.ok.0, c.if-frame-len.false) in
-    rw p.1 (halted_off _ _ _ (c.in_err-clean.ensures.fixed ∙ c.walk.invariant.fixed) (going_close_halts c.walk.invariant.going _ done c.in_err-clean.ensures.clean c.in_err-clean.ensures.stopped))
+    rw (p.1, c.in_err-clean.ensures.unnamed) (halted_off _ _ _ _ _ (c.in_err-clean.ensures.fixed ∙ c.walk.invariant.fixed) (going_close_halts c.walk.invariant.going _ done c.in_err-clean.ensures.clean c.in_err-clean.ensures.stopped))
 
 pub returns-in-None-clause-done : goal.returns-in-None-clause-done
 returns-in-None-clause-done g c =
