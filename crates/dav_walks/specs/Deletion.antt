@@ -111,7 +111,7 @@ IsRemoval op = (op ≡ RemoveFile) ⊎ (op ≡ RemoveDir)
 abbrev pub WasRemoved : List (Op × Outcome) → Type 0
 WasRemoved calls = (op : Op) × IsRemoval op × IsIn (op, Granted) calls
 
--- none of all the calls is a removal that was granted
+-- each removal among the calls was refused
 abbrev pub NothingRemoved : List KeyCall → Type 0
 NothingRemoved calls = (call : KeyCall) → IsIn call calls → IsRemoval call.op → WasRefused call.outcome
 
