@@ -517,6 +517,3 @@ fn file_index(entries: &[Entry], key: &[String]) -> FsResult<usize>
         _ => Err(FsError::NotFound),
     }
 }
-
-#[cfg(test)]
-mod tests;

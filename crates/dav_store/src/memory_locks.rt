@@ -150,6 +150,3 @@ fn copy_owner(owner: Option<&Element>) -> Result<Option<Element>, AllocError>
         None => Ok(None),
     }
 }
-
-#[cfg(test)]
-mod tests;

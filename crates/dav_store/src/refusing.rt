@@ -311,6 +311,3 @@ fn last_outcome(records: &[Record]) -> Outcome
         None => Outcome::Granted,
     }
 }
-
-#[cfg(test)]
-mod tests;
