@@ -2,7 +2,7 @@
 use crate::serve_over;
 use dav_engine::{
     Body, DavLockSystem, DavPath, DavRequest, DavResult, FsError, GuardedFileSystem, Items, MemFs,
-    MemLs, Op, Record, Refusing, ReqBody, Text,
+    MemLs, Op, Outcome, Record, Refusing, ReqBody, Text,
 };
 use http::{Method, Response};
 use http_header::{HeaderMap, HeaderName, HeaderValue};
@@ -217,7 +217,7 @@ pub fn records<F: GuardedFileSystem<()>>(store: &F) -> &[Record] {
     store.records()
 }
 
-fn clear_log<F: GuardedFileSystem<()>>(store: &mut F) {
+pub fn clear_log<F: GuardedFileSystem<()>>(store: &mut F) {
     store.clear_log()
 }
 
@@ -228,6 +228,23 @@ pub fn calls(alloc: Global, store: &Store) -> Result<String, Fail> {
         texts.push(call_text(alloc, record)?)?;
     }
     Ok(texts.as_slice().join(alloc, ", ")?)
+}
+
+/// The same, and behind a colon how a call ended that wasn't granted.
+pub fn endings(alloc: Global, store: &Store) -> Result<String, Fail> {
+    let mut texts = Vec::new(alloc);
+    for record in records(store) {
+        texts.push(ending_text(alloc, record)?)?;
+    }
+    Ok(texts.as_slice().join(alloc, ", ")?)
+}
+
+fn ending_text(alloc: Global, record: &Record) -> Result<String, Fail> {
+    let call = call_text(alloc, record)?;
+    match record.outcome {
+        Outcome::Granted => Ok(call),
+        outcome => Ok(format!(in alloc; "{call}: {outcome:?}")?),
+    }
 }
 
 fn call_text(alloc: Global, record: &Record) -> Result<String, Fail> {

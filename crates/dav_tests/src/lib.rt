@@ -44,4 +44,6 @@ mod locks;
 #[cfg(test)]
 mod parts;
 #[cfg(test)]
+mod put;
+#[cfg(test)]
 mod tests;
