@@ -1,7 +1,6 @@
 pub mod Arguments
 pub mod Errors
 pub mod Escape
-pub mod Number
 pub mod Refusals
 pub mod Status
 pub mod Texts

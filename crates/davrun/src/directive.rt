@@ -1,13 +1,11 @@
 //! The directives of a block: lines that begin with `=`.
 ghost use Rattle.std.specs.Prelude.{◌≡◌, ◌⊎◌, ◌<◌, if◌then◌else◌, Some, None, IfOk, IfErr, IfSome, length, option_map};
-ghost use Rattle.std.specs.List.{list_all};
-ghost use Rattle.std.specs.Char.{is_ascii_digit, is_ascii_hexdigit, digit_value};
-ghost use Rattle.std.specs.Str.Parse.{digits_value};
-ghost use Rattle.davrun.specs.Number.{is_number};
+ghost use Rattle.std.specs.Char.{is_ascii_hexdigit, digit_value};
 ghost use Rattle.davrun.specs.Escape.{first_byte as first_byte_of, escaped_byte as escaped_byte_of, hex_byte as hex_byte_of, StandsFor, IsFaulty};
 
 use crate::refuse::add_refusal;
 use crate::script::{Block, Fault, LineError};
+use dav_headers::read_number;
 use dav_resource::{Items, ReqBody, Text};
 use std::alloc::Global;
 
@@ -34,23 +32,6 @@ pub fn read(block: &mut Block, line: &str) -> Result<(), LineError> {
         _ => return Err(Fault::UnknownDirective.into()),
     }
     Ok(())
-}
-
-/// The number that a text of one or more decimal digits spells, where it fits.
-fn read_number(text: &str) -> Option<u64>
-    ensures { result ≡ (if is_number text.now then Some (digits_value 10 text.now) else None) }
-{
-    if !has_digits_alone(text.as_bytes()) {
-        return None;
-    }
-    text.parse().ok()
-}
-
-/// Whether the bytes are decimal digits, each of them.
-fn has_digits_alone(text: &[u8]) -> bool
-    ensures { result ≡ list_all is_ascii_digit text.now }
-{
-    text.iter().all(|byte| byte.is_ascii_digit())
 }
 
 /// The bytes that a text stands for, in which `\n` is a line feed, `\\` and `\"` are the second letter, and
