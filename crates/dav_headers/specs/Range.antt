@@ -22,7 +22,7 @@ both_numbers parts = option_zip (number_in parts.0) (number_in parts.1)
 
 -- ---- X-Update-Range
 
--- the range of what stands before `-` and behind it: where nothing stands before it, so many bytes at the end; where nothing stands behind it, all from a byte on
+-- from what stands before `-` to what stands behind it: without the first, so many bytes at the end; without the second, all from the first on
 abbrev pub range_between : List ℕ × List ℕ → Option UpdateRange
 range_between parts =
     if length parts.0 == 0 then option_map Last (number_in parts.1) else (

@@ -22,12 +22,12 @@ pub enum UpdateRange {
     Append,
 }
 
-/// The bytes of a file that the body is, counted from 0. The last may stand before the first.
+/// The place of the body in a file, counted from 0. The last byte may stand before the first.
 #[derive(Clone, Copy, Debug, PartialEq, Eq)]
 pub struct ContentRange {
-    /// The first of them.
+    /// Where its first byte stands.
     pub first: u64,
-    /// The last of them.
+    /// Where its last byte stands.
     pub last: u64,
 }
 
@@ -86,9 +86,9 @@ fn range_between(first: &str, last: &str) -> Option<UpdateRange>
     Some(UpdateRange::FromTo(first, last))
 }
 
-/// The bytes of a file that the body is, by the header Content-Range (RFC 7233, section 4.2): `bytes`, one
-/// space, `b-e` and behind a `/` a number or `*`, where nothing is compared. None where there is no such
-/// header, or its first value is `bytes */n`, which names no bytes.
+/// The place of the body in a file, by the header Content-Range (RFC 7233, section 4.2): `bytes`, one space,
+/// `b-e` and behind a `/` a number or `*`, where nothing is compared. None where there is no such header, or
+/// its first value is `bytes */n`, which names no place.
 ///
 /// The error is `StatusClose(400)` where the first value is another.
 pub fn read_content_range(headers: &HeaderMap<HeaderValue>) -> DavResult<Option<ContentRange>>
@@ -97,10 +97,9 @@ pub fn read_content_range(headers: &HeaderMap<HeaderValue>) -> DavResult<Option<
     let Some(value) = headers.get("content-range") else {
         return Ok(None);
     };
-    match readable_text(value) {
-        Some(text) => content_range_in(text).ok_or(DavError::StatusClose(StatusCode::BAD_REQUEST)),
-        None => Err(DavError::StatusClose(StatusCode::BAD_REQUEST)),
-    }
+    readable_text(value)
+        .and_then(content_range_in)
+        .ok_or(DavError::StatusClose(StatusCode::BAD_REQUEST))
 }
 
 /// `bytes`, one space, and a range and a length.
