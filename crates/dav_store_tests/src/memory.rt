@@ -116,8 +116,13 @@ fn seek(fs: &mut MemFs, file: &mut DavFile, place: u64) -> FsResult<()> {
     fs.seek(file, place, &())
 }
 
-fn write(fs: &mut MemFs, file: &mut DavFile, bytes: &[u8]) -> FsResult<()> {
-    fs.write_bytes(file, bytes, &())
+/// Writes an `x` at a place, which isn't the last that there is.
+fn write_at(fs: &mut MemFs, file: &mut DavFile, place: u64) -> FsResult<()> {
+    if place == u64::MAX {
+        return Err(FsError::TooLarge);
+    }
+    fs.seek(file, place, &())?;
+    fs.write_bytes(file, b"x", &())
 }
 
 /// The file `/d/f`, opened and left as it is.
@@ -274,9 +279,7 @@ fn seeks_past_the_end(rt: HostRuntime) -> Result<(), Fail> {
     let alloc = rt.alloc();
     let mut fs = filled(alloc)?;
     let mut file = open_there(alloc, &mut fs)?;
-    seek(&mut fs, &mut file, 7)?;
-    assert_eq!(rt; file.pos, 7);
-    write(&mut fs, &mut file, b"x")?;
+    write_at(&mut fs, &mut file, 7)?;
     assert_eq!(rt; file.pos, 8);
     assert_eq!(rt; dump(alloc, &fs)?.as_str(), "/ /d/ /d/f=\0\0abc\0\0x");
     Ok(())
@@ -316,8 +319,7 @@ fn grows_at_once_or_not_at_all(rt: HostRuntime) -> Result<(), Fail> {
     let alloc = rt.alloc();
     let mut fs = filled(alloc)?;
     let mut file = open_there(alloc, &mut fs)?;
-    seek(&mut fs, &mut file, u64::MAX - 1)?;
-    let written = write(&mut fs, &mut file, b"x");
+    let written = write_at(&mut fs, &mut file, u64::MAX - 1);
     assert_eq!(rt; written.err(), Some(FsError::Memory));
     assert_eq!(rt; file.pos, u64::MAX - 1);
     assert_eq!(rt; recorded(&fs), 6);
