@@ -11,6 +11,7 @@ use std::io::{self, Read, Write};
 use std::process::Abort;
 use std::test::Fail;
 
+mod partial;
 mod refuse;
 
 /// Runs a script over these arguments, and compares the status and what both writers got.
