@@ -14,14 +14,8 @@ use std::test::Fail;
 mod partial;
 mod refuse;
 
-/// Runs a script over these arguments, and compares the status and what both writers got.
-fn expect(
-    rt: &impl Abort,
-    alloc: Global,
-    arguments: &[&str],
-    script: &[u8],
-    wanted: (u8, &str, &str),
-) -> Result<(), Fail> {
+/// Runs a script over these arguments: the status, and what both writers got.
+fn run(alloc: Global, arguments: &[&str], script: &[u8]) -> Result<(u8, String, String), Fail> {
     let mut owned = Vec::new(alloc);
     for argument in arguments {
         owned.push(String::from_str(alloc, argument)?)?;
@@ -30,8 +24,24 @@ fn expect(
     let mut output = Vec::new(alloc);
     let mut errors = Vec::new(alloc);
     let status = run_script(alloc, &owned, &mut input, &mut output, &mut errors);
-    assert_eq!(rt; String::from_utf8(output)?.as_str(), wanted.1);
-    assert_eq!(rt; String::from_utf8(errors)?.as_str(), wanted.2);
+    Ok((
+        status,
+        String::from_utf8(output)?,
+        String::from_utf8(errors)?,
+    ))
+}
+
+/// Runs a script over these arguments, and compares the status and what both writers got.
+fn expect(
+    rt: &impl Abort,
+    alloc: Global,
+    arguments: &[&str],
+    script: &[u8],
+    wanted: (u8, &str, &str),
+) -> Result<(), Fail> {
+    let (status, printed, said) = run(alloc, arguments, script)?;
+    assert_eq!(rt; printed.as_str(), wanted.1);
+    assert_eq!(rt; said.as_str(), wanted.2);
     assert_eq!(rt; status, wanted.0);
     Ok(())
 }
@@ -389,21 +399,38 @@ fn arguments_are_one_prefix(rt: HostRuntime) -> Result<(), Fail> {
     Ok(())
 }
 
-#[test]
-fn a_tree_is_printed_as_its_outline(rt: HostRuntime) -> Result<(), Fail> {
-    let alloc = rt.alloc();
-    let mut prop = Element::new2(alloc, "D:prop")?;
+/// An element with a namespace of its own and two declared ones.
+fn foo(alloc: Global) -> Result<Element, Fail> {
     let foo = Element::new2(alloc, "N:foo")?.ns("b", "urn:b")?;
     let mut foo = foo.ns("N", "a\"b\\\n\t\u{e9}")?;
     foo.namespace = Some(String::from_str(alloc, "urn:n")?);
-    prop.push_element(foo)?;
-    let bare = Element::new(alloc, "bare")?
-        .text("one \"\\\n\t\u{e9}")?
-        .text("")?;
-    prop.push_element(bare)?;
+    Ok(foo)
+}
+
+/// An element with two texts, of which the second is empty.
+fn bare(alloc: Global) -> Result<Element, Fail> {
+    let bare = Element::new(alloc, "bare")?.text("one \"\\\n\t\u{e9}")?;
+    Ok(bare.text("")?)
+}
+
+/// An element that holds both.
+fn prop(alloc: Global) -> Result<Element, Fail> {
+    let mut prop = Element::new2(alloc, "D:prop")?;
+    prop.push_element(foo(alloc)?)?;
+    prop.push_element(bare(alloc)?)?;
+    Ok(prop)
+}
+
+/// A tree of that one and an empty one.
+fn tree(alloc: Global) -> Result<Element, Fail> {
     let mut tree = Element::new2(alloc, "D:multistatus")?.ns("D", "DAV:")?;
-    tree.push_element(prop)?;
+    tree.push_element(prop(alloc)?)?;
     tree.push_element(Element::new2(alloc, "D:status")?)?;
+    Ok(tree)
+}
+
+#[test]
+fn a_tree_is_printed_as_its_outline(rt: HostRuntime) -> Result<(), Fail> {
     let wanted = "\
 D:multistatus xmlns:D=\"DAV:\"
   D:prop
@@ -413,25 +440,38 @@ D:multistatus xmlns:D=\"DAV:\"
       \"\"
   D:status
 ";
-    assert_eq!(&rt; outline(alloc, &tree)?.as_str(), wanted);
+    let outline = outline(rt.alloc(), &tree(rt.alloc())?)?;
+    assert_eq!(&rt; outline.as_str(), wanted);
     Ok(())
 }
 
-/// A shared lock `u` of the root alone, without end, and then an exclusive deep one `t` of `/n`.
-fn two_locks(alloc: Global) -> Result<MemLs, Fail> {
-    let mut locks = MemLs::new(alloc);
+/// Adds a shared lock `u` of the root alone, without end.
+fn lock_the_root(alloc: Global, locks: &mut MemLs) -> Result<(), Fail> {
     let root = DavPath::root(alloc);
     locks.lock(&root, None, None, None, true, false, "u", 0)?;
+    Ok(())
+}
+
+/// Adds an exclusive deep lock `t` of `/n`.
+fn lock_below(alloc: Global, locks: &mut MemLs) -> Result<(), Fail> {
     let path = DavPath::from_str_and_prefix(alloc, "/n", "")?;
     locks.lock(&path, Some("alice"), None, Some(600), false, true, "t", 7)?;
-    Ok(locks)
+    Ok(())
+}
+
+/// What is printed at the end, of an empty store and of these locks.
+fn printed_end(alloc: Global, locks: &MemLs) -> Result<String, Fail> {
+    let mut output = Vec::new(alloc);
+    print_end(alloc, &mut output, &MemFs::new(alloc)?, locks)?;
+    Ok(String::from_utf8(output)?)
 }
 
 #[test]
 fn locks_are_sorted_by_their_tokens(rt: HostRuntime) -> Result<(), Fail> {
     let alloc = rt.alloc();
-    let mut output = Vec::new(alloc);
-    print_end(alloc, &mut output, &MemFs::new(alloc)?, &two_locks(alloc)?)?;
+    let mut locks = MemLs::new(alloc);
+    lock_the_root(alloc, &mut locks)?;
+    lock_below(alloc, &mut locks)?;
     let wanted = "\
 resources
 /
@@ -439,7 +479,7 @@ locks
 t exclusive infinity /n Second-600
 u shared 0 / Infinite
 ";
-    assert_eq!(&rt; String::from_utf8(output)?.as_str(), wanted);
+    assert_eq!(&rt; printed_end(alloc, &locks)?.as_str(), wanted);
     Ok(())
 }
 
@@ -477,52 +517,61 @@ impl Write for Full {
     }
 }
 
+/// What is said where reading or writing fails.
+const FAILED: &str = "davrun: input or output failed\n";
+
+/// Runs a script whose reader fails behind it: the status, how many bytes are printed, and what is said.
+fn run_broken(alloc: Global, script: &[u8]) -> Result<(u8, usize, String), Fail> {
+    let mut output = Vec::new(alloc);
+    let mut errors = Vec::new(alloc);
+    let status = run_script(alloc, &[], &mut Broken(script), &mut output, &mut errors);
+    Ok((status, output.len(), String::from_utf8(errors)?))
+}
+
 #[test]
 fn a_failed_read_stops_it(rt: HostRuntime) -> Result<(), Fail> {
     let alloc = rt.alloc();
     for script in [b"".as_slice(), b"MKCOL /d\n\n", b"MKCOL"] {
-        let mut output = Vec::new(alloc);
-        let mut errors = Vec::new(alloc);
-        let status = run_script(alloc, &[], &mut Broken(script), &mut output, &mut errors);
+        let (status, printed, said) = run_broken(alloc, script)?;
         assert_eq!(&rt; status, 3);
-        assert_eq!(&rt;
-            String::from_utf8(errors)?.as_str(),
-            "davrun: input or output failed\n"
-        );
-        assert!(&rt; output.is_empty());
+        assert_eq!(&rt; said.as_str(), FAILED);
+        assert_eq!(&rt; printed, 0);
     }
     Ok(())
+}
+
+/// Runs a script whose output is `SERVED` into a writer of this room: the status, and what is said.
+fn run_into(alloc: Global, room: usize) -> Result<(u8, String), Fail> {
+    let mut script = b"MKCOL /d/\n\nPUT /d/a\n=bytes hi\n".as_slice();
+    let mut errors = Vec::new(alloc);
+    let status = run_script(alloc, &[], &mut script, &mut Full { room }, &mut errors);
+    Ok((status, String::from_utf8(errors)?))
 }
 
 #[test]
 fn a_failed_write_stops_it(rt: HostRuntime) -> Result<(), Fail> {
     let alloc = rt.alloc();
     for room in 0..SERVED.len() {
-        let mut script = b"MKCOL /d/\n\nPUT /d/a\n=bytes hi\n".as_slice();
-        let mut errors = Vec::new(alloc);
-        let status = run_script(alloc, &[], &mut script, &mut Full { room }, &mut errors);
+        let (status, said) = run_into(alloc, room)?;
         assert_eq!(&rt; status, 3);
-        assert_eq!(&rt;
-            String::from_utf8(errors)?.as_str(),
-            "davrun: input or output failed\n"
-        );
+        assert_eq!(&rt; said.as_str(), FAILED);
     }
-    let mut script = b"MKCOL /d/\n\nPUT /d/a\n=bytes hi\n".as_slice();
-    let mut errors = Vec::new(alloc);
-    let mut output = Full { room: SERVED.len() };
-    let status = run_script(alloc, &[], &mut script, &mut output, &mut errors);
+    let (status, said) = run_into(alloc, SERVED.len())?;
     assert_eq!(&rt; status, 0);
-    assert!(&rt; errors.is_empty());
+    assert_eq!(&rt; said.as_str(), "");
     Ok(())
+}
+
+/// Runs a faulty script over a writer of errors that has no room: the status, and how many bytes are printed.
+fn run_unsaid(alloc: Global) -> (u8, usize) {
+    let mut script = b"MKCOL".as_slice();
+    let mut output = Vec::new(alloc);
+    let status = run_script(alloc, &[], &mut script, &mut output, &mut Full { room: 3 });
+    (status, output.len())
 }
 
 #[test]
 fn a_fault_that_cannot_be_said_is_a_failed_write(rt: HostRuntime) -> Result<(), Fail> {
-    let alloc = rt.alloc();
-    let mut script = b"MKCOL".as_slice();
-    let mut output = Vec::new(alloc);
-    let status = run_script(alloc, &[], &mut script, &mut output, &mut Full { room: 3 });
-    assert_eq!(&rt; status, 3);
-    assert!(&rt; output.is_empty());
+    assert_eq!(&rt; run_unsaid(rt.alloc()), (3, 0));
     Ok(())
 }
