@@ -70,11 +70,11 @@ const UNSATISFIABLE: &str = "416 closed: / /a=hello";
 // ---- the length of the body
 
 /// The outcome of a request with these two lengths, of which a PATCH appends.
-fn stating(
+fn stating<'x>(
     alloc: Global,
     method: &str,
-    length: &str,
-    expected: &str,
+    length: &'x str,
+    expected: &'x str,
     body: &str,
 ) -> Result<String, Fail> {
     let headers = [
@@ -310,11 +310,11 @@ fn the_headers_are_judged_before_the_conditions(rt: HostRuntime) -> Result<(), F
 }
 
 /// The outcome of a request of this length, of which a PATCH appends, where an exclusive lock `t` stands on `/a`.
-fn locked(
+fn locked<'x>(
     alloc: Global,
     method: &str,
-    condition: &str,
-    length: &str,
+    condition: &'x str,
+    length: &'x str,
     body: &str,
 ) -> Result<String, Fail> {
     let mut server = hello(alloc)?;

@@ -4,12 +4,12 @@ use std::alloc::Global;
 use std::test::Fail;
 
 /// The outcome of a PATCH with these ranges and this length.
-fn patch_at(
+fn patch_at<'x>(
     alloc: Global,
     path: &str,
-    range: &str,
-    content_range: &str,
-    length: &str,
+    range: &'x str,
+    content_range: &'x str,
+    length: &'x str,
     body: &str,
 ) -> Result<String, Fail> {
     let headers = [

@@ -155,16 +155,27 @@ fn what_was_not_seen_counts_as_missing(rt: HostRuntime) -> Result<(), Fail> {
 
 // ---- PATCH
 
-/// A PATCH of this range.
-fn patch(alloc: Global, path: &str, range: &str, body: &str) -> Result<DavRequest, Fail> {
-    let length = body.len();
-    let length = format!(in alloc; "{length}")?;
+/// A PATCH of this range and this length.
+fn update<'x>(
+    alloc: Global,
+    path: &str,
+    range: &'x str,
+    length: &'x str,
+    body: &str,
+) -> Result<DavRequest, Fail> {
     let headers = [
         ("Content-Type", UPDATE),
         ("X-Update-Range", range),
-        ("Content-Length", length.as_str()),
+        ("Content-Length", length),
     ];
     request(alloc, "PATCH", path, &headers, body)
+}
+
+/// A PATCH of this range, of its body's length.
+fn patch(alloc: Global, path: &str, range: &str, body: &str) -> Result<DavRequest, Fail> {
+    let length = body.len();
+    let length = format!(in alloc; "{length}")?;
+    update(alloc, path, range, length.as_str(), body)
 }
 
 #[test]

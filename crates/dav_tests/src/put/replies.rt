@@ -1,7 +1,7 @@
 //! What the reply to a PUT or a PATCH tells of the file (RFC 9110, sections 8.8.2 and 8.8.3).
 use super::{UPDATE, hello};
 use crate::fixture::{Server, request, status};
-use dav_engine::{Body, DavResult, FsError, Op};
+use dav_engine::{Body, DavRequest, DavResult, FsError, Op};
 use http::Response;
 use http_header::{HeaderMap, HeaderValue};
 use std::alloc::Global;
@@ -30,6 +30,25 @@ fn fields(alloc: Global, headers: &HeaderMap<HeaderValue>) -> Result<String, Fai
     Ok(fields.as_slice().join(alloc, "; ")?)
 }
 
+/// A request with these ranges and this length.
+fn part<'x>(
+    alloc: Global,
+    method: &str,
+    path: &str,
+    update: &'x str,
+    content: &'x str,
+    length: &'x str,
+    body: &str,
+) -> Result<DavRequest, Fail> {
+    let headers = [
+        ("Content-Type", UPDATE),
+        ("X-Update-Range", update),
+        ("Content-Range", content),
+        ("Content-Length", length),
+    ];
+    request(alloc, method, path, &headers, body)
+}
+
 /// The reply to a PUT with this Content-Range, or to a PATCH with this X-Update-Range.
 fn reply(
     alloc: Global,
@@ -46,13 +65,7 @@ fn reply(
     } else {
         (range, "")
     };
-    let headers = [
-        ("Content-Type", UPDATE),
-        ("X-Update-Range", update),
-        ("Content-Range", content),
-        ("Content-Length", length.as_str()),
-    ];
-    let request = request(alloc, method, path, &headers, body)?;
+    let request = part(alloc, method, path, update, content, length.as_str(), body)?;
     shown(alloc, &server.serve(alloc, request)?)
 }
 
