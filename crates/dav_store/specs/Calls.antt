@@ -153,7 +153,7 @@ file_call op old key = record { op = op; keys = key ∷ []; bar = file_bar (get 
 abbrev pub FindsFile : Op → Store → Key → Result (Unit {0}) FsError → Store → Type 0
 FindsFile op old key = Answers (file_call op old.contents key) (λ _ before after. after ≡ before) old
 
--- the place is the handle's own, at the end of the file or past it: nothing of the store changes
+-- the place is the handle's own, and may lie past the end of the file: nothing of the store changes
 abbrev pub Seeks : Store → Key → Result (Unit {0}) FsError → Store → Type 0
 Seeks old key = FindsFile Seek old key
 
