@@ -8,3 +8,4 @@ pub mod PathLemmas
 pub mod MimeLemmas
 pub mod TreeLemmas
 pub mod ElementLemmas
+pub mod TokenLemmas

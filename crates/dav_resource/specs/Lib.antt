@@ -12,3 +12,4 @@ pub mod Element
 pub mod ElementFalls
 pub mod Methods
 pub mod ETags
+pub mod LockToken

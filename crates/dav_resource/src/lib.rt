@@ -4,6 +4,7 @@
 mod element;
 mod error;
 mod etag;
+mod lock_token;
 mod meta;
 mod method;
 mod path;
@@ -15,6 +16,7 @@ mod text;
 pub use element::{ChildElements, Element, XMLNode};
 pub use error::{DavError, DavResult, FsError, FsResult};
 pub use etag::{ETag, ETagList, IfRange};
+pub use lock_token::LockToken;
 pub use meta::{DavFile, DirEntry, Meta, OpenOptions};
 pub use method::{DavMethod, DavMethodSet};
 pub use path::DavPath;

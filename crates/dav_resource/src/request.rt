@@ -1,5 +1,5 @@
 //! Requests, and what replies carry.
-use crate::{DavPath, Element, Items, Text};
+use crate::{DavPath, Element, Items, LockToken, Text};
 use http::Method;
 use http_header::{HeaderMap, HeaderValue};
 
@@ -51,8 +51,8 @@ pub struct DavRequest {
     pub body: ReqBody,
     /// Who sends it, where that is known.
     pub principal: Option<Text>,
-    /// The token that a lock made by this request gets: one or more bytes 0x21 to 0x7E.
-    pub token: Text,
+    /// The token that a lock made by this request gets.
+    pub token: LockToken,
     /// The moment, in whole seconds since 1970.
     pub now: u64,
 }

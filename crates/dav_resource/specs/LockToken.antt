@@ -1,0 +1,19 @@
+-- Lock tokens (RFC 4918, section 6.5), as a header field shows them (section 10.1).
+use Rattle.std.specs.Prelude.{ℕ, Bool, ◌&&◌, nat_le, nat_lt, List, ◌++◌, length, codes, Option, Some, None, if◌then◌else◌}
+use Rattle.std.specs.List.{list_all}
+
+-- a character that shows: 0x21 to 0x7E
+abbrev pub is_shown : ℕ → Bool
+is_shown byte = nat_le 33 byte && nat_le byte 126
+
+-- one or more of them
+abbrev pub is_lock_token : List ℕ → Bool
+is_lock_token text = nat_lt 0 (length text) && list_all is_shown text
+
+-- the text as a token, where it is one
+abbrev pub lock_token : List ℕ → Option (List ℕ)
+lock_token text = if is_lock_token text then Some text else None
+
+-- the token in angle brackets
+abbrev pub coded : List ℕ → List ℕ
+coded token = codes "<" ++ token ++ codes ">"
