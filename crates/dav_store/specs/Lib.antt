@@ -15,4 +15,5 @@ pub mod KeyProps
 pub mod Lawful
 pub mod Locks
 pub mod LockCalls
+pub mod LockLaws
 pub mod MemLs

@@ -1,5 +1,5 @@
--- Locks (RFC 4918, section 6): what a lock covers, which locks conflict, whether a request may go on, and whether a lock is granted.
-use Rattle.std.specs.Prelude.{ℕ, Bool, not, ◌&&◌, ◌||◌, bytes_eq, if◌then◌else◌, List, length, ◌==◌, Option}
+-- Locks (RFC 4918, section 6): what a lock covers, which locks conflict, whether a request may go on, whether a lock is granted, and which locks stand together.
+use Rattle.std.specs.Prelude.{◌≡◌, ℕ, Bool, true, not, ◌&&◌, ◌||◌, bytes_eq, if◌then◌else◌, List, [], ◌∷◌, length, ◌==◌, Option}
 use Rattle.std.specs.List.{filter, list_all, list_any, starts_with}
 use Rattle.std.specs.Cmp.Lexicographic.{pointwise}
 use Rattle.std.specs.Option.{option_eq}
@@ -67,3 +67,21 @@ grants locks lock =
     not (list_any (has_token lock.token) locks)
     && not (list_any (conflicts lock) (covering locks lock.path.key))
     && not (lock.deep && list_any (conflicts lock) (at_or_below locks lock.path.key))
+
+-- ---- locks that stand together: exclusive ones alone, shared ones beside each other (RFC 4918, section 6.2)
+
+-- one of them covers the other's own key
+abbrev pub meet : DavLock → DavLock → Bool
+meet a b = covers a b.path.key || covers b a.path.key
+
+-- they don't meet, or they don't conflict
+abbrev pub stand_together : DavLock → DavLock → Bool
+stand_together a b = not (meet a b && conflicts a b)
+
+-- each stands together with each of the others
+abbrev pub are_compatible : List DavLock → Bool
+are_compatible [] = true
+are_compatible (lock ∷ locks) = list_all (stand_together lock) locks && are_compatible locks
+
+abbrev pub AreCompatible : List DavLock → Type 0
+AreCompatible locks = are_compatible locks ≡ true
