@@ -3,12 +3,12 @@ use Rattle.std.specs.Prelude.{ℕ, ◌==◌, if◌then◌else◌, List, [], ◌�
 use Rattle.std.specs.Option.{option_map_or}
 use Rattle.http.specs.StatusCode.{code_digits, reason_phrase}
 use Rattle.http.specs.declared.version.TheConstants.Version.{HTTP_11}
-use Rattle.dav_resource.specs.PathText.{PathValue, url_text}
-use Rattle.dav_resource.specs.PathForms.{prefixed}
-use Rattle.dav_resource.specs.Tree.{Tree, prefixed_element, with_attribute, with_children, one_text, elements}
+use Rattle.dav_resource.specs.PathText.{PathValue}
+use Rattle.dav_resource.specs.Tree.{Tree, prefixed_element}
 use Rattle.dav_resource.specs.declared.request.Body.{Body}
 use Rattle.dav_resource.specs.declared.error.DavError.TheVariants.{ChanError}
 use Rattle.dav_store.specs.Locks.{is_same_key}
+use Rattle.dav_parts.specs.DavElement.{with_elements, declaring_element, text_element, href_element}
 use Rattle.dav_parts.specs.Reply.{Reply, Answer, bare_reply, field}
 
 -- a resource and its status
@@ -28,20 +28,15 @@ status_line status = codes "HTTP/1.1 " ++ code_digits status ++ option_map_or (�
 abbrev pub shown_status : ℕ → ℕ
 shown_status status = if status == 204 then 200 else status
 
--- an element of this name that holds a text
-abbrev pub text_element : List ℕ → List ℕ → Tree
-text_element name text = with_children (prefixed_element name) (one_text text)
-
 -- the resource's path, with its prefix, and its status
 abbrev pub response_element : Item → Tree
 response_element item =
-    with_children (prefixed_element (codes "D:response"))
-    (elements (text_element (codes "D:href") (url_text (prefixed item.0)) ∷ text_element (codes "D:status") (status_line (shown_status item.1)) ∷ []))
+    with_elements (prefixed_element (codes "D:response"))
+    (href_element item.0 ∷ text_element (codes "D:status") (status_line (shown_status item.1)) ∷ [])
 
 -- a response for each item, in order
 abbrev pub multistatus : List Item → Tree
-multistatus items =
-    with_children (with_attribute (prefixed_element (codes "D:multistatus")) (codes "xmlns:D") (codes "DAV:")) (elements (map response_element items))
+multistatus items = with_elements (declaring_element (codes "D:multistatus")) (map response_element items)
 
 abbrev pub xml_type : List ℕ
 xml_type = codes "application/xml; charset=utf-8"

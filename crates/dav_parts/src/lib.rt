@@ -3,6 +3,7 @@
 #![tactic(auto)]
 
 mod conditional;
+mod dav_element;
 mod if_header;
 mod multierror;
 mod multistatus;
@@ -12,4 +13,5 @@ pub use conditional::{
     dav_if_match, etaglist_match, http_if_match, if_match, if_match_get_tokens, ifrange_match,
 };
 pub use multierror::{MultiError, multi_error};
+pub use multistatus::xml_headers;
 pub use reply_header::{add_header, header_value};

@@ -2,8 +2,9 @@
 ghost use Rattle.std.specs.Prelude.{◌≡◌, codes, [], ◌∷◌, IfOk, IfErr, string_bytes};
 ghost use Rattle.dav_resource.specs.declared.error.DavError.TheVariants.{Memory};
 ghost use Rattle.dav_parts.specs.Reply.{reply_of, bare_reply as reply_without_body, field};
-ghost use Rattle.dav_parts.specs.Multistatus.{status_line as line_of_status, shown_status as status_shown_for, text_element as element_of_text, response_element as element_of_item, multistatus as tree_of_items, xml_type, multistatus_reply as reply_of_items};
+ghost use Rattle.dav_parts.specs.Multistatus.{status_line as line_of_status, shown_status as status_shown_for, response_element as element_of_item, multistatus as tree_of_items, xml_type, multistatus_reply as reply_of_items};
 
+use crate::dav_element::{declaring_element, href_element, text_element};
 use crate::reply_header::add_header;
 use dav_resource::{Body, DavPath, DavResult, Element};
 use http::{Response, StatusCode};
@@ -35,8 +36,9 @@ pub(crate) fn multistatus_reply(
     Ok(reply)
 }
 
-/// The header fields of a reply whose body is a tree.
-fn xml_headers(alloc: Global) -> DavResult<HeaderMap<HeaderValue>>
+/// The header fields of a reply whose body is a tree: `content-type` alone, which says that the body is XML in
+/// UTF-8 (RFC 4918, section 8.2). The only error is `Memory`, where memory is lacking.
+pub fn xml_headers(alloc: Global) -> DavResult<HeaderMap<HeaderValue>>
     ensures ok { IfOk result (λ headers. headers ≡ field (codes "content-type") xml_type ∷ []) }
     ensures err { IfErr result (λ e. e ≡ Memory) }
 {
@@ -50,7 +52,7 @@ fn xml_headers(alloc: Global) -> DavResult<HeaderMap<HeaderValue>>
 fn multistatus(alloc: Global, items: &[(DavPath, StatusCode)]) -> Result<Element, AllocError>
     ensures { IfOk result (λ tree. tree ≡ tree_of_items items.now) }
 {
-    let mut tree = Element::new2(alloc, "D:multistatus")?.ns("D", "DAV:")?;
+    let mut tree = declaring_element(alloc, "D:multistatus")?;
     for (path, status) in items {
         tree.push_element(response_element(alloc, path, *status)?)?;
     }
@@ -65,19 +67,11 @@ fn response_element(
 ) -> Result<Element, AllocError>
     ensures { IfOk result (λ response. response ≡ element_of_item (path.now, status)) }
 {
-    let href = path.with_prefix()?.as_url_string()?;
     let line = status_line(alloc, shown_status(status))?;
     let mut response = Element::new2(alloc, "D:response")?;
-    response.push_element(text_element(alloc, "D:href", href.as_str())?)?;
+    response.push_element(href_element(alloc, path)?)?;
     response.push_element(text_element(alloc, "D:status", line.as_str())?)?;
     Ok(response)
-}
-
-/// An element of this name that holds a text.
-fn text_element(alloc: Global, name: &str, text: &str) -> Result<Element, AllocError>
-    ensures { IfOk result (λ element. element ≡ element_of_text name.now text.now) }
-{
-    Element::new2(alloc, name)?.text(text)
 }
 
 /// The status as a reply's first line shows it, with its phrase where it has one.

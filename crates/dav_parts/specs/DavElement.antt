@@ -1,0 +1,21 @@
+-- Elements of a reply's body: all have the prefix `D`, which the outermost one declares (RFC 4918, section 14; Namespaces in XML 1.0, section 3).
+use Rattle.std.specs.Prelude.{ℕ, List, codes}
+use Rattle.dav_resource.specs.PathText.{PathValue, url_text}
+use Rattle.dav_resource.specs.PathForms.{prefixed}
+use Rattle.dav_resource.specs.Tree.{Tree, prefixed_element, with_attribute, with_children, one_text, elements}
+
+-- the element with these elements behind what stands in it
+abbrev pub with_elements : Tree → List Tree → Tree
+with_elements tree more = with_children tree (elements more)
+
+-- an element of this name that declares the prefix
+abbrev pub declaring_element : List ℕ → Tree
+declaring_element name = with_attribute (prefixed_element name) (codes "xmlns:D") (codes "DAV:")
+
+-- an element of this name that holds a text
+abbrev pub text_element : List ℕ → List ℕ → Tree
+text_element name text = with_children (prefixed_element name) (one_text text)
+
+-- a path, with its prefix
+abbrev pub href_element : PathValue → Tree
+href_element path = text_element (codes "D:href") (url_text (prefixed path))

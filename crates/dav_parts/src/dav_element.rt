@@ -1,0 +1,42 @@
+//! Elements of a reply's body, which have the prefix `D` (RFC 4918, section 14).
+ghost use Rattle.std.specs.Prelude.{◌≡◌, [], ◌∷◌, IfOk};
+ghost use Rattle.dav_resource.specs.Tree.{prefixed_element};
+ghost use Rattle.dav_parts.specs.DavElement.{with_elements, declaring_element as element_that_declares, text_element as element_of_text, href_element as element_of_path};
+
+use dav_resource::{DavPath, Element};
+use std::alloc::{AllocError, Global};
+
+/// An element of this name that declares the prefix.
+pub(crate) fn declaring_element(alloc: Global, name: &str) -> Result<Element, AllocError>
+    ensures { IfOk result (λ element. element ≡ element_that_declares name.now) }
+{
+    Element::new2(alloc, name)?.ns("D", "DAV:")
+}
+
+/// An element of this name that holds a text.
+pub(crate) fn text_element(alloc: Global, name: &str, text: &str) -> Result<Element, AllocError>
+    ensures { IfOk result (λ element. element ≡ element_of_text name.now text.now) }
+{
+    Element::new2(alloc, name)?.text(text)
+}
+
+/// A path, with its prefix.
+pub(crate) fn href_element(alloc: Global, path: &DavPath) -> Result<Element, AllocError>
+    ensures { IfOk result (λ element. element ≡ element_of_path path.now) }
+{
+    let href = path.with_prefix()?.as_url_string()?;
+    text_element(alloc, "D:href", href.as_str())
+}
+
+/// An element of this name that holds one element.
+pub(crate) fn outer_element(
+    alloc: Global,
+    name: &str,
+    inner: Element,
+) -> Result<Element, AllocError>
+    ensures { IfOk result (λ element. element ≡ with_elements (prefixed_element name.now) (inner ∷ [])) }
+{
+    let mut element = Element::new2(alloc, name)?;
+    element.push_element(inner)?;
+    Ok(element)
+}
