@@ -1,0 +1,158 @@
+//! The trees that tell of locks (RFC 4918, sections 14.1 to 14.13, 15.8 and 15.10).
+ghost use Rattle.std.specs.Prelude.{◌≡◌, IfOk, IfErr, option_copied, string_bytes};
+ghost use Rattle.dav_resource.specs.declared.error.DavError.TheVariants.{Memory};
+ghost use Rattle.dav_parts.specs.Conditions.{locks_in};
+ghost use Rattle.dav_parts.specs.LockTree.{lock_scope as scope_of_lock, lock_type as type_of_lock, depth_text as text_of_depth, timeout_text as text_of_timeout, lock_token as element_of_token, lock_root as element_of_root, active_lock as tree_of_lock, lock_discovery as tree_of_locks, covering_in, lock_prop as shown_lock, lock_entry as entry_of_scope, supported_lock as tree_of_entries};
+
+use crate::dav_element::{declaring_element, href_element, outer_element, text_element};
+use dav_resource::{DavError, DavPath, DavResult, Element};
+use dav_store::{DavLock, DavLockSystem};
+use std::alloc::{AllocError, Global};
+
+/// The tree that tells of a lock: in full, as the reply to the request that asked for it, the property
+/// `D:lockdiscovery` of this one lock in a `D:prop` that declares the prefix; else the lock's `D:activelock`
+/// alone (RFC 4918, sections 9.10.1, 14.1 and 15.8). The only error is `Memory`, where memory is lacking.
+pub fn build_lock_prop(alloc: Global, lock: &DavLock, full: bool) -> DavResult<Element>
+    ensures ok { IfOk result (λ tree. tree ≡ shown_lock lock.now full) }
+    ensures err { IfErr result (λ e. e ≡ Memory) }
+{
+    Ok(lock_prop(alloc, lock, full)?)
+}
+
+/// The property `D:lockdiscovery` of a path (RFC 4918, section 15.8): a `D:activelock` for each lock that
+/// covers it, the oldest first; none without a lock system. The only error is `Memory`, where memory is lacking.
+pub fn list_lockdiscovery<L: DavLockSystem>(
+    alloc: Global,
+    ls: Option<&L>,
+    path: &DavPath,
+) -> DavResult<Element>
+    ensures ok { IfOk result (λ tree. tree ≡ tree_of_locks (covering_in (locks_in L.seen (option_copied ls.entry)) path.now.key)) }
+    ensures err { IfErr result (λ e. e ≡ Memory) }
+{
+    let Some(ls) = ls else {
+        return Ok(lock_discovery(alloc, &[])?);
+    };
+    match ls.discover(path) {
+        Ok(locks) => Ok(lock_discovery(alloc, locks.as_slice())?),
+        Err(_) => Err(DavError::Memory),
+    }
+}
+
+/// The property `D:supportedlock` (RFC 4918, section 15.10): exclusive and then shared write locks, where a
+/// lock system is present; else nothing. The only error is `Memory`, where memory is lacking.
+pub fn list_supportedlock(alloc: Global, present: bool) -> DavResult<Element>
+    ensures ok { IfOk result (λ tree. tree ≡ tree_of_entries present) }
+    ensures err { IfErr result (λ e. e ≡ Memory) }
+{
+    Ok(supported_lock(alloc, present)?)
+}
+
+/// How a timeout is shown, which is in seconds (RFC 4918, sections 10.7 and 14.29). Only memory can be lacking.
+pub fn timeout_text(alloc: Global, timeout: Option<u64>) -> Result<String, AllocError>
+    ensures { IfOk result (λ text. string_bytes text ≡ text_of_timeout timeout) }
+{
+    match timeout {
+        Some(seconds) => format!(in alloc; "Second-{seconds}"),
+        None => String::from_str(alloc, "Infinite"),
+    }
+}
+
+fn lock_prop(alloc: Global, lock: &DavLock, full: bool) -> Result<Element, AllocError>
+    ensures { IfOk result (λ tree. tree ≡ shown_lock lock.now full) }
+{
+    let active = active_lock(alloc, lock)?;
+    if !full {
+        return Ok(active);
+    }
+    let mut prop = declaring_element(alloc, "D:prop")?;
+    prop.push_element(outer_element(alloc, "D:lockdiscovery", active)?)?;
+    Ok(prop)
+}
+
+/// A `D:activelock` for each lock, in order.
+fn lock_discovery(alloc: Global, locks: &[DavLock]) -> Result<Element, AllocError>
+    ensures { IfOk result (λ tree. tree ≡ tree_of_locks locks.now) }
+{
+    let mut tree = Element::new2(alloc, "D:lockdiscovery")?;
+    for lock in locks {
+        tree.push_element(active_lock(alloc, lock)?)?;
+    }
+    Ok(tree)
+}
+
+/// What a lock is, with its owner last, where there is one.
+fn active_lock(alloc: Global, lock: &DavLock) -> Result<Element, AllocError>
+    ensures { IfOk result (λ tree. tree ≡ tree_of_lock lock.now) }
+{
+    let timeout = timeout_text(alloc, lock.timeout)?;
+    let mut tree = Element::new2(alloc, "D:activelock")?;
+    tree.push_element(lock_scope(alloc, lock.shared)?)?;
+    tree.push_element(lock_type(alloc)?)?;
+    tree.push_element(text_element(alloc, "D:depth", depth_text(lock.deep))?)?;
+    tree.push_element(text_element(alloc, "D:timeout", timeout.as_str())?)?;
+    tree.push_element(lock_token(alloc, lock.token.as_str())?)?;
+    tree.push_element(lock_root(alloc, &lock.path)?)?;
+    if let Some(owner) = &lock.owner {
+        tree.push_element(owner.clone()?)?;
+    }
+    Ok(tree)
+}
+
+/// Whether others may hold shared locks too.
+fn lock_scope(alloc: Global, shared: bool) -> Result<Element, AllocError>
+    ensures { IfOk result (λ scope. scope ≡ scope_of_lock shared) }
+{
+    let name = if shared { "D:shared" } else { "D:exclusive" };
+    outer_element(alloc, "D:lockscope", Element::new2(alloc, name)?)
+}
+
+/// Each lock is a write lock.
+fn lock_type(alloc: Global) -> Result<Element, AllocError>
+    ensures { IfOk result (λ kind. kind ≡ type_of_lock) }
+{
+    outer_element(alloc, "D:locktype", Element::new2(alloc, "D:write")?)
+}
+
+/// How far below its path a lock reaches.
+fn depth_text(deep: bool) -> &'static str
+    ensures { result.now ≡ text_of_depth deep }
+{
+    if deep { "Infinity" } else { "0" }
+}
+
+/// The token, as it is.
+fn lock_token(alloc: Global, token: &str) -> Result<Element, AllocError>
+    ensures { IfOk result (λ element. element ≡ element_of_token token.now) }
+{
+    let href = text_element(alloc, "D:href", token)?;
+    outer_element(alloc, "D:locktoken", href)
+}
+
+/// The path that was locked.
+fn lock_root(alloc: Global, path: &DavPath) -> Result<Element, AllocError>
+    ensures { IfOk result (λ element. element ≡ element_of_root path.now) }
+{
+    outer_element(alloc, "D:lockroot", href_element(alloc, path)?)
+}
+
+/// Exclusive locks and then shared ones, where a lock system is present.
+fn supported_lock(alloc: Global, present: bool) -> Result<Element, AllocError>
+    ensures { IfOk result (λ tree. tree ≡ tree_of_entries present) }
+{
+    let mut tree = Element::new2(alloc, "D:supportedlock")?;
+    if present {
+        tree.push_element(lock_entry(alloc, false)?)?;
+        tree.push_element(lock_entry(alloc, true)?)?;
+    }
+    Ok(tree)
+}
+
+/// One kind of lock.
+fn lock_entry(alloc: Global, shared: bool) -> Result<Element, AllocError>
+    ensures { IfOk result (λ entry. entry ≡ entry_of_scope shared) }
+{
+    let mut entry = Element::new2(alloc, "D:lockentry")?;
+    entry.push_element(lock_scope(alloc, shared)?)?;
+    entry.push_element(lock_type(alloc)?)?;
+    Ok(entry)
+}
