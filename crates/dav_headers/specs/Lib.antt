@@ -3,6 +3,8 @@ pub mod Number
 pub mod Range
 pub mod Body
 pub mod Depth
+pub mod Timeout
+pub mod LockToken
 pub mod Place
 pub mod Repeated
 pub mod Tag

@@ -8,12 +8,14 @@ mod body;
 mod depth;
 mod if_header;
 mod if_token;
+mod lock_token;
 mod number;
 mod place;
 mod range;
 mod tag;
 mod tag_list;
 mod text;
+mod timeout;
 mod values;
 
 pub use body::{
@@ -21,10 +23,12 @@ pub use body::{
 };
 pub use depth::read_depth;
 pub use if_header::{IfCondition, IfItem, IfList, read_if};
+pub use lock_token::read_lock_token;
 pub use number::read_number;
 pub use place::{read_place, read_tagged_path};
 pub use range::{ContentRange, UpdateRange, read_content_range, read_update_range};
 pub use tag_list::{read_if_match, read_if_none_match};
+pub use timeout::{DavTimeout, read_timeout};
 
 #[cfg(test)]
 mod tests;

@@ -5,7 +5,9 @@ use std::alloc::Global;
 use std::test::Fail;
 
 mod body;
+mod lock_token;
 mod range;
+mod timeout;
 
 /// A header of these values, in order.
 fn header_of(alloc: Global, name: &str, values: &[&str]) -> Result<HeaderMap<HeaderValue>, Fail> {

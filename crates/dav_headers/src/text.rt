@@ -29,7 +29,7 @@ pub(crate) fn after_first(text: &str) -> &str
 }
 
 /// The text without its last character, which is ASCII and not NUL.
-fn before_last(text: &str) -> &str
+pub(crate) fn before_last(text: &str) -> &str
     requires some { 0 < slice_index text.now (length text.now - 1) }
     requires ascii { slice_index text.now (length text.now - 1) < 128 }
     ensures { result.now ≡ take (length text.now - 1) text.now }

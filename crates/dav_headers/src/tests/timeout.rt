@@ -1,0 +1,89 @@
+//! Tests of the header Timeout.
+use super::header_of;
+use crate::{DavTimeout, read_timeout};
+use std::alloc::Global;
+use std::test::Fail;
+
+/// What the header Timeout of these values says.
+fn timeout_of(alloc: Global, values: &[&str]) -> Result<Option<DavTimeout>, Fail> {
+    let headers = header_of(alloc, "Timeout", values)?;
+    Ok(read_timeout(&headers)?)
+}
+
+#[test]
+fn timeouts(rt: HostRuntime) -> Result<(), Fail> {
+    let rows = [
+        ("Infinite", DavTimeout::Infinite),
+        ("infinite", DavTimeout::Infinite),
+        ("INFINITE", DavTimeout::Infinite),
+        ("\tInfinite ", DavTimeout::Infinite),
+        ("Infinite, Second-4100000000", DavTimeout::Infinite),
+        ("Second-5", DavTimeout::Seconds(5)),
+        ("SECOND-5", DavTimeout::Seconds(5)),
+        ("second-5 ,\tINFINITE", DavTimeout::Seconds(5)),
+        ("Second-5,Second-6,Second-7", DavTimeout::Seconds(5)),
+        ("Second-0", DavTimeout::Seconds(0)),
+        ("Second-007", DavTimeout::Seconds(7)),
+        ("Second-4294967295", DavTimeout::Seconds(4294967295)),
+    ];
+    for (value, want) in rows {
+        let timeout = timeout_of(rt.alloc(), &[value])?;
+        assert_eq!(rt; timeout, Some(want), "{value}");
+    }
+    Ok(())
+}
+
+#[test]
+fn unreadable_timeouts(rt: HostRuntime) -> Result<(), Fail> {
+    let rows = [
+        "",
+        "  ",
+        ",",
+        "Infinite, x",
+        "Infinite,",
+        "Infinite,,Second-5",
+        ",Infinite",
+        "Infinite Second-5",
+        "Infinite; Second-5",
+        "Infinite, Second-4294967296",
+        "Infinite-",
+        "Infinit",
+        "Infinity",
+        "Second",
+        "Second-",
+        "Second--5",
+        "Second-+5",
+        "Second- 5",
+        "Second -5",
+        "Second-5 6",
+        "Second-0x5",
+        "Second-5.0",
+        "Seconds-5",
+        "-5",
+        "5",
+        "Second-4294967296",
+        "Second-4294967301",
+        "Second-18446744073709551621",
+        "Infinite\u{e9}",
+        "Infinite, \u{e9}",
+    ];
+    for value in rows {
+        assert_eq!(rt; timeout_of(rt.alloc(), &[value])?, None, "{value}");
+    }
+    Ok(())
+}
+
+#[test]
+fn the_first_timeout_counts(rt: HostRuntime) -> Result<(), Fail> {
+    let rows: [(&[&str], Option<DavTimeout>); 5] = [
+        (&[], None),
+        (&["Infinite", "Second-5"], Some(DavTimeout::Infinite)),
+        (&["Second-5", "x"], Some(DavTimeout::Seconds(5))),
+        (&["x", "Infinite"], None),
+        (&["\u{e9}", "Infinite"], None),
+    ];
+    for (values, want) in rows {
+        assert_eq!(rt; timeout_of(rt.alloc(), values)?, want);
+    }
+    Ok(())
+}
