@@ -1,4 +1,4 @@
--- Lists of locks: what a filter and a new lock leave of their distinct tokens, and the place of a lock that is named.
+-- Lists of locks: what a filter and a new lock leave of their distinct tokens, what a new lock and a refreshed one leave of their standing together, and the place of a lock that is named.
 use Rattle.std.proofs.Common.{◌≡◌, ◌∙◌, ℕ, Bool, true, false, cond, not, List, [], ◌∷◌, ◌++◌, map, Option, Some, None, refl, sym, ap, subst, ◌&&◌, ◌||◌, ◌==◌, ◌<◌, ◌+◌, length, get_or, zero, suc, arith, bytes_eq, IsTrue, ◌↔◌}
 use Rattle.std.proofs.Math.ListN.{set}
 use Rattle.std.proofs.lemmas.List.{map-append}
@@ -11,8 +11,9 @@ use Rattle.std.specs.Option.{option_map}
 use Rattle.std.specs.List.{IsDistinct, AllByRecursion, filter, find, list_any, position, position_from}
 use Rattle.dav_resource.specs.Key.{Key}
 use Rattle.dav_store.specs.declared.lock.DavLock.{DavLock}
-use Rattle.dav_store.specs.Locks.{is_same_key, is_at_or_below, has_token}
+use Rattle.dav_store.specs.Locks.{is_same_key, is_at_or_below, has_token, grants, AreCompatible}
 use Rattle.dav_store.specs.LockCalls.{HasDistinctTokens, is_named, has_named, refreshed, with_refreshed}
+use Rattle.dav_store.specs.LockLaws.{compatible_granted, compatible_with_refreshed}
 
 -- ---- keys and filters
 
@@ -68,6 +69,16 @@ distinct-push false locks lock distinct free = distinct
 pub free_token : (taken above below : Bool) → (not taken && above && below) ≡ true → taken ≡ false
 free_token true above below e = absurd cc
 free_token false above below e = refl
+
+-- ---- locks that stand together
+
+-- a lock that is granted goes behind the others, where it goes in at all
+pub compatible-push : (added : Bool) (locks : List DavLock) (lock : DavLock) → grants locks lock ≡ true → AreCompatible locks → AreCompatible (cond added (locks ++ lock ∷ []) locks)
+compatible-push true locks lock granted together = compatible_granted lock locks granted together
+compatible-push false locks lock granted together = together
+
+pub compatible-refreshed : (key : Key) (token : List ℕ) (timeout : Option ℕ) (now : ℕ) (old new : List DavLock) → AreCompatible old → new ≡ with_refreshed key token timeout now old → AreCompatible new
+compatible-refreshed key token timeout now old new together is = subst AreCompatible (sym is) (compatible_with_refreshed key token timeout now old together)
 
 -- ---- a lock that is named
 

@@ -1,6 +1,7 @@
 //! A lock system in memory.
 ghost use Rattle.std.specs.Prelude.{◌≡◌, false, [], IfOk, IfErr, OnOk, OnErr};
 ghost use Rattle.std.specs.Option.{option_copied};
+ghost use Rattle.dav_store.specs.Locks.{AreCompatible};
 ghost use Rattle.dav_store.specs.LockCalls.{HasDistinctTokens, RemovesLock, has_named, RemovesLocks};
 ghost use Rattle.std.proofs.Props.{props};
 ghost use Rattle.std.specs.List.{IsDistinct-prop};
@@ -17,6 +18,7 @@ use std::alloc::{AllocError, Global};
 pub struct MemLs {
     locks: Vec<DavLock>,
     ghost distinct_tokens: { HasDistinctTokens locks.items } by { Prim.hlevel (props, IsDistinct-prop) },
+    ghost compatible: { AreCompatible locks.items } by { Prim.hlevel props },
 }
 
 impl MemLs {
@@ -31,9 +33,11 @@ impl MemLs {
         }
     }
 
-    /// The locks, the oldest first.
+    /// The locks, the oldest first. Of any two, one of which covers the other's path, both are shared
+    /// (RFC 4918, section 6.2).
     pub fn locks(&self) -> &[DavLock]
-        ensures { result.now ≡ list_of self.now }
+        ensures value { result.now ≡ list_of self.now }
+        ensures compatible { AreCompatible (list_of self.now) }
     {
         &self.locks
     }
