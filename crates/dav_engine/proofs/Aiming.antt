@@ -25,7 +25,7 @@ use Rattle.dav_engine.proofs.Deleting.{judges_known}
 use Rattle.dav_engine.specs.State.{State}
 use Rattle.dav_engine.specs.Rules.{look_closely, path_rules, judged, closing}
 use Rattle.dav_engine.specs.Target.{stated_length, spans, from_to, last_bytes, named_part, update_target, is_update, whole, in_range, within_reach, and_then, first_target, target_of}
-use Rattle.dav_engine.specs.Put.{body_bytes, new_bytes, has_length, body_verdict, as_looked, put_rules, found_in}
+use Rattle.dav_engine.specs.Put.{body_bytes, new_bytes, has_length, body_verdict, as_looked, put_rules}
 use Rattle.dav_engine.specs.declared.target.Target.{Target}
 
 -- ---- what is known of a target
@@ -134,10 +134,6 @@ body_passed target body found passed is =
     both : (a b : Bool) → (a && b) ≡ true → b ≡ true
     both true b h = h
     both false b h = absurd cc
-
-pub found_in_error : (verdict : Result (Option Meta × Target) DavError) (e : DavError) → IsErrAnd verdict (λ d. d ≡ e) → IsErrAnd (found_in verdict) (λ d. d ≡ e)
-found_in_error (Ok passed) e is = is
-found_in_error (Err d) e is = is
 
 -- ---- the rules together
 

@@ -28,8 +28,8 @@ use Rattle.dav_parts.specs.Reply.{reply_of, Answer, answer_of}
 use Rattle.dav_walks.specs.Deletion.{Removes, RemovesInPart, Removal, RemovesOrStops, removal_answer}
 use Rattle.dav_walks.specs.RemovalLaws.{nothing_removed, whole_in_part}
 use Rattle.dav_engine.specs.State.{State, Seen, state_of, facts_of, LocksStay, DropsLocks, DropsSeen}
-use Rattle.dav_engine.specs.Rules.{judged, as_found, must_find, is_permitted}
-use Rattle.dav_engine.specs.Delete.{delete_depth, depth_verdict, delete_rules, fixed_path, told_items, LeavesLocks, DeleteWork, DeleteCut}
+use Rattle.dav_engine.specs.Rules.{judged, as_found, must_find, is_permitted, depth_or_all, depth_verdict, fixed_path}
+use Rattle.dav_engine.specs.Delete.{delete_rules, told_items, LeavesLocks, DeleteWork, DeleteCut}
 use Rattle.dav_engine.specs.Step.{Works}
 
 -- ---- the rules
@@ -70,13 +70,13 @@ finds_nothing key e old new (inr h) = record {
   ends = inl (needs-declined (metadata_call old.contents key) from_fs _ e h.outcome h.cause h.lawful);
 }
 
-module _ (request : DavRequest) (state : State) (old mid new : Store) (meta : Meta) (reached : depth_verdict (delete_depth request) ≡ Ok tt)
+module _ (request : DavRequest) (state : State) (old mid new : Store) (meta : Meta) (reached : depth_verdict (depth_or_all request) ≡ Ok tt)
     (found : Judges (must_find state.contents request.path.key) old (Ok (Some meta)) mid) where
   -- a condition refuses the request, by the exit of a `?`
   pub delete_unheld : (e : DavError) (verdict : Result (Option Meta) DavError) → IsErrAnd verdict (λ d. d ≡ e) → Judges (conditions state.contents state.locks request (Some meta) request.path) mid (Err e) new
       → Judges (delete_rules request state) old verdict new
   delete_unheld e verdict exit held =
-      judges_then _ (judged (depth_verdict (delete_depth request))) old old new tt verdict (judges_known _ (Ok tt) old reached)
+      judges_then _ (judged (depth_verdict (depth_or_all request))) old old new tt verdict (judges_known _ (Ok tt) old reached)
       (judges_then _ (must_find state.contents request.path.key) old mid new (Some meta) verdict found
       (judges_exit _ (conditions state.contents state.locks request (Some meta) request.path) mid new e verdict exit held))
 
@@ -84,7 +84,7 @@ module _ (request : DavRequest) (state : State) (old mid new : Store) (meta : Me
   pub delete_held : (tokens : List (List ℕ)) (verdict : Result (Option Meta) DavError) → Judges (conditions state.contents state.locks request (Some meta) request.path) mid (Ok tokens) new
       → verdict ≡ (if is_permitted request state request.path.key true then Ok (Some meta) else Err (Status 423)) → Judges (delete_rules request state) old verdict new
   delete_held tokens verdict held permitted =
-      judges_then _ (judged (depth_verdict (delete_depth request))) old old new tt verdict (judges_known _ (Ok tt) old reached)
+      judges_then _ (judged (depth_verdict (depth_or_all request))) old old new tt verdict (judges_known _ (Ok tt) old reached)
       (judges_then _ (must_find state.contents request.path.key) old mid new (Some meta) verdict found
       (judges_then _ (conditions state.contents state.locks request (Some meta) request.path) mid new new tokens verdict held
       (judges_if (is_permitted request state request.path.key true) (Some meta) (Status 423) new verdict permitted)))
@@ -130,7 +130,7 @@ named_told (item ∷ names) path some = refl
 
 module _ (request : DavRequest) (meta : Meta) where
   abbrev depth : Depth
-  depth = delete_depth request
+  depth = depth_or_all request
 
   abbrev path : PathValue
   path = fixed_path request.path (Some meta)

@@ -11,7 +11,7 @@ use Rattle.dav_resource.specs.declared.method.DavMethod.{DavMethod}
 use Rattle.dav_resource.specs.declared.method.DavMethod.TheVariants.{Head, Get, Put, Patch, Options, PropFind, PropPatch, MkCol, Copy, Move, Delete, Lock, Unlock}
 use Rattle.dav_resource.specs.declared.request.DavRequest.{DavRequest}
 use Rattle.dav_store.specs.Logged.{Logged}
-use Rattle.dav_store.specs.Store.{Contents, Node, Tree}
+use Rattle.dav_store.specs.Store.{Contents, Node, Tree, File}
 use Rattle.dav_parts.specs.Conditions.{conditions}
 use Rattle.dav_parts.specs.Dialogue.{Passed, Refuses, LeadsTo, look, refusing}
 use Rattle.dav_parts.specs.Dialogues.{LeadsTo-last, LeadsTo-unrefused}
@@ -20,13 +20,17 @@ use Rattle.dav_engine.specs.State.{State}
 use Rattle.dav_store.specs.Locks.{is_at_or_below}
 use Rattle.dav_walks.specs.KeyCall.{standing}
 use Rattle.dav_walks.specs.RemovalLaws.{removes_within, whole_in_part}
-use Rattle.dav_engine.specs.Rules.{is_permitted, where_permitted, path_rules, shallow_rules, closing, judged, must_find, look_closely}
+use Rattle.dav_engine.specs.Rules.{is_permitted, where_permitted, path_rules, shallow_rules, closing, judged, must_find, look_closely, depth_or_all, depth_verdict, fixed_path}
 use Rattle.dav_engine.specs.Target.{target_of}
 use Rattle.dav_engine.specs.declared.target.Target.{Target}
-use Rattle.dav_engine.specs.Delete.{delete_depth, depth_verdict, delete_rules, fixed_path}
-use Rattle.dav_engine.specs.Guarded.{IsChanged, IsPermitted, IsGuarded}
+use Rattle.dav_engine.specs.Delete.{delete_rules}
+use Rattle.dav_engine.specs.Guarded.{IsChanged, IsPermitted, IsLockedFile, IsGuarded}
+use Rattle.dav_engine.specs.Locking.{is_refresh, lock_asked, HasFile, FileLeaves, GrantsLock, DeniesLock, LockWorkBy, LockCutBy}
+use Rattle.dav_store.specs.declared.lock.DavLock.{DavLock}
+use Rattle.dav_engine.proofs.Trees.{get-inserted}
 use Rattle.dav_engine.specs.Mkcol.{MkcolLeaves}
-use Rattle.dav_engine.specs.Put.{PutLeaves, IsFileAt, put_rules}
+use Rattle.dav_engine.specs.Opening.{IsFileAt}
+use Rattle.dav_engine.specs.Put.{PutLeaves, put_rules}
 use Rattle.dav_engine.specs.Methods.{rules_of, Work, WorkCut}
 
 -- nothing is changed where nothing changes
@@ -34,8 +38,11 @@ unchanged : (key : Key) (old new : Contents) → new ≡ old → IsChanged key o
 unchanged key old new same (inl other) = other (ap (λ (c : Contents). get c.tree key) (sym same))
 unchanged key old new same (inr other) = other (ap (λ (c : Contents). get c.properties key) (sym same))
 
-pub guarded_same : (request : DavRequest) (old new : State) → new ≡ old → IsGuarded request old new
-guarded_same request old new same key changed = absurd (unchanged key old.contents new.contents (ap (λ (s : State). s.contents) same) changed)
+pub guarded_same : (method : Option DavMethod) (request : DavRequest) (old new : State) → new ≡ old → IsGuarded method request old new
+guarded_same method request old new same key changed = absurd (unchanged key old.contents new.contents (ap (λ (s : State). s.contents) same) changed)
+
+guarded_contents : (method : Option DavMethod) (request : DavRequest) (old new : State) → new.contents ≡ old.contents → IsGuarded method request old new
+guarded_contents method request old new same key changed = absurd (unchanged key old.contents new.contents same changed)
 
 -- ---- what the rules have asked
 
@@ -63,7 +70,7 @@ put_passed partial request state head found h =
 
 delete_passed : (request : DavRequest) (state : State) (head : List Logged) (found : Option Meta) → LeadsTo (delete_rules request state) head (Passed found) → is_permitted request state request.path.key true ≡ true
 delete_passed request state head found h =
-    let reached = LeadsTo-last (judged (depth_verdict (delete_depth request))) _ head found h in
+    let reached = LeadsTo-last (judged (depth_verdict (depth_or_all request))) _ head found h in
     let looked = LeadsTo-last (must_find state.contents request.path.key) _ reached.2 found reached.4 in
     let held = LeadsTo-last (conditions state.contents state.locks request looked.0 request.path) _ looked.2 found looked.4 in
     permitted_passed (is_permitted request state request.path.key true) looked.0 found held.2 held.4
@@ -94,8 +101,8 @@ put_work_elsewhere request target records old new key leaves apart changed =
 -- ---- together
 
 -- the rules of a method that works at its path alone permit it there, and the work changes nothing else
-pub guarded_at : (request : DavRequest) (old new : State) → is_permitted request old request.path.key false ≡ true → ((key : Key) → (key ≢ request.path.key) → IsChanged key old.contents new.contents → ⊥) → IsGuarded request old new
-guarded_at request old new permitted elsewhere key changed = at (eq_by_cmp key_cmp key request.path.key) refl
+pub guarded_at : (method : Option DavMethod) (request : DavRequest) (old new : State) → is_permitted request old request.path.key false ≡ true → ((key : Key) → (key ≢ request.path.key) → IsChanged key old.contents new.contents → ⊥) → IsGuarded method request old new
+guarded_at method request old new permitted elsewhere key changed = inl (at (eq_by_cmp key_cmp key request.path.key) refl)
   where
     at : (b : Bool) → eq_by_cmp key_cmp key request.path.key ≡ b → IsPermitted request old key
     at true same = inl (let here : key ≡ request.path.key = (tied_decides key request.path.key).0 same in rw here permitted)
@@ -106,8 +113,8 @@ below_itself : (top x : Key) → is_at_or_below (top ++ x) top ≡ true
 below_itself [] x = refl
 below_itself (segment ∷ top) x = rw ((bytes_eq-Decides segment segment).1 refl) (below_itself top x)
 
-pub guarded_below : (request : DavRequest) (old new : State) → is_permitted request old request.path.key true ≡ true → ((key : Key) → ((x : Key) → key ≢ request.path.key ++ x) → standing new.contents key ≡ standing old.contents key) → IsGuarded request old new
-guarded_below request old new permitted elsewhere key changed = at (is_at_or_below key request.path.key) refl
+pub guarded_below : (method : Option DavMethod) (request : DavRequest) (old new : State) → is_permitted request old request.path.key true ≡ true → ((key : Key) → ((x : Key) → key ≢ request.path.key ++ x) → standing new.contents key ≡ standing old.contents key) → IsGuarded method request old new
+guarded_below method request old new permitted elsewhere key changed = inl (at (is_at_or_below key request.path.key) refl)
   where
     at : (b : Bool) → is_at_or_below key request.path.key ≡ b → IsPermitted request old key
     at true below = inr (request.path.key, below, permitted)
@@ -119,6 +126,30 @@ guarded_below request old new permitted elsewhere key changed = at (is_at_or_bel
         unmoved : IsChanged key old.contents new.contents → ⊥
         unmoved (inl other) = other (ap (λ s. s.0) (sym same))
         unmoved (inr other) = other (ap (λ s. s.1) (sym same))
+
+-- the file that a LOCK makes where nothing was
+guarded_file : (request : DavRequest) (old new : State) (records : List Logged) → FileLeaves request records old.contents new.contents → IsGuarded (Some Lock) request old new
+guarded_file request old new records (inr none) key changed = absurd (unchanged key old.contents new.contents none.1 changed)
+guarded_file request old new records (inl made) key changed = by_node (get old.contents.tree request.path.key) refl
+  where
+    has : HasFile request.path.key old.contents new.contents
+    has = made.1
+
+    kept_so : (get old.contents.tree request.path.key ≢ None) → IsChanged key old.contents new.contents → ⊥
+    kept_so there (inl other) = other (ap (λ t. get t key) (sym (has.kept there).0))
+    kept_so there (inr other) = other (ap (λ p. get p key) (sym (has.kept there).1))
+
+    made_at : get old.contents.tree request.path.key ≡ None → (b : Bool) → eq_by_cmp key_cmp key request.path.key ≡ b → IsLockedFile (Some Lock) request key old.contents new.contents
+    made_at nothing true same =
+        let here : key ≡ request.path.key = (tied_decides key request.path.key).0 same in
+        record { locks = refl; here = here; nothing = rw here nothing; empty = rw (here, (has.made nothing).tree) (get-inserted old.contents.tree request.path.key (File [])) }
+    made_at nothing false apart =
+        absurd (put_elsewhere request.path.key key (File []) old.contents new.contents (has.made nothing).tree (has.made nothing).properties
+        (λ here. absurd (let no : true ≡ false = sym ((tied_decides key request.path.key).1 here) ∙ apart in cc)) changed)
+
+    by_node : (node : Option Node) → get old.contents.tree request.path.key ≡ node → IsPermitted request old key ⊎ IsLockedFile (Some Lock) request key old.contents new.contents
+    by_node None nothing = inr (made_at nothing (eq_by_cmp key_cmp key request.path.key) refl)
+    by_node (Some node) there = absurd (kept_so (λ nothing. let no : Some node ≡ None = sym there ∙ nothing in cc) changed)
 
 module _ (request : DavRequest) (found : Option Meta) (old new : State) (head records : List Logged) (answer : Answer) where
   abbrev Passes : Option DavMethod → Type 0
@@ -134,19 +165,19 @@ module _ (request : DavRequest) (found : Option Meta) (old new : State) (head re
       refused [] h = cc
       refused (r ∷ records) h = h
 
-  guarded : (method : Option DavMethod) → Passes method → Works method → IsGuarded request old new
-  guarded (Some MkCol) passed (inl work) = guarded_at request old new (shallow_passed request old head found passed) (λ key. mkcol_elsewhere request records old.contents new.contents key work.0.leaves)
-  guarded (Some MkCol) passed (inr cut) = guarded_at request old new (shallow_passed request old head found passed) (λ key apart changed. unchanged key old.contents new.contents cut.1.0.same changed)
-  guarded (Some Put) passed (inl work) = guarded_at request old new (put_passed false request old head found passed) (λ key. put_work_elsewhere request work.0.target records old.contents new.contents key work.0.leaves)
-  guarded (Some Put) passed (inr cut) = guarded_at request old new (put_passed false request old head found passed) (λ key. put_work_elsewhere request cut.1.0.target records old.contents new.contents key cut.1.0.leaves)
-  guarded (Some Patch) passed (inl work) = guarded_at request old new (put_passed true request old head found passed) (λ key. put_work_elsewhere request work.0.target records old.contents new.contents key work.0.leaves)
-  guarded (Some Patch) passed (inr cut) = guarded_at request old new (put_passed true request old head found passed) (λ key. put_work_elsewhere request cut.1.0.target records old.contents new.contents key cut.1.0.leaves)
+  guarded : (method : Option DavMethod) → Passes method → Works method → IsGuarded method request old new
+  guarded (Some MkCol) passed (inl work) = guarded_at (Some MkCol) request old new (shallow_passed request old head found passed) (λ key. mkcol_elsewhere request records old.contents new.contents key work.0.leaves)
+  guarded (Some MkCol) passed (inr cut) = guarded_at (Some MkCol) request old new (shallow_passed request old head found passed) (λ key apart changed. unchanged key old.contents new.contents cut.1.0.same changed)
+  guarded (Some Put) passed (inl work) = guarded_at (Some Put) request old new (put_passed false request old head found passed) (λ key. put_work_elsewhere request work.0.target records old.contents new.contents key work.0.leaves)
+  guarded (Some Put) passed (inr cut) = guarded_at (Some Put) request old new (put_passed false request old head found passed) (λ key. put_work_elsewhere request cut.1.0.target records old.contents new.contents key cut.1.0.leaves)
+  guarded (Some Patch) passed (inl work) = guarded_at (Some Patch) request old new (put_passed true request old head found passed) (λ key. put_work_elsewhere request work.0.target records old.contents new.contents key work.0.leaves)
+  guarded (Some Patch) passed (inr cut) = guarded_at (Some Patch) request old new (put_passed true request old head found passed) (λ key. put_work_elsewhere request cut.1.0.target records old.contents new.contents key cut.1.0.leaves)
   guarded (Some Delete) passed (inl work) =
-      guarded_below request old new (delete_passed request old head found passed)
-      (removes_within (delete_depth request) (fixed_path request.path found) old.contents new.contents records (whole_in_part _ _ _ _ _ work.names work.removed))
+      guarded_below (Some Delete) request old new (delete_passed request old head found passed)
+      (removes_within (depth_or_all request) (fixed_path request.path found) old.contents new.contents records (whole_in_part _ _ _ _ _ work.names work.removed))
   guarded (Some Delete) passed (inr cut) =
-      guarded_below request old new (delete_passed request old head found passed)
-      (removes_within (delete_depth request) (fixed_path request.path found) old.contents new.contents records cut.1.removed)
+      guarded_below (Some Delete) request old new (delete_passed request old head found passed)
+      (removes_within (depth_or_all request) (fixed_path request.path found) old.contents new.contents records cut.1.removed)
   guarded None passed works = absurd (no_work None refl passed)
   guarded (Some Head) passed works = absurd (no_work (Some Head) refl passed)
   guarded (Some Get) passed works = absurd (no_work (Some Get) refl passed)
@@ -155,9 +186,26 @@ module _ (request : DavRequest) (found : Option Meta) (old new : State) (head re
   guarded (Some PropPatch) passed works = absurd (no_work (Some PropPatch) refl passed)
   guarded (Some Copy) passed works = absurd (no_work (Some Copy) refl passed)
   guarded (Some Move) passed works = absurd (no_work (Some Move) refl passed)
-  guarded (Some Lock) passed works = absurd (no_work (Some Lock) refl passed)
-  guarded (Some Unlock) passed works = absurd (no_work (Some Unlock) refl passed)
+  guarded (Some Lock) passed (inl work) = locked (is_refresh request.body) work
+    where
+      locked : (refresh : Bool) → LockWorkBy refresh request found old records answer new → IsGuarded (Some Lock) request old new
+      locked true work = guarded_contents (Some Lock) request old new work.same
+      locked false work = by_end work.done
+        where
+          asked : DavLock
+          asked = lock_asked request found work.info
+
+          by_end : GrantsLock request found asked old records answer new ⊎ DeniesLock asked old records answer new → IsGuarded (Some Lock) request old new
+          by_end (inl granted) = guarded_file request old new records granted.tells.leaves
+          by_end (inr denied) = guarded_same (Some Lock) request old new denied.same
+  guarded (Some Lock) passed (inr cut) = lock_cut (is_refresh request.body) cut.1
+    where
+      lock_cut : (refresh : Bool) → LockCutBy refresh request found old records new → IsGuarded (Some Lock) request old new
+      lock_cut true cut = guarded_contents (Some Lock) request old new cut.same
+      lock_cut false cut = guarded_contents (Some Lock) request old new cut.same
+  guarded (Some Unlock) passed (inl work) = guarded_contents (Some Unlock) request old new work.same
+  guarded (Some Unlock) passed (inr cut) = guarded_same (Some Unlock) request old new cut.1.same
 
 pub guarded_work : (method : Option DavMethod) (request : DavRequest) (found : Option Meta) (old new : State) (head records : List Logged) (answer : Answer) → LeadsTo (rules_of method request old) head (Passed found)
-    → Work method request found old records answer new ⊎ ((answer ≡ Err Memory) × WorkCut method request found old records new) → IsGuarded request old new
+    → Work method request found old records answer new ⊎ ((answer ≡ Err Memory) × WorkCut method request found old records new) → IsGuarded method request old new
 guarded_work method request found old new head records answer passed works = guarded request found old new head records answer method passed works

@@ -1,6 +1,8 @@
 -- The rules, judged where nothing has changed yet.
-use Rattle.std.proofs.Common.{◌≡◌, ℕ, true, List, Option, Result, option_map, ap, subst}
+use Rattle.std.proofs.Common.{◌≡◌, ℕ, true, List, Option, Result, Ok, Err, option_map, ap, subst}
+use Rattle.std.specs.Result.{IsErrAnd}
 use Rattle.std.specs.Option.{option_map_or}
+use Rattle.std.proofs.lemmas.Result.{err_from_is_err_and}
 use Rattle.dav_resource.specs.PathText.{PathValue}
 use Rattle.dav_resource.specs.declared.error.DavError.{DavError}
 use Rattle.dav_resource.specs.declared.meta.Meta.{Meta}
@@ -9,9 +11,9 @@ use Rattle.dav_store.specs.Store.{Store, Contents}
 use Rattle.dav_store.specs.Locks.{Locks}
 use Rattle.dav_store.specs.declared.lock.DavLock.{DavLock}
 use Rattle.dav_parts.specs.Conditions.{conditions}
-use Rattle.dav_parts.specs.Dialogue.{Judges}
+use Rattle.dav_parts.specs.Dialogue.{Dialogue, Judges}
 use Rattle.dav_engine.specs.State.{State}
-use Rattle.dav_engine.specs.Rules.{path_rules}
+use Rattle.dav_engine.specs.Rules.{path_rules, found_in}
 
 abbrev state_over : Contents → Option Locks → State
 state_over contents locks =
@@ -25,6 +27,10 @@ same_list seen ls ms same = ap (λ o. option_map (λ (l : Locks). l.list) (optio
 pub still : {L : Type 0} (seen : L → Locks) (old new : Contents) (ls ms : Option L) → new ≡ old → ms ≡ ls → state_over new (option_map seen ms) ≡ state_over old (option_map seen ls)
 still seen old new ls ms same kept = λ i. state_over (same i) (option_map seen (kept i))
 
+-- what is asked in the same state
+pub in_same_state : {A : Type 0} (asked : State → Dialogue A) (state now : State) (mid new : Store) (verdict : Result A DavError) → now ≡ state → Judges (asked now) mid verdict new → Judges (asked state) mid verdict new
+in_same_state asked state now mid new verdict same h = subst (λ s. Judges (asked s) mid verdict new) same h
+
 -- the rules of a path in the same state
 pub same_rules : (request : DavRequest) (found : Option Meta) (state now : State) (mid new : Store) (verdict : Result (Option Meta) DavError)
     → now ≡ state → Judges (path_rules request now found) mid verdict new → Judges (path_rules request state found) mid verdict new
@@ -35,3 +41,14 @@ pub same_conditions : (request : DavRequest) (found : Option Meta) (path : PathV
     → now ≡ contents → held ≡ locks → Judges (conditions now held request found path) mid verdict new → Judges (conditions contents locks request found path) mid verdict new
 same_conditions request found path contents now locks held mid new verdict same kept h =
     subst (λ c. Judges (conditions c locks request found path) mid verdict new) same (subst (λ l. Judges (conditions now l request found path) mid verdict new) kept h)
+
+-- an error of what was found, with what else the rules have read
+pub found_in_error : {A : Type 0} (verdict : Result (Option Meta × A) DavError) (e : DavError) → IsErrAnd verdict (λ d. d ≡ e) → IsErrAnd (found_in verdict) (λ d. d ≡ e)
+found_in_error (Ok passed) e is = is
+found_in_error (Err d) e is = is
+
+-- the error that ends it, by the exit of a `?`
+pub judges_error : {A : Type 0} (dialogue : Dialogue A) (old new : Store) (e : DavError) (verdict : Result A DavError) → IsErrAnd verdict (λ d. d ≡ e) → Judges dialogue old (Err e) new → Judges dialogue old verdict new
+judges_error dialogue old new e verdict exit h =
+    let p = err_from_is_err_and verdict exit in
+    rw (p.1, p.2) h

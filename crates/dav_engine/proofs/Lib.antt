@@ -12,3 +12,6 @@ pub mod Putting
 pub mod Running
 pub mod Serving
 pub mod Trees
+pub mod Compatible
+pub mod LastNamed
+pub mod Locking

@@ -8,14 +8,15 @@ use Rattle.dav_resource.specs.declared.request.DavRequest.{DavRequest}
 use Rattle.dav_store.specs.Store.{Store}
 use Rattle.dav_store.specs.Calls.{record_of, Grants, Declines, create_dir_call, IsMadeAt}
 use Rattle.dav_parts.specs.Reply.{Reply, Answer}
-use Rattle.dav_engine.specs.Mkcol.{mkcol_error, mkcol_reply, MkcolWork, MkcolCut}
+use Rattle.dav_engine.specs.Answered.{Unbegun}
+use Rattle.dav_engine.specs.Mkcol.{mkcol_error, mkcol_reply, MkcolWork}
 use Rattle.dav_engine.specs.Step.{WorksOnStore}
 use Rattle.dav_parts.specs.Dialogues.{unlike, needs-declined}
 use Rattle.dav_engine.proofs.Granting.{not_granted}
 
 module _ (request : DavRequest) where
   abbrev pub MakesCollection : Store → Answer → Store → Type 0
-  MakesCollection = WorksOnStore (MkcolWork request) MkcolCut
+  MakesCollection = WorksOnStore (MkcolWork request) Unbegun
 
   -- no memory, and nothing happened
   pub works_cut : (store : Store) → MakesCollection store (Err dav_errors.Memory) store

@@ -25,7 +25,8 @@ use Rattle.dav_engine.specs.PutReply.{put_reply}
 use Rattle.dav_parts.specs.Dialogue.{Dialogue, Refuses, Passed, GoesOn, needs, if_granted, LeadsTo, EndsIn, Judges, WasGranted}
 use Rattle.dav_engine.specs.Target.{target_of}
 use Rattle.dav_engine.specs.declared.target.Target.{Target}
-use Rattle.dav_engine.specs.Put.{new_bytes, put_options, put_open_error, put_seek_error, on_file, put_seek, put_write, look_by, put_steps, IsFileAt, opened_bytes, final_bytes, as_looked, PutLeaves, PutWork, PutCut, SeeksIf, SeeksPlace, WritesBody, look_at_file}
+use Rattle.dav_engine.specs.Opening.{IsFileAt}
+use Rattle.dav_engine.specs.Put.{new_bytes, put_options, put_open_error, put_seek_error, on_file, put_seek, put_write, look_by, put_steps, opened_bytes, final_bytes, as_looked, PutLeaves, PutWork, PutCut, SeeksIf, SeeksPlace, WritesBody, look_at_file}
 use Rattle.dav_engine.specs.Step.{WorksOnStore}
 use Rattle.dav_engine.proofs.Granting.{not_granted, not_this_op, WasGranted-first, WasGranted-last, WasGranted-either}
 use Rattle.dav_parts.specs.Dialogues.{LeadsTo-more, unlike, needs-declined}

@@ -19,7 +19,7 @@ use Rattle.dav_engine.specs.Guarded.{IsGuarded}
 use Rattle.dav_engine.specs.Step.{Step, Serves, Run, Runs}
 
 Run-more : (requests : List DavRequest) (answers : List Answer) (old mid new : State) (records part : List Logged) (request : DavRequest) (answer : Answer)
-    → Run old requests records answers mid → Step (method_of request.method) request mid part answer new → IsGuarded request mid new → IsLawfulState new
+    → Run old requests records answers mid → Step (method_of request.method) request mid part answer new → IsGuarded (method_of request.method) request mid new → IsLawfulState new
     → Run old (requests ++ request ∷ []) (records ++ part) (answers ++ answer ∷ []) new
 Run-more [] [] old mid new records part request answer run step guarded fits =
     (part, [], new, rw (run.0, append-nil), rw run.1 at step, rw run.1 at guarded, fits, (refl, refl))
@@ -36,6 +36,7 @@ Runs-more old mid new requests answers request answer runs serves fits = record 
   told = rw (serves.told, runs.told, append_assoc);
   fixed = rw (serves.fixed, runs.fixed);
   run = Run-more requests answers _ _ _ _ _ request answer runs.run serves.step serves.guarded fits;
+  compatible = λ h. serves.compatible (runs.compatible h);
 }
 
 -- the same for a loop over the requests
@@ -47,7 +48,7 @@ run_goes_on old mid new requests replies replies' i request reply runs serves fi
 
 -- nothing was served yet
 pub runs_none : (seen : Seen) → Runs seen [] [] seen
-runs_none seen = record { records = []; told = rw append-nil; fixed = refl; run = (refl, refl) }
+runs_none seen = record { records = []; told = rw append-nil; fixed = refl; run = (refl, refl); compatible = λ h. h }
 
 -- ---- the states of a run
 

@@ -16,10 +16,12 @@ use Rattle.dav_store.specs.Locks.{Locks}
 use Rattle.dav_parts.specs.Dialogue.{Refuses, EndsIn, Judges}
 use Rattle.dav_parts.specs.Reply.{Answer, answer_of}
 use Rattle.dav_engine.specs.State.{State, Seen, state_of, facts_of}
-use Rattle.dav_engine.specs.Mkcol.{MkcolWork, MkcolCut}
+use Rattle.dav_engine.specs.Answered.{Unbegun}
+use Rattle.dav_engine.specs.Mkcol.{MkcolWork}
 use Rattle.dav_engine.specs.Put.{put_rules, PutWork, PutCut}
 use Rattle.dav_engine.specs.Methods.{IsServed, rules_of, Work, WorkCut}
 use Rattle.dav_engine.specs.Step.{Serves, Works, WorksOnStore, Step, Refused, Done, CutShort, CutInWork}
+use Rattle.dav_engine.proofs.Compatible.{compatible_same, compatible_work}
 use Rattle.dav_engine.proofs.Guarding.{guarded_same, guarded_work}
 
 -- what was seen, with another store
@@ -44,7 +46,8 @@ module _ (method : Option DavMethod) (request : DavRequest) (locks : Option Lock
         told = h.told;
         fixed = same_facts locks old new h.fixed;
         step = step h.ends;
-        guarded = guarded_same request _ _ (same_state locks old new h.same);
+        guarded = guarded_same method request _ _ (same_state locks old new h.same);
+        compatible = compatible_same _ _ (same_state locks old new h.same);
       })
     where
       step : EndsIn (rules_of method request (state_of (over old locks))) h.records (Err e) → Step method request (state_of (over old locks)) h.records (Err e) (state_of (over new locks))
@@ -62,6 +65,7 @@ module _ (method : Option DavMethod) (request : DavRequest) (locks : Option Lock
         fixed = rw (works.fixed, same_facts locks old mid h.fixed);
         step = step done;
         guarded = guarded_work method request found _ _ h.records works.records answer h.ends done;
+        compatible = compatible_work method request found _ _ works.records answer done;
       }
     where
       step : Work method request found (state_of (over old locks)) works.records answer (state_of new) ⊎ ((answer ≡ Err Memory) × WorkCut method request found (state_of (over old locks)) works.records (state_of new))
@@ -76,7 +80,8 @@ serves_none method request seen unserved = record {
   told = sym (append-nil seen.store.log);
   fixed = refl;
   step = Refused (record { error = Status 501; head = sym (unserved (state_of seen)); told = refl; same = refl });
-  guarded = guarded_same request (state_of seen) (state_of seen) refl;
+  guarded = guarded_same method request (state_of seen) (state_of seen) refl;
+  compatible = λ h. h;
 }
 
 -- the method that was read is the request's
@@ -84,27 +89,27 @@ pub serves_as : (read method : Option DavMethod) (old : Seen) (request : DavRequ
 serves_as read method old request answer new is served = subst (λ m. Serves m old request answer new) is served
 
 -- the methods that aren't served
-pub unserved : (request : DavRequest) (method : DavMethod) → ((method ≡ MkCol) → ⊥) → ((method ≡ Put) → ⊥) → ((method ≡ Patch) → ⊥) → ((method ≡ Delete) → ⊥) → (state : State) → rules_of (Some method) request state ≡ Refuses (Status 501)
-unserved request Head a b p d state = refl
-unserved request Get a b p d state = refl
-unserved request Put a b p d state = absurd (b refl)
-unserved request Patch a b p d state = absurd (p refl)
-unserved request Options a b p d state = refl
-unserved request PropFind a b p d state = refl
-unserved request PropPatch a b p d state = refl
-unserved request MkCol a b p d state = absurd (a refl)
-unserved request Copy a b p d state = refl
-unserved request Move a b p d state = refl
-unserved request Delete a b p d state = absurd (d refl)
-unserved request Lock a b p d state = refl
-unserved request Unlock a b p d state = refl
+pub unserved : (request : DavRequest) (method : DavMethod) → ((method ≡ MkCol) → ⊥) → ((method ≡ Put) → ⊥) → ((method ≡ Patch) → ⊥) → ((method ≡ Delete) → ⊥) → ((method ≡ Lock) → ⊥) → ((method ≡ Unlock) → ⊥) → (state : State) → rules_of (Some method) request state ≡ Refuses (Status 501)
+unserved request Head a b p d l u state = refl
+unserved request Get a b p d l u state = refl
+unserved request Put a b p d l u state = absurd (b refl)
+unserved request Patch a b p d l u state = absurd (p refl)
+unserved request Options a b p d l u state = refl
+unserved request PropFind a b p d l u state = refl
+unserved request PropPatch a b p d l u state = refl
+unserved request MkCol a b p d l u state = absurd (a refl)
+unserved request Copy a b p d l u state = refl
+unserved request Move a b p d l u state = refl
+unserved request Delete a b p d l u state = absurd (d refl)
+unserved request Lock a b p d l u state = absurd (l refl)
+unserved request Unlock a b p d l u state = absurd (u refl)
 
 -- ---- work that knows the store alone
 
-pub works_mkcol : (request : DavRequest) (found : Option Meta) (locks : Option Locks) (old new : Store) (answer : Answer) → WorksOnStore (MkcolWork request) MkcolCut old answer new → Works (Some MkCol) request found (over old locks) answer (over new locks)
+pub works_mkcol : (request : DavRequest) (found : Option Meta) (locks : Option Locks) (old new : Store) (answer : Answer) → WorksOnStore (MkcolWork request) Unbegun old answer new → Works (Some MkCol) request found (over old locks) answer (over new locks)
 works_mkcol request found locks old new answer h = record { records = h.records; told = h.told; fixed = same_facts locks old new h.fixed; done = done h.done }
   where
-    done : MkcolWork request old.contents h.records answer new.contents ⊎ ((answer ≡ Err Memory) × MkcolCut old.contents h.records new.contents)
+    done : MkcolWork request old.contents h.records answer new.contents ⊎ ((answer ≡ Err Memory) × Unbegun old.contents h.records new.contents)
         → Work (Some MkCol) request found (state_of (over old locks)) h.records answer (state_of (over new locks)) ⊎ ((answer ≡ Err Memory) × WorkCut (Some MkCol) request found (state_of (over old locks)) h.records (state_of (over new locks)))
     done (inl work) = inl (work, refl)
     done (inr cut) = inr (cut.0, (cut.1, refl))

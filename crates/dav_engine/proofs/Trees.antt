@@ -21,3 +21,12 @@ insert-inserted tree key n m =
     covered : (b : Bool) (found : Option Node) → cond b (Some m) (cond b (Some n) found) ≡ cond b (Some m) found
     covered true found = refl
     covered false found = refl
+
+-- a node that stands there is put there again
+pub insert-there : (tree : Tree) (key : Key) (n : Node) → get tree key ≡ Some n → insert tree key n ≡ tree
+insert-there tree key n there =
+    same_map key_cmp_total key_cmp_exact _ _ (λ q. get-insert key_cmp_total tree key n q ∙ covered q (eq_by_cmp key_cmp q key) refl)
+  where
+    covered : (q : Key) (b : Bool) → eq_by_cmp key_cmp q key ≡ b → cond b (Some n) (get tree q) ≡ get tree q
+    covered q true same = sym (ap (get tree) ((tied_decides q key).0 same) ∙ there)
+    covered q false apart = refl

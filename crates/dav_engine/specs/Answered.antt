@@ -1,5 +1,5 @@
 -- Which reply a dialogue ends in.
-use Rattle.std.specs.Prelude.{List, Ok, Err}
+use Rattle.std.specs.Prelude.{◌≡◌, List, [], Ok, Err}
 use Rattle.dav_store.specs.Logged.{Logged}
 use Rattle.dav_parts.specs.Dialogue.{Dialogue, Passed, Refuses, LeadsTo}
 use Rattle.dav_parts.specs.Reply.{Reply, Answer}
@@ -8,3 +8,8 @@ use Rattle.dav_parts.specs.Reply.{Reply, Answer}
 abbrev pub IsAnswered : {A : Type 0} → Dialogue A → (A → Reply → Type 0) → List Logged → Answer → Type 0
 IsAnswered {A} dialogue Tells records (Ok reply) = (a : A) × LeadsTo dialogue records (Passed a) × Tells a reply
 IsAnswered dialogue Tells records (Err e) = LeadsTo dialogue records (Refuses e)
+
+-- memory ran out before any call of the work
+pub record Unbegun {A : Type 0} (old : A) (records : List Logged) (new : A) : Type 0 where
+  pub none : records ≡ []
+  pub same : new ≡ old

@@ -16,32 +16,19 @@ use Rattle.dav_parts.specs.Multistatus.{Item, multi_answer}
 use Rattle.dav_parts.specs.Reply.{Answer}
 use Rattle.dav_walks.specs.Deletion.{Removes, RemovesInPart}
 use Rattle.dav_engine.specs.State.{State, LocksStay, DropsLocks}
-use Rattle.dav_engine.specs.Rules.{judged, must_find, is_permitted, where_permitted}
+use Rattle.dav_engine.specs.Rules.{judged, must_find, is_permitted, where_permitted, depth_or_all, depth_verdict, fixed_path}
 
 -- ---- the rules
-
--- without a Depth that can be read, all below the resource goes with it
-abbrev pub delete_depth : DavRequest → Depth
-delete_depth request = unwrap_or (depth_of request.headers) Infinity
-
--- a resource with its members alone can't be removed: 400
-abbrev pub depth_verdict : Depth → Result (Unit {0}) DavError
-depth_verdict One = Err (Status 400)
-depth_verdict _ = Ok tt
 
 -- the depth, a look at the path, the conditions, and the locks at the path and below it
 abbrev pub delete_rules : DavRequest → State → Dialogue (Option Meta)
 delete_rules request state =
-    judged (depth_verdict (delete_depth request)) >>= λ _.
+    judged (depth_verdict (depth_or_all request)) >>= λ _.
     must_find state.contents request.path.key >>= λ found.
     conditions state.contents state.locks request found request.path >>= λ _.
     where_permitted (is_permitted request state request.path.key true) found
 
 -- ---- the work
-
--- a directory's path gets its slash
-abbrev pub fixed_path : PathValue → Option Meta → PathValue
-fixed_path path found = record path { slash = path.slash || option_map_or (λ (m : Meta). m.dir) found false }
 
 -- what is told: the names, or that all is gone
 abbrev pub told_items : PathValue → List Item → List Item
@@ -56,11 +43,11 @@ LeavesLocks (item ∷ names) path old new = LocksStay old new
 -- what stands at the path is removed, as far as the store lets it, and each refusal is named
 pub record DeleteWork (request : DavRequest) (found : Option Meta) (old : State) (records : List Logged) (answer : Answer) (new : State) : Type 0 where
   pub names : List Item
-  pub removed : Removes (delete_depth request) (fixed_path request.path found) old.contents new.contents records names
+  pub removed : Removes (depth_or_all request) (fixed_path request.path found) old.contents new.contents records names
   pub locks : LeavesLocks names request.path old new
   pub answered : answer ≡ multi_answer (fixed_path request.path found) (told_items (fixed_path request.path found) names)
 
 -- memory ran out on the way: what was removed stays so, and no lock is dropped before all is gone
 pub record DeleteCut (request : DavRequest) (found : Option Meta) (old : State) (records : List Logged) (new : State) : Type 0 where
-  pub removed : RemovesInPart (delete_depth request) (fixed_path request.path found) old.contents new.contents records
-  pub locks : LocksStay old new ⊎ (Removes (delete_depth request) (fixed_path request.path found) old.contents new.contents records [] × DropsLocks request.path.key old new)
+  pub removed : RemovesInPart (depth_or_all request) (fixed_path request.path found) old.contents new.contents records
+  pub locks : LocksStay old new ⊎ (Removes (depth_or_all request) (fixed_path request.path found) old.contents new.contents records [] × DropsLocks request.path.key old new)

@@ -1,9 +1,11 @@
 -- That a request changes only what the locks let it change (RFC 4918, section 7).
-use Rattle.std.specs.Prelude.{◌≡◌, ◌≢◌, ◌⊎◌, true, false}
+use Rattle.std.specs.Prelude.{◌≡◌, ◌≢◌, ◌⊎◌, true, false, [], Option, Some, None}
 use Rattle.std.specs.FinMap.{get}
 use Rattle.dav_resource.specs.Key.{Key}
+use Rattle.dav_resource.specs.declared.method.DavMethod.{DavMethod}
+use Rattle.dav_resource.specs.declared.method.DavMethod.TheVariants.{Lock}
 use Rattle.dav_resource.specs.declared.request.DavRequest.{DavRequest}
-use Rattle.dav_store.specs.Store.{Contents}
+use Rattle.dav_store.specs.Store.{Contents, File}
 use Rattle.dav_store.specs.Locks.{is_at_or_below}
 use Rattle.dav_engine.specs.State.{State}
 use Rattle.dav_engine.specs.Rules.{is_permitted}
@@ -17,6 +19,13 @@ abbrev pub IsPermitted : DavRequest → State → Key → Type 0
 IsPermitted request state key =
     (is_permitted request state key false ≡ true) ⊎ ((top : Key) × (is_at_or_below key top ≡ true) × (is_permitted request state top true ≡ true))
 
--- for each key that was changed, the locks at entry permit it
-abbrev pub IsGuarded : DavRequest → State → State → Type 0
-IsGuarded request old new = (key : Key) → IsChanged key old.contents new.contents → IsPermitted request old key
+-- the empty file that a LOCK makes where nothing was (RFC 4918, section 7.3): it is under the lock just granted
+pub record IsLockedFile (method : Option DavMethod) (request : DavRequest) (key : Key) (old new : Contents) : Type 0 where
+  pub locks : method ≡ Some Lock
+  pub here : key ≡ request.path.key
+  pub nothing : get old.tree key ≡ None
+  pub empty : get new.tree key ≡ Some (File [])
+
+-- for each key that was changed, the locks at entry permit it, or it is such a file
+abbrev pub IsGuarded : Option DavMethod → DavRequest → State → State → Type 0
+IsGuarded method request old new = (key : Key) → IsChanged key old.contents new.contents → IsPermitted request old key ⊎ IsLockedFile method request key old.contents new.contents

@@ -11,3 +11,8 @@ pub mod Answered
 pub mod Rules
 pub mod Guarded
 pub mod Target
+pub mod Opening
+pub mod LockInfo
+pub mod Locking
+pub mod Unlocking
+pub mod LockReply

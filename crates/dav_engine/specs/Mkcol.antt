@@ -43,8 +43,3 @@ pub record MkcolLeaves (request : DavRequest) (records : List Logged) (old new :
 pub record MkcolWork (request : DavRequest) (old : Contents) (records : List Logged) (answer : Answer) (new : Contents) : Type 0 where
   pub answered : IsAnswered (mkcol_steps request old) (λ _ reply. reply ≡ mkcol_reply request.path) records answer
   pub leaves : MkcolLeaves request records old new
-
--- memory ran out before the one call of the work
-pub record MkcolCut (old : Contents) (records : List Logged) (new : Contents) : Type 0 where
-  pub none : records ≡ []
-  pub same : new ≡ old

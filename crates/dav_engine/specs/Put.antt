@@ -36,6 +36,7 @@ use Rattle.dav_engine.specs.Target.{stated_length, target_of}
 use Rattle.dav_engine.specs.declared.target.Target.{Target}
 use Rattle.dav_parts.specs.Dialogue.{Dialogue, Asks, Passed, GoesOn, needs, refusing, if_granted, ◌>>=◌, LeadsTo, WasGranted}
 use Rattle.dav_engine.specs.Answered.{IsAnswered}
+use Rattle.dav_engine.specs.Opening.{making_options, open_error, IsFileAt}
 
 -- ---- the rules
 
@@ -75,40 +76,21 @@ is_patch _ = false
 abbrev pub put_method : Option DavMethod → DavMethod
 put_method method = if is_patch method then Patch else Put
 
--- what was found, without where it is written
-abbrev pub found_in : Result (Option Meta × Target) DavError → Result (Option Meta) DavError
-found_in (Ok passed) = Ok passed.0
-found_in (Err e) = Err e
-
 -- ---- the work
 
--- the header asks for `*`
-abbrev pub is_star : Option ETagList → Bool
-is_star (Some Star) = true
-is_star (Some (Tags tags)) = false
-is_star None = false
-
--- a file is opened to be written, and emptied unless a part is kept; one is made where nothing is, unless If-Match asks that one be there, and only there where If-None-Match asks that none be
+-- the file is emptied unless a part is kept, and the store is told what is known of the body
 abbrev pub put_options : DavRequest → Target → OpenOptions
 put_options request target =
-    record {
-      write = true;
-      create = not (is_star (if_match_of request.headers));
-      create_new = is_star (if_none_match_of request.headers);
+    record (making_options request) {
       truncate = not target.part;
       append = target.append;
       size = stated_length request.headers;
       checksum = checksum_of request.headers;
     }
 
--- what was asked of the path isn't so any more: 412; else its parent is no collection: 409
-abbrev pub misplaced : OpenOptions → DavError
-misplaced options = StatusClose (if not options.create || options.create_new then 412 else 409)
-
+-- the connection is closed where it can't be opened
 abbrev pub put_open_error : OpenOptions → FsError → DavError
-put_open_error options NotFound = misplaced options
-put_open_error options Exists = misplaced options
-put_open_error options e = from_fs e
+put_open_error = open_error StatusClose
 
 -- a call on the file that was opened, which is there
 abbrev pub on_file : Op → Key → Call
@@ -143,12 +125,6 @@ put_steps request target old meta =
     look_by (on_file FileMetadata key) meta))))
 
 -- ---- what is left
-
--- a file stands at the key and holds these bytes; nothing else in the tree, no property and no limit changed
-pub record IsFileAt (key : Key) (bytes : List ℕ) (old new : Contents) : Type 0 where
-  pub tree : new.tree ≡ insert old.tree key (File bytes)
-  pub properties : new.properties ≡ old.properties
-  pub limit : limit_of new ≡ limit_of old
 
 -- what it holds as it is opened: nothing, or where a part is kept, what it held
 abbrev pub opened_bytes : Target → List ℕ → List ℕ

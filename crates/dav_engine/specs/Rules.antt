@@ -1,5 +1,5 @@
 -- What is asked before a request changes anything: the conditions of the request, and the locks (RFC 4918, sections 7 and 10.4; RFC 7232).
-use Rattle.std.specs.Prelude.{ℕ, Bool, true, false, if◌then◌else◌, List, Option, Some, None, Result, Ok, Err}
+use Rattle.std.specs.Prelude.{ℕ, Bool, true, false, ◌||◌, if◌then◌else◌, List, Option, Some, None, unwrap_or, Result, Ok, Err}
 use Rattle.std.specs.Option.{option_map_or}
 use Rattle.dav_resource.specs.Key.{Key}
 use Rattle.dav_resource.specs.declared.meta.Meta.{Meta}
@@ -9,13 +9,17 @@ use Rattle.dav_resource.specs.declared.error.FsError.{FsError}
 use Rattle.dav_resource.specs.declared.error.FsError.TheVariants.{NotFound}
 use Rattle.dav_resource.specs.declared.error.DavError.{DavError}
 use Rattle.dav_resource.specs.declared.error.DavError.TheVariants.{Status, StatusClose}
+use Rattle.dav_resource.specs.declared.request.Depth.{Depth}
+use Rattle.dav_resource.specs.declared.request.Depth.TheVariants.{One, Infinity}
 use Rattle.dav_resource.specs.declared.request.DavRequest.{DavRequest}
+use Rattle.dav_resource.specs.PathText.{PathValue}
 use Rattle.dav_resource.specs.Errors.{from_fs}
+use Rattle.dav_headers.specs.Depth.{depth_of}
 use Rattle.dav_store.specs.Store.{Contents}
 use Rattle.dav_store.specs.Calls.{metadata_call}
 use Rattle.dav_store.specs.Locks.{permits}
 use Rattle.dav_store.specs.declared.lock.DavLock.{DavLock}
-use Rattle.dav_parts.specs.Conditions.{conditions, submitted_tokens}
+use Rattle.dav_parts.specs.Conditions.{conditions, if_match, unless_refused, submitted_tokens}
 use Rattle.dav_parts.specs.Dialogue.{Dialogue, Asks, Refuses, Passed, look, needs, ◌>>=◌}
 use Rattle.dav_engine.specs.State.{State}
 
@@ -41,6 +45,10 @@ path_rules request state found =
 abbrev pub shallow_rules : DavRequest → State → Dialogue (Option Meta)
 shallow_rules request state = look state.contents request.path.key >>= path_rules request state
 
+-- the conditions alone: a request is refused where they don't hold
+abbrev pub holding : DavRequest → State → Option Meta → Dialogue (Unit {0})
+holding request state found = if_match state.contents state.locks request found request.path >>= λ refusal. unless_refused refusal (Passed tt)
+
 -- a verdict that asks nothing
 abbrev pub judged : {A : Type 0} → Result A DavError → Dialogue A
 judged (Ok a) = Passed a
@@ -65,6 +73,30 @@ told_by_look (Refused e) meta = Err e
 -- a look at a key, whose refusal is told too
 abbrev pub look_closely : Contents → Key → Dialogue (Result Meta FsError)
 look_closely contents key = Asks (metadata_call contents key) (λ outcome. Passed (told_by_look outcome (contents.metas key)))
+
+-- ---- what several methods read of a request
+
+-- without a Depth that can be read, all below the resource counts too
+abbrev pub depth_or_all : DavRequest → Depth
+depth_or_all request = unwrap_or (depth_of request.headers) Infinity
+
+-- a resource with its members alone can't be meant: 400
+abbrev pub depth_verdict : Depth → Result (Unit {0}) DavError
+depth_verdict One = Err (Status 400)
+depth_verdict _ = Ok tt
+
+-- a directory was found
+abbrev pub is_directory : Option Meta → Bool
+is_directory found = option_map_or (λ (m : Meta). m.dir) found false
+
+-- a directory's path gets its slash
+abbrev pub fixed_path : PathValue → Option Meta → PathValue
+fixed_path path found = record path { slash = path.slash || is_directory found }
+
+-- what was found, without what else the rules have read
+abbrev pub found_in : {A : Type 0} → Result (Option Meta × A) DavError → Result (Option Meta) DavError
+found_in (Ok passed) = Ok passed.0
+found_in (Err e) = Err e
 
 -- the same refusal, after which the connection is closed
 abbrev pub closing : DavError → DavError

@@ -3,7 +3,7 @@ use Rattle.std.specs.Prelude.{◌≡◌, ◌⊎◌, Bool, true, false, List, Opt
 use Rattle.std.specs.Option.{ForSome, option_map_or}
 use Rattle.dav_resource.specs.Key.{Key}
 use Rattle.dav_store.specs.Store.{Store, Contents, IsWellFormed}
-use Rattle.dav_store.specs.Locks.{Locks, elsewhere}
+use Rattle.dav_store.specs.Locks.{Locks, elsewhere, AreCompatible}
 use Rattle.dav_store.specs.LockCalls.{HasDistinctTokens}
 use Rattle.dav_store.specs.declared.lock.DavLock.{DavLock}
 
@@ -17,6 +17,10 @@ pub record State : Type 0 where
 pub record IsLawfulState (state : State) : Type 0 where
   pub contents : IsWellFormed state.contents
   pub locks : ForSome state.locks HasDistinctTokens
+
+-- any two of its locks, of which one covers the other's path, are shared
+abbrev pub IsCompatible : State → Type 0
+IsCompatible state = ForSome state.locks AreCompatible
 
 -- what a contract sees of an engine: the store and the lock system that it borrows
 pub record Seen : Type 0 where
@@ -54,3 +58,17 @@ pub record DropsSeen (key : Key) (old new : Seen) : Type 0 where
   pub dropped : DropsLocks key (state_of old) (state_of new)
   pub store : new.store ≡ old.store
   pub fixed : facts_of new ≡ facts_of old
+
+-- what a call of the lock system makes of what is seen: it changes the locks in this way, and nothing else
+pub record ChangesLocks (Change : Locks → Locks → Type 0) (old new : Seen) : Type 0 where
+  pub before : Locks
+  pub after : Locks
+  pub was : old.locks ≡ Some before
+  pub is : new.locks ≡ Some after
+  pub change : Change before after
+  pub store : new.store ≡ old.store
+
+-- a call of the lock system that fails for this cause, where there is one, changes nothing
+pub record KeepsLocks (Cause : Locks → Type 0) (old new : Seen) : Type 0 where
+  pub cause : ForSome old.locks Cause
+  pub same : new ≡ old

@@ -10,7 +10,7 @@ use Rattle.dav_store.specs.Logged.{Logged}
 use Rattle.dav_store.specs.Store.{Contents, Store}
 use Rattle.dav_parts.specs.Reply.{Answer}
 use Rattle.dav_parts.specs.Dialogue.{Dialogue, Refuses, Passed, LeadsTo}
-use Rattle.dav_engine.specs.State.{State, Seen, state_of, facts_of, IsLawfulState}
+use Rattle.dav_engine.specs.State.{State, Seen, state_of, facts_of, IsLawfulState, IsCompatible}
 use Rattle.dav_engine.specs.Guarded.{IsGuarded}
 use Rattle.dav_engine.specs.Methods.{IsServed, rules_of, Work, WorkCut}
 
@@ -57,20 +57,25 @@ module _ (method : Option DavMethod) (request : DavRequest) (old : State) (recor
     CutShort : IsCutShort → Step
     CutInWork : IsCutInWork → Step
 
--- a step whose records are what the log gained, and which changes only what the locks permit
+-- a step whose records are what the log gained, which changes only what the locks permit, and after which locks that stood together do so still
 pub record Serves (method : Option DavMethod) (old : Seen) (request : DavRequest) (answer : Answer) (new : Seen) : Type 0 where
   pub records : List Logged
   pub told : new.store.log ≡ old.store.log ++ records
   pub fixed : facts_of new ≡ facts_of old
   pub step : Step method request (state_of old) records answer (state_of new)
-  pub guarded : IsGuarded request (state_of old) (state_of new)
+  pub guarded : IsGuarded method request (state_of old) (state_of new)
+  pub compatible : IsCompatible (state_of old) → IsCompatible (state_of new)
 
--- the work of a request whose rules are passed, and what the log gained
-pub record Works (method : Option DavMethod) (request : DavRequest) (found : Option Meta) (old : Seen) (answer : Answer) (new : Seen) : Type 0 where
+-- work that is done, or cut short for want of memory, and what the log gained
+pub record Performs (Done : State → List Logged → Answer → State → Type 0) (Cut : State → List Logged → State → Type 0) (old : Seen) (answer : Answer) (new : Seen) : Type 0 where
   pub records : List Logged
   pub told : new.store.log ≡ old.store.log ++ records
   pub fixed : facts_of new ≡ facts_of old
-  pub done : Work method request found (state_of old) records answer (state_of new) ⊎ ((answer ≡ Err Memory) × WorkCut method request found (state_of old) records (state_of new))
+  pub done : Done (state_of old) records answer (state_of new) ⊎ ((answer ≡ Err Memory) × Cut (state_of old) records (state_of new))
+
+-- the work of a request whose rules are passed
+abbrev pub Works : Option DavMethod → DavRequest → Option Meta → Seen → Answer → Seen → Type 0
+Works method request found = Performs (Work method request found) (WorkCut method request found)
 
 -- the same of work that knows the store alone
 pub record WorksOnStore (Done : Contents → List Logged → Answer → Contents → Type 0) (Cut : Contents → List Logged → Contents → Type 0) (old : Store) (answer : Answer) (new : Store) : Type 0 where
@@ -83,13 +88,14 @@ pub record WorksOnStore (Done : Contents → List Logged → Answer → Contents
 abbrev pub Run : State → List DavRequest → List Logged → List Answer → State → Type 0
 Run old [] records [] new = (records ≡ []) × (new ≡ old)
 Run old (request ∷ requests) records (answer ∷ answers) new =
-    (part rest : List Logged) × (mid : State) × (records ≡ part ++ rest) × Step (method_of request.method) request old part answer mid × IsGuarded request old mid × IsLawfulState mid × Run mid requests rest answers new
+    (part rest : List Logged) × (mid : State) × (records ≡ part ++ rest) × Step (method_of request.method) request old part answer mid × IsGuarded (method_of request.method) request old mid × IsLawfulState mid × Run mid requests rest answers new
 Run old [] records (answer ∷ answers) new = ⊥
 Run old (request ∷ requests) records [] new = ⊥
 
--- a run whose records are what the log gained
+-- a run whose records are what the log gained, and after which locks that stood together do so still
 pub record Runs (old : Seen) (requests : List DavRequest) (answers : List Answer) (new : Seen) : Type 0 where
   pub records : List Logged
   pub told : new.store.log ≡ old.store.log ++ records
   pub fixed : facts_of new ≡ facts_of old
   pub run : Run (state_of old) requests records answers (state_of new)
+  pub compatible : IsCompatible (state_of old) → IsCompatible (state_of new)

@@ -7,17 +7,16 @@ ghost use Rattle.dav_walks.specs.Deletion.{Removal};
 ghost use Rattle.dav_engine.specs.DavInner.{lent, lent_locks, loans, settings, seen_by};
 ghost use Rattle.dav_engine.specs.State.{state_of, DropsSeen};
 ghost use Rattle.dav_engine.specs.Rules.{as_found};
-ghost use Rattle.dav_engine.specs.Delete.{delete_rules, delete_depth as depth_of_delete, depth_verdict, fixed_path as fixed_path_of};
+ghost use Rattle.dav_engine.specs.Delete.{delete_rules};
 ghost use Rattle.dav_engine.specs.Step.{Serves, Works};
 
 use crate::DavInner;
-use crate::judge::where_permitted;
-use dav_headers::read_depth;
+use crate::inner::fixed_path;
+use crate::judge::{depth_or_all, judge_depth, where_permitted};
 use dav_parts::{MultiError, multi_error};
 use dav_resource::{Body, DavError, DavPath, DavRequest, DavResult, Depth, Meta};
 use dav_store::{DavLockSystem, GuardedFileSystem};
 use http::{Response, StatusCode};
-use std::alloc::AllocError;
 
 impl<'a, C: Drop, F: GuardedFileSystem<C>, L: DavLockSystem> DavInner<'a, C, F, L> {
     /// Removes a resource and, unless Depth is 0, all below it, with the locks there, and answers 204. What
@@ -46,7 +45,7 @@ impl<'a, C: Drop, F: GuardedFileSystem<C>, L: DavLockSystem> DavInner<'a, C, F, 
         ensures found { IfOk result (λ meta. (F.seen (lent self.old)).contents.metas request.entry.now.path.key ≡ Some meta) }
         ensures rules { Judges (delete_rules request.entry.now (state_of (seen_by F.seen L.seen self.old))) (F.seen (lent self.old)) (as_found result) (F.seen (lent self.new)) }
     {
-        judge_depth(delete_depth(request))?;
+        judge_depth(depth_or_all(request))?;
         let meta = self.fs.metadata(&request.path, &self.credentials)?;
         let tokens = self.judge_conditions(request, Some(&meta))?;
         let permitted = self.is_permitted(request, tokens.as_slice(), &request.path, true);
@@ -61,9 +60,9 @@ impl<'a, C: Drop, F: GuardedFileSystem<C>, L: DavLockSystem> DavInner<'a, C, F, 
         ensures work { Works (Some Delete) request.entry.now (Some meta.now) (seen_by F.seen L.seen self.old) (answer_of result) (seen_by F.seen L.seen self.new) }
     {
         let alloc = *self.prefix.allocator();
-        let path = fixed_path(&request.path, meta)?;
+        let path = fixed_path(&request.path, Some(meta))?;
         let mut res = MultiError::new(alloc);
-        match self.delete_items(&mut res, delete_depth(request), meta, &path) {
+        match self.delete_items(&mut res, depth_or_all(request), meta, &path) {
             Ok(()) => {
                 self.drop_locks(&path);
                 res.add_status(&path, StatusCode::NO_CONTENT)?;
@@ -110,33 +109,4 @@ impl<'a, C: Drop, F: GuardedFileSystem<C>, L: DavLockSystem> DavInner<'a, C, F, 
             let _ = ls.delete(path);
         }
     }
-}
-
-/// How far a deletion reaches: to all below the resource, unless a Depth that can be read says otherwise.
-fn delete_depth(request: &DavRequest) -> Depth
-    ensures { result ≡ depth_of_delete request.entry.now }
-{
-    match read_depth(&request.headers) {
-        Ok(Some(depth)) => depth,
-        _ => Depth::Infinity,
-    }
-}
-
-/// Refuses to remove a resource with its members alone: 400.
-fn judge_depth(depth: Depth) -> DavResult<()>
-    ensures { result ≡ depth_verdict depth }
-{
-    if depth == Depth::One {
-        return Err(DavError::Status(StatusCode::BAD_REQUEST));
-    }
-    Ok(())
-}
-
-/// The path, with a slash where a directory was found.
-fn fixed_path(path: &DavPath, meta: &Meta) -> Result<DavPath, AllocError>
-    ensures { IfOk result (λ fixed. fixed ≡ fixed_path_of path.now (Some meta.now)) }
-{
-    let mut fixed = path.clone()?;
-    fixed.add_slash_if(meta.dir);
-    Ok(fixed)
 }

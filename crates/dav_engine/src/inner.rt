@@ -1,11 +1,12 @@
 //! The engine's struct, and what several methods share.
-ghost use Rattle.std.specs.Prelude.{◌≡◌, OnErr, option_map, string_bytes};
+ghost use Rattle.std.specs.Prelude.{◌≡◌, IfOk, OnErr, option_map, option_copied, string_bytes};
 ghost use Rattle.dav_engine.specs.DavInner.{lent, lent_locks, loans, settings};
 ghost use Rattle.dav_parts.specs.Dialogue.{Judges, look as look_of};
-ghost use Rattle.dav_engine.specs.Rules.{look_closely as close_look_of};
+ghost use Rattle.dav_engine.specs.Rules.{look_closely as close_look_of, fixed_path as fixed_path_of, is_directory as is_directory_found};
 
 use dav_resource::{DavError, DavPath, DavResult, FsError, FsResult, Meta};
 use dav_store::{DavLockSystem, GuardedFileSystem};
+use std::alloc::AllocError;
 
 /// An engine that serves requests over a store and, where there is one, a lock system that it borrows.
 #[derive(Drop)]
@@ -65,5 +66,24 @@ impl<'a, C: Drop, F: GuardedFileSystem<C>, L: DavLockSystem> DavInner<'a, C, F, 
             Err(FsError::Memory) => Err(DavError::Memory),
             looked => Ok(looked),
         }
+    }
+}
+
+/// The path, with a slash where a directory was found.
+pub(crate) fn fixed_path(path: &DavPath, found: Option<&Meta>) -> Result<DavPath, AllocError>
+    ensures { IfOk result (λ fixed. fixed ≡ fixed_path_of path.now (option_copied found.entry)) }
+{
+    let mut fixed = path.clone()?;
+    fixed.add_slash_if(is_directory(found));
+    Ok(fixed)
+}
+
+/// Whether a directory was found.
+pub(crate) fn is_directory(found: Option<&Meta>) -> bool
+    ensures { result ≡ is_directory_found (option_copied found.entry) }
+{
+    match found {
+        Some(meta) => meta.dir,
+        None => false,
     }
 }

@@ -2,14 +2,15 @@
 ghost use Rattle.std.specs.Prelude.{◌≡◌, if◌then◌else◌, Ok, Err, IfOk, option_map, option_copied};
 ghost use Rattle.dav_resource.specs.declared.error.DavError.TheVariants.{Status};
 ghost use Rattle.dav_parts.specs.Dialogue.{Judges, told_by};
-ghost use Rattle.dav_parts.specs.Conditions.{conditions as conditions_of, submitted_tokens};
+ghost use Rattle.dav_parts.specs.Conditions.{conditions as conditions_of, dav_if_match as dav_if_match_of, if_match as if_match_of, submitted_tokens};
 ghost use Rattle.dav_engine.specs.DavInner.{lent, lent_locks, loans, settings, seen_by};
 ghost use Rattle.dav_engine.specs.State.{state_of};
-ghost use Rattle.dav_engine.specs.Rules.{permits_by, path_rules, shallow_rules, closing as closing_error};
+ghost use Rattle.dav_engine.specs.Rules.{permits_by, path_rules, shallow_rules, holding, depth_or_all as depth_or_all_of, depth_verdict, closing as closing_error};
 
 use crate::DavInner;
-use dav_parts::if_match_get_tokens;
-use dav_resource::{DavError, DavPath, DavRequest, DavResult, Items, Meta, Text};
+use dav_headers::read_depth;
+use dav_parts::{dav_if_match, if_match, if_match_get_tokens};
+use dav_resource::{DavError, DavPath, DavRequest, DavResult, Depth, Items, Meta, Text};
 use dav_store::{DavLockSystem, GuardedFileSystem};
 use http::StatusCode;
 
@@ -67,6 +68,63 @@ impl<'a, C: Drop, F: GuardedFileSystem<C>, L: DavLockSystem> DavInner<'a, C, F, 
         )
     }
 
+    /// Refuses a request whose conditions don't hold, by the status that says so. The tokens don't count.
+    pub(crate) fn judge_holding(
+        &mut self,
+        request: &DavRequest,
+        found: Option<&Meta>,
+    ) -> DavResult<()>
+        ensures same_loans { loans self.new ≡ loans self.old }
+        ensures same_settings { settings self.new ≡ settings self.old }
+        ensures same_locks { lent_locks self.new ≡ lent_locks self.old }
+        ensures rules { Judges (holding request.entry.now (state_of (seen_by F.seen L.seen self.old)) (option_copied found.entry)) (F.seen (lent self.old)) result (F.seen (lent self.new)) }
+    {
+        match self.judge_if_match(request, found)? {
+            Some(status) => Err(DavError::Status(status)),
+            None => Ok(()),
+        }
+    }
+
+    /// The status by which the conditions refuse the request, where they don't hold.
+    fn judge_if_match(
+        &mut self,
+        request: &DavRequest,
+        found: Option<&Meta>,
+    ) -> DavResult<Option<StatusCode>>
+        ensures same_loans { loans self.new ≡ loans self.old }
+        ensures same_settings { settings self.new ≡ settings self.old }
+        ensures same_locks { lent_locks self.new ≡ lent_locks self.old }
+        ensures rules { Judges (if_match_of (F.seen (lent self.old)).contents (state_of (seen_by F.seen L.seen self.old)).locks request.entry.now (option_copied found.entry) request.entry.now.path) (F.seen (lent self.old)) result (F.seen (lent self.new)) }
+    {
+        if_match(
+            *self.prefix.allocator(),
+            request,
+            found,
+            self.fs,
+            shared(&self.ls),
+            &request.path,
+            &self.credentials,
+        )
+    }
+
+    /// The tokens that the request submits, with whether its header If holds.
+    pub(crate) fn judge_if(&mut self, request: &DavRequest) -> DavResult<(bool, Items<Text>)>
+        ensures same_loans { loans self.new ≡ loans self.old }
+        ensures same_settings { settings self.new ≡ settings self.old }
+        ensures same_locks { lent_locks self.new ≡ lent_locks self.old }
+        ensures tokens { IfOk result (λ told. told.1 ≡ submitted_tokens request.entry.now) }
+        ensures rules { Judges (dav_if_match_of (F.seen (lent self.old)).contents (state_of (seen_by F.seen L.seen self.old)).locks request.entry.now request.entry.now.path) (F.seen (lent self.old)) result (F.seen (lent self.new)) }
+    {
+        dav_if_match(
+            *self.prefix.allocator(),
+            request,
+            self.fs,
+            shared(&self.ls),
+            &request.path,
+            &self.credentials,
+        )
+    }
+
     /// Whether the locks let the request, with these tokens, write at the path or, deep, at and below it.
     pub(crate) fn is_permitted(
         &self,
@@ -84,6 +142,26 @@ impl<'a, C: Drop, F: GuardedFileSystem<C>, L: DavLockSystem> DavInner<'a, C, F, 
     }
 }
 
+/// How far a request reaches: to all below the resource, unless a Depth that can be read says otherwise.
+pub(crate) fn depth_or_all(request: &DavRequest) -> Depth
+    ensures { result ≡ depth_or_all_of request.entry.now }
+{
+    match read_depth(&request.headers) {
+        Ok(Some(depth)) => depth,
+        _ => Depth::Infinity,
+    }
+}
+
+/// Refuses a request for a resource with its members alone: 400.
+pub(crate) fn judge_depth(depth: Depth) -> DavResult<()>
+    ensures { result ≡ depth_verdict depth }
+{
+    if depth == Depth::One {
+        return Err(DavError::Status(StatusCode::BAD_REQUEST));
+    }
+    Ok(())
+}
+
 /// The lock system, to be looked at.
 fn shared<'b, L>(ls: &'b Option<&mut L>) -> Option<&'b L>
     ensures { option_copied result ≡ option_map (λ l. l.now) ls.now }
@@ -95,7 +173,7 @@ fn shared<'b, L>(ls: &'b Option<&mut L>) -> Option<&'b L>
 }
 
 /// Who sends the request, where that is known.
-fn principal(request: &DavRequest) -> Option<&str>
+pub(crate) fn principal(request: &DavRequest) -> Option<&str>
     ensures { option_copied result ≡ request.entry.now.principal }
 {
     match &request.principal {

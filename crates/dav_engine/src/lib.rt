@@ -5,27 +5,34 @@ mod delete;
 mod http_date;
 mod inner;
 mod judge;
+mod lock;
+mod lock_info;
+mod lock_reply;
 mod machine;
 mod mkcol;
+mod opening;
 mod put;
 mod put_reply;
+mod refresh;
 mod target;
+mod unlock;
 
 pub use dav_headers::{
     ContentRange, IfCondition, IfItem, IfList, UpdateRange, read_checksum, read_content_length,
     read_content_range, read_content_type, read_depth, read_expected_entity_length, read_if,
-    read_if_match, read_if_none_match, read_place, read_tagged_path, read_update_range,
+    read_if_match, read_if_none_match, read_lock_token, read_place, read_tagged_path, read_update_range,
 };
 pub use dav_parts::{
-    MultiError, dav_if_match, etaglist_match, http_if_match, if_match, if_match_get_tokens,
-    ifrange_match, multi_error,
+    MultiError, build_lock_prop, dav_if_match, etaglist_match, http_if_match, if_match,
+    if_match_get_tokens, ifrange_match, list_lockdiscovery, list_supportedlock, multi_error,
 };
 pub use dav_resource::{
     Body, ChildElements, DavError, DavFile, DavMethod, DavMethodSet, DavPath, DavProp, DavRequest,
-    DavResult, Depth, DirEntry, ETag, ETagList, Element, FsError, FsResult, IfRange, Items, Meta,
+    DavResult, Depth, DirEntry, ETag, ETagList, Element, FsError, FsResult, IfRange, Items, LockToken, Meta,
     Op, OpenOptions, Outcome, Record, ReqBody, Text, XMLNode,
 };
 pub use dav_store::{
     DavLock, DavLockSystem, GuardedFileSystem, LockError, MemFs, MemLs, Refusal, Refusing,
 };
 pub use inner::DavInner;
+pub use lock::get_timeout;

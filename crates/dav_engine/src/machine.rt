@@ -25,6 +25,8 @@ impl<'a, C: Drop, F: GuardedFileSystem<C>, L: DavLockSystem> DavInner<'a, C, F, 
             DavMethod::MkCol => self.handle_mkcol(request),
             DavMethod::Put | DavMethod::Patch => self.handle_put(request),
             DavMethod::Delete => self.handle_delete(request),
+            DavMethod::Lock => self.handle_lock(request),
+            DavMethod::Unlock => self.handle_unlock(request),
             _ => Err(DavError::Status(StatusCode::NOT_IMPLEMENTED)),
         }
     }

@@ -3,7 +3,8 @@ ghost use Rattle.std.specs.Prelude.{◌≡◌, IfOk, IfErr, Some};
 ghost use Rattle.dav_resource.specs.declared.method.DavMethod.TheVariants.{MkCol};
 ghost use Rattle.dav_engine.specs.DavInner.{lent, lent_locks, loans, settings, seen_by};
 ghost use Rattle.dav_parts.specs.Reply.{reply_of, answer_of};
-ghost use Rattle.dav_engine.specs.Mkcol.{mkcol_error as error_of_mkcol, mkcol_reply as reply_of_mkcol, mkcol_location as location_of_mkcol, MkcolWork, MkcolCut};
+ghost use Rattle.dav_engine.specs.Mkcol.{mkcol_error as error_of_mkcol, mkcol_reply as reply_of_mkcol, mkcol_location as location_of_mkcol, MkcolWork};
+ghost use Rattle.dav_engine.specs.Answered.{Unbegun};
 ghost use Rattle.dav_engine.specs.Step.{Serves, WorksOnStore};
 
 use crate::DavInner;
@@ -35,7 +36,7 @@ impl<'a, C: Drop, F: GuardedFileSystem<C>, L: DavLockSystem> DavInner<'a, C, F, 
         ensures same_loans { loans self.new ≡ loans self.old }
         ensures same_settings { settings self.new ≡ settings self.old }
         ensures same_locks { lent_locks self.new ≡ lent_locks self.old }
-        ensures work { WorksOnStore (MkcolWork request.entry.now) MkcolCut (F.seen (lent self.old)) (answer_of result) (F.seen (lent self.new)) }
+        ensures work { WorksOnStore (MkcolWork request.entry.now) Unbegun (F.seen (lent self.old)) (answer_of result) (F.seen (lent self.new)) }
     {
         let reply = mkcol_reply(*self.prefix.allocator(), &request.path)?;
         match self.fs.create_dir(&request.path, &self.credentials) {

@@ -9,16 +9,18 @@ ghost use Rattle.dav_parts.specs.Reply.{answer_of};
 ghost use Rattle.dav_parts.specs.Dialogue.{Judges};
 ghost use Rattle.dav_headers.specs.Body.{checksum_of};
 ghost use Rattle.dav_engine.specs.Target.{target_of};
-ghost use Rattle.dav_engine.specs.Put.{body_bytes as bytes_of_body, new_bytes as bytes_of_request, has_length as has_stated_length, put_rules, put_method, is_patch as is_patch_method, found_in, as_looked, put_options as options_of_put, is_star as is_star_list, misplaced as misplaced_by, put_open_error as error_of_open, put_seek_error as seek_error_of, PutWork, PutCut, SeeksPlace, WritesBody, look_at_file as file_look, body_verdict};
+ghost use Rattle.dav_engine.specs.Put.{body_bytes as bytes_of_body, new_bytes as bytes_of_request, has_length as has_stated_length, put_rules, put_method, is_patch as is_patch_method, as_looked, put_options as options_of_put, put_open_error as error_of_open, put_seek_error as seek_error_of, PutWork, PutCut, SeeksPlace, WritesBody, look_at_file as file_look, body_verdict};
+ghost use Rattle.dav_engine.specs.Rules.{found_in};
 ghost use Rattle.dav_engine.specs.Step.{Serves, WorksOnStore};
 
 use crate::DavInner;
 use crate::judge::closed;
+use crate::opening::{making_options, misplaced_status};
 use crate::put_reply::put_reply;
 use crate::target::{Target, find_target, stated_length};
-use dav_headers::{read_checksum, read_if_match, read_if_none_match};
+use dav_headers::read_checksum;
 use dav_resource::{
-    Body, DavError, DavFile, DavMethod, DavRequest, DavResult, ETagList, FsError, FsResult, Meta,
+    Body, DavError, DavFile, DavMethod, DavRequest, DavResult, FsError, FsResult, Meta,
     OpenOptions, ReqBody, Text,
 };
 use dav_store::{DavLockSystem, GuardedFileSystem};
@@ -209,22 +211,19 @@ fn judge_body(target: &Target, body: &ReqBody, found: Option<Meta>) -> DavResult
     Ok(found)
 }
 
-/// To be written, and emptied unless a part is kept; made where nothing is, unless If-Match is `*`, and only
-/// there where If-None-Match is `*`. The only error is `Memory`, where memory is lacking.
+/// To be written, made where the conditions let it, and emptied unless a part is kept. The only error is
+/// `Memory`, where memory is lacking.
 fn put_options(alloc: Global, request: &DavRequest, target: &Target) -> DavResult<OpenOptions>
     ensures ok { IfOk result (λ options. options ≡ options_of_put request.entry.now target.now) }
     ensures err { IfErr result (λ e. e ≡ DavError.Memory) }
 {
-    let if_match = read_if_match(alloc, &request.headers)?;
-    let if_none_match = read_if_none_match(alloc, &request.headers)?;
+    let options = making_options(alloc, request)?;
     Ok(OpenOptions {
-        write: true,
-        create: !is_star(&if_match),
-        create_new: is_star(&if_none_match),
         truncate: !target.part,
         append: target.append,
         size: stated_length(&request.headers)?,
         checksum: checksum(alloc, &request.headers)?,
+        ..options
     })
 }
 
@@ -239,21 +238,11 @@ fn checksum(alloc: Global, headers: &HeaderMap<HeaderValue>) -> DavResult<Option
     }
 }
 
-/// Whether a header asks for `*`.
-fn is_star(tags: &Option<ETagList>) -> bool
-    ensures { result ≡ is_star_list tags.now }
-{
-    match tags {
-        Some(ETagList::Star) => true,
-        Some(ETagList::Tags(_)) | None => false,
-    }
-}
-
 fn put_open_error(options: &OpenOptions, error: FsError) -> DavError
     ensures { result ≡ error_of_open options.now error }
 {
     match error {
-        FsError::NotFound | FsError::Exists => misplaced(options),
+        FsError::NotFound | FsError::Exists => DavError::StatusClose(misplaced_status(options)),
         error => error.into(),
     }
 }
@@ -265,16 +254,5 @@ fn put_seek_error(error: FsError) -> DavError
     match error {
         FsError::Memory => DavError::Memory,
         _ => DavError::StatusClose(StatusCode::RANGE_NOT_SATISFIABLE),
-    }
-}
-
-/// 412 where the conditions asked that something be there, or that nothing be; else 409.
-fn misplaced(options: &OpenOptions) -> DavError
-    ensures { result ≡ misplaced_by options.now }
-{
-    if !options.create || options.create_new {
-        DavError::StatusClose(StatusCode::PRECONDITION_FAILED)
-    } else {
-        DavError::StatusClose(StatusCode::CONFLICT)
     }
 }

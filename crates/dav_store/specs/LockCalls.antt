@@ -50,9 +50,13 @@ pub record RemovesLock (key : Key) (token : List ℕ) (old new : Locks) : Type 0
   pub named : has_named key token old.list ≡ true
   pub removed : new ≡ record old { list = without_named key token old.list }
 
+-- there is none, unless a lock system that isn't dependable keeps it
+abbrev pub KeepsNamed : Key → List ℕ → Locks → Type 0
+KeepsNamed key token locks = (locks.dependable && has_named key token locks.list) ≡ false
+
 -- there is none, or the lock system failed; a dependable one doesn't fail where there is one
 abbrev pub RefusesUnlock : Key → List ℕ → Locks → LockError → Type 0
-RefusesUnlock key token old e = ((e ≡ NotFound) × (has_named key token old.list ≡ false)) ⊎ ((e ≡ Failed) × (old.dependable && has_named key token old.list ≡ false))
+RefusesUnlock key token old e = ((e ≡ NotFound) × (has_named key token old.list ≡ false)) ⊎ ((e ≡ Failed) × KeepsNamed key token old)
 
 -- the lock with a timeout that begins now
 abbrev pub refreshed : Option ℕ → ℕ → DavLock → DavLock

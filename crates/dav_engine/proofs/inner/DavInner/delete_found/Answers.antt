@@ -15,7 +15,7 @@ pub returns-in_err-add_status-in-Ok-clause-work : goal.returns-in_err-add_status
 returns-in_err-add_status-in-Ok-clause-work g c =
     let p = err_from_is_err_and c.from_residual-in_err-add_status-in-Ok.result c.from_residual-in_err-add_status-in-Ok.ensures.1 in
     works_untold c.args.request.now c.args.meta.now _ (seen_by g.F.GuardedFileSystem.seen g.L.DavLockSystem.seen c.delete_items.new.self) _ _
-    (rw (c.delete_depth.ensures, c.in_ok-path.ensures, c.new-res.ensures) at c.in-Ok.ensures.removal)
+    (rw (c.depth_or_all.ensures, c.in_ok-path.ensures, c.new-res.ensures) at c.in-Ok.ensures.removal)
     (ap (option_map g.L.DavLockSystem.seen) c.in-Ok.ensures.same_locks)
     (rw c.in_ok-path.ensures at c.drop_locks.ensures.dropped)
     c.from_residual-in_err-add_status-in-Ok.result (ap answer_of p.1 ∙ ap Err (p.2 ∙ c.in_err-add_status-in-Ok.ensures.err))
@@ -23,7 +23,7 @@ returns-in_err-add_status-in-Ok-clause-work g c =
 pub returns-in-Memory-clause-work : goal.returns-in-Memory-clause-work
 returns-in-Memory-clause-work g c =
     works_stopped c.args.request.now c.args.meta.now _ _ _ _
-    (rw (c.delete_depth.ensures, c.in_ok-path.ensures, c.in-Memory.is) at c.in-Err.ensures.removal)
+    (rw (c.depth_or_all.ensures, c.in_ok-path.ensures, c.in-Memory.is) at c.in-Err.ensures.removal)
     (ap (option_map g.L.DavLockSystem.seen) c.in-Err.ensures.same_locks)
 
 pub returns-clause-work : goal.returns-clause-work
@@ -32,7 +32,7 @@ returns-clause-work g c =
       | in-Ok+in_ok-add_status-in-Ok w ↦
           let added = w.in_ok-add_status-in-Ok.ensures.ok in
           rw w.self-is (works_gone c.args.request.now c.args.meta.now _ (seen_by g.F.GuardedFileSystem.seen g.L.DavLockSystem.seen c.delete_items.new.self) _ _
-          (rw (c.delete_depth.ensures, c.in_ok-path.ensures, c.new-res.ensures) at w.in-Ok.ensures.removal)
+          (rw (c.depth_or_all.ensures, c.in_ok-path.ensures, c.new-res.ensures) at w.in-Ok.ensures.removal)
           (ap (option_map g.L.DavLockSystem.seen) w.in-Ok.ensures.same_locks)
           (rw c.in_ok-path.ensures at w.drop_locks.ensures.dropped)
           c.into_items.result.items c.multi_error.result
@@ -40,7 +40,7 @@ returns-clause-work g c =
           (rw c.in_ok-path.ensures at c.multi_error.ensures))
       | in-Err+in_default w ↦
           rw w.self-is (works_named c.args.request.now c.args.meta.now w.in-Err.error _ _ _ c.multi_error.result w.in_default.not-Memory
-          (rw (c.delete_depth.ensures, c.in_ok-path.ensures, c.new-res.ensures) at w.in-Err.ensures.removal)
+          (rw (c.depth_or_all.ensures, c.in_ok-path.ensures, c.new-res.ensures) at w.in-Err.ensures.removal)
           (ap (option_map g.L.DavLockSystem.seen) w.in-Err.ensures.same_locks)
           (rw (c.in_ok-path.ensures, c.into_items.ensures, w.res-is) at c.multi_error.ensures))
     ]

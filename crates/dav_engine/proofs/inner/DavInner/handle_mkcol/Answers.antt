@@ -7,4 +7,4 @@ pub returns-clause-step : goal.returns-clause-step
 returns-clause-step g c =
     let request = c.args.request.now in
     let judged = c.in_ok-judge_shallow.ensures in
-    rw (c.make_collection.ensures.same_locks, judged.same_locks) (serves_work (Some MkCol) request _ _ _ _ _ _ judged.rules (works_mkcol request _ _ _ _ _ c.make_collection.ensures.work))
+    rw (c.make_collection.ensures.same_locks, judged.same_locks) (serves_work (Some MkCol) request _ c.in_ok-judge_shallow.field-0 _ _ _ _ judged.rules (works_mkcol request c.in_ok-judge_shallow.field-0 _ _ _ _ c.make_collection.ensures.work))

@@ -5,8 +5,8 @@ use Rattle.dav_engine.specs.State.{state_of}
 use Rattle.dav_engine.specs.Rules.{closing}
 use Rattle.dav_engine.specs.Put.{as_looked}
 use Rattle.dav_engine.specs.Target.{target_of}
-use Rattle.dav_engine.proofs.Judging.{still, same_rules}
-use Rattle.dav_engine.proofs.Aiming.{put_unaimed, put_unheld, put_held, found_in_error, exit_is, closed_found, reaches_end, aims_as_looked, body_passed}
+use Rattle.dav_engine.proofs.Judging.{still, same_rules, found_in_error}
+use Rattle.dav_engine.proofs.Aiming.{put_unaimed, put_unheld, put_held, exit_is, closed_found, reaches_end, aims_as_looked, body_passed}
 use Rattle.dav_engine.proofs.inner.DavInner.judge_put.Goals as goal
 
 pub returns-in_err-looked-clause-rules : goal.returns-in_err-looked-clause-rules

@@ -13,5 +13,5 @@ returns-in_default-method g c =
       same_settings = refl;
       step =
           serves_as (Some method) _ _ c.args.request.now _ _ (sym c.in-Some.is ∙ c.from_method.ensures)
-          (serves_none (Some method) c.args.request.now _ (unserved c.args.request.now method c.in_default-method.not-MkCol c.in_default-method.not-Put c.in_default-method.not-Patch c.in_default-method.not-Delete));
+          (serves_none (Some method) c.args.request.now _ (unserved c.args.request.now method c.in_default-method.not-MkCol c.in_default-method.not-Put c.in_default-method.not-Patch c.in_default-method.not-Delete c.in_default-method.not-Lock c.in_default-method.not-Unlock));
     }

@@ -1,0 +1,43 @@
+-- The replies to LOCK and UNLOCK (RFC 4918, sections 9.10, 9.11 and 10.5).
+use Rattle.std.specs.Prelude.{ℕ, Bool, true, ◌&&◌, not, if◌then◌else◌, List, [], ◌∷◌, ◌++◌, codes, Option, Some, None, is_some}
+use Rattle.http.specs.declared.version.TheConstants.Version.{HTTP_11}
+use Rattle.http_header.specs.HeaderMap.{Entries}
+use Rattle.http_header.specs.FieldValue.{FieldValue, plain_value}
+use Rattle.dav_resource.specs.LockToken.{coded}
+use Rattle.dav_resource.specs.PathText.{PathValue, url_text}
+use Rattle.dav_resource.specs.PathForms.{is_collection, prefixed}
+use Rattle.dav_resource.specs.declared.meta.Meta.{Meta}
+use Rattle.dav_resource.specs.declared.request.Body.{Body}
+use Rattle.dav_resource.specs.declared.request.DavRequest.{DavRequest}
+use Rattle.dav_store.specs.declared.lock.DavLock.{DavLock}
+use Rattle.dav_parts.specs.LockTree.{lock_prop}
+use Rattle.dav_parts.specs.Multistatus.{xml_type}
+use Rattle.dav_parts.specs.Reply.{Reply, bare_reply, field}
+use Rattle.dav_parts.specs.ReplyHeader.{optional_field}
+use Rattle.dav_engine.specs.Rules.{is_directory, fixed_path}
+
+-- a directory's path, with its slash and the prefix, where the request's path lacked the slash
+abbrev pub fixed_location : PathValue → Option Meta → Option FieldValue
+fixed_location path found =
+    if is_directory found && not (is_collection path) then Some (plain_value (url_text (prefixed (fixed_path path found)))) else None
+
+abbrev pub location_fields : PathValue → Option Meta → Entries FieldValue
+location_fields path found = optional_field (codes "content-location") (fixed_location path found)
+
+-- a reply that tells a lock in full
+abbrev pub lock_reply : ℕ → Entries FieldValue → DavLock → Reply
+lock_reply status fields lock =
+    record { status = status; version = HTTP_11; headers = field (codes "content-type") xml_type ∷ fields; body = Body.Tree (lock_prop lock true) }
+
+-- a new lock: 200 where something was found, else 201, with the request's token
+abbrev pub granted_reply : DavRequest → Option Meta → DavLock → Reply
+granted_reply request found lock =
+    lock_reply (if is_some found then 200 else 201) (field (codes "lock-token") (coded request.token) ∷ location_fields request.path found) lock
+
+-- a refreshed one: 200
+abbrev pub refreshed_reply : PathValue → Option Meta → DavLock → Reply
+refreshed_reply path found lock = lock_reply 200 (location_fields path found) lock
+
+-- a lock that is gone: 204
+abbrev pub unlocked_reply : PathValue → Option Meta → Reply
+unlocked_reply path found = bare_reply 204 (location_fields path found)

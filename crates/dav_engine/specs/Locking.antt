@@ -1,0 +1,241 @@
+-- LOCK (RFC 4918, section 9.10): locks a resource, and makes an empty file where nothing is; without a body it refreshes a lock.
+use Rattle.std.specs.Prelude.{◌≡◌, ◌≢◌, ℕ, min, Bool, true, false, nat_eq, if◌then◌else◌, List, [], ◌∷◌, ◌++◌, length, Option, Some, None, is_some, option_map, Result, Ok, Err, ◌⊎◌}
+use Rattle.std.specs.Option.{option_map_or}
+use Rattle.std.specs.List.{find}
+use Rattle.std.specs.FinMap.{get}
+use Rattle.dav_resource.specs.Key.{Key}
+use Rattle.dav_resource.specs.declared.meta.Meta.{Meta}
+use Rattle.dav_resource.specs.declared.meta.OpenOptions.{OpenOptions}
+use Rattle.dav_resource.specs.declared.record.Op.TheVariants.{OpenFile}
+use Rattle.dav_resource.specs.declared.error.FsError.{FsError}
+use Rattle.dav_resource.specs.declared.error.DavError.{DavError}
+use Rattle.dav_resource.specs.declared.error.DavError.TheVariants.{Status}
+use Rattle.dav_resource.specs.declared.error.DavError.TheVariants as dav_errors
+use Rattle.dav_resource.specs.declared.request.Depth.{Depth}
+use Rattle.dav_resource.specs.declared.request.Depth.TheVariants.{Zero}
+use Rattle.dav_resource.specs.declared.request.ReqBody.{ReqBody}
+use Rattle.dav_resource.specs.declared.request.ReqBody.TheVariants as bodies
+use Rattle.dav_resource.specs.declared.request.DavRequest.{DavRequest}
+use Rattle.dav_headers.specs.Timeout.{timeout_of}
+use Rattle.dav_headers.specs.declared.timeout.DavTimeout.{DavTimeout}
+use Rattle.dav_headers.specs.declared.timeout.DavTimeout.TheVariants.{Infinite, Seconds}
+use Rattle.dav_store.specs.Logged.{Logged}
+use Rattle.dav_store.specs.Store.{Contents}
+use Rattle.dav_store.specs.Calls.{open_call}
+use Rattle.dav_store.specs.Locks.{grants}
+use Rattle.dav_store.specs.LockCalls.{asked_lock, is_named, has_named, refreshed, with_refreshed}
+use Rattle.dav_store.specs.declared.lock.DavLock.{DavLock}
+use Rattle.dav_store.specs.declared.lock.LockError.{LockError}
+use Rattle.dav_store.specs.declared.lock.LockError.TheVariants as lock_errors
+use Rattle.dav_parts.specs.Conditions.{dav_if_match, submitted_tokens}
+use Rattle.dav_parts.specs.Dialogue.{Dialogue, Passed, Refuses, needs, look, ◌>>=◌, WasGranted}
+use Rattle.dav_parts.specs.Reply.{Reply, Answer}
+use Rattle.dav_engine.specs.Answered.{IsAnswered}
+use Rattle.dav_engine.specs.LockInfo.{lock_info_of, lock_info_verdict}
+use Rattle.dav_engine.specs.LockReply.{granted_reply, refreshed_reply}
+use Rattle.dav_engine.specs.Opening.{making_options, open_error, IsFileAt}
+use Rattle.dav_engine.specs.Rules.{judged, holding, depth_or_all, depth_verdict, fixed_path, is_permitted}
+use Rattle.dav_engine.specs.State.{State, LocksStay}
+use Rattle.dav_engine.specs.declared.lock_info.LockInfo.{LockInfo}
+
+-- ---- how long a lock lasts
+
+-- the greatest timeout, in seconds: a day, or ten minutes
+abbrev pub greatest_timeout : Bool → ℕ
+greatest_timeout shared = if shared then 86400 else 600
+
+-- the first wish, cut to the greatest; without end only where a lock is refreshed, or nothing is wished
+abbrev pub timeout_for : Option DavTimeout → Bool → Bool → Option ℕ
+timeout_for None refresh shared = None
+timeout_for (Some Infinite) true shared = None
+timeout_for (Some Infinite) false shared = Some (greatest_timeout shared)
+timeout_for (Some (Seconds seconds)) refresh shared = Some (min seconds (greatest_timeout shared))
+
+-- ---- the rules
+
+-- without a lock system nothing can be locked: 405
+abbrev pub locks_verdict : State → Result (Unit {0}) DavError
+locks_verdict state = if is_some state.locks then Ok tt else Err (Status 405)
+
+-- a look at the path, where there is a lock system
+abbrev pub look_to_lock : DavRequest → State → Dialogue (Option Meta)
+look_to_lock request state = judged (locks_verdict state) >>= λ _. look state.contents request.path.key
+
+-- a body of no bytes is none
+abbrev pub is_refresh : ReqBody → Bool
+is_refresh bodies.None = true
+is_refresh (bodies.Bytes bytes) = nat_eq (length bytes) 0
+is_refresh _ = false
+
+-- the one token that is submitted: with none, or more, no lock is named: 400
+abbrev pub one_token : List (List ℕ) → Result (List ℕ) DavError
+one_token (token ∷ []) = Ok token
+one_token _ = Err (Status 400)
+
+-- a lock that doesn't let the request write can't be refreshed by it: 412
+abbrev pub where_held : {A : Type 0} → Bool → A → Dialogue A
+where_held permitted a = if permitted then Passed a else Refuses (Status 412)
+
+-- to refresh a lock: a look at the path, the header If, which names the lock and whose conditions needn't hold, and the locks of the path
+abbrev pub refresh_rules : DavRequest → State → Dialogue (Option Meta)
+refresh_rules request state =
+    look_to_lock request state >>= λ found.
+    dav_if_match state.contents state.locks request request.path >>= λ told.
+    judged (one_token told.1) >>= λ _.
+    where_held (is_permitted request state request.path.key false) found
+
+-- for a new lock: a look at the path, the depth, the conditions, and the body
+abbrev pub new_lock_rules : DavRequest → State → Dialogue (Option Meta)
+new_lock_rules request state =
+    look_to_lock request state >>= λ found.
+    judged (depth_verdict (depth_or_all request)) >>= λ _.
+    holding request state found >>= λ _.
+    judged (lock_info_verdict request.body) >>= λ _.
+    Passed found
+
+abbrev pub lock_rules : DavRequest → State → Dialogue (Option Meta)
+lock_rules request state = if is_refresh request.body then refresh_rules request state else new_lock_rules request state
+
+-- ---- a new lock
+
+-- Depth 0 locks the resource alone
+abbrev pub is_deep : Depth → Bool
+is_deep Zero = false
+is_deep _ = true
+
+-- the lock that the request asks for
+abbrev pub lock_asked : DavRequest → Option Meta → LockInfo → DavLock
+lock_asked request found info =
+    asked_lock (fixed_path request.path found) request.principal info.owner (timeout_for (timeout_of request.headers) false info.shared) info.shared (is_deep (depth_or_all request))
+    request.token request.now
+
+-- whether the locks grant it
+abbrev pub is_granted : State → DavLock → Bool
+is_granted state lock = option_map_or (λ list. grants list lock) state.locks false
+
+-- it is granted, and is the last of the locks
+pub record AddsToLocks (lock : DavLock) (old new : State) : Type 0 where
+  pub granted : is_granted old lock ≡ true
+  pub added : new.locks ≡ option_map (λ list. list ++ lock ∷ []) old.locks
+
+-- it is taken back, unless a lock system that isn't dependable keeps it
+abbrev pub TakesBack : DavLock → State → State → Type 0
+TakesBack lock old new = LocksStay old new ⊎ ((old.dependable ≡ false) × AddsToLocks lock old new)
+
+-- the lock stands where it is told, and nowhere else
+abbrev pub LeavesLock : DavLock → Answer → State → State → Type 0
+LeavesLock lock (Ok reply) old new = AddsToLocks lock old new
+LeavesLock lock (Err e) old new = TakesBack lock old new
+
+-- why the lock system refuses, told by this status
+abbrev pub lock_error : ℕ → LockError → DavError
+lock_error status lock_errors.Memory = dav_errors.Memory
+lock_error status e = Status status
+
+abbrev pub lock_open_error : OpenOptions → FsError → DavError
+lock_open_error = open_error Status
+
+-- where nothing was found, a file is made
+abbrev pub file_steps : DavRequest → Option Meta → Contents → Dialogue (Unit {0})
+file_steps request (Some meta) old = Passed tt
+file_steps request None old = needs (open_call old request.path.key (making_options request)) (lock_open_error (making_options request)) (Passed tt)
+
+-- an empty file is made where nothing was; what was there stays
+pub record HasFile (key : Key) (old new : Contents) : Type 0 where
+  pub made : get old.tree key ≡ None → IsFileAt key [] old new
+  pub kept : get old.tree key ≢ None → (new.tree ≡ old.tree) × (new.properties ≡ old.properties)
+
+-- so it is where the call was granted; else all stays
+abbrev pub FileLeaves : DavRequest → List Logged → Contents → Contents → Type 0
+FileLeaves request records old new =
+    (WasGranted OpenFile request.path.key records × HasFile request.path.key old new) ⊎ (¬ (WasGranted OpenFile request.path.key records) × (new ≡ old))
+
+-- the file, and the reply that tells the lock
+pub record TellsLock (request : DavRequest) (found : Option Meta) (lock : DavLock) (old : Contents) (records : List Logged) (answer : Answer) (new : Contents) : Type 0 where
+  pub answered : IsAnswered (file_steps request found old) (λ _ reply. reply ≡ granted_reply request found lock) records answer
+  pub leaves : FileLeaves request records old new
+
+-- the locks don't grant it: 423, and nothing is asked and nothing changes
+pub record DeniesLock (lock : DavLock) (old : State) (records : List Logged) (answer : Answer) (new : State) : Type 0 where
+  pub denied : is_granted old lock ≡ false
+  pub told : answer ≡ Err (Status 423)
+  pub none : records ≡ []
+  pub same : new ≡ old
+
+-- they grant it, and it stays where the file is there
+pub record GrantsLock (request : DavRequest) (found : Option Meta) (lock : DavLock) (old : State) (records : List Logged) (answer : Answer) (new : State) : Type 0 where
+  pub granted : is_granted old lock ≡ true
+  pub tells : TellsLock request found lock old.contents records answer new.contents
+  pub locks : LeavesLock lock answer old new
+
+pub record NewLockWork (request : DavRequest) (found : Option Meta) (old : State) (records : List Logged) (answer : Answer) (new : State) : Type 0 where
+  pub info : LockInfo
+  pub asked : lock_info_of request.body ≡ Some info
+  pub done : GrantsLock request found (lock_asked request found info) old records answer new ⊎ DeniesLock (lock_asked request found info) old records answer new
+
+-- memory ran out before a file was made: no lock is left
+pub record NewLockCut (request : DavRequest) (found : Option Meta) (old : State) (records : List Logged) (new : State) : Type 0 where
+  pub info : LockInfo
+  pub asked : lock_info_of request.body ≡ Some info
+  pub none : records ≡ []
+  pub same : new.contents ≡ old.contents
+  pub locks : TakesBack (lock_asked request found info) old new
+
+-- ---- a refresh
+
+-- the timeout that it asks for is cut as that of an exclusive lock, whatever the lock is
+abbrev pub refresh_timeout : DavRequest → Option ℕ
+refresh_timeout request = timeout_for (timeout_of request.headers) true false
+
+-- the lock of this token that stands at the path or above it, with the new timeout
+abbrev pub lock_refreshed : DavRequest → List ℕ → State → Option DavLock
+lock_refreshed request token state =
+    option_map (refreshed (refresh_timeout request) request.now) (option_map_or (find (is_named request.path.key token)) state.locks None)
+
+-- that lock alone has it
+abbrev pub RefreshesAlone : DavRequest → List ℕ → State → State → Type 0
+RefreshesAlone request token old new = new.locks ≡ option_map (with_refreshed request.path.key token (refresh_timeout request) request.now) old.locks
+
+-- there is such a lock: it is refreshed and told
+pub record RefreshesTold (request : DavRequest) (found : Option Meta) (token : List ℕ) (old : State) (answer : Answer) (new : State) : Type 0 where
+  pub lock : DavLock
+  pub is : lock_refreshed request token old ≡ Some lock
+  pub told : answer ≡ Ok (refreshed_reply request.path found lock)
+  pub locks : RefreshesAlone request token old new
+
+-- there is none: 412
+pub record FindsNoLock (request : DavRequest) (token : List ℕ) (old : State) (answer : Answer) (new : State) : Type 0 where
+  pub is : lock_refreshed request token old ≡ None
+  pub told : answer ≡ Err (Status 412)
+  pub locks : LocksStay old new
+
+pub record RefreshWork (request : DavRequest) (found : Option Meta) (old : State) (records : List Logged) (answer : Answer) (new : State) : Type 0 where
+  pub token : List ℕ
+  pub one : submitted_tokens request ≡ token ∷ []
+  pub none : records ≡ []
+  pub same : new.contents ≡ old.contents
+  pub done : RefreshesTold request found token old answer new ⊎ FindsNoLock request token old answer new
+
+-- memory ran out before the lock was refreshed, or in telling it
+pub record RefreshCut (request : DavRequest) (old : State) (records : List Logged) (new : State) : Type 0 where
+  pub token : List ℕ
+  pub one : submitted_tokens request ≡ token ∷ []
+  pub none : records ≡ []
+  pub same : new.contents ≡ old.contents
+  pub locks : LocksStay old new ⊎ RefreshesAlone request token old new
+
+-- ---- together
+
+abbrev pub LockWorkBy : Bool → DavRequest → Option Meta → State → List Logged → Answer → State → Type 0
+LockWorkBy true request found old records answer new = RefreshWork request found old records answer new
+LockWorkBy false request found old records answer new = NewLockWork request found old records answer new
+
+abbrev pub LockWork : DavRequest → Option Meta → State → List Logged → Answer → State → Type 0
+LockWork request = LockWorkBy (is_refresh request.body) request
+
+abbrev pub LockCutBy : Bool → DavRequest → Option Meta → State → List Logged → State → Type 0
+LockCutBy true request found old records new = RefreshCut request old records new
+LockCutBy false request found old records new = NewLockCut request found old records new
+
+abbrev pub LockCut : DavRequest → Option Meta → State → List Logged → State → Type 0
+LockCut request = LockCutBy (is_refresh request.body) request

@@ -1,0 +1,133 @@
+//! What the body of a LOCK asks for (RFC 4918, section 14.11).
+ghost use Rattle.std.specs.Prelude.{◌≡◌, IfOk, option_map, option_copied};
+ghost use Rattle.std.specs.List.{list_all, list_any};
+ghost use Rattle.dav_resource.specs.Gives.{GivesBy};
+ghost use Rattle.dav_resource.specs.Tree.{elements_of};
+ghost use Rattle.dav_engine.specs.LockInfo.{is_named as is_named_tree, begins_with as tree_begins_with, is_scope as is_scope_tree, is_write as is_write_tree, is_part as is_part_tree, is_lock_info as is_lock_info_tree, last_named as last_named_in, asks_shared as tree_asks_shared, under_dav as tree_under_dav, owner_in, lock_info_verdict};
+
+use dav_resource::{DavError, DavResult, Element, ReqBody};
+use std::alloc::{AllocError, Global};
+
+/// A lock that is asked for.
+#[derive(Drop, Debug)]
+pub(crate) struct LockInfo {
+    /// Whether others may hold shared locks too (RFC 4918, section 14.13).
+    pub(crate) shared: bool,
+    /// What the client says of who holds it (RFC 4918, section 14.17).
+    pub(crate) owner: Option<Element>,
+}
+
+/// What the body asks for. Elements are known by their local names alone, and of several scopes or owners
+/// the last counts; the owner gets the prefix `D`.
+///
+/// Errors: `XmlParseError` for a body that is no `lockinfo` of a scope, a type and perhaps an owner, or has
+/// another scope than `exclusive` and `shared`, another type than `write`, or another element; `Memory`.
+pub(crate) fn read_lock_info(alloc: Global, body: &ReqBody) -> DavResult<LockInfo>
+    ensures { GivesBy (λ info. info) result (lock_info_verdict body.now) }
+{
+    match body {
+        ReqBody::Tree(tree) if is_lock_info(tree) => Ok(LockInfo {
+            shared: asks_shared(tree),
+            owner: owner(alloc, tree)?,
+        }),
+        _ => Err(DavError::XmlParseError),
+    }
+}
+
+fn is_lock_info(tree: &Element) -> bool
+    ensures { result ≡ is_lock_info_tree tree.now }
+{
+    is_named(tree, "lockinfo") && has_parts_alone(tree) && has_scope(tree) && has_write(tree)
+}
+
+/// Whether each element in it is a scope, a type or an owner.
+fn has_parts_alone(tree: &Element) -> bool
+    ensures { result ≡ list_all is_part_tree (elements_of tree.now.children) }
+{
+    tree.child_elems_iter().all(is_part)
+}
+
+fn has_scope(tree: &Element) -> bool
+    ensures { result ≡ list_any is_scope_tree (elements_of tree.now.children) }
+{
+    tree.child_elems_iter().any(is_scope)
+}
+
+fn has_write(tree: &Element) -> bool
+    ensures { result ≡ list_any is_write_tree (elements_of tree.now.children) }
+{
+    tree.child_elems_iter().any(is_write)
+}
+
+fn is_part(element: &Element) -> bool
+    ensures { result ≡ is_part_tree element.now }
+{
+    is_scope(element) || is_write(element) || is_named(element, "owner")
+}
+
+fn is_scope(element: &Element) -> bool
+    ensures { result ≡ is_scope_tree element.now }
+{
+    is_named(element, "lockscope")
+        && (begins_with(element, "exclusive") || begins_with(element, "shared"))
+}
+
+fn is_write(element: &Element) -> bool
+    ensures { result ≡ is_write_tree element.now }
+{
+    is_named(element, "locktype") && begins_with(element, "write")
+}
+
+fn is_named(element: &Element, name: &str) -> bool
+    ensures { result ≡ is_named_tree name.now element.now }
+{
+    element.name.as_str() == name
+}
+
+/// Whether the first element in it has this name.
+fn begins_with(element: &Element, name: &str) -> bool
+    ensures { result ≡ tree_begins_with name.now element.now }
+{
+    match element.child_elems_iter().next() {
+        Some(first) => is_named(first, name),
+        None => false,
+    }
+}
+
+/// The last element in it of this name.
+fn last_named<'a>(tree: &'a Element, name: &str) -> Option<&'a Element>
+    ensures { option_copied result ≡ last_named_in name.now tree.now }
+{
+    tree.child_elems_iter()
+        .filter(|element| is_named(element, name))
+        .last()
+}
+
+/// Whether it asks for a shared lock.
+fn asks_shared(tree: &Element) -> bool
+    ensures { result ≡ tree_asks_shared tree.now }
+{
+    match last_named(tree, "lockscope") {
+        Some(scope) => begins_with(scope, "shared"),
+        None => false,
+    }
+}
+
+/// Who the client says holds the lock.
+fn owner(alloc: Global, tree: &Element) -> Result<Option<Element>, AllocError>
+    ensures { IfOk result (λ owner. owner ≡ owner_in tree.now) }
+{
+    match last_named(tree, "owner") {
+        Some(owner) => Ok(Some(under_dav(alloc, owner)?)),
+        None => Ok(None),
+    }
+}
+
+/// The element under the prefix that replies declare.
+fn under_dav(alloc: Global, element: &Element) -> Result<Element, AllocError>
+    ensures { IfOk result (λ copy. copy ≡ tree_under_dav element.now) }
+{
+    let mut copy = element.clone()?;
+    copy.prefix = Some(String::from_str(alloc, "D")?);
+    Ok(copy)
+}

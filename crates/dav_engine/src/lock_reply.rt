@@ -1,0 +1,120 @@
+//! The replies to LOCK and UNLOCK.
+ghost use Rattle.std.specs.Prelude.{◌≡◌, if◌then◌else◌, is_some, ◌++◌, [], ◌∷◌, codes, IfOk, OnOk, IfErr};
+ghost use Rattle.http_header.specs.FieldValue.{plain_value};
+ghost use Rattle.dav_resource.specs.LockToken.{coded};
+ghost use Rattle.dav_resource.specs.declared.error.DavError.TheVariants.{Memory};
+ghost use Rattle.dav_parts.specs.Multistatus.{xml_type};
+ghost use Rattle.dav_parts.specs.Reply.{reply_of};
+ghost use Rattle.dav_parts.specs.ReplyHeader.{HasRoomFor};
+ghost use Rattle.dav_engine.specs.LockReply.{fixed_location as location_of_fixed, location_fields, lock_reply as reply_of_lock, granted_reply as reply_of_granted, refreshed_reply as reply_of_refreshed, unlocked_reply as reply_of_unlocked};
+
+use crate::inner::{fixed_path, is_directory};
+use dav_parts::{add_header, build_lock_prop, header_value, xml_headers};
+use dav_resource::{Body, DavPath, DavRequest, DavResult, Meta};
+use dav_store::DavLock;
+use http::{Response, StatusCode};
+use http_header::{CONTENT_LOCATION, HeaderMap, HeaderName, HeaderValue};
+use std::alloc::Global;
+
+/// The reply to a LOCK that was granted (RFC 4918, section 9.10.1): 200 where something was found, else 201,
+/// with the token in `Lock-Token`. The only error is `Memory`, where memory is lacking.
+pub(crate) fn granted_reply(
+    alloc: Global,
+    request: &DavRequest,
+    found: &Option<Meta>,
+    lock: &DavLock,
+) -> DavResult<Response<Body>>
+    ensures ok { IfOk result (λ reply. reply_of reply ≡ reply_of_granted request.entry.now found.now lock.now) }
+    ensures err { IfErr result (λ e. e ≡ Memory) }
+{
+    let mut headers = xml_headers(alloc)?;
+    let token = header_value(request.token.coded()?)?;
+    add_header(&mut headers, HeaderName::from_static("lock-token"), Some(token))?;
+    add_location(&mut headers, &request.path, found)?;
+    lock_reply(alloc, granted_status(found), headers, lock)
+}
+
+/// 200 where something was found, else 201.
+fn granted_status(found: &Option<Meta>) -> StatusCode
+    ensures { result ≡ (if is_some found.now then 200 else 201) }
+{
+    match found {
+        Some(_) => StatusCode::OK,
+        None => StatusCode::CREATED,
+    }
+}
+
+/// The reply to a LOCK that was refreshed (RFC 4918, section 9.10.2). The only error is `Memory`, where memory
+/// is lacking.
+pub(crate) fn refreshed_reply(
+    alloc: Global,
+    path: &DavPath,
+    found: &Option<Meta>,
+    lock: &DavLock,
+) -> DavResult<Response<Body>>
+    ensures ok { IfOk result (λ reply. reply_of reply ≡ reply_of_refreshed path.now found.now lock.now) }
+    ensures err { IfErr result (λ e. e ≡ Memory) }
+{
+    let mut headers = xml_headers(alloc)?;
+    add_location(&mut headers, path, found)?;
+    lock_reply(alloc, StatusCode::OK, headers, lock)
+}
+
+/// The reply to an UNLOCK (RFC 4918, section 9.11). The only error is `Memory`, where memory is lacking.
+pub(crate) fn unlocked_reply(
+    alloc: Global,
+    path: &DavPath,
+    found: &Option<Meta>,
+) -> DavResult<Response<Body>>
+    ensures ok { IfOk result (λ reply. reply_of reply ≡ reply_of_unlocked path.now found.now) }
+    ensures err { IfErr result (λ e. e ≡ Memory) }
+{
+    let mut headers = HeaderMap::new(alloc);
+    add_location(&mut headers, path, found)?;
+    let mut reply = Response::new(alloc, Body::Empty);
+    *reply.status_mut() = StatusCode::NO_CONTENT;
+    *reply.headers_mut() = headers;
+    Ok(reply)
+}
+
+/// A reply of this status and with these header fields, that tells the lock in full.
+fn lock_reply(
+    alloc: Global,
+    status: StatusCode,
+    headers: HeaderMap<HeaderValue>,
+    lock: &DavLock,
+) -> DavResult<Response<Body>>
+    ensures ok { IfOk result (λ reply. reply_of reply ≡ record (reply_of_lock status [] lock.now) { headers = headers }) }
+    ensures err { IfErr result (λ e. e ≡ Memory) }
+{
+    let tree = build_lock_prop(alloc, lock, true)?;
+    let mut reply = Response::new(alloc, Body::Tree(tree));
+    *reply.status_mut() = status;
+    *reply.headers_mut() = headers;
+    Ok(reply)
+}
+
+/// Adds where the resource is, if the path lacked a directory's slash. The only error is `Memory`.
+fn add_location(
+    headers: &mut HeaderMap<HeaderValue>,
+    path: &DavPath,
+    found: &Option<Meta>,
+) -> DavResult<()>
+    requires { HasRoomFor headers.old (codes "content-location") }
+    ensures ok { OnOk result (headers.new ≡ headers.old ++ location_fields path.now found.now) }
+    ensures err { IfErr result (λ e. e ≡ Memory) }
+{
+    add_header(headers, CONTENT_LOCATION, fixed_location(path, found)?)
+}
+
+/// A directory's path, with its slash and the prefix, where the request's path lacked the slash.
+fn fixed_location(path: &DavPath, found: &Option<Meta>) -> DavResult<Option<HeaderValue>>
+    ensures ok { IfOk result (λ value. value ≡ location_of_fixed path.now found.now) }
+    ensures err { IfErr result (λ e. e ≡ Memory) }
+{
+    if path.is_collection() || !is_directory(found.as_ref()) {
+        return Ok(None);
+    }
+    let fixed = fixed_path(path, found.as_ref())?;
+    Ok(Some(header_value(fixed.with_prefix()?.as_url_string()?)?))
+}

@@ -1,0 +1,84 @@
+//! UNLOCK (RFC 4918, section 9.11).
+ghost use Rattle.std.specs.Prelude.{◌≡◌, true, IfOk, IfErr, OnOk, Some, None, is_some};
+ghost use Rattle.dav_resource.specs.declared.error.DavError.TheVariants.{Status};
+ghost use Rattle.dav_resource.specs.declared.method.DavMethod.TheVariants.{Unlock};
+ghost use Rattle.dav_headers.specs.LockToken.{lock_token_of};
+ghost use Rattle.dav_parts.specs.Dialogue.{Judges};
+ghost use Rattle.dav_parts.specs.Reply.{answer_of};
+ghost use Rattle.dav_engine.specs.DavInner.{lent, lent_locks, loans, settings, seen_by};
+ghost use Rattle.dav_engine.specs.Rules.{found_in};
+ghost use Rattle.dav_engine.specs.State.{state_of};
+ghost use Rattle.dav_engine.specs.Step.{Serves, Works};
+ghost use Rattle.dav_engine.specs.Unlocking.{unlock_rules};
+
+use crate::DavInner;
+use crate::lock_reply::unlocked_reply;
+use dav_headers::read_lock_token;
+use dav_resource::{Body, DavError, DavRequest, DavResult, Meta};
+use dav_store::{DavLockSystem, GuardedFileSystem};
+use http::{Response, StatusCode};
+use http_header::{HeaderMap, HeaderValue};
+
+impl<'a, C: Drop, F: GuardedFileSystem<C>, L: DavLockSystem> DavInner<'a, C, F, L> {
+    /// Removes the lock that Lock-Token names, which stands at the path or above it, and answers 204. No
+    /// condition, principal or Depth is looked at. It serves a request of any method as UNLOCK.
+    ///
+    /// Errors: 405 without a lock system, 400 without a Lock-Token that can be read, 409 where there is no such
+    /// lock (or a lock system that isn't dependable doesn't let it go); `Memory`. After each of them nothing
+    /// has changed.
+    pub fn handle_unlock(&mut self, request: &DavRequest) -> DavResult<Response<Body>>
+        ensures same_loans { loans self.new ≡ loans self.old }
+        ensures same_settings { settings self.new ≡ settings self.old }
+        ensures step { Serves (Some Unlock) (seen_by F.seen L.seen self.old) request.entry.now (answer_of result) (seen_by F.seen L.seen self.new) }
+    {
+        let (found, token) = self.judge_unlock(request)?;
+        self.unlock(request, found, token)
+    }
+
+    /// The rules: whether there is a lock system, the token, and a look at the path. What was found passes,
+    /// with the token.
+    fn judge_unlock<'r>(&mut self, request: &'r DavRequest) -> DavResult<(Option<Meta>, &'r str)>
+        ensures same_loans { loans self.new ≡ loans self.old }
+        ensures same_settings { settings self.new ≡ settings self.old }
+        ensures same_locks { lent_locks self.new ≡ lent_locks self.old }
+        ensures locks { OnOk result (is_some (lent_locks self.old) ≡ true) }
+        ensures token { IfOk result (λ passed. lock_token_of request.entry.now.headers ≡ Some passed.1.now) }
+        ensures rules { Judges (unlock_rules request.entry.now (state_of (seen_by F.seen L.seen self.old))) (F.seen (lent self.old)) (found_in result) (F.seen (lent self.new)) }
+    {
+        self.judge_locks()?;
+        let token = named_token(&request.headers)?;
+        Ok((self.look(&request.path)?, token))
+    }
+
+    /// The work. The reply is made first, so that memory can't be lacking once the lock is gone.
+    fn unlock(
+        &mut self,
+        request: &DavRequest,
+        found: Option<Meta>,
+        token: &str,
+    ) -> DavResult<Response<Body>>
+        requires locks { is_some (lent_locks self.old) ≡ true }
+        requires token { lock_token_of request.now.headers ≡ Some token.now }
+        ensures same_loans { loans self.new ≡ loans self.old }
+        ensures same_settings { settings self.new ≡ settings self.old }
+        ensures work { Works (Some Unlock) request.entry.now found (seen_by F.seen L.seen self.old) (answer_of result) (seen_by F.seen L.seen self.new) }
+    {
+        let reply = unlocked_reply(*self.prefix.allocator(), &request.path, &found)?;
+        if self.remove_lock(&request.path, token) {
+            Ok(reply)
+        } else {
+            Err(DavError::Status(StatusCode::CONFLICT))
+        }
+    }
+}
+
+/// The token that Lock-Token names: without one it is a bad request, 400.
+fn named_token(headers: &HeaderMap<HeaderValue>) -> DavResult<&str>
+    ensures ok { IfOk result (λ token. lock_token_of headers.now ≡ Some token.now) }
+    ensures err { IfErr result (λ e. (e ≡ Status 400) × (lock_token_of headers.now ≡ None)) }
+{
+    match read_lock_token(headers)? {
+        Some(token) => Ok(token),
+        None => Err(DavError::Status(StatusCode::BAD_REQUEST)),
+    }
+}
