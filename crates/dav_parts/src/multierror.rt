@@ -94,6 +94,3 @@ pub fn multi_error(
         _ => multistatus_reply(alloc, listed),
     }
 }
-
-#[cfg(test)]
-mod tests;

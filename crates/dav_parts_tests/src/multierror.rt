@@ -1,5 +1,8 @@
-use super::*;
-use dav_resource::{Element, FsError};
+//! The reply on several resources.
+use dav_parts::{MultiError, multi_error};
+use dav_resource::{Body, DavError, DavPath, DavResult, Element, FsError};
+use http::{Response, StatusCode};
+use std::alloc::Global;
 use std::test::Fail;
 
 /// What a request on this path is answered, where these are the statuses. All paths stand below the prefix.
