@@ -3,6 +3,7 @@ use crate::outline::outline;
 use crate::quote::push_quoted_bytes;
 use crate::script::Block;
 use crate::trouble::Stopped;
+use dav_parts::timeout_text;
 use dav_resource::{Body, DavProp, DavResult};
 use dav_store::{DavLock, MemFs, MemLs};
 use http::{Response, StatusCode};
@@ -91,17 +92,8 @@ fn print_locks<O: Write>(alloc: Global, output: &mut O, locks: &MemLs) -> Result
         let scope = if lock.shared { "shared" } else { "exclusive" };
         let depth = if lock.deep { "infinity" } else { "0" };
         let path = lock.path.as_url_string()?;
-        write!(output, "{token} {scope} {depth} {path} ")?;
-        print_timeout(output, lock.timeout)?;
-    }
-    Ok(())
-}
-
-/// Prints a timeout as a lock's tree shows it, and ends the line.
-fn print_timeout<O: Write>(output: &mut O, timeout: Option<u64>) -> Result<(), Stopped> {
-    match timeout {
-        Some(seconds) => writeln!(output, "Second-{seconds}")?,
-        None => writeln!(output, "Infinite")?,
+        let timeout = timeout_text(alloc, lock.timeout)?;
+        writeln!(output, "{token} {scope} {depth} {path} {timeout}")?;
     }
     Ok(())
 }
