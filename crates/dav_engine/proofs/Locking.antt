@@ -223,13 +223,16 @@ module _ (request : DavRequest) (found : Option Meta) (info : LockInfo) (asked :
             locks = taken;
           });
         })
-        by_end (inr cut) = inr (cut.0, record {
-          info = info;
-          asked = asked;
-          none = cut.1.none;
-          same = ap (λ (s : Store). s.contents) store ∙ cut.1.same ∙ ap (λ (s : Store). s.contents) added.store;
-          locks = taken;
-        })
+        by_end (inr cut) = inr (
+          cut.0,
+          record {
+            info = info;
+            asked = asked;
+            none = cut.1.none;
+            same = ap (λ (s : Store). s.contents) store ∙ cut.1.same ∙ ap (λ (s : Store). s.contents) added.store;
+            locks = taken;
+          },
+        )
 
     -- the lock system is told to remove it
     pub locks_removed : (e : DavError) (new : Seen) (removed : Bool) → Tells request found lock mid.store (Err e) far.store → (removed ≡ true → ChangesLocks (RemovesLock lock.path.key lock.token) far new) → (removed ≡ false → KeepsLocks (KeepsNamed lock.path.key lock.token) far new)

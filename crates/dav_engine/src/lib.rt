@@ -20,7 +20,8 @@ mod unlock;
 pub use dav_headers::{
     ContentRange, IfCondition, IfItem, IfList, UpdateRange, read_checksum, read_content_length,
     read_content_range, read_content_type, read_depth, read_expected_entity_length, read_if,
-    read_if_match, read_if_none_match, read_lock_token, read_place, read_tagged_path, read_update_range,
+    read_if_match, read_if_none_match, read_lock_token, read_place, read_tagged_path,
+    read_update_range,
 };
 pub use dav_parts::{
     MultiError, build_lock_prop, dav_if_match, etaglist_match, http_if_match, if_match,
@@ -28,8 +29,8 @@ pub use dav_parts::{
 };
 pub use dav_resource::{
     Body, ChildElements, DavError, DavFile, DavMethod, DavMethodSet, DavPath, DavProp, DavRequest,
-    DavResult, Depth, DirEntry, ETag, ETagList, Element, FsError, FsResult, IfRange, Items, LockToken, Meta,
-    Op, OpenOptions, Outcome, Record, ReqBody, Text, XMLNode,
+    DavResult, Depth, DirEntry, ETag, ETagList, Element, FsError, FsResult, IfRange, Items,
+    LockToken, Meta, Op, OpenOptions, Outcome, Record, ReqBody, Text, XMLNode,
 };
 pub use dav_store::{
     DavLock, DavLockSystem, GuardedFileSystem, LockError, MemFs, MemLs, Refusal, Refusing,

@@ -210,13 +210,7 @@ pub fn get_timeout(req: &DavRequest, refresh: bool, shared: bool) -> Option<u64>
 {
     let greatest = greatest_timeout(shared);
     match read_timeout(&req.headers) {
-        Ok(Some(DavTimeout::Infinite)) => {
-            if refresh {
-                None
-            } else {
-                Some(greatest)
-            }
-        }
+        Ok(Some(DavTimeout::Infinite)) => { if refresh { None } else { Some(greatest) } }
         Ok(Some(DavTimeout::Seconds(seconds))) => Some((seconds as u64).min(greatest)),
         _ => None,
     }

@@ -29,7 +29,11 @@ pub(crate) fn granted_reply(
 {
     let mut headers = xml_headers(alloc)?;
     let token = header_value(request.token.coded()?)?;
-    add_header(&mut headers, HeaderName::from_static("lock-token"), Some(token))?;
+    add_header(
+        &mut headers,
+        HeaderName::from_static("lock-token"),
+        Some(token),
+    )?;
     add_location(&mut headers, &request.path, found)?;
     lock_reply(alloc, granted_status(found), headers, lock)
 }
