@@ -29,6 +29,3 @@ pub use place::{read_place, read_tagged_path};
 pub use range::{ContentRange, UpdateRange, read_content_range, read_update_range};
 pub use tag_list::{read_if_match, read_if_none_match};
 pub use timeout::{DavTimeout, read_timeout};
-
-#[cfg(test)]
-mod tests;

@@ -1,9 +1,6 @@
 -- What is read is a key.
 use Rattle.std.proofs.Common.{◌≡◌, ◌<◌, arith, ℕ, zero, suc, Bool, true, false, not, List, [], ◌∷◌, ◌++◌, take, drop, length, refl, subst, Ok, Err, if◌then◌else◌, ◌==◌, ◌-◌}
 use Rattle.dav_resource.specs.Key.{Key}
-use Rattle.std.specs.Str.{IsAscii, is_utf8}
-use Rattle.std.proofs.lemmas.Str.{is_utf8-from_IsUtf8, IsUtf8-from_ascii}
-use Rattle.std.proofs.lemmas.List.Elements.{All-nil, All-cons}
 use Rattle.dav_resource.specs.declared.error.DavError.TheVariants.{ForbiddenPath}
 use Rattle.dav_resource.specs.PathText.{IsKey, IsSegment, IsSegmentText, is_dropped, is_parent, enter}
 
@@ -37,14 +34,3 @@ step key s new false true false d p is text e =
 
 pub IsKey-enter : (key : Key) (s : List ℕ) (new : Key) → IsKey key → IsSegmentText s → enter key s ≡ Ok new → IsKey new
 IsKey-enter key s new is text e = step key s new (is_dropped s) (is_parent s) (length key == 0) refl refl is text e
-
-ascii_b : IsAscii (98 ∷ [])
-ascii_b zero = omega arith
-ascii_b (suc i) = omega arith
-
--- the text `b`, which a test uses, is a segment
-pub segment_b : IsSegment (98 ∷ [])
-segment_b =
-    let text : is_utf8 (98 ∷ []) ≡ true = is_utf8-from_IsUtf8 (98 ∷ []) (IsUtf8-from_ascii (98 ∷ []) ascii_b) in
-    let bytes = All-cons (λ b. b < 256) 98 [] (omega arith) (All-nil (λ b. b < 256)) in
-    record { written = record { text = rw text refl; bytes = bytes }; kept = refl; child = refl }

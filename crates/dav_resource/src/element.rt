@@ -283,6 +283,3 @@ fn append_text(alloc: Global, joined: Option<String>, text: &str) -> Result<Stri
     whole.push_str(text)?;
     Ok(whole)
 }
-
-#[cfg(test)]
-mod tests;

@@ -223,6 +223,3 @@ impl From<HeaderValueError> for DavError {
         }
     }
 }
-
-#[cfg(test)]
-mod tests;

@@ -61,6 +61,3 @@ pub struct IfRange {
     /// The one tag.
     pub tag: ETag,
 }
-
-#[cfg(test)]
-mod tests;

@@ -24,6 +24,3 @@ pub use property::DavProp;
 pub use record::{Op, Outcome, Record};
 pub use request::{Body, DavRequest, Depth, ReqBody};
 pub use text::{Items, Text};
-
-#[cfg(test)]
-mod tests;

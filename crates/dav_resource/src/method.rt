@@ -94,6 +94,3 @@ impl DavMethodSet {
         self.members[method as usize]
     }
 }
-
-#[cfg(test)]
-mod tests;

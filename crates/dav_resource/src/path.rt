@@ -258,6 +258,3 @@ impl DavPath {
         mime::mime_type_of(self.file_name_bytes())
     }
 }
-
-#[cfg(test)]
-mod tests;

@@ -1,6 +1,6 @@
 //! Tests of the header Timeout.
-use super::header_of;
-use crate::{DavTimeout, read_timeout};
+use crate::fixture::header_of;
+use dav_headers::{DavTimeout, read_timeout};
 use std::alloc::Global;
 use std::test::Fail;
 

@@ -1,6 +1,6 @@
 //! Tests of the headers X-Update-Range and Content-Range.
-use super::header_of;
-use crate::{ContentRange, UpdateRange, read_content_range, read_update_range};
+use crate::fixture::header_of;
+use dav_headers::{ContentRange, UpdateRange, read_content_range, read_update_range};
 use std::alloc::Global;
 use std::test::Fail;
 
@@ -224,13 +224,27 @@ fn the_first_content_range_counts(rt: HostRuntime) -> Result<(), Fail> {
     Ok(())
 }
 
+/// What the two headers say where one of them has this value.
+fn show_both(alloc: Global, name: &str, value: &str) -> Result<String, Fail> {
+    let headers = header_of(alloc, name, &[value])?;
+    let update = read_update_range(&headers)?;
+    let content = match read_content_range(&headers) {
+        Ok(Some(_)) => "there",
+        Ok(None) => "absent",
+        Err(_) => "unreadable",
+    };
+    Ok(format!(in alloc; "{update:?} {content}")?)
+}
+
 #[test]
 fn each_range_by_its_name(rt: HostRuntime) -> Result<(), Fail> {
-    let headers = header_of(rt.alloc(), "Content-Range", &["x"])?;
-    assert!(rt; read_content_range(&headers).is_err());
-    assert_eq!(rt; read_update_range(&headers)?, None);
-    let headers = header_of(rt.alloc(), "X-Update-Range", &["append"])?;
-    assert!(rt; read_update_range(&headers)?.is_some());
-    assert_eq!(rt; read_content_range(&headers)?, None);
+    let rows = [
+        ("Content-Range", "x", "None unreadable"),
+        ("X-Update-Range", "append", "Some(Append) absent"),
+    ];
+    for (name, value, want) in rows {
+        let shown = show_both(rt.alloc(), name, value)?;
+        assert_eq!(rt; shown.as_str(), want, "{name}");
+    }
     Ok(())
 }

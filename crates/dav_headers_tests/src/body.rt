@@ -1,9 +1,18 @@
 //! Tests of the headers that say something of the body.
-use super::header_of;
-use crate::{
+use crate::fixture::{header_of, owned};
+use dav_headers::{
     read_checksum, read_content_length, read_content_type, read_expected_entity_length, read_number,
 };
+use std::alloc::Global;
 use std::test::Fail;
+
+/// What Content-Length and X-Expected-Entity-Length say where their values are these.
+fn lengths_of(alloc: Global, values: &[&str]) -> Result<[Option<u64>; 2], Fail> {
+    let headers = header_of(alloc, "content-length", values)?;
+    let length = read_content_length(&headers)?;
+    let headers = header_of(alloc, "x-expected-entity-length", values)?;
+    Ok([length, read_expected_entity_length(&headers)?])
+}
 
 #[test]
 fn numbers(rt: HostRuntime) -> Result<(), Fail> {
@@ -33,10 +42,8 @@ fn numbers(rt: HostRuntime) -> Result<(), Fail> {
         ("2\u{e9}", None),
     ];
     for (value, want) in rows {
-        let headers = header_of(rt.alloc(), "content-length", &[value])?;
-        assert_eq!(rt; read_content_length(&headers)?, want, "{value}");
-        let headers = header_of(rt.alloc(), "x-expected-entity-length", &[value])?;
-        assert_eq!(rt; read_expected_entity_length(&headers)?, want, "{value}");
+        let lengths = lengths_of(rt.alloc(), &[value])?;
+        assert_eq!(rt; lengths, [want, want], "{value}");
     }
     Ok(())
 }
@@ -65,12 +72,17 @@ fn the_first_number_counts(rt: HostRuntime) -> Result<(), Fail> {
         (&["\u{e9}", "2"], None),
     ];
     for (values, want) in rows {
-        let headers = header_of(rt.alloc(), "content-length", values)?;
-        assert_eq!(rt; read_content_length(&headers)?, want);
-        let headers = header_of(rt.alloc(), "x-expected-entity-length", values)?;
-        assert_eq!(rt; read_expected_entity_length(&headers)?, want);
+        assert_eq!(rt; lengths_of(rt.alloc(), values)?, [want, want]);
     }
     Ok(())
+}
+
+/// What Content-Type and OC-Checksum say where their values are these.
+fn texts_of(alloc: Global, values: &[&str]) -> Result<[Option<String>; 2], Fail> {
+    let headers = header_of(alloc, "content-type", values)?;
+    let content_type = owned(alloc, read_content_type(&headers)?)?;
+    let headers = header_of(alloc, "oc-checksum", values)?;
+    Ok([content_type, owned(alloc, read_checksum(&headers)?)?])
 }
 
 #[test]
@@ -89,20 +101,26 @@ fn texts(rt: HostRuntime) -> Result<(), Fail> {
         (&["a\u{e9}", "b"], None),
     ];
     for (values, want) in rows {
-        let headers = header_of(rt.alloc(), "content-type", values)?;
-        assert_eq!(rt; read_content_type(&headers)?, want);
-        let headers = header_of(rt.alloc(), "oc-checksum", values)?;
-        assert_eq!(rt; read_checksum(&headers)?, want);
+        for text in texts_of(rt.alloc(), values)? {
+            assert_eq!(rt; text.as_deref(), want);
+        }
     }
     Ok(())
 }
 
+/// What each of the four headers says where one of them has this value.
+fn show_each(alloc: Global, name: &str, value: &str) -> Result<String, Fail> {
+    let headers = header_of(alloc, name, &[value])?;
+    let length = read_content_length(&headers)?;
+    let expected = read_expected_entity_length(&headers)?;
+    let content_type = read_content_type(&headers)?;
+    let checksum = read_checksum(&headers)?;
+    Ok(format!(in alloc; "{length:?} {expected:?} {content_type:?} {checksum:?}")?)
+}
+
 #[test]
 fn each_length_by_its_name(rt: HostRuntime) -> Result<(), Fail> {
-    let headers = header_of(rt.alloc(), "Content-Length", &["2"])?;
-    assert_eq!(rt; read_content_length(&headers)?, Some(2));
-    assert_eq!(rt; read_expected_entity_length(&headers)?, None);
-    assert_eq!(rt; read_content_type(&headers)?, None);
-    assert_eq!(rt; read_checksum(&headers)?, None);
+    let shown = show_each(rt.alloc(), "Content-Length", "2")?;
+    assert_eq!(rt; shown.as_str(), "Some(2) None None None");
     Ok(())
 }
