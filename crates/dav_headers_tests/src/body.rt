@@ -4,6 +4,7 @@ use dav_headers::{
     read_checksum, read_content_length, read_content_type, read_expected_entity_length, read_number,
 };
 use std::alloc::Global;
+use std::process::Abort;
 use std::test::Fail;
 
 /// What Content-Length and X-Expected-Entity-Length say where their values are these.
@@ -14,9 +15,22 @@ fn lengths_of(alloc: Global, values: &[&str]) -> Result<[Option<u64>; 2], Fail> 
     Ok([length, read_expected_entity_length(&headers)?])
 }
 
+/// Asserts that each value of a length stands for what is beside it.
+fn expect_lengths(
+    rt: &impl Abort,
+    alloc: Global,
+    rows: &[(&str, Option<u64>)],
+) -> Result<(), Fail> {
+    for (value, want) in rows {
+        let lengths = lengths_of(alloc, &[*value])?;
+        assert_eq!(rt; lengths, [*want, *want], "{value}");
+    }
+    Ok(())
+}
+
 #[test]
 fn numbers(rt: HostRuntime) -> Result<(), Fail> {
-    let rows = [
+    let rows = &[
         ("0", Some(0)),
         ("2", Some(2)),
         (" 2 ", Some(2)),
@@ -41,11 +55,12 @@ fn numbers(rt: HostRuntime) -> Result<(), Fail> {
         ("\u{b2}", None),
         ("2\u{e9}", None),
     ];
-    for (value, want) in rows {
-        let lengths = lengths_of(rt.alloc(), &[value])?;
-        assert_eq!(rt; lengths, [want, want], "{value}");
-    }
-    Ok(())
+    expect_lengths(&rt, rt.alloc(), rows)
+}
+
+/// The number that a text writes.
+fn number_of(text: &str) -> Option<u64> {
+    read_number(text)
 }
 
 #[test]
@@ -58,7 +73,7 @@ fn a_number_has_no_blanks(rt: HostRuntime) -> Result<(), Fail> {
         ("+2", None),
     ];
     for (text, want) in rows {
-        assert_eq!(rt; read_number(text), want, "{text}");
+        assert_eq!(rt; number_of(text), want, "{text}");
     }
     Ok(())
 }

@@ -2,6 +2,7 @@
 use crate::fixture::{header_of, show_tag};
 use dav_headers::{IfCondition, IfItem, IfList, read_if};
 use std::alloc::Global;
+use std::process::Abort;
 use std::test::Fail;
 
 /// A condition, where `!` stands for `Not`.
@@ -46,9 +47,18 @@ fn show_if(alloc: Global, values: &[&str]) -> Result<String, Fail> {
     Ok(text)
 }
 
+/// Asserts that each value of the header If says what is beside it.
+fn expect_shown(rt: &impl Abort, alloc: Global, rows: &[(&str, &str)]) -> Result<(), Fail> {
+    for (value, want) in rows {
+        let shown = show_if(alloc, &[*value])?;
+        assert_eq!(rt; shown.as_str(), *want, "{value}");
+    }
+    Ok(())
+}
+
 #[test]
 fn lists_of_conditions(rt: HostRuntime) -> Result<(), Fail> {
-    let rows = [
+    let rows = &[
         ("(<a>)", " -(<a>)"),
         ("(<a>)(<b> <c>)", " -(<a>) -(<b><c>)"),
         (" </x> (<a>) (<b>)\t</y>(<c>) ", " /x(<a>) /x(<b>) /y(<c>)"),
@@ -68,16 +78,21 @@ fn lists_of_conditions(rt: HostRuntime) -> Result<(), Fail> {
         ),
         ("(a~!,\"b)", " -(<a~!,\"b>)"),
     ];
-    for (value, want) in rows {
-        let shown = show_if(rt.alloc(), &[value])?;
-        assert_eq!(rt; shown.as_str(), want, "{value}");
+    expect_shown(&rt, rt.alloc(), rows)
+}
+
+/// Asserts that each value of the header If counts as absent.
+fn expect_absent(rt: &impl Abort, alloc: Global, rows: &[&str]) -> Result<(), Fail> {
+    for value in rows {
+        let shown = show_if(alloc, &[*value])?;
+        assert_eq!(rt; shown.as_str(), "absent", "{value}");
     }
     Ok(())
 }
 
 #[test]
 fn unreadable_conditions(rt: HostRuntime) -> Result<(), Fail> {
-    let rows = [
+    let rows = &[
         "",
         "  ",
         "<a>",
@@ -111,18 +126,19 @@ fn unreadable_conditions(rt: HostRuntime) -> Result<(), Fail> {
         "(<\u{e9}>)",
         "(\u{e9})",
     ];
-    for value in rows {
-        let shown = show_if(rt.alloc(), &[value])?;
-        assert_eq!(rt; shown.as_str(), "absent", "{value}");
-    }
-    Ok(())
+    expect_absent(&rt, rt.alloc(), rows)
 }
 
 #[test]
 fn first_value_of_if(rt: HostRuntime) -> Result<(), Fail> {
-    let alloc = rt.alloc();
-    assert_eq!(rt; show_if(alloc, &["(<a>)", "(<b>)"])?.as_str(), " -(<a>)");
-    assert_eq!(rt; show_if(alloc, &["x", "(<b>)"])?.as_str(), "absent");
-    assert_eq!(rt; show_if(alloc, &[])?.as_str(), "absent");
+    let rows: [(&[&str], &str); 3] = [
+        (&["(<a>)", "(<b>)"], " -(<a>)"),
+        (&["x", "(<b>)"], "absent"),
+        (&[], "absent"),
+    ];
+    for (values, want) in rows {
+        let shown = show_if(rt.alloc(), values)?;
+        assert_eq!(rt; shown.as_str(), want);
+    }
     Ok(())
 }

@@ -3,6 +3,7 @@ use crate::fixture::header_of;
 use dav_headers::read_depth;
 use dav_resource::Depth;
 use std::alloc::Global;
+use std::process::Abort;
 use std::test::Fail;
 
 /// What the header Depth of these values says.
@@ -11,9 +12,22 @@ fn depth_of(alloc: Global, values: &[&str]) -> Result<Option<Depth>, Fail> {
     Ok(read_depth(&headers)?)
 }
 
+/// Asserts that each value of the header Depth says what is beside it.
+fn expect_depths(
+    rt: &impl Abort,
+    alloc: Global,
+    rows: &[(&str, Option<Depth>)],
+) -> Result<(), Fail> {
+    for (value, want) in rows {
+        let depth = depth_of(alloc, &[*value])?;
+        assert_eq!(rt; depth, *want, "{value}");
+    }
+    Ok(())
+}
+
 #[test]
 fn depths(rt: HostRuntime) -> Result<(), Fail> {
-    let rows = [
+    let rows = &[
         ("0", Some(Depth::Zero)),
         ("1", Some(Depth::One)),
         ("infinity", Some(Depth::Infinity)),
@@ -27,11 +41,7 @@ fn depths(rt: HostRuntime) -> Result<(), Fail> {
         ("0,1", None),
         ("0\u{e9}", None),
     ];
-    for (value, want) in rows {
-        let depth = depth_of(rt.alloc(), &[value])?;
-        assert_eq!(rt; depth, want, "{value}");
-    }
-    Ok(())
+    expect_depths(&rt, rt.alloc(), rows)
 }
 
 #[test]

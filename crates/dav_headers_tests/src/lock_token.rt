@@ -2,6 +2,7 @@
 use crate::fixture::{header_of, owned};
 use dav_headers::read_lock_token;
 use std::alloc::Global;
+use std::process::Abort;
 use std::test::Fail;
 
 /// What the header Lock-Token of these values says.
@@ -10,9 +11,18 @@ fn lock_token_of(alloc: Global, values: &[&str]) -> Result<Option<String>, Fail>
     owned(alloc, read_lock_token(&headers)?)
 }
 
+/// Asserts that each value of the header Lock-Token says what is beside it.
+fn expect_tokens(rt: &impl Abort, alloc: Global, rows: &[(&str, &str)]) -> Result<(), Fail> {
+    for (value, want) in rows {
+        let token = lock_token_of(alloc, &[*value])?;
+        assert_eq!(rt; token.as_deref(), Some(*want), "{value}");
+    }
+    Ok(())
+}
+
 #[test]
 fn lock_tokens(rt: HostRuntime) -> Result<(), Fail> {
-    let rows = [
+    let rows = &[
         (
             "<urn:uuid:a515cfa4-5da4-22e1-f5b5-00a0451e6bf7>",
             "urn:uuid:a515cfa4-5da4-22e1-f5b5-00a0451e6bf7",
@@ -33,11 +43,7 @@ fn lock_tokens(rt: HostRuntime) -> Result<(), Fail> {
         ("", ""),
         (" ", ""),
     ];
-    for (value, want) in rows {
-        let token = lock_token_of(rt.alloc(), &[value])?;
-        assert_eq!(rt; token.as_deref(), Some(want), "{value}");
-    }
-    Ok(())
+    expect_tokens(&rt, rt.alloc(), rows)
 }
 
 #[test]

@@ -2,6 +2,7 @@
 use dav_headers::{read_place, read_tagged_path};
 use dav_resource::DavPath;
 use std::alloc::Global;
+use std::process::Abort;
 use std::test::Fail;
 
 /// The path of a place.
@@ -12,9 +13,18 @@ fn show_place(alloc: Global, text: &str) -> Result<String, Fail> {
     }
 }
 
+/// Asserts that each text names the place beside it.
+fn expect_places(rt: &impl Abort, alloc: Global, rows: &[(&str, &str)]) -> Result<(), Fail> {
+    for (text, want) in rows {
+        let shown = show_place(alloc, text)?;
+        assert_eq!(rt; shown.as_str(), *want, "{text}");
+    }
+    Ok(())
+}
+
 #[test]
 fn places(rt: HostRuntime) -> Result<(), Fail> {
-    let rows = [
+    let rows = &[
         ("/a/../%zz?x", "/a/../%zz?x"),
         ("//h/x", "//h/x"),
         ("http://h/a/../b", "/b"),
@@ -26,11 +36,7 @@ fn places(rt: HostRuntime) -> Result<(), Fail> {
         ("x", "none"),
         ("", "none"),
     ];
-    for (text, want) in rows {
-        let shown = show_place(rt.alloc(), text)?;
-        assert_eq!(rt; shown.as_str(), want, "{text}");
-    }
-    Ok(())
+    expect_places(&rt, rt.alloc(), rows)
 }
 
 /// The path of a resource tag below the prefix `/dav`.
@@ -42,9 +48,18 @@ fn show_tagged(alloc: Global, tag: &str) -> Result<String, Fail> {
     }
 }
 
+/// Asserts that each tag names the path beside it.
+fn expect_tagged(rt: &impl Abort, alloc: Global, rows: &[(&str, &str)]) -> Result<(), Fail> {
+    for (tag, want) in rows {
+        let shown = show_tagged(alloc, tag)?;
+        assert_eq!(rt; shown.as_str(), *want, "{tag}");
+    }
+    Ok(())
+}
+
 #[test]
 fn tagged_paths(rt: HostRuntime) -> Result<(), Fail> {
-    let rows = [
+    let rows = &[
         ("/dav/x/", "/x/"),
         ("http://h/dav/a/../b", "/b"),
         ("/dav", "/"),
@@ -55,9 +70,5 @@ fn tagged_paths(rt: HostRuntime) -> Result<(), Fail> {
         ("ftp://h/dav/x", "none"),
         ("*", "none"),
     ];
-    for (tag, want) in rows {
-        let shown = show_tagged(rt.alloc(), tag)?;
-        assert_eq!(rt; shown.as_str(), want, "{tag}");
-    }
-    Ok(())
+    expect_tagged(&rt, rt.alloc(), rows)
 }

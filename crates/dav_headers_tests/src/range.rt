@@ -2,6 +2,7 @@
 use crate::fixture::header_of;
 use dav_headers::{ContentRange, UpdateRange, read_content_range, read_update_range};
 use std::alloc::Global;
+use std::process::Abort;
 use std::test::Fail;
 
 /// What the header X-Update-Range of these values says.
@@ -10,9 +11,22 @@ fn update_range_of(alloc: Global, values: &[&str]) -> Result<Option<UpdateRange>
     Ok(read_update_range(&headers)?)
 }
 
+/// Asserts that each value of the header X-Update-Range says what is beside it.
+fn expect_updates(
+    rt: &impl Abort,
+    alloc: Global,
+    rows: &[(&str, UpdateRange)],
+) -> Result<(), Fail> {
+    for (value, want) in rows {
+        let range = update_range_of(alloc, &[*value])?;
+        assert_eq!(rt; range, Some(*want), "{value}");
+    }
+    Ok(())
+}
+
 #[test]
 fn update_ranges(rt: HostRuntime) -> Result<(), Fail> {
-    let rows = [
+    let rows = &[
         ("append", UpdateRange::Append),
         ("\t append ", UpdateRange::Append),
         ("bytes=1-2", UpdateRange::FromTo(1, 2)),
@@ -37,19 +51,21 @@ fn update_ranges(rt: HostRuntime) -> Result<(), Fail> {
             UpdateRange::Last(18446744073709551615),
         ),
     ];
-    for (value, want) in rows {
-        assert_eq!(rt;
-            update_range_of(rt.alloc(), &[value])?,
-            Some(want),
-            "{value}"
-        );
+    expect_updates(&rt, rt.alloc(), rows)
+}
+
+/// Asserts that each value of the header X-Update-Range counts as absent.
+fn expect_no_update(rt: &impl Abort, alloc: Global, rows: &[&str]) -> Result<(), Fail> {
+    for value in rows {
+        let range = update_range_of(alloc, &[*value])?;
+        assert_eq!(rt; range, None, "{value}");
     }
     Ok(())
 }
 
 #[test]
 fn unreadable_update_ranges(rt: HostRuntime) -> Result<(), Fail> {
-    let rows = [
+    let rows = &[
         "",
         "Append",
         "append,",
@@ -89,10 +105,7 @@ fn unreadable_update_ranges(rt: HostRuntime) -> Result<(), Fail> {
         "bytes=18446744073709551616-",
         "bytes=-18446744073709551616",
     ];
-    for value in rows {
-        assert_eq!(rt; update_range_of(rt.alloc(), &[value])?, None, "{value}");
-    }
-    Ok(())
+    expect_no_update(&rt, rt.alloc(), rows)
 }
 
 #[test]
@@ -127,9 +140,18 @@ fn show_content_range(alloc: Global, values: &[&str]) -> Result<String, Fail> {
     }
 }
 
+/// Asserts that each value of the header Content-Range says what is beside it.
+fn expect_content(rt: &impl Abort, alloc: Global, rows: &[(&str, &str)]) -> Result<(), Fail> {
+    for (value, want) in rows {
+        let shown = show_content_range(alloc, &[*value])?;
+        assert_eq!(rt; shown.as_str(), *want, "{value}");
+    }
+    Ok(())
+}
+
 #[test]
 fn content_ranges(rt: HostRuntime) -> Result<(), Fail> {
-    let rows = [
+    let rows = &[
         ("bytes 1-2/5", "1 to 2"),
         ("\t bytes 1-2/5 ", "1 to 2"),
         ("bytes 0-0/*", "0 to 0"),
@@ -143,16 +165,21 @@ fn content_ranges(rt: HostRuntime) -> Result<(), Fail> {
         ("bytes */0", "none"),
         ("bytes */18446744073709551615", "none"),
     ];
-    for (value, want) in rows {
-        let shown = show_content_range(rt.alloc(), &[value])?;
-        assert_eq!(rt; shown.as_str(), want, "{value}");
+    expect_content(&rt, rt.alloc(), rows)
+}
+
+/// Asserts that each value of the header Content-Range is a bad request.
+fn expect_bad_requests(rt: &impl Abort, alloc: Global, rows: &[&str]) -> Result<(), Fail> {
+    for value in rows {
+        let shown = show_content_range(alloc, &[*value])?;
+        assert_eq!(rt; shown.as_str(), "400 closes", "{value}");
     }
     Ok(())
 }
 
 #[test]
 fn unreadable_content_ranges(rt: HostRuntime) -> Result<(), Fail> {
-    let rows = [
+    let rows = &[
         "",
         "x",
         "\u{e9}",
@@ -201,11 +228,7 @@ fn unreadable_content_ranges(rt: HostRuntime) -> Result<(), Fail> {
         "bytes 1-2/18446744073709551616",
         "bytes */18446744073709551616",
     ];
-    for value in rows {
-        let shown = show_content_range(rt.alloc(), &[value])?;
-        assert_eq!(rt; shown.as_str(), "400 closes", "{value}");
-    }
-    Ok(())
+    expect_bad_requests(&rt, rt.alloc(), rows)
 }
 
 #[test]

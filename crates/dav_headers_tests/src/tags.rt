@@ -3,6 +3,7 @@ use crate::fixture::{header_of, show_tag};
 use dav_headers::{read_if, read_if_match, read_if_none_match};
 use dav_resource::ETagList;
 use std::alloc::Global;
+use std::process::Abort;
 use std::test::Fail;
 
 /// What a list of tags says.
@@ -25,9 +26,18 @@ fn show_match(alloc: Global, value: &str) -> Result<String, Fail> {
     show_tags(alloc, read_if_match(alloc, &headers)?)
 }
 
+/// Asserts that each value of If-Match says what is beside it.
+fn expect_tags(rt: &impl Abort, alloc: Global, rows: &[(&str, &str)]) -> Result<(), Fail> {
+    for (value, want) in rows {
+        let shown = show_match(alloc, value)?;
+        assert_eq!(rt; shown.as_str(), *want, "{value}");
+    }
+    Ok(())
+}
+
 #[test]
 fn tags_of_one_value(rt: HostRuntime) -> Result<(), Fail> {
-    let rows = [
+    let rows = &[
         ("\"1\"", "\"1\""),
         (" W/\"1\"\t", "W/\"1\""),
         ("\"a,b\"", "\"a,b\""),
@@ -51,11 +61,7 @@ fn tags_of_one_value(rt: HostRuntime) -> Result<(), Fail> {
         ("W\"1\"", "absent"),
         ("\"\u{e9}\"", "absent"),
     ];
-    for (value, want) in rows {
-        let shown = show_match(rt.alloc(), value)?;
-        assert_eq!(rt; shown.as_str(), want, "{value}");
-    }
-    Ok(())
+    expect_tags(&rt, rt.alloc(), rows)
 }
 
 /// What If-None-Match says where its values are these.

@@ -2,6 +2,7 @@
 use crate::fixture::header_of;
 use dav_headers::{DavTimeout, read_timeout};
 use std::alloc::Global;
+use std::process::Abort;
 use std::test::Fail;
 
 /// What the header Timeout of these values says.
@@ -10,9 +11,22 @@ fn timeout_of(alloc: Global, values: &[&str]) -> Result<Option<DavTimeout>, Fail
     Ok(read_timeout(&headers)?)
 }
 
+/// Asserts that each value of the header Timeout says what is beside it.
+fn expect_timeouts(
+    rt: &impl Abort,
+    alloc: Global,
+    rows: &[(&str, DavTimeout)],
+) -> Result<(), Fail> {
+    for (value, want) in rows {
+        let timeout = timeout_of(alloc, &[*value])?;
+        assert_eq!(rt; timeout, Some(*want), "{value}");
+    }
+    Ok(())
+}
+
 #[test]
 fn timeouts(rt: HostRuntime) -> Result<(), Fail> {
-    let rows = [
+    let rows = &[
         ("Infinite", DavTimeout::Infinite),
         ("infinite", DavTimeout::Infinite),
         ("INFINITE", DavTimeout::Infinite),
@@ -26,16 +40,21 @@ fn timeouts(rt: HostRuntime) -> Result<(), Fail> {
         ("Second-007", DavTimeout::Seconds(7)),
         ("Second-4294967295", DavTimeout::Seconds(4294967295)),
     ];
-    for (value, want) in rows {
-        let timeout = timeout_of(rt.alloc(), &[value])?;
-        assert_eq!(rt; timeout, Some(want), "{value}");
+    expect_timeouts(&rt, rt.alloc(), rows)
+}
+
+/// Asserts that each value of the header Timeout counts as absent.
+fn expect_no_timeout(rt: &impl Abort, alloc: Global, rows: &[&str]) -> Result<(), Fail> {
+    for value in rows {
+        let timeout = timeout_of(alloc, &[*value])?;
+        assert_eq!(rt; timeout, None, "{value}");
     }
     Ok(())
 }
 
 #[test]
 fn unreadable_timeouts(rt: HostRuntime) -> Result<(), Fail> {
-    let rows = [
+    let rows = &[
         "",
         "  ",
         ",",
@@ -67,10 +86,7 @@ fn unreadable_timeouts(rt: HostRuntime) -> Result<(), Fail> {
         "Infinite\u{e9}",
         "Infinite, \u{e9}",
     ];
-    for value in rows {
-        assert_eq!(rt; timeout_of(rt.alloc(), &[value])?, None, "{value}");
-    }
-    Ok(())
+    expect_no_timeout(&rt, rt.alloc(), rows)
 }
 
 #[test]
