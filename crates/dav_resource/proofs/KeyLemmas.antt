@@ -1,5 +1,5 @@
 -- What is read is a key.
-use Rattle.std.proofs.Common.{◌≡◌, ◌<◌, arith, ℕ, zero, suc, Bool, true, false, not, List, [], ◌∷◌, ◌++◌, take, drop, length, refl, subst, Ok, Err, if◌then◌else◌, ◌==◌, ◌-◌}
+use Rattle.std.proofs.Common.{◌≡◌, ℕ, zero, suc, Bool, true, false, not, List, [], ◌∷◌, ◌++◌, take, drop, length, refl, subst, Ok, Err, if◌then◌else◌, ◌==◌, ◌-◌}
 use Rattle.dav_resource.specs.Key.{Key}
 use Rattle.dav_resource.specs.declared.error.DavError.TheVariants.{ForbiddenPath}
 use Rattle.dav_resource.specs.PathText.{IsKey, IsSegment, IsSegmentText, is_dropped, is_parent, enter}

@@ -1,6 +1,7 @@
 //! Elements, as a body holds them.
 use dav_resource::Element;
 use std::alloc::Global;
+use std::process::Abort;
 use std::test::Fail;
 
 /// The prefix, the name and the namespace, where `-` stands for none.
@@ -21,21 +22,26 @@ fn show_cut(alloc: Global, text: &str) -> Result<String, Fail> {
     show_name(alloc, &Element::new2(alloc, text)?)
 }
 
+/// Asserts that each text is cut as it stands beside it.
+fn expect_names(rt: &impl Abort, alloc: Global, rows: &[(&str, &str)]) -> Result<(), Fail> {
+    for (text, want) in rows {
+        let shown = show_cut(alloc, text)?;
+        assert_eq!(rt; shown.as_str(), *want, "{text}");
+    }
+    Ok(())
+}
+
 #[test]
 fn names_are_cut_at_the_first_colon(rt: HostRuntime) -> Result<(), Fail> {
     let plain = show_plain(rt.alloc(), "D:x")?;
     assert_eq!(rt; plain.as_str(), "- D:x -");
-    let rows = [
+    let rows = &[
         ("D:x", "D x -"),
         ("a:b:c", "a b:c -"),
         (":x", " x -"),
         ("x", "- x -"),
     ];
-    for (text, want) in rows {
-        let shown = show_cut(rt.alloc(), text)?;
-        assert_eq!(rt; shown.as_str(), want, "{text}");
-    }
-    Ok(())
+    expect_names(&rt, rt.alloc(), rows)
 }
 
 /// An element with these namespaces under these prefixes, declared in this order.

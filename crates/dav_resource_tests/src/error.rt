@@ -3,15 +3,23 @@ use dav_resource::{DavError, FsError};
 use http::StatusCode;
 use http_header::{HeaderMapError, HeaderValueError};
 use std::alloc::{AllocError, Global};
+use std::process::Abort;
 use std::test::Fail;
 
 fn status_of(error: FsError) -> u16 {
     error.statuscode().as_u16()
 }
 
+/// Asserts that each error has the status beside it.
+fn expect_statuses(rt: &impl Abort, rows: &[(FsError, u16)]) {
+    for (error, status) in rows {
+        assert_eq!(rt; status_of(*error), *status, "of {error:?}");
+    }
+}
+
 #[test]
 fn statuses_of_a_refusal(rt: HostRuntime) {
-    let rows = [
+    let rows = &[
         (FsError::NotImplemented, 501),
         (FsError::GeneralFailure, 500),
         (FsError::Exists, 405),
@@ -24,9 +32,7 @@ fn statuses_of_a_refusal(rt: HostRuntime) {
         (FsError::IsRemote, 502),
         (FsError::Memory, 507),
     ];
-    for (error, status) in rows {
-        assert_eq!(rt; status_of(error), status, "of {error:?}");
-    }
+    expect_statuses(&rt, rows);
 }
 
 /// The status of an error, and whether the connection is to close.
@@ -34,9 +40,16 @@ fn answer(error: &DavError) -> (u16, bool) {
     (error.statuscode().as_u16(), error.must_close())
 }
 
+/// Asserts that each error has the status beside it, and closes the connection or not as is said behind that.
+fn expect_answers(rt: &impl Abort, rows: &[(DavError, u16, bool)]) {
+    for (error, status, closes) in rows {
+        assert_eq!(rt; answer(error), (*status, *closes), "of {error:?}");
+    }
+}
+
 #[test]
 fn statuses_of_the_engine(rt: HostRuntime) {
-    let rows = [
+    let rows = &[
         (DavError::Status(StatusCode::CONFLICT), 409, false),
         (DavError::StatusClose(StatusCode::BAD_REQUEST), 400, true),
         (DavError::FsError(FsError::LoopDetected), 508, false),
@@ -47,9 +60,7 @@ fn statuses_of_the_engine(rt: HostRuntime) {
         (DavError::ChanError, 500, false),
         (DavError::Memory, 507, false),
     ];
-    for (error, status, closes) in &rows {
-        assert_eq!(rt; answer(error), (*status, *closes), "of {error:?}");
-    }
+    expect_answers(&rt, rows);
 }
 
 /// An error, as `Debug` writes it, without what a status is.
@@ -107,18 +118,23 @@ fn shown(alloc: Global, error: &DavError) -> Result<String, Fail> {
     Ok(format!(in alloc; "{error}")?)
 }
 
+/// Asserts that each error has the text beside it.
+fn expect_texts(rt: &impl Abort, alloc: Global, rows: &[(DavError, &str)]) -> Result<(), Fail> {
+    for (error, want) in rows {
+        let text = shown(alloc, error)?;
+        assert_eq!(rt; text.as_str(), *want);
+    }
+    Ok(())
+}
+
 #[test]
 fn printed(rt: HostRuntime) -> Result<(), Fail> {
-    let rows = [
+    let rows = &[
         (DavError::FsError(FsError::NotFound), "not found"),
         (
             DavError::StatusClose(StatusCode::BAD_REQUEST),
             "status 400 Bad Request, and the connection closes",
         ),
     ];
-    for (error, want) in &rows {
-        let text = shown(rt.alloc(), error)?;
-        assert_eq!(rt; text.as_str(), *want);
-    }
-    Ok(())
+    expect_texts(&rt, rt.alloc(), rows)
 }

@@ -1,6 +1,7 @@
 //! Entity tags.
 use dav_resource::{ETag, Meta, Text};
 use std::alloc::Global;
+use std::process::Abort;
 use std::test::Fail;
 
 /// The tag of this text.
@@ -14,20 +15,29 @@ fn strong_eq(alloc: Global, one: (bool, &str), other: (bool, &str)) -> Result<bo
     Ok(tag_of(alloc, one)?.strong_eq(&tag_of(alloc, other)?))
 }
 
+/// Asserts that the first two tags of each row compare as is said behind them.
+fn expect_comparisons(
+    rt: &impl Abort,
+    alloc: Global,
+    rows: &[((bool, &str), (bool, &str), bool)],
+) -> Result<(), Fail> {
+    for (one, other, want) in rows {
+        let equal = strong_eq(alloc, *one, *other)?;
+        assert_eq!(rt; equal, *want, "{one:?} and {other:?}");
+    }
+    Ok(())
+}
+
 #[test]
 fn strong_comparison(rt: HostRuntime) -> Result<(), Fail> {
-    let rows = [
+    let rows = &[
         ((false, "12346"), (false, "12346"), true),
         ((false, "12346"), (false, "12345"), false),
         ((true, "12345"), (true, "12345"), false),
         ((true, "12345"), (false, "12345"), false),
         ((false, "12345"), (true, "12345"), false),
     ];
-    for (one, other, want) in rows {
-        let equal = strong_eq(rt.alloc(), one, other)?;
-        assert_eq!(rt; equal, want, "{one:?} and {other:?}");
-    }
-    Ok(())
+    expect_comparisons(&rt, rt.alloc(), rows)
 }
 
 /// A copy of a tag, as its header writes it.

@@ -2,6 +2,7 @@
 use dav_resource::{DavMethod, DavMethodSet};
 use http::Method;
 use std::alloc::Global;
+use std::process::Abort;
 use std::test::Fail;
 
 /// Each method, by its name.
@@ -27,15 +28,26 @@ fn named(alloc: Global, name: &str) -> Result<Option<DavMethod>, Fail> {
     Ok(DavMethod::from_method(&method))
 }
 
-#[test]
-fn methods_by_name(rt: HostRuntime) -> Result<(), Fail> {
-    for (name, method) in METHODS {
-        assert_eq!(rt; named(rt.alloc(), name)?, Some(method), "{name}");
-    }
-    for name in ["TRACE", "get", "PUTS"] {
-        assert_eq!(rt; named(rt.alloc(), name)?, None, "{name}");
+/// Asserts that each name is that of the method beside it.
+fn expect_methods(rt: &impl Abort, alloc: Global, rows: &[(&str, DavMethod)]) -> Result<(), Fail> {
+    for (name, method) in rows {
+        assert_eq!(rt; named(alloc, name)?, Some(*method), "{name}");
     }
     Ok(())
+}
+
+/// Asserts that each name is that of no method.
+fn expect_no_method(rt: &impl Abort, alloc: Global, names: &[&str]) -> Result<(), Fail> {
+    for name in names {
+        assert_eq!(rt; named(alloc, name)?, None, "{name}");
+    }
+    Ok(())
+}
+
+#[test]
+fn methods_by_name(rt: HostRuntime) -> Result<(), Fail> {
+    expect_methods(&rt, rt.alloc(), &METHODS)?;
+    expect_no_method(&rt, rt.alloc(), &["TRACE", "get", "PUTS"])
 }
 
 /// Whether the set has the method before it is added and behind that.
@@ -62,13 +74,18 @@ fn is_all(set: DavMethodSet) -> bool {
     set == DavMethodSet::all()
 }
 
-#[test]
-fn sets(rt: HostRuntime) {
+/// Asserts that a set has these methods as they are added, and LOCK alone is left out where it is removed.
+fn expect_sets(rt: &impl Abort, rows: &[(&str, DavMethod)]) {
     let mut set = DavMethodSet::none();
-    for (name, method) in METHODS {
-        assert_eq!(rt; add(&mut set, method), [false, true], "{name}");
-        assert!(rt; is_in_all(method), "{name}");
-        assert_eq!(rt; is_left(method), name != "LOCK", "{name}");
+    for (name, method) in rows {
+        assert_eq!(rt; add(&mut set, *method), [false, true], "{name}");
+        assert!(rt; is_in_all(*method), "{name}");
+        assert_eq!(rt; is_left(*method), *name != "LOCK", "{name}");
     }
     assert!(rt; is_all(set));
+}
+
+#[test]
+fn sets(rt: HostRuntime) {
+    expect_sets(&rt, &METHODS);
 }

@@ -1,6 +1,7 @@
 //! Paths of resources.
 use dav_resource::{DavPath, DavResult};
 use std::alloc::{AllocError, Global};
+use std::process::Abort;
 use std::test::Fail;
 
 /// A path as a URL writes it, with `star` before that of the star path.
@@ -23,9 +24,18 @@ fn show_below(alloc: Global, text: &str, prefix: &str) -> Result<String, Fail> {
     show(alloc, DavPath::from_str_and_prefix(alloc, text, prefix))
 }
 
+/// Asserts that each text below the prefix beside it is the path, or has the fault, behind that.
+fn expect_below(rt: &impl Abort, alloc: Global, rows: &[(&str, &str, &str)]) -> Result<(), Fail> {
+    for (text, prefix, want) in rows {
+        let shown = show_below(alloc, text, prefix)?;
+        assert_eq!(rt; shown.as_str(), *want, "{text} below {prefix}");
+    }
+    Ok(())
+}
+
 #[test]
 fn reads_and_writes(rt: HostRuntime) -> Result<(), Fail> {
-    let rows = [
+    let rows = &[
         ("/a/../b/./c%20d/", "", "/b/c%20d/"),
         ("/caf\u{e9}?x", "", "/caf%C3%A9"),
         ("/caf%c3%a9#x/", "", "/caf%C3%A9"),
@@ -37,16 +47,12 @@ fn reads_and_writes(rt: HostRuntime) -> Result<(), Fail> {
         ("/a/%2e%2e/b/.", "", "/b"),
         ("/a~-_.+!", "", "/a~-_.%2B%21"),
     ];
-    for (text, prefix, want) in rows {
-        let shown = show_below(rt.alloc(), text, prefix)?;
-        assert_eq!(rt; shown.as_str(), want, "{text} below {prefix}");
-    }
-    Ok(())
+    expect_below(&rt, rt.alloc(), rows)
 }
 
 #[test]
 fn slashes_dots_and_prefixes(rt: HostRuntime) -> Result<(), Fail> {
-    let rows = [
+    let rows = &[
         ("//a//b", "/", "/a/b"),
         ("/a/.", "", "/a"),
         ("/a/./", "", "/a/"),
@@ -56,16 +62,12 @@ fn slashes_dots_and_prefixes(rt: HostRuntime) -> Result<(), Fail> {
         ("/dav/x/", "/dav/", "/x/"),
         ("/d%61v/x", "/dav/./y/..", "/x"),
     ];
-    for (text, prefix, want) in rows {
-        let shown = show_below(rt.alloc(), text, prefix)?;
-        assert_eq!(rt; shown.as_str(), want, "{text} below {prefix}");
-    }
-    Ok(())
+    expect_below(&rt, rt.alloc(), rows)
 }
 
 #[test]
 fn refuses(rt: HostRuntime) -> Result<(), Fail> {
-    let rows = [
+    let rows = &[
         ("/..", "", "ForbiddenPath"),
         ("/../%zz", "", "ForbiddenPath"),
         ("/%zz/..", "", "InvalidPath"),
@@ -81,11 +83,7 @@ fn refuses(rt: HostRuntime) -> Result<(), Fail> {
         ("/%zz", "/..", "InvalidPath"),
         ("/davx", "/dav", "IllegalPath"),
     ];
-    for (text, prefix, want) in rows {
-        let shown = show_below(rt.alloc(), text, prefix)?;
-        assert_eq!(rt; shown.as_str(), want, "{text} below {prefix}");
-    }
-    Ok(())
+    expect_below(&rt, rt.alloc(), rows)
 }
 
 /// The path of a text, below the prefix `/dav` of another path.
@@ -94,20 +92,25 @@ fn show_beside(alloc: Global, text: &str) -> Result<String, Fail> {
     show(alloc, DavPath::from_str_beside(alloc, text, &path))
 }
 
+/// Asserts that each text is the path, or has the fault, beside it.
+fn expect_beside(rt: &impl Abort, alloc: Global, rows: &[(&str, &str)]) -> Result<(), Fail> {
+    for (text, want) in rows {
+        let shown = show_beside(alloc, text)?;
+        assert_eq!(rt; shown.as_str(), *want, "{text}");
+    }
+    Ok(())
+}
+
 #[test]
 fn beside_a_path(rt: HostRuntime) -> Result<(), Fail> {
-    let rows = [
+    let rows = &[
         ("/dav/a/../b/?x", "/b/"),
         ("*", "star *"),
         ("/davx", "IllegalPath"),
         ("/dav/../..", "ForbiddenPath"),
         ("dav", "InvalidPath"),
     ];
-    for (text, want) in rows {
-        let shown = show_beside(rt.alloc(), text)?;
-        assert_eq!(rt; shown.as_str(), want, "{text}");
-    }
-    Ok(())
+    expect_beside(&rt, rt.alloc(), rows)
 }
 
 /// The file `/a/b.txt` below the prefix `/dav`.
@@ -210,9 +213,17 @@ fn mime(alloc: Global, text: &str) -> Result<&'static str, Fail> {
     Ok(path.get_mime_type_str())
 }
 
+/// Asserts that each path has the media type beside it.
+fn expect_types(rt: &impl Abort, alloc: Global, rows: &[(&str, &str)]) -> Result<(), Fail> {
+    for (text, want) in rows {
+        assert_eq!(rt; mime(alloc, text)?, *want, "{text}");
+    }
+    Ok(())
+}
+
 #[test]
 fn media_types(rt: HostRuntime) -> Result<(), Fail> {
-    let rows = [
+    let rows = &[
         ("/a.txt", "text/plain"),
         ("/..txt", "text/plain"),
         ("/A.HTML", "text/html"),
@@ -221,8 +232,5 @@ fn media_types(rt: HostRuntime) -> Result<(), Fail> {
         ("/a.", "application/octet-stream"),
         ("/", "application/octet-stream"),
     ];
-    for (text, want) in rows {
-        assert_eq!(rt; mime(rt.alloc(), text)?, want, "{text}");
-    }
-    Ok(())
+    expect_types(&rt, rt.alloc(), rows)
 }

@@ -130,16 +130,22 @@ fn show_paths(alloc: Global, record: &Record) -> Result<String, Fail> {
     Ok(text)
 }
 
+/// The call of a record, how it ended, and its statuses.
+fn show_call(alloc: Global, record: &Record) -> Result<String, Fail> {
+    let mut text = format!(in alloc; "{:?} {:?}", record.op, record.outcome)?;
+    for status in record.statuses.as_slice() {
+        text.push(' ')?;
+        text.push_str(status.as_str())?;
+    }
+    Ok(text)
+}
+
 #[test]
 fn copy_of_a_record(rt: HostRuntime) -> Result<(), Fail> {
     let copy = copy_of_call(rt.alloc())?;
-    assert_eq!(rt; copy.op, Op::Rename);
-    assert_eq!(rt; copy.outcome, Outcome::Refused(FsError::Forbidden));
+    let call = show_call(rt.alloc(), &copy)?;
+    assert_eq!(rt; call.as_str(), "Rename Refused(Forbidden) 200 409");
     let paths = show_paths(rt.alloc(), &copy)?;
     assert_eq!(rt; paths.as_str(), "/ /b ");
-    assert_eq!(rt;
-        copy.statuses.as_slice(),
-        [StatusCode::OK, StatusCode::CONFLICT].as_slice()
-    );
     Ok(())
 }
