@@ -15,6 +15,7 @@ fault_text fault.StarPath = codes "star path without OPTIONS"
 fault_text fault.BadHeader = codes "bad header"
 fault_text fault.UnknownDirective = codes "unknown directive"
 fault_text fault.BadValue = codes "bad value"
+fault_text fault.BadOutline = codes "bad outline"
 
 -- why a script wasn't served
 abbrev pub trouble_text : Trouble → List ℕ

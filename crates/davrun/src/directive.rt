@@ -3,35 +3,55 @@ ghost use Rattle.std.specs.Prelude.{◌≡◌, ◌⊎◌, ◌<◌, if◌then◌e
 ghost use Rattle.std.specs.Char.{is_ascii_hexdigit, digit_value};
 ghost use Rattle.davrun.specs.Escape.{first_byte as first_byte_of, escaped_byte as escaped_byte_of, hex_byte as hex_byte_of, StandsFor, IsFaulty};
 
+use crate::outline_read::OutlineReader;
 use crate::refuse::add_refusal;
 use crate::script::{Block, Fault, LineError};
 use dav_headers::read_number;
 use dav_resource::{Items, ReqBody, Text};
-use std::alloc::Global;
+use std::alloc::{AllocError, Global};
 
-/// Reads a directive into its block, from its line without the `=`: a name, and where a space follows, a value.
-/// Each `refuse` counts; of another that is given twice, and of two bodies, the last counts.
-pub fn read(block: &mut Block, line: &str) -> Result<(), LineError> {
+/// Reads a directive into its block, from the line of this number without the `=`: a name, and where a space follows,
+/// a value. Each `refuse` counts; of another that is given twice, and of two bodies, the last counts. What follows
+/// `xml` is the outline of the body's tree.
+pub fn read(block: &mut Block, number: u64, line: &str) -> Result<(), LineError> {
+    let alloc = *block.path.allocator();
     let (name, value) = line.split_once(' ').unwrap_or((line, ""));
     match name {
         "bytes" => {
-            let bytes = unescape(*block.path.allocator(), value.as_bytes())?;
+            let bytes = unescape(alloc, value.as_bytes())?;
             block.body = ReqBody::Bytes(Items::from_vec(bytes));
         }
         "malformed" if value.is_empty() => block.body = ReqBody::Malformed,
-        "malformed" => return Err(Fault::BadValue.into()),
+        "xml" if value.is_empty() => block.outline = Some(OutlineReader::new(alloc, number)),
+        "malformed" | "xml" => return Err(Fault::BadValue.into()),
         "now" => match read_number(value) {
             Some(now) => block.now = Some(now),
             None => return Err(Fault::BadValue.into()),
         },
-        "principal" => {
-            let principal = String::from_str(*block.path.allocator(), value)?;
-            block.principal = Some(Text::from_string(principal));
-        }
+        "principal" => block.principal = Some(text_of(alloc, value)?),
+        "token" => block.token = Some(read_token(alloc, value)?),
         "refuse" => add_refusal(&mut block.refusals, value)?,
         _ => return Err(Fault::UnknownDirective.into()),
     }
     Ok(())
+}
+
+/// The token of a lock: one or more bytes 0x21 to 0x7E.
+fn read_token(alloc: Global, value: &str) -> Result<Text, LineError> {
+    if !is_token(value) {
+        return Err(Fault::BadValue.into());
+    }
+    Ok(text_of(alloc, value)?)
+}
+
+/// Whether a text may be the token of a lock.
+fn is_token(text: &str) -> bool {
+    !text.is_empty() && text.bytes().all(|byte| byte.is_ascii_graphic())
+}
+
+/// The text with memory of its own. Only memory can be lacking.
+fn text_of(alloc: Global, text: &str) -> Result<Text, AllocError> {
+    Ok(Text::from_string(String::from_str(alloc, text)?))
 }
 
 /// The bytes that a text stands for, in which `\n` is a line feed, `\\` and `\"` are the second letter, and

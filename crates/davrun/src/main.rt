@@ -4,6 +4,8 @@
 
 mod directive;
 mod outline;
+mod outline_line;
+mod outline_read;
 mod print;
 mod program;
 mod quote;

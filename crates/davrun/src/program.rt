@@ -14,7 +14,7 @@ use dav_engine::DavInner;
 use dav_resource::{Body, DavError, DavPath, DavRequest, DavResult, Text};
 use dav_store::{MemFs, MemLs, Refusing};
 use http::Response;
-use std::alloc::Global;
+use std::alloc::{AllocError, Global};
 use std::io::{Read, Write};
 use std::mem;
 
@@ -183,16 +183,25 @@ impl<'a> Session<'a> {
 
     /// The request of a block.
     fn request(&self, alloc: Global, path: DavPath, block: Block) -> Result<DavRequest, Stopped> {
-        let number = self.blocks;
+        let token = match block.token {
+            Some(token) => token,
+            None => self.numbered_token(alloc)?,
+        };
         Ok(DavRequest {
             method: block.method,
             path,
             headers: block.headers,
             body: block.body,
             principal: block.principal,
-            token: Text::from_string(format!(in alloc; "urn:lock:{number}")?),
+            token,
             now: self.now,
         })
+    }
+
+    /// The token of a lock that this block's request makes, where the block sets none: by the block's number, from 1.
+    fn numbered_token(&self, alloc: Global) -> Result<Text, AllocError> {
+        let number = self.blocks;
+        Ok(Text::from_string(format!(in alloc; "urn:lock:{number}")?))
     }
 
     /// Lets the engine serve one request. Its reply may be want of memory; an `Err` is that of the engine itself.

@@ -2,6 +2,7 @@
 ghost use Rattle.std.specs.Prelude.{◌≡◌};
 
 use crate::directive;
+use crate::outline_read::OutlineReader;
 use crate::refusal::PlannedRefusal;
 use dav_resource::{ReqBody, Text};
 use http::Method;
@@ -21,6 +22,7 @@ pub enum Fault {
     BadHeader,
     UnknownDirective,
     BadValue,
+    BadOutline,
 }
 
 /// Why a line wasn't read.
@@ -46,10 +48,14 @@ pub struct Block {
     pub path: String,
     pub headers: HeaderMap<HeaderValue>,
     pub body: ReqBody,
+    /// The outline of the body's tree, while it is being read.
+    pub outline: Option<OutlineReader>,
     /// The request's moment, where the block sets one.
     pub now: Option<u64>,
     /// Who sends the request, where the block says so.
     pub principal: Option<Text>,
+    /// The token that a lock made by the request gets, where the block sets one.
+    pub token: Option<Text>,
     /// The calls that are to be refused from this block on, in the order of their lines.
     pub refusals: Vec<PlannedRefusal>,
 }
@@ -61,16 +67,10 @@ pub fn read_script(alloc: Global, script: &[u8]) -> Result<Vec<Block>, ScriptErr
         open: None,
     };
     for (number, line) in (1..=u64::MAX).zip(script.split(|byte| *byte == b'\n')) {
-        match blocks.read_line(line) {
-            Ok(()) => {}
-            Err(LineError::Fault(fault)) => return Err(ScriptError::Fault(number, fault)),
-            Err(LineError::Memory) => return Err(ScriptError::Memory),
-        }
+        blocks.read_line(number, line)?;
     }
-    match blocks.close() {
-        Ok(()) => Ok(blocks.closed),
-        Err(AllocError) => Err(ScriptError::Memory),
-    }
+    blocks.close()?;
+    Ok(blocks.closed)
 }
 
 /// What has been read of a script.
@@ -82,16 +82,22 @@ struct Blocks {
 }
 
 impl Blocks {
-    /// Reads one line, without its line feed.
-    fn read_line(&mut self, line: &[u8]) -> Result<(), LineError> {
+    /// Reads the line of this number, without its line feed.
+    fn read_line(&mut self, number: u64, line: &[u8]) -> Result<(), ScriptError> {
         let Ok(text) = str::from_utf8(line) else {
-            return Err(LineError::Fault(Fault::NotUtf8));
+            return Err(ScriptError::Fault(number, Fault::NotUtf8));
         };
         if text.is_empty() {
-            return Ok(self.close()?);
+            return self.close();
         }
+        self.read_text(number, text)
+            .map_err(|error| error.at(number))
+    }
+
+    /// Reads the text of a line: of the block that is open, or the first of a new one.
+    fn read_text(&mut self, number: u64, text: &str) -> Result<(), LineError> {
         match &mut self.open {
-            Some(block) => block.read_line(text),
+            Some(block) => block.read_line(number, text),
             None => {
                 self.open = Some(Block::read(*self.closed.allocator(), text)?);
                 Ok(())
@@ -100,9 +106,9 @@ impl Blocks {
     }
 
     /// Ends the block that is open, where one is.
-    fn close(&mut self) -> Result<(), AllocError> {
+    fn close(&mut self) -> Result<(), ScriptError> {
         if let Some(block) = self.open.take() {
-            self.closed.push(block)?;
+            self.closed.push(block.end()?)?;
         }
         Ok(())
     }
@@ -123,18 +129,31 @@ impl Block {
             path: String::from_str(alloc, path)?,
             headers: HeaderMap::new(alloc),
             body: ReqBody::None,
+            outline: None,
             now: None,
             principal: None,
+            token: None,
             refusals: Vec::new(alloc),
         })
     }
 
-    /// Reads a line after the first: a directive, or a header.
-    fn read_line(&mut self, line: &str) -> Result<(), LineError> {
+    /// Reads the line of this number, after the first: one of the outline, a directive, or a header.
+    fn read_line(&mut self, number: u64, line: &str) -> Result<(), LineError> {
+        if let Some(outline) = &mut self.outline {
+            return outline.read_line(line);
+        }
         match line.strip_prefix('=') {
-            Some(text) => directive::read(self, text),
+            Some(text) => directive::read(self, number, text),
             None => self.read_header(line),
         }
+    }
+
+    /// The whole block: where it has an outline, the tree that it shows is the body.
+    fn end(mut self) -> Result<Block, ScriptError> {
+        if let Some(outline) = self.outline.take() {
+            self.body = ReqBody::Tree(outline.finish()?);
+        }
+        Ok(self)
     }
 
     /// Reads `name: value`, cut at the first `:`, with the blanks round the value dropped.
@@ -147,6 +166,16 @@ impl Block {
         let value = HeaderValue::from_str(alloc, value.trim_matches([' ', '\t']))?;
         self.headers.append(name, value)?;
         Ok(())
+    }
+}
+
+impl LineError {
+    /// The same of a script, by the line's number.
+    fn at(self, number: u64) -> ScriptError {
+        match self {
+            LineError::Fault(fault) => ScriptError::Fault(number, fault),
+            LineError::Memory => ScriptError::Memory,
+        }
     }
 }
 
@@ -164,6 +193,7 @@ impl fmt::Display for Fault {
             Fault::BadHeader => "bad header",
             Fault::UnknownDirective => "unknown directive",
             Fault::BadValue => "bad value",
+            Fault::BadOutline => "bad outline",
         })
     }
 }
@@ -195,6 +225,26 @@ impl<T: Drop> From<AllocFailed<T>> for LineError {
 
     fn from(_: AllocFailed<T>) -> LineError {
         LineError::Memory
+    }
+}
+
+impl From<AllocError> for ScriptError {
+    ghost use Rattle.davrun.specs.declared.script.ScriptError.TheVariants.{Memory};
+
+    ghost from_gives = { λ _ e. e ≡ Memory };
+
+    fn from(_: AllocError) -> ScriptError {
+        ScriptError::Memory
+    }
+}
+
+impl<T: Drop> From<AllocFailed<T>> for ScriptError {
+    ghost use Rattle.davrun.specs.declared.script.ScriptError.TheVariants.{Memory};
+
+    ghost from_gives = { λ _ e. e ≡ Memory };
+
+    fn from(_: AllocFailed<T>) -> ScriptError {
+        ScriptError::Memory
     }
 }
 

@@ -1,0 +1,136 @@
+//! One line of an outline: its level, and the text or the element that it shows.
+use crate::script::{Fault, LineError};
+use dav_resource::{Element, Text, XMLNode};
+use std::alloc::Global;
+
+/// What a line shows: its level, and a text, or an element with nothing in it yet. The only fault is `BadOutline`.
+pub fn read_node(alloc: Global, line: &str) -> Result<(usize, XMLNode), LineError> {
+    let (level, text) = split_level(line).ok_or(Fault::BadOutline)?;
+    let node = match text.strip_prefix('"') {
+        Some(quoted) => XMLNode::Text(read_text(alloc, quoted)?),
+        None => XMLNode::Element(read_element(alloc, text)?),
+    };
+    Ok((level, node))
+}
+
+/// How far in a line stands, two spaces for each level, and what stands behind them.
+fn split_level(line: &str) -> Option<(usize, &str)> {
+    let spaces = line.bytes().take_while(|byte| *byte == b' ').count();
+    let (_, text) = line.split_at(spaces);
+    if spaces % 2 == 0 {
+        Some((spaces / 2, text))
+    } else {
+        None
+    }
+}
+
+/// A text in quotes with nothing behind it, from behind its first quote.
+fn read_text(alloc: Global, quoted: &str) -> Result<Text, LineError> {
+    let (text, rest) = read_quoted(alloc, quoted)?;
+    if !rest.is_empty() {
+        return Err(Fault::BadOutline.into());
+    }
+    Ok(Text::from_string(text))
+}
+
+/// An element's own line: its name, its namespace where it has one, and its attributes.
+fn read_element(alloc: Global, text: &str) -> Result<Element, LineError> {
+    let (name, rest) = split_word(text);
+    let mut element = read_name(alloc, name)?;
+    let mut rest = read_namespace(alloc, &mut element, rest)?;
+    while !rest.is_empty() {
+        rest = read_attribute(alloc, &mut element, rest)?;
+    }
+    Ok(element)
+}
+
+/// What stands before a text's first space, and the rest of it from there on.
+fn split_word(text: &str) -> (&str, &str) {
+    match text.find(' ') {
+        Some(end) => text.split_at(end),
+        None => (text, ""),
+    }
+}
+
+/// An element of this name, `prefix:name` or `name`, with nothing else.
+fn read_name(alloc: Global, text: &str) -> Result<Element, LineError> {
+    if !is_qualified_name(text) {
+        return Err(Fault::BadOutline.into());
+    }
+    Ok(Element::new2(alloc, text)?)
+}
+
+/// Whether a text is a name, or two of them parted by its first `:`.
+fn is_qualified_name(text: &str) -> bool {
+    match text.split_once(':') {
+        Some((prefix, name)) => is_name(prefix) && is_name(name),
+        None => is_name(text),
+    }
+}
+
+/// Whether a text may stand as a name: it isn't empty, and each of its bytes may stand in one.
+fn is_name(text: &str) -> bool {
+    !text.is_empty() && text.bytes().all(is_name_byte)
+}
+
+/// Whether a byte may stand in a name: all but spaces, control characters, and what ends names or begins values.
+fn is_name_byte(byte: u8) -> bool {
+    !matches!(byte, 0..=b' ' | b'"' | b'=' | b'\\' | b'{' | b'}')
+}
+
+/// Reads ` {namespace}` into its element where a text begins so, up to the first `}`, and gives the rest.
+fn read_namespace<'a>(
+    alloc: Global,
+    element: &mut Element,
+    text: &'a str,
+) -> Result<&'a str, LineError> {
+    let Some(text) = text.strip_prefix(" {") else {
+        return Ok(text);
+    };
+    let (namespace, rest) = text.split_once('}').ok_or(Fault::BadOutline)?;
+    element.namespace = Some(String::from_str(alloc, namespace)?);
+    Ok(rest)
+}
+
+/// Reads ` key="value"` into its element, which has no attribute of this key yet, and gives the rest.
+fn read_attribute<'a>(
+    alloc: Global,
+    element: &mut Element,
+    text: &'a str,
+) -> Result<&'a str, LineError> {
+    let text = text.strip_prefix(' ').ok_or(Fault::BadOutline)?;
+    let (key, text) = text.split_once("=\"").ok_or(Fault::BadOutline)?;
+    if !is_name(key) {
+        return Err(Fault::BadOutline.into());
+    }
+    let (value, rest) = read_quoted(alloc, text)?;
+    let key = String::from_str(alloc, key)?;
+    if element.attributes.insert(key, value)?.is_some() {
+        return Err(Fault::BadOutline.into());
+    }
+    Ok(rest)
+}
+
+/// The text that quotes hold, from behind the first of them, and what stands behind the last.
+fn read_quoted(alloc: Global, text: &str) -> Result<(String, &str), LineError> {
+    let mut value = String::new(alloc);
+    let mut letters = text.chars();
+    while let Some(letter) = letters.next() {
+        match letter {
+            '"' => return Ok((value, letters.as_str())),
+            '\\' => value.push(escaped_letter(letters.next()).ok_or(Fault::BadOutline)?)?,
+            _ => value.push(letter)?,
+        }
+    }
+    Err(Fault::BadOutline.into())
+}
+
+/// The letter that a `\` and this letter stand for.
+fn escaped_letter(letter: Option<char>) -> Option<char> {
+    match letter? {
+        'n' => Some('\n'),
+        '"' => Some('"'),
+        '\\' => Some('\\'),
+        _ => None,
+    }
+}

@@ -1,0 +1,65 @@
+//! An outline, read line by line as the tree that it shows.
+use crate::outline_line::read_node;
+use crate::script::{Fault, LineError, ScriptError};
+use dav_resource::{Element, XMLNode};
+use std::alloc::{AllocError, Global};
+
+/// An outline of which some lines were read.
+#[derive(Debug, Drop)]
+pub struct OutlineReader {
+    /// The number of the line that the outline follows.
+    line: u64,
+    /// The elements that a further line may stand in, each at its level. Each of them is put into the one before it
+    /// once a line shows that no more stands in it.
+    open: Vec<Element>,
+}
+
+impl OutlineReader {
+    /// The outline that follows the line of this number, before its first line.
+    pub fn new(alloc: Global, line: u64) -> OutlineReader {
+        OutlineReader {
+            line,
+            open: Vec::new(alloc),
+        }
+    }
+
+    /// Reads one line: the root, or a text or an element two spaces further in than the element that it stands in.
+    /// The only fault is `BadOutline`. After an error parts of the tree may be lost.
+    pub fn read_line(&mut self, line: &str) -> Result<(), LineError> {
+        let (level, node) = read_node(*self.open.allocator(), line)?;
+        if level > self.open.len() || (level == 0 && !self.open.is_empty()) {
+            return Err(Fault::BadOutline.into());
+        }
+        self.close(level)?;
+        match node {
+            XMLNode::Element(element) => self.open.push(element)?,
+            XMLNode::Text(text) => {
+                let around = self.open.last_mut().ok_or(Fault::BadOutline)?;
+                around.children.push(XMLNode::Text(text))?;
+            }
+        }
+        Ok(())
+    }
+
+    /// Puts each open element from this level on into the one before it. The root stays open.
+    fn close(&mut self, level: usize) -> Result<(), AllocError> {
+        while self.open.len() > level.max(1) {
+            let Some(element) = self.open.pop() else {
+                return Ok(());
+            };
+            if let Some(around) = self.open.last_mut() {
+                around.push_element(element)?;
+            }
+        }
+        Ok(())
+    }
+
+    /// The tree that the lines show. Without a line the fault is `BadOutline`, at the line that the outline follows.
+    pub fn finish(mut self) -> Result<Element, ScriptError> {
+        self.close(1)?;
+        match self.open.pop() {
+            Some(root) => Ok(root),
+            None => Err(ScriptError::Fault(self.line, Fault::BadOutline)),
+        }
+    }
+}
