@@ -1,1 +1,2 @@
+pub mod OutlineLines
 pub mod Prefixes

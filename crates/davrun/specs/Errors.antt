@@ -1,4 +1,5 @@
 -- What an error of the layers below is to a script: a line's fault, or what stops the program. Which is which is this project's own choice.
+use Rattle.std.specs.Prelude.{ℕ}
 use Rattle.std.specs.declared.io.ErrorKind.{ErrorKind}
 use Rattle.std.specs.declared.io.ErrorKind.TheVariants.{OutOfMemory}
 use Rattle.http.specs.declared.method.MethodError.{MethodError}
@@ -38,6 +39,11 @@ from_value value.OutOfMemory = line.Memory
 abbrev pub from_map : HeaderMapError → LineError
 from_map map.MaxSizeReached = line.Fault fault.BadHeader
 from_map map.OutOfMemory = line.Memory
+
+-- a line's error is the script's, at the line's number
+abbrev pub at_line : ℕ → LineError → ScriptError
+at_line number (line.Fault fault) = script.Fault number fault
+at_line number line.Memory = script.Memory
 
 -- the line and its fault are kept
 abbrev pub from_script : ScriptError → Trouble

@@ -1,4 +1,9 @@
 //! One line of an outline: its level, and the text or the element that it shows.
+ghost use Rattle.std.specs.Prelude.{◌≡◌, ◌≢◌, ◌⊎◌, ℕ, List, ◌<◌, ◌≤◌, Some, None, length, option_map, option_and_then, IfOk, IfSome, IsTrue, IsFalse, MatchResult, [], drop, string_bytes};
+ghost use Rattle.std.specs.List.{position_or_len, before_first, list_all};
+ghost use Rattle.dav_resource.specs.Tree.{prefixed_element};
+ghost use Rattle.davrun.specs.Outline.{is_space, spaces, split_level, is_name_byte, is_name, is_qualified_name, split_namespace, escaped_letter, quoted};
+
 use crate::script::{Fault, LineError};
 use dav_resource::{Element, Text, XMLNode};
 use std::alloc::Global;
@@ -14,8 +19,10 @@ pub fn read_node(alloc: Global, line: &str) -> Result<(usize, XMLNode), LineErro
 }
 
 /// How far in a line stands, two spaces for each level, and what stands behind them.
-fn split_level(line: &str) -> Option<(usize, &str)> {
-    let spaces = line.bytes().take_while(|byte| *byte == b' ').count();
+fn split_level(line: &str) -> Option<(usize, &str)>
+    ensures { option_map (λ found. (found.0, found.1.now)) result ≡ split_level line.now }
+{
+    let spaces = spaces(line.as_bytes());
     let (_, text) = line.split_at(spaces);
     if spaces % 2 == 0 {
         Some((spaces / 2, text))
@@ -24,13 +31,25 @@ fn split_level(line: &str) -> Option<(usize, &str)> {
     }
 }
 
+/// How many spaces stand in front.
+fn spaces(line: &[u8]) -> usize
+    ensures value { result ≡ spaces line.now }
+    ensures fits { result ≤ length line.now }
+{
+    line.iter().take_while(|byte| **byte == b' ').count()
+}
+
 /// A text in quotes with nothing behind it, from behind its first quote.
-fn read_text(alloc: Global, quoted: &str) -> Result<Text, LineError> {
-    let (text, rest) = read_quoted(alloc, quoted)?;
+fn read_text(alloc: Global, text: &str) -> Result<Text, LineError>
+    ensures { MatchResult result
+        (λ value. quoted text.now ≡ Some (value, []))
+        (λ e. (e ≡ LineError.Memory) ⊎ ((e ≡ LineError.Fault Fault.BadOutline) × ((value : List ℕ) → quoted text.now ≢ Some (value, [])))) }
+{
+    let (value, rest) = read_quoted(alloc, text)?;
     if !rest.is_empty() {
         return Err(Fault::BadOutline.into());
     }
-    Ok(Text::from_string(text))
+    Ok(Text::from_string(value))
 }
 
 /// An element's own line: its name, its namespace where it has one, and its attributes.
@@ -45,15 +64,27 @@ fn read_element(alloc: Global, text: &str) -> Result<Element, LineError> {
 }
 
 /// What stands before a text's first space, and the rest of it from there on.
-fn split_word(text: &str) -> (&str, &str) {
-    match text.find(' ') {
-        Some(end) => text.split_at(end),
-        None => (text, ""),
-    }
+fn split_word(text: &str) -> (&str, &str)
+    ensures word { result.0.now ≡ before_first is_space text.now }
+    ensures rest { result.1.now ≡ drop (position_or_len is_space text.now) text.now }
+{
+    text.split_at(word_len(text.as_bytes()))
+}
+
+/// How many bytes stand before the first space.
+fn word_len(text: &[u8]) -> usize
+    ensures value { result ≡ position_or_len is_space text.now }
+    ensures fits { result ≤ length text.now }
+{
+    text.iter().take_while(|byte| **byte != b' ').count()
 }
 
 /// An element of this name, `prefix:name` or `name`, with nothing else.
-fn read_name(alloc: Global, text: &str) -> Result<Element, LineError> {
+fn read_name(alloc: Global, text: &str) -> Result<Element, LineError>
+    ensures { MatchResult result
+        (λ element. (element ≡ prefixed_element text.now) × IsTrue (is_qualified_name text.now))
+        (λ e. (e ≡ LineError.Memory) ⊎ ((e ≡ LineError.Fault Fault.BadOutline) × IsFalse (is_qualified_name text.now))) }
+{
     if !is_qualified_name(text) {
         return Err(Fault::BadOutline.into());
     }
@@ -61,7 +92,9 @@ fn read_name(alloc: Global, text: &str) -> Result<Element, LineError> {
 }
 
 /// Whether a text is a name, or two of them parted by its first `:`.
-fn is_qualified_name(text: &str) -> bool {
+fn is_qualified_name(text: &str) -> bool
+    ensures { result ≡ is_qualified_name text.now }
+{
     match text.split_once(':') {
         Some((prefix, name)) => is_name(prefix) && is_name(name),
         None => is_name(text),
@@ -69,12 +102,23 @@ fn is_qualified_name(text: &str) -> bool {
 }
 
 /// Whether a text may stand as a name: it isn't empty, and each of its bytes may stand in one.
-fn is_name(text: &str) -> bool {
-    !text.is_empty() && text.bytes().all(is_name_byte)
+fn is_name(text: &str) -> bool
+    ensures { result ≡ is_name text.now }
+{
+    !text.is_empty() && has_name_bytes_alone(text.as_bytes())
+}
+
+/// Whether each byte may stand in a name.
+fn has_name_bytes_alone(text: &[u8]) -> bool
+    ensures { result ≡ list_all is_name_byte text.now }
+{
+    text.iter().all(|byte| is_name_byte(*byte))
 }
 
 /// Whether a byte may stand in a name: all but spaces, control characters, and what ends names or begins values.
-fn is_name_byte(byte: u8) -> bool {
+fn is_name_byte(byte: u8) -> bool
+    ensures { result ≡ is_name_byte byte }
+{
     !matches!(byte, 0..=b' ' | b'"' | b'=' | b'\\' | b'{' | b'}')
 }
 
@@ -97,7 +141,9 @@ fn read_attribute<'a>(
     alloc: Global,
     element: &mut Element,
     text: &'a str,
-) -> Result<&'a str, LineError> {
+) -> Result<&'a str, LineError>
+    ensures { IfOk result (λ rest. length rest.now < length text.now) }
+{
     let text = text.strip_prefix(' ').ok_or(Fault::BadOutline)?;
     let (key, text) = text.split_once("=\"").ok_or(Fault::BadOutline)?;
     if !is_name(key) {
@@ -112,7 +158,12 @@ fn read_attribute<'a>(
 }
 
 /// The text that quotes hold, from behind the first of them, and what stands behind the last.
-fn read_quoted(alloc: Global, text: &str) -> Result<(String, &str), LineError> {
+fn read_quoted(alloc: Global, text: &str) -> Result<(String, &str), LineError>
+    ensures found { MatchResult result
+        (λ found. quoted text.now ≡ Some (string_bytes found.0, found.1.now))
+        (λ e. (e ≡ LineError.Memory) ⊎ ((e ≡ LineError.Fault Fault.BadOutline) × (quoted text.now ≡ None))) }
+    ensures shorter { IfOk result (λ found. length found.1.now < length text.now) }
+{
     let mut value = String::new(alloc);
     let mut letters = text.chars();
     while let Some(letter) = letters.next() {
@@ -126,7 +177,9 @@ fn read_quoted(alloc: Global, text: &str) -> Result<(String, &str), LineError> {
 }
 
 /// The letter that a `\` and this letter stand for.
-fn escaped_letter(letter: Option<char>) -> Option<char> {
+fn escaped_letter(letter: Option<char>) -> Option<char>
+    ensures { result ≡ option_and_then escaped_letter letter }
+{
     match letter? {
         'n' => Some('\n'),
         '"' => Some('"'),

@@ -4,6 +4,7 @@ ghost use Rattle.std.specs.Io.KnownBytes.{Appends, IsAtEnd};
 ghost use Rattle.dav_resource.specs.PathText.{read_prefix};
 ghost use Rattle.dav_resource.specs.Texts.{texts};
 ghost use Rattle.davrun.specs.Arguments.{AreUsable};
+ghost use Rattle.davrun.specs.Requests.{lock_token, request_of};
 ghost use Rattle.davrun.specs.Status.{SaysFault, trouble_line};
 
 use crate::print::{print_end, print_reply, print_request};
@@ -153,7 +154,7 @@ impl<'a> Session<'a> {
         print_request(output, &block)?;
         match DavPath::from_str_and_prefix(alloc, block.path.as_str(), self.prefix) {
             Ok(path) => {
-                let request = self.request(alloc, path, block)?;
+                let request = request(alloc, self.blocks, self.now, path, block)?;
                 for reply in &self.run(alloc, request)? {
                     print_reply(alloc, output, reply)?;
                 }
@@ -181,29 +182,6 @@ impl<'a> Session<'a> {
         Ok(())
     }
 
-    /// The request of a block.
-    fn request(&self, alloc: Global, path: DavPath, block: Block) -> Result<DavRequest, Stopped> {
-        let token = match block.token {
-            Some(token) => token,
-            None => self.numbered_token(alloc)?,
-        };
-        Ok(DavRequest {
-            method: block.method,
-            path,
-            headers: block.headers,
-            body: block.body,
-            principal: block.principal,
-            token,
-            now: self.now,
-        })
-    }
-
-    /// The token of a lock that this block's request makes, where the block sets none: by the block's number, from 1.
-    fn numbered_token(&self, alloc: Global) -> Result<Text, AllocError> {
-        let number = self.blocks;
-        Ok(Text::from_string(format!(in alloc; "urn:lock:{number}")?))
-    }
-
     /// Lets the engine serve one request. Its reply may be want of memory; an `Err` is that of the engine itself.
     fn run(
         &mut self,
@@ -215,6 +193,37 @@ impl<'a> Session<'a> {
             Ok(replies) => Ok(replies),
             Err(_) => Err(Stopped::Memory),
         }
+    }
+}
+
+/// The request of the block of this number, from 1, at this moment.
+fn request(
+    alloc: Global,
+    number: u64,
+    now: u64,
+    path: DavPath,
+    block: Block,
+) -> Result<DavRequest, AllocError>
+    ensures { IfOk result (λ request. request ≡ request_of number now path block) }
+{
+    Ok(DavRequest {
+        method: block.method,
+        path,
+        headers: block.headers,
+        body: block.body,
+        principal: block.principal,
+        token: lock_token(alloc, number, block.token)?,
+        now,
+    })
+}
+
+/// The token of a lock that a block's request makes: the block's own, or one by the block's number.
+fn lock_token(alloc: Global, number: u64, token: Option<Text>) -> Result<Text, AllocError>
+    ensures { IfOk result (λ chosen. chosen ≡ lock_token number token) }
+{
+    match token {
+        Some(token) => Ok(token),
+        None => Ok(Text::from_string(format!(in alloc; "urn:lock:{number}")?)),
     }
 }
 

@@ -170,8 +170,12 @@ impl Block {
 }
 
 impl LineError {
+    ghost use Rattle.davrun.specs.Errors.{at_line};
+
     /// The same of a script, by the line's number.
-    fn at(self, number: u64) -> ScriptError {
+    fn at(self, number: u64) -> ScriptError
+        ensures { result ≡ at_line number self }
+    {
         match self {
             LineError::Fault(fault) => ScriptError::Fault(number, fault),
             LineError::Memory => ScriptError::Memory,
