@@ -1,5 +1,5 @@
 -- What an error of the layers below is to a script: a line's fault, or what stops the program. Which is which is this project's own choice.
-use Rattle.std.specs.Prelude.{ℕ}
+use Rattle.std.specs.Prelude.{◌≡◌, ◌⊎◌, ℕ}
 use Rattle.std.specs.declared.io.ErrorKind.{ErrorKind}
 use Rattle.std.specs.declared.io.ErrorKind.TheVariants.{OutOfMemory}
 use Rattle.http.specs.declared.method.MethodError.{MethodError}
@@ -39,6 +39,10 @@ from_value value.OutOfMemory = line.Memory
 abbrev pub from_map : HeaderMapError → LineError
 from_map map.MaxSizeReached = line.Fault fault.BadHeader
 from_map map.OutOfMemory = line.Memory
+
+-- what may be wrong with a line of an outline
+abbrev pub IsOutlineError : LineError → Type 0
+IsOutlineError e = (e ≡ line.Memory) ⊎ (e ≡ line.Fault fault.BadOutline)
 
 -- a line's error is the script's, at the line's number
 abbrev pub at_line : ℕ → LineError → ScriptError

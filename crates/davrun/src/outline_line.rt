@@ -1,7 +1,9 @@
 //! One line of an outline: its level, and the text or the element that it shows.
-ghost use Rattle.std.specs.Prelude.{◌≡◌, ◌≢◌, ◌⊎◌, ℕ, List, ◌<◌, ◌≤◌, Some, None, length, option_map, option_and_then, IfOk, IfSome, IsTrue, IsFalse, MatchResult, [], drop, string_bytes};
+ghost use Rattle.std.specs.Prelude.{◌≡◌, ◌≢◌, ◌⊎◌, ℕ, List, ◌<◌, ◌≤◌, Some, length, option_map, option_and_then, IfOk, IfErr, IsTrue, IsFalse, MatchResult, [], drop, string_bytes, None};
 ghost use Rattle.std.specs.List.{position_or_len, before_first, list_all};
 ghost use Rattle.dav_resource.specs.Tree.{prefixed_element};
+ghost use Rattle.dav_headers.specs.Values.{cut_at};
+ghost use Rattle.davrun.specs.Errors.{IsOutlineError};
 ghost use Rattle.davrun.specs.Outline.{is_space, spaces, split_level, is_name_byte, is_name, is_qualified_name, split_namespace, escaped_letter, quoted};
 
 use crate::script::{Fault, LineError};
@@ -9,7 +11,9 @@ use dav_resource::{Element, Text, XMLNode};
 use std::alloc::Global;
 
 /// What a line shows: its level, and a text, or an element with nothing in it yet. The only fault is `BadOutline`.
-pub fn read_node(alloc: Global, line: &str) -> Result<(usize, XMLNode), LineError> {
+pub fn read_node(alloc: Global, line: &str) -> Result<(usize, XMLNode), LineError>
+    ensures { IfErr result IsOutlineError }
+{
     let (level, text) = split_level(line).ok_or(Fault::BadOutline)?;
     let node = match text.strip_prefix('"') {
         Some(quoted) => XMLNode::Text(read_text(alloc, quoted)?),
@@ -53,10 +57,15 @@ fn read_text(alloc: Global, text: &str) -> Result<Text, LineError>
 }
 
 /// An element's own line: its name, its namespace where it has one, and its attributes.
-fn read_element(alloc: Global, text: &str) -> Result<Element, LineError> {
+fn read_element(alloc: Global, text: &str) -> Result<Element, LineError>
+    ensures { IfErr result IsOutlineError }
+{
     let (name, rest) = split_word(text);
     let mut element = read_name(alloc, name)?;
-    let mut rest = read_namespace(alloc, &mut element, rest)?;
+    let (namespace, mut rest) = split_namespace(rest).ok_or(Fault::BadOutline)?;
+    if let Some(namespace) = namespace {
+        element.namespace = Some(String::from_str(alloc, namespace)?);
+    }
     while !rest.is_empty() {
         rest = read_attribute(alloc, &mut element, rest)?;
     }
@@ -122,18 +131,22 @@ fn is_name_byte(byte: u8) -> bool
     !matches!(byte, 0..=b' ' | b'"' | b'=' | b'\\' | b'{' | b'}')
 }
 
-/// Reads ` {namespace}` into its element where a text begins so, up to the first `}`, and gives the rest.
-fn read_namespace<'a>(
-    alloc: Global,
-    element: &mut Element,
-    text: &'a str,
-) -> Result<&'a str, LineError> {
+/// The namespace of ` {namespace}` where a text begins so, up to the first `}`, and what stands behind it.
+fn split_namespace(text: &str) -> Option<(Option<&str>, &str)>
+    ensures { option_map (λ found. (option_map (λ namespace. namespace.now) found.0, found.1.now)) result ≡ split_namespace text.now }
+{
     let Some(text) = text.strip_prefix(" {") else {
-        return Ok(text);
+        return Some((None, text));
     };
-    let (namespace, rest) = text.split_once('}').ok_or(Fault::BadOutline)?;
-    element.namespace = Some(String::from_str(alloc, namespace)?);
-    Ok(rest)
+    let (namespace, rest) = cut_at_brace(text)?;
+    Some((Some(namespace), rest))
+}
+
+/// What stands before a text's first `}`, and what stands behind it.
+fn cut_at_brace(text: &str) -> Option<(&str, &str)>
+    ensures { option_map (λ parts. (parts.0.now, parts.1.now)) result ≡ cut_at 125 text.now }
+{
+    text.split_once('}')
 }
 
 /// Reads ` key="value"` into its element, which has no attribute of this key yet, and gives the rest.
@@ -142,7 +155,8 @@ fn read_attribute<'a>(
     element: &mut Element,
     text: &'a str,
 ) -> Result<&'a str, LineError>
-    ensures { IfOk result (λ rest. length rest.now < length text.now) }
+    ensures shorter { IfOk result (λ rest. length rest.now < length text.now) }
+    ensures err { IfErr result IsOutlineError }
 {
     let text = text.strip_prefix(' ').ok_or(Fault::BadOutline)?;
     let (key, text) = text.split_once("=\"").ok_or(Fault::BadOutline)?;

@@ -1,4 +1,7 @@
 //! An outline, read line by line as the tree that it shows.
+ghost use Rattle.std.specs.Prelude.{◌≡◌, ◌⊎◌, ◌<◌, length, [], IfErr};
+ghost use Rattle.davrun.specs.Errors.{IsOutlineError};
+
 use crate::outline_line::read_node;
 use crate::script::{Fault, LineError, ScriptError};
 use dav_resource::{Element, XMLNode};
@@ -16,7 +19,10 @@ pub struct OutlineReader {
 
 impl OutlineReader {
     /// The outline that follows the line of this number, before its first line.
-    pub fn new(alloc: Global, line: u64) -> OutlineReader {
+    pub fn new(alloc: Global, line: u64) -> OutlineReader
+        ensures line { result.line ≡ line }
+        ensures empty { result.open.items ≡ [] }
+    {
         OutlineReader {
             line,
             open: Vec::new(alloc),
@@ -25,7 +31,10 @@ impl OutlineReader {
 
     /// Reads one line: the root, or a text or an element two spaces further in than the element that it stands in.
     /// The only fault is `BadOutline`. After an error parts of the tree may be lost.
-    pub fn read_line(&mut self, line: &str) -> Result<(), LineError> {
+    pub fn read_line(&mut self, line: &str) -> Result<(), LineError>
+        ensures err { IfErr result IsOutlineError }
+        ensures line { self.new.line ≡ self.old.line }
+    {
         let (level, node) = read_node(*self.open.allocator(), line)?;
         if level > self.open.len() || (level == 0 && !self.open.is_empty()) {
             return Err(Fault::BadOutline.into());
@@ -42,7 +51,10 @@ impl OutlineReader {
     }
 
     /// Puts each open element from this level on into the one before it. The root stays open.
-    fn close(&mut self, level: usize) -> Result<(), AllocError> {
+    fn close(&mut self, level: usize) -> Result<(), AllocError>
+        ensures line { self.new.line ≡ self.old.line }
+        ensures root { 0 < length self.old.open.items → 0 < length self.new.open.items }
+    {
         while self.open.len() > level.max(1) {
             let Some(element) = self.open.pop() else {
                 return Ok(());
@@ -55,7 +67,9 @@ impl OutlineReader {
     }
 
     /// The tree that the lines show. Without a line the fault is `BadOutline`, at the line that the outline follows.
-    pub fn finish(mut self) -> Result<Element, ScriptError> {
+    pub fn finish(mut self) -> Result<Element, ScriptError>
+        ensures { IfErr result (λ e. (e ≡ ScriptError.Memory) ⊎ ((e ≡ ScriptError.Fault self.line Fault.BadOutline) × (self.open.items ≡ []))) }
+    {
         self.close(1)?;
         match self.open.pop() {
             Some(root) => Ok(root),

@@ -63,7 +63,8 @@ fn what_is_printed_is_read_back(rt: HostRuntime) -> Result<(), Fail> {
 fn root(alloc: Global, lines: &str) -> Result<Element, Fail> {
     let script = format!(in alloc; "PUT /a\n=xml\n{lines}")?;
     for block in read_script(alloc, script.as_bytes())? {
-        if let ReqBody::Tree(tree) = block.body {
+        let body = block.body;
+        if let ReqBody::Tree(tree) = body {
             return Ok(tree);
         }
     }
