@@ -1,6 +1,6 @@
 -- The lines of an outline: how far in they stand, and the names, namespaces and quoted texts in them; this project's own choice.
-use Rattle.std.specs.Prelude.{ℕ, ◌+◌, ◌/◌, ◌%◌, ◌==◌, ◌&&◌, ◌||◌, not, nat_eq, nat_lt, Bool, List, [], ◌∷◌, length, drop, Option, Some, None, option_map, option_and_then, if◌then◌else◌, codes}
-use Rattle.std.specs.List.{prefix_len, take_while, before_first, after_first, list_all, starts_with}
+use Rattle.std.specs.Prelude.{ℕ, ◌/◌, ◌%◌, ◌==◌, ◌&&◌, ◌||◌, not, nat_eq, nat_lt, Bool, List, [], ◌∷◌, length, drop, Option, Some, None, option_map, option_and_then, if◌then◌else◌, codes}
+use Rattle.std.specs.List.{prefix_len, before_first, after_first, list_all, starts_with}
 use Rattle.dav_resource.specs.Tree.{has_colon}
 use Rattle.dav_headers.specs.Values.{cut_at}
 
