@@ -1,14 +1,11 @@
 -- Lock tokens (RFC 4918, section 6.5), as a header field shows them (section 10.1).
-use Rattle.std.specs.Prelude.{ℕ, Bool, ◌&&◌, nat_le, nat_lt, List, ◌++◌, length, codes, Option, Some, None, if◌then◌else◌}
+use Rattle.std.specs.Prelude.{ℕ, Bool, ◌&&◌, nat_lt, List, ◌++◌, length, codes, Option, Some, None, if◌then◌else◌}
+use Rattle.std.specs.Char.{is_ascii_graphic}
 use Rattle.std.specs.List.{list_all}
 
--- a character that shows: 0x21 to 0x7E
-abbrev pub is_shown : ℕ → Bool
-is_shown byte = nat_le 33 byte && nat_le byte 126
-
--- one or more of them
+-- one or more bytes of ASCII that show: 0x21 to 0x7E
 abbrev pub is_lock_token : List ℕ → Bool
-is_lock_token text = nat_lt 0 (length text) && list_all is_shown text
+is_lock_token text = nat_lt 0 (length text) && list_all is_ascii_graphic text
 
 -- the text as a token, where it is one
 abbrev pub lock_token : List ℕ → Option (List ℕ)

@@ -1,8 +1,9 @@
 //! Lock tokens.
 ghost use Rattle.std.specs.Prelude.{◌≡◌, IfOk, string_bytes};
+ghost use Rattle.std.specs.Char.{is_ascii_graphic};
 ghost use Rattle.std.specs.List.{list_all};
 ghost use Rattle.http_header.specs.FieldValue.{IsFieldValue};
-ghost use Rattle.dav_resource.specs.LockToken.{is_shown, lock_token, coded};
+ghost use Rattle.dav_resource.specs.LockToken.{lock_token, coded};
 
 use std::alloc::{AllocError, Global};
 use std::marker::Model;
@@ -31,7 +32,7 @@ impl LockToken {
     pub fn from_string(text: String) -> Option<LockToken>
         ensures { result ≡ lock_token (string_bytes text) }
     {
-        if text.is_empty() || !is_shown_alone(text.as_bytes()) {
+        if text.is_empty() || !has_graphic_alone(text.as_bytes()) {
             return None;
         }
         Some(LockToken { text })
@@ -55,10 +56,10 @@ impl LockToken {
 }
 
 /// Whether the bytes are characters that show, each of them.
-fn is_shown_alone(text: &[u8]) -> bool
-    ensures { result ≡ list_all is_shown text.now }
+fn has_graphic_alone(text: &[u8]) -> bool
+    ensures { result ≡ list_all is_ascii_graphic text.now }
 {
-    text.iter().all(|byte| *byte >= 0x21 && *byte <= 0x7E)
+    text.iter().all(|byte| byte.is_ascii_graphic())
 }
 
 /// The text in angle brackets.
