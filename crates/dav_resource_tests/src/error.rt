@@ -63,7 +63,7 @@ fn statuses_of_the_engine(rt: HostRuntime) {
     expect_answers(&rt, rows);
 }
 
-/// An error, as `Debug` writes it, without what a status is.
+/// Which error it is, of those that others turn into.
 fn kind(error: &DavError) -> &'static str {
     match error {
         DavError::FsError(FsError::NotFound) => "FsError(NotFound)",
