@@ -1,8 +1,8 @@
 //! What the tests share: requests, and a store and a lock system to serve them over.
 use crate::serve_over;
 use dav_engine::{
-    Body, DavLockSystem, DavPath, DavRequest, DavResult, FsError, GuardedFileSystem, Items, MemFs,
-    MemLs, Op, Outcome, Record, Refusing, ReqBody, Text,
+    Body, DavLockSystem, DavPath, DavRequest, DavResult, FsError, GuardedFileSystem, Items,
+    LockToken, MemFs, MemLs, Op, Outcome, Record, Refusing, ReqBody,
 };
 use http::{Method, Response};
 use http_header::{HeaderMap, HeaderName, HeaderValue};
@@ -29,9 +29,15 @@ pub fn request(
         headers: headers_of(alloc, headers)?,
         body: body_of(alloc, body)?,
         principal: None,
-        token: Text::from_string(String::new(alloc)),
+        token: token_of(alloc, "n")?,
         now: 0,
     })
+}
+
+/// The token of a lock that a request makes.
+pub fn token_of(alloc: Global, text: &str) -> Result<LockToken, Fail> {
+    let token = LockToken::from_string(String::from_str(alloc, text)?);
+    Ok(token.ok_or("no lock token")?)
 }
 
 fn headers_of(alloc: Global, fields: &[(&str, &str)]) -> Result<HeaderMap<HeaderValue>, Fail> {

@@ -1,2 +1,3 @@
 pub mod OutlineLines
 pub mod Prefixes
+pub mod Tokens

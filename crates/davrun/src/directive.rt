@@ -1,15 +1,15 @@
 //! The directives of a block: lines that begin with `=`.
 ghost use Rattle.std.specs.Prelude.{◌≡◌, ◌⊎◌, ◌<◌, if◌then◌else◌, Some, None, IfOk, IfErr, IfSome, IsTrue, IsFalse, MatchResult, length, option_map};
 ghost use Rattle.std.specs.List.{list_all};
-ghost use Rattle.std.specs.Char.{is_ascii_graphic, is_ascii_hexdigit, digit_value};
+ghost use Rattle.std.specs.Char.{is_ascii_hexdigit, digit_value};
 ghost use Rattle.davrun.specs.Escape.{first_byte as first_byte_of, escaped_byte as escaped_byte_of, hex_byte as hex_byte_of, StandsFor, IsFaulty};
-ghost use Rattle.davrun.specs.Requests.{is_lock_token};
+ghost use Rattle.dav_resource.specs.LockToken.{lock_token};
 
 use crate::outline_read::OutlineReader;
 use crate::refuse::add_refusal;
 use crate::script::{Block, Fault, LineError};
 use dav_headers::read_number;
-use dav_resource::{Items, ReqBody, Text};
+use dav_resource::{Items, LockToken, ReqBody, Text};
 use std::alloc::{AllocError, Global};
 
 /// Reads a directive into its block, from the line of this number without the `=`: a name, and where a space follows,
@@ -39,29 +39,15 @@ pub fn read(block: &mut Block, number: u64, line: &str) -> Result<(), LineError>
 }
 
 /// The token of a lock: one or more bytes 0x21 to 0x7E.
-fn read_token(alloc: Global, value: &str) -> Result<Text, LineError>
+fn read_token(alloc: Global, value: &str) -> Result<LockToken, LineError>
     ensures { MatchResult result
-        (λ token. (token ≡ value.now) × IsTrue (is_lock_token value.now))
-        (λ e. (e ≡ LineError.Memory) ⊎ ((e ≡ LineError.Fault Fault.BadValue) × IsFalse (is_lock_token value.now))) }
+        (λ token. lock_token value.now ≡ Some token)
+        (λ e. (e ≡ LineError.Memory) ⊎ ((e ≡ LineError.Fault Fault.BadValue) × (lock_token value.now ≡ None))) }
 {
-    if !is_token(value) {
-        return Err(Fault::BadValue.into());
+    match LockToken::from_string(String::from_str(alloc, value)?) {
+        Some(token) => Ok(token),
+        None => Err(Fault::BadValue.into()),
     }
-    Ok(text_of(alloc, value)?)
-}
-
-/// Whether a text may be the token of a lock.
-fn is_token(text: &str) -> bool
-    ensures { result ≡ is_lock_token text.now }
-{
-    !text.is_empty() && has_graphic_alone(text.as_bytes())
-}
-
-/// Whether each byte is one of 0x21 to 0x7E.
-fn has_graphic_alone(text: &[u8]) -> bool
-    ensures { result ≡ list_all is_ascii_graphic text.now }
-{
-    text.iter().all(|byte| byte.is_ascii_graphic())
 }
 
 /// The text with memory of its own. Only memory can be lacking.

@@ -1,10 +1,10 @@
 //! The program: a script in, replies and what the store and the lock system hold at the end out.
-ghost use Rattle.std.specs.Prelude.{◌≡◌, ◌⊎◌, ◌<◌, length, IfErr, IfOk, IfSome, IsErr, IsErrOf, IsOk, OnOk};
+ghost use Rattle.std.specs.Prelude.{◌≡◌, ◌⊎◌, ◌<◌, length, IfErr, IfOk, IfSome, IsErr, IsErrOf, IsOk, OnOk, string_bytes};
 ghost use Rattle.std.specs.Io.KnownBytes.{Appends, IsAtEnd};
 ghost use Rattle.dav_resource.specs.PathText.{read_prefix};
 ghost use Rattle.dav_resource.specs.Texts.{texts};
 ghost use Rattle.davrun.specs.Arguments.{AreUsable};
-ghost use Rattle.davrun.specs.Requests.{lock_token, request_of};
+ghost use Rattle.davrun.specs.Requests.{lock_token, numbered_token, request_of};
 ghost use Rattle.davrun.specs.Status.{SaysFault, trouble_line};
 
 use crate::print::{print_end, print_reply, print_request};
@@ -12,7 +12,7 @@ use crate::refusal::PlannedRefusal;
 use crate::script::{Block, read_script};
 use crate::trouble::{Stopped, Trouble, report};
 use dav_engine::DavInner;
-use dav_resource::{Body, DavError, DavPath, DavRequest, DavResult, Text};
+use dav_resource::{Body, DavError, DavPath, DavRequest, DavResult, LockToken};
 use dav_store::{MemFs, MemLs, Refusing};
 use http::Response;
 use std::alloc::{AllocError, Global};
@@ -218,13 +218,27 @@ fn request(
 }
 
 /// The token of a lock that a block's request makes: the block's own, or one by the block's number.
-fn lock_token(alloc: Global, number: u64, token: Option<Text>) -> Result<Text, AllocError>
+fn lock_token(alloc: Global, number: u64, token: Option<LockToken>) -> Result<LockToken, AllocError>
     ensures { IfOk result (λ chosen. chosen ≡ lock_token number token) }
 {
     match token {
         Some(token) => Ok(token),
-        None => Ok(Text::from_string(format!(in alloc; "urn:lock:{number}")?)),
+        None => numbered_token(alloc, number),
     }
+}
+
+/// The token of a lock that the request of the block of this number makes, where the block sets none.
+fn numbered_token(alloc: Global, number: u64) -> Result<LockToken, AllocError>
+    ensures { IfOk result (λ token. token ≡ numbered_token number) }
+{
+    let text = numbered_text(alloc, number)?;
+    Ok(LockToken::from_string(text).unwrap())
+}
+
+fn numbered_text(alloc: Global, number: u64) -> Result<String, AllocError>
+    ensures { IfOk result (λ text. string_bytes text ≡ numbered_token number) }
+{
+    format!(in alloc; "urn:lock:{number}")
 }
 
 /// Serves one request by an engine of its own over a store and a lock system.

@@ -4,7 +4,7 @@ ghost use Rattle.std.specs.Prelude.{◌≡◌};
 use crate::directive;
 use crate::outline_read::OutlineReader;
 use crate::refusal::PlannedRefusal;
-use dav_resource::{ReqBody, Text};
+use dav_resource::{LockToken, ReqBody, Text};
 use http::Method;
 use http::method::MethodError;
 use http_header::{
@@ -55,7 +55,7 @@ pub struct Block {
     /// Who sends the request, where the block says so.
     pub principal: Option<Text>,
     /// The token that a lock made by the request gets, where the block sets one.
-    pub token: Option<Text>,
+    pub token: Option<LockToken>,
     /// The calls that are to be refused from this block on, in the order of their lines.
     pub refusals: Vec<PlannedRefusal>,
 }
