@@ -1,48 +1,44 @@
 -- LOCK and UNLOCK: their rules, and their work.
-use Rattle.std.proofs.Common.{◌≡◌, ◌≢◌, ◌⊎◌, ◌∙◌, ℕ, Bool, true, false, not, cond, ◌&&◌, ◌||◌, if◌then◌else◌, List, [], ◌∷◌, ◌++◌, map, Option, Some, None, is_some, Result, Ok, Err, IfOk, IfErr, inl, inr, refl, sym, ap, subst, append-nil, option_map}
+use Rattle.std.proofs.Common.{◌≡◌, ◌≢◌, ◌⊎◌, ◌∙◌, ℕ, Bool, true, false, cond, ◌&&◌, ◌||◌, if◌then◌else◌, List, [], ◌∷◌, ◌++◌, Option, Some, None, is_some, Result, Ok, Err, IfOk, IfErr, inl, inr, refl, sym, ap, subst, append-nil, option_map}
 use Rattle.std.specs.Option.{ForSome, option_map_or, ok_or}
 use Rattle.std.specs.List.{find}
 use Rattle.std.specs.Result.{IsErrAnd}
 use Rattle.std.specs.FinMap.{get, insert}
-use Rattle.std.proofs.lemmas.Result.{err_from_is_err_and}
 use Rattle.http.specs.declared.response.Response.{Response}
 use Rattle.dav_resource.specs.Gives.{GivesBy}
-use Rattle.dav_resource.specs.Key.{Key, parent}
+use Rattle.dav_resource.specs.Key.{parent}
 use Rattle.dav_resource.specs.declared.error.DavError.{DavError}
 use Rattle.dav_resource.specs.declared.error.DavError.TheVariants.{Memory, Status}
 use Rattle.dav_resource.specs.declared.error.FsError.{FsError}
 use Rattle.dav_resource.specs.declared.error.FsError.TheVariants as fs_errors
 use Rattle.dav_resource.specs.declared.meta.Meta.{Meta}
 use Rattle.dav_resource.specs.declared.meta.DavFile.{DavFile}
-use Rattle.dav_resource.specs.declared.meta.OpenOptions.{OpenOptions}
 use Rattle.dav_resource.specs.declared.method.DavMethod.TheVariants.{Lock, Unlock}
-use Rattle.dav_resource.specs.declared.record.Op.TheVariants.{OpenFile}
 use Rattle.dav_resource.specs.declared.record.Outcome.TheVariants as outcomes
 use Rattle.dav_resource.specs.declared.request.Body.{Body}
 use Rattle.dav_resource.specs.declared.request.DavRequest.{DavRequest}
 use Rattle.dav_headers.specs.LockToken.{lock_token_of}
-use Rattle.dav_store.specs.Logged.{Logged}
 use Rattle.dav_store.specs.Store.{Store, Contents, Node, File, Directory}
 use Rattle.dav_store.specs.Calls.{Call, Grants, Declines, IsOpened, open_call, open_bar, record_of, bytes_at}
 use Rattle.dav_store.specs.Locks.{Locks, grants}
 use Rattle.dav_store.specs.LockCalls.{AddsLock, RemovesLock, RefreshesLock, KeepsNamed, has_named, without_named, is_named, refreshed}
 use Rattle.dav_store.specs.LockLaws.{granted_named, granted_without}
 use Rattle.dav_store.specs.declared.lock.DavLock.{DavLock}
-use Rattle.dav_parts.specs.Conditions.{dav_if_match, if_match, unless_refused, submitted_tokens}
-use Rattle.dav_parts.specs.Dialogue.{Dialogue, Passed, Refuses, Judges, Reaches, WasGranted, look, ◌>>=◌}
-use Rattle.dav_parts.specs.Dialogues.{judges_exit, judges_then, judges_pure, judges_memory, judges_if, reaches_none, reaches_then, judges_left, unlike, needs-declined}
+use Rattle.dav_parts.specs.Conditions.{if_match, submitted_tokens}
+use Rattle.dav_parts.specs.Dialogue.{Dialogue, Passed, Refuses, Judges, ◌>>=◌}
+use Rattle.dav_parts.specs.Dialogues.{judges_exit, judges_then, judges_pure, judges_memory, unlike, needs-declined}
 use Rattle.dav_parts.specs.Reply.{Reply, Answer, reply_of, answer_of}
 use Rattle.dav_engine.specs.Answered.{Unbegun}
 use Rattle.dav_engine.specs.LockInfo.{lock_info_of, lock_info_verdict}
 use Rattle.dav_engine.specs.LockReply.{granted_reply, refreshed_reply, unlocked_reply}
-use Rattle.dav_engine.specs.Locking.{locks_verdict, look_to_lock, one_token, where_held, refresh_rules, new_lock_rules, lock_asked, is_granted, AddsToLocks, TakesBack, LeavesLock, lock_open_error, file_steps, HasFile, FileLeaves, TellsLock, GrantsLock, DeniesLock, NewLockWork, NewLockCut, refresh_timeout, lock_refreshed, RefreshesAlone, RefreshesTold, FindsNoLock, RefreshWork, RefreshCut, LockWorkBy, LockCutBy, is_refresh, lock_rules}
-use Rattle.dav_engine.specs.Opening.{making_options, IsFileAt}
+use Rattle.dav_engine.specs.Locking.{refresh_rules, new_lock_rules, lock_asked, AddsToLocks, TakesBack, lock_open_error, HasFile, TellsLock, NewLockWork, NewLockCut, refresh_timeout, RefreshWork, RefreshCut, LockWorkBy, LockCutBy, is_refresh, lock_rules}
+use Rattle.dav_engine.specs.Opening.{making_options}
 use Rattle.dav_engine.specs.declared.lock_info.LockInfo.{LockInfo}
-use Rattle.dav_engine.specs.Rules.{judged, holding, depth_or_all, depth_verdict, is_permitted, found_in}
+use Rattle.dav_engine.specs.Rules.{judged, holding}
 use Rattle.dav_engine.specs.State.{State, Seen, state_of, facts_of, LocksStay, ChangesLocks, KeepsLocks}
 use Rattle.dav_engine.specs.Step.{Performs, WorksOnStore, Works}
-use Rattle.dav_engine.specs.Unlocking.{token_verdict, unlock_rules, has_lock, Unlocks, UnlocksNothing, UnlockWork}
-use Rattle.dav_engine.proofs.Deleting.{judges_verdict, judges_known}
+use Rattle.dav_engine.specs.Unlocking.{token_verdict}
+use Rattle.dav_engine.proofs.Deleting.{judges_known}
 use Rattle.dav_engine.proofs.Granting.{not_granted}
 use Rattle.dav_engine.proofs.Trees.{insert-there}
 

@@ -1,14 +1,8 @@
 -- DELETE (RFC 4918, section 9.6): removes a resource, and all below it.
-use Rattle.std.specs.Prelude.{◌≡◌, ◌⊎◌, ◌||◌, true, false, List, [], ◌∷◌, Option, unwrap_or, Result, Ok, Err}
-use Rattle.std.specs.Option.{option_map_or}
+use Rattle.std.specs.Prelude.{◌≡◌, ◌⊎◌, true, List, [], ◌∷◌, Option}
 use Rattle.dav_resource.specs.PathText.{PathValue}
 use Rattle.dav_resource.specs.declared.meta.Meta.{Meta}
-use Rattle.dav_resource.specs.declared.error.DavError.{DavError}
-use Rattle.dav_resource.specs.declared.error.DavError.TheVariants.{Status}
-use Rattle.dav_resource.specs.declared.request.Depth.{Depth}
-use Rattle.dav_resource.specs.declared.request.Depth.TheVariants.{One, Infinity}
 use Rattle.dav_resource.specs.declared.request.DavRequest.{DavRequest}
-use Rattle.dav_headers.specs.Depth.{depth_of}
 use Rattle.dav_store.specs.Logged.{Logged}
 use Rattle.dav_parts.specs.Conditions.{conditions}
 use Rattle.dav_parts.specs.Dialogue.{Dialogue, ◌>>=◌}

@@ -1,6 +1,6 @@
 -- What the body of a LOCK asks for (RFC 4918, sections 14.11, 14.13, 14.15 and 14.17); its elements are known by their local names alone.
-use Rattle.std.specs.Prelude.{ℕ, Bool, true, false, ◌&&◌, ◌||◌, if◌then◌else◌, List, [], ◌∷◌, bytes_eq, codes, Option, Some, None, option_map, Result, Ok, Err}
-use Rattle.std.specs.Option.{option_map_or, option_and_then, ok_or}
+use Rattle.std.specs.Prelude.{ℕ, Bool, false, ◌&&◌, ◌||◌, if◌then◌else◌, List, [], ◌∷◌, bytes_eq, codes, Option, Some, None, option_map, Result}
+use Rattle.std.specs.Option.{option_map_or, ok_or}
 use Rattle.std.specs.List.{filter, last_or, list_all, list_any}
 use Rattle.dav_resource.specs.Tree.{Tree, elements_of}
 use Rattle.dav_resource.specs.declared.error.DavError.{DavError}

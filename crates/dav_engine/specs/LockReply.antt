@@ -1,5 +1,5 @@
 -- The replies to LOCK and UNLOCK (RFC 4918, sections 9.10, 9.11 and 10.5).
-use Rattle.std.specs.Prelude.{ℕ, Bool, true, ◌&&◌, not, if◌then◌else◌, List, [], ◌∷◌, ◌++◌, codes, Option, Some, None, is_some}
+use Rattle.std.specs.Prelude.{ℕ, true, ◌&&◌, not, if◌then◌else◌, ◌∷◌, codes, Option, Some, None, is_some}
 use Rattle.http.specs.declared.version.TheConstants.Version.{HTTP_11}
 use Rattle.http_header.specs.HeaderMap.{Entries}
 use Rattle.http_header.specs.FieldValue.{FieldValue, plain_value}

@@ -23,13 +23,13 @@ use Rattle.dav_store.specs.Logged.{Logged}
 use Rattle.dav_store.specs.Store.{Contents}
 use Rattle.dav_store.specs.Calls.{open_call}
 use Rattle.dav_store.specs.Locks.{grants}
-use Rattle.dav_store.specs.LockCalls.{asked_lock, is_named, has_named, refreshed, with_refreshed}
+use Rattle.dav_store.specs.LockCalls.{asked_lock, is_named, refreshed, with_refreshed}
 use Rattle.dav_store.specs.declared.lock.DavLock.{DavLock}
 use Rattle.dav_store.specs.declared.lock.LockError.{LockError}
 use Rattle.dav_store.specs.declared.lock.LockError.TheVariants as lock_errors
 use Rattle.dav_parts.specs.Conditions.{dav_if_match, submitted_tokens}
 use Rattle.dav_parts.specs.Dialogue.{Dialogue, Passed, Refuses, needs, look, ◌>>=◌, WasGranted}
-use Rattle.dav_parts.specs.Reply.{Reply, Answer}
+use Rattle.dav_parts.specs.Reply.{Answer}
 use Rattle.dav_engine.specs.Answered.{IsAnswered}
 use Rattle.dav_engine.specs.LockInfo.{lock_info_of, lock_info_verdict}
 use Rattle.dav_engine.specs.LockReply.{granted_reply, refreshed_reply}

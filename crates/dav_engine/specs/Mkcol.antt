@@ -1,5 +1,5 @@
 -- MKCOL (RFC 4918, section 9.3): makes a collection.
-use Rattle.std.specs.Prelude.{◌≡◌, if◌then◌else◌, List, [], codes, Option, Some, None}
+use Rattle.std.specs.Prelude.{◌≡◌, if◌then◌else◌, List, codes, Option, Some, None}
 use Rattle.http_header.specs.FieldValue.{FieldValue, plain_value}
 use Rattle.dav_resource.specs.PathText.{PathValue, url_text}
 use Rattle.dav_resource.specs.PathForms.{is_collection, prefixed}

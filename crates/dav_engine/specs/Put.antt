@@ -1,12 +1,10 @@
 -- PUT (RFC 9110, section 9.3.4; RFC 4918, section 9.7) and PATCH (RFC 5789, as SabreDAV has it): the body becomes what a file holds, or a part of it.
-use Rattle.std.specs.Prelude.{◌≡◌, ℕ, nat_eq, true, false, if◌then◌else◌, List, [], ◌∷◌, ◌++◌, length, Option, Some, None, is_some, Bool, not, ◌&&◌, ◌||◌, Result, Ok, Err}
+use Rattle.std.specs.Prelude.{◌≡◌, ℕ, nat_eq, true, false, if◌then◌else◌, List, [], ◌∷◌, ◌++◌, length, Option, Some, None, is_some, Bool, not, ◌&&◌, Result, Ok, Err}
 use Rattle.std.specs.Option.{option_map_or}
 use Rattle.std.specs.Result.{result_ok}
-use Rattle.std.specs.FinMap.{get, insert}
+use Rattle.std.specs.FinMap.{get}
 use Rattle.dav_resource.specs.Key.{Key}
 use Rattle.dav_resource.specs.Errors.{from_fs}
-use Rattle.dav_resource.specs.declared.etag.ETagList.{ETagList}
-use Rattle.dav_resource.specs.declared.etag.ETagList.TheVariants.{Star, Tags}
 use Rattle.dav_resource.specs.declared.meta.Meta.{Meta}
 use Rattle.dav_resource.specs.declared.meta.OpenOptions.{OpenOptions}
 use Rattle.dav_resource.specs.declared.meta.DavFile.{DavFile}
@@ -24,10 +22,9 @@ use Rattle.dav_resource.specs.declared.request.ReqBody.{ReqBody}
 use Rattle.dav_resource.specs.declared.request.ReqBody.TheVariants as bodies
 use Rattle.dav_resource.specs.declared.request.DavRequest.{DavRequest}
 use Rattle.dav_headers.specs.Body.{checksum_of}
-use Rattle.dav_headers.specs.TagList.{if_match_of, if_none_match_of}
 use Rattle.dav_store.specs.Logged.{Logged}
-use Rattle.dav_store.specs.Store.{Store, Contents, File}
-use Rattle.dav_store.specs.Calls.{Call, limit_of, open_call, file_call, bytes_at, written_at, Seeks, Writes}
+use Rattle.dav_store.specs.Store.{Store, Contents}
+use Rattle.dav_store.specs.Calls.{Call, open_call, file_call, bytes_at, written_at, Seeks, Writes}
 use Rattle.dav_parts.specs.Reply.{Answer}
 use Rattle.dav_engine.specs.PutReply.{put_reply}
 use Rattle.dav_engine.specs.State.{State}

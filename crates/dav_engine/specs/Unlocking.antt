@@ -1,5 +1,5 @@
 -- UNLOCK (RFC 4918, section 9.11): removes the lock of a token.
-use Rattle.std.specs.Prelude.{◌≡◌, ℕ, Bool, true, false, ◌&&◌, List, [], Option, Some, None, option_map, Result, Ok, Err, ◌⊎◌}
+use Rattle.std.specs.Prelude.{◌≡◌, ℕ, Bool, true, false, ◌&&◌, List, [], Option, Some, option_map, Result, Ok, Err, ◌⊎◌}
 use Rattle.std.specs.Option.{option_map_or, ok_or}
 use Rattle.dav_resource.specs.declared.meta.Meta.{Meta}
 use Rattle.dav_resource.specs.declared.error.DavError.{DavError}
