@@ -14,18 +14,18 @@ pub struct OutlineReader {
     line: u64,
     /// The elements that a further line may stand in, each at its level. Each of them is put into the one before it
     /// once a line shows that no more stands in it.
-    open: Vec<Element>,
+    unclosed: Vec<Element>,
 }
 
 impl OutlineReader {
     /// The outline that follows the line of this number, before its first line.
     pub fn new(alloc: Global, line: u64) -> OutlineReader
         ensures line { result.line ≡ line }
-        ensures empty { result.open.items ≡ [] }
+        ensures empty { result.unclosed.items ≡ [] }
     {
         OutlineReader {
             line,
-            open: Vec::new(alloc),
+            unclosed: Vec::new(alloc),
         }
     }
 
@@ -35,15 +35,15 @@ impl OutlineReader {
         ensures err { IfErr result IsOutlineError }
         ensures line { self.new.line ≡ self.old.line }
     {
-        let (level, node) = read_node(*self.open.allocator(), line)?;
-        if level > self.open.len() || (level == 0 && !self.open.is_empty()) {
+        let (level, node) = read_node(*self.unclosed.allocator(), line)?;
+        if level > self.unclosed.len() || (level == 0 && !self.unclosed.is_empty()) {
             return Err(Fault::BadOutline.into());
         }
         self.close(level)?;
         match node {
-            XMLNode::Element(element) => self.open.push(element)?,
+            XMLNode::Element(element) => self.unclosed.push(element)?,
             XMLNode::Text(text) => {
-                let around = self.open.last_mut().ok_or(Fault::BadOutline)?;
+                let around = self.unclosed.last_mut().ok_or(Fault::BadOutline)?;
                 around.children.push(XMLNode::Text(text))?;
             }
         }
@@ -53,13 +53,13 @@ impl OutlineReader {
     /// Puts each open element from this level on into the one before it. The root stays open.
     fn close(&mut self, level: usize) -> Result<(), AllocError>
         ensures line { self.new.line ≡ self.old.line }
-        ensures root { 0 < length self.old.open.items → 0 < length self.new.open.items }
+        ensures root { 0 < length self.old.unclosed.items → 0 < length self.new.unclosed.items }
     {
-        while self.open.len() > level.max(1) {
-            let Some(element) = self.open.pop() else {
+        while self.unclosed.len() > level.max(1) {
+            let Some(element) = self.unclosed.pop() else {
                 return Ok(());
             };
-            if let Some(around) = self.open.last_mut() {
+            if let Some(around) = self.unclosed.last_mut() {
                 around.push_element(element)?;
             }
         }
@@ -68,10 +68,10 @@ impl OutlineReader {
 
     /// The tree that the lines show. Without a line the fault is `BadOutline`, at the line that the outline follows.
     pub fn finish(mut self) -> Result<Element, ScriptError>
-        ensures { IfErr result (λ e. (e ≡ ScriptError.Memory) ⊎ ((e ≡ ScriptError.Fault self.line Fault.BadOutline) × (self.open.items ≡ []))) }
+        ensures { IfErr result (λ e. (e ≡ ScriptError.Memory) ⊎ ((e ≡ ScriptError.Fault self.line Fault.BadOutline) × (self.unclosed.items ≡ []))) }
     {
         self.close(1)?;
-        match self.open.pop() {
+        match self.unclosed.pop() {
             Some(root) => Ok(root),
             None => Err(ScriptError::Fault(self.line, Fault::BadOutline)),
         }
