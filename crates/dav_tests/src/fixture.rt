@@ -1,8 +1,8 @@
 //! What the tests share: requests, and a store and a lock system to serve them over.
 use crate::serve_over;
 use dav_engine::{
-    Body, DavLockSystem, DavPath, DavRequest, DavResult, FsError, GuardedFileSystem, Items,
-    LockToken, MemFs, MemLs, Op, Outcome, Record, Refusing, ReqBody,
+    Body, DavLock, DavLockSystem, DavPath, DavRequest, DavResult, FsError, GuardedFileSystem,
+    Items, LockToken, MemFs, MemLs, Op, Outcome, Record, Refusing, ReqBody, Text,
 };
 use http::{Method, Response};
 use http_header::{HeaderMap, HeaderName, HeaderValue};
@@ -40,6 +40,11 @@ pub fn token_of(alloc: Global, text: &str) -> Result<LockToken, Fail> {
     Ok(token.ok_or("no lock token")?)
 }
 
+/// Who sends a request.
+pub fn principal(alloc: Global, name: &str) -> Result<Option<Text>, Fail> {
+    Ok(Some(Text::from_string(String::from_str(alloc, name)?)))
+}
+
 fn headers_of(alloc: Global, fields: &[(&str, &str)]) -> Result<HeaderMap<HeaderValue>, Fail> {
     let mut headers = HeaderMap::new(alloc);
     for (name, value) in fields {
@@ -72,14 +77,19 @@ pub fn status(reply: &DavResult<Response<Body>>) -> u16 {
 
 /// The entity tag that a reply shows, or an empty text.
 pub fn etag(reply: &DavResult<Response<Body>>) -> &str {
+    header(reply, "etag")
+}
+
+/// What a reply shows in this header field, or an empty text.
+pub fn header<'r>(reply: &'r DavResult<Response<Body>>, name: &str) -> &'r str {
     match reply {
-        Ok(reply) => shown_etag(reply.headers()),
+        Ok(reply) => field(reply.headers(), name),
         Err(_) => "",
     }
 }
 
-fn shown_etag(headers: &HeaderMap<HeaderValue>) -> &str {
-    match headers.get("etag") {
+fn field<'h>(headers: &'h HeaderMap<HeaderValue>, name: &str) -> &'h str {
+    match headers.get(name) {
         Some(value) => value.to_str().unwrap_or(""),
         None => "",
     }
@@ -261,4 +271,43 @@ fn call_text(alloc: Global, record: &Record) -> Result<String, Fail> {
         text.push_str(path.as_url_string()?.as_str())?;
     }
     Ok(text)
+}
+
+// ---- locks
+
+/// The locks, in order: of each its token, whether it is exclusive or shared, its depth, its path and its timeout.
+pub fn lock_texts(alloc: Global, locks: &MemLs) -> Result<String, Fail> {
+    let mut texts = Vec::new(alloc);
+    for lock in locks.locks() {
+        texts.push(lock_text(alloc, lock)?)?;
+    }
+    if texts.is_empty() {
+        return Ok(String::from_str(alloc, "no lock")?);
+    }
+    Ok(texts.as_slice().join(alloc, ", ")?)
+}
+
+fn lock_text(alloc: Global, lock: &DavLock) -> Result<String, Fail> {
+    let token = lock.token.as_str();
+    let scope = if lock.shared { "shared" } else { "exclusive" };
+    let depth = if lock.deep { "infinity" } else { "0" };
+    let path = lock.path.as_url_string()?;
+    let timeout = seconds_text(alloc, lock.timeout)?;
+    Ok(format!(in alloc; "{token} {scope} {depth} {path} {timeout}")?)
+}
+
+/// When the locks end, in order and parted by blanks.
+pub fn lock_ends(alloc: Global, locks: &MemLs) -> Result<String, Fail> {
+    let mut ends = Vec::new(alloc);
+    for lock in locks.locks() {
+        ends.push(seconds_text(alloc, lock.timeout_at)?)?;
+    }
+    Ok(ends.as_slice().join(alloc, " ")?)
+}
+
+fn seconds_text(alloc: Global, seconds: Option<u64>) -> Result<String, Fail> {
+    match seconds {
+        Some(seconds) => Ok(format!(in alloc; "{seconds}")?),
+        None => Ok(String::from_str(alloc, "none")?),
+    }
 }

@@ -40,7 +40,11 @@ mod delete;
 #[cfg(test)]
 mod fixture;
 #[cfg(test)]
+mod lock;
+#[cfg(test)]
 mod locks;
+#[cfg(test)]
+mod outline;
 #[cfg(test)]
 mod parts;
 #[cfg(test)]
