@@ -1,6 +1,6 @@
 //! LOCK without a body, which refreshes a lock (RFC 4918, section 9.10.2).
 use super::{lock, locked, outcome, shown_tree, shown_words};
-use crate::fixture::{Server, calls, header, lock_ends, lock_texts, principal, status};
+use crate::fixture::{Server, calls, header, lock_ends, lock_texts, path_of, principal, status};
 use dav_engine::DavLockSystem;
 use std::alloc::Global;
 use std::process::Abort;
@@ -65,7 +65,7 @@ fn a_refreshed_lock_lasts_as_long_as_it_may(rt: HostRuntime) -> Result<(), Fail>
 /// The status of a refresh by this principal of a lock of alice's.
 fn refreshed_by(alloc: Global, name: &str) -> Result<u16, Fail> {
     let mut server = Server::with(alloc, &["/f"])?;
-    let path = crate::fixture::path_of(alloc, "/f")?;
+    let path = path_of(alloc, "/f")?;
     let alice = Some("alice");
     server
         .locks
