@@ -108,7 +108,7 @@ module _ (request : DavRequest) (lock : DavLock) where
   has_file : (file : DavFile) (old new : Contents) → (call old).bar ≡ None → IsOpened request.path (making_options request) file old new → HasFile request.path.key old new
   has_file file old new allowed h = record {
     made = λ nothing. record { tree = h.tree ∙ ap (λ node. insert old.tree request.path.key (File (bytes_at node))) nothing; properties = h.properties; limit = h.limit };
-    kept = λ there. (kept_node (get old.tree request.path.key) refl there, h.properties);
+    kept = λ there. (kept_node (get old.tree request.path.key) refl there, h.properties, h.limit);
   }
     where
       kept_node : (node : Option Node) → get old.tree request.path.key ≡ node → (get old.tree request.path.key ≢ None) → new.tree ≡ old.tree

@@ -19,7 +19,7 @@ abbrev pub IsPermitted : DavRequest → State → Key → Type 0
 IsPermitted request state key =
     (is_permitted request state key false ≡ true) ⊎ ((top : Key) × (is_at_or_below key top ≡ true) × (is_permitted request state top true ≡ true))
 
--- the empty file that a LOCK makes where nothing was (RFC 4918, section 7.3): it is under the lock just granted
+-- the empty file that a LOCK makes where nothing was (RFC 4918, section 7.3)
 pub record IsLockedFile (method : Option DavMethod) (request : DavRequest) (key : Key) (old new : Contents) : Type 0 where
   pub locks : method ≡ Some Lock
   pub here : key ≡ request.path.key

@@ -21,7 +21,7 @@ use Rattle.dav_headers.specs.declared.timeout.DavTimeout.{DavTimeout}
 use Rattle.dav_headers.specs.declared.timeout.DavTimeout.TheVariants.{Infinite, Seconds}
 use Rattle.dav_store.specs.Logged.{Logged}
 use Rattle.dav_store.specs.Store.{Contents}
-use Rattle.dav_store.specs.Calls.{open_call}
+use Rattle.dav_store.specs.Calls.{open_call, limit_of}
 use Rattle.dav_store.specs.Locks.{grants}
 use Rattle.dav_store.specs.LockCalls.{asked_lock, is_named, refreshed, with_refreshed}
 use Rattle.dav_store.specs.declared.lock.DavLock.{DavLock}
@@ -140,10 +140,10 @@ abbrev pub file_steps : DavRequest → Option Meta → Contents → Dialogue (Un
 file_steps request (Some meta) old = Passed tt
 file_steps request None old = needs (open_call old request.path.key (making_options request)) (lock_open_error (making_options request)) (Passed tt)
 
--- an empty file is made where nothing was; what was there stays
+-- an empty file is made where nothing was; what was there stays, and all else
 pub record HasFile (key : Key) (old new : Contents) : Type 0 where
   pub made : get old.tree key ≡ None → IsFileAt key [] old new
-  pub kept : get old.tree key ≢ None → (new.tree ≡ old.tree) × (new.properties ≡ old.properties)
+  pub kept : get old.tree key ≢ None → (new.tree ≡ old.tree) × (new.properties ≡ old.properties) × (limit_of new ≡ limit_of old)
 
 -- so it is where the call was granted; else all stays
 abbrev pub FileLeaves : DavRequest → List Logged → Contents → Contents → Type 0
