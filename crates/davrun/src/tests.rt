@@ -11,6 +11,7 @@ use std::io::{self, Read, Write};
 use std::process::Abort;
 use std::test::Fail;
 
+mod lock;
 mod outline;
 mod partial;
 mod refuse;
