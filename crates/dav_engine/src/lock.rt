@@ -38,8 +38,8 @@ impl<'a, C: Drop, F: GuardedFileSystem<C>, L: DavLockSystem> DavInner<'a, C, F, 
     /// Errors of a new lock: 405 without a lock system, 400 for Depth 1, the conditions' (RFC 7232; RFC 4918,
     /// section 10.4), `XmlParseError` for another body, 423 where the locks don't grant it, 412 where the
     /// conditions no longer hold as the file is made, 409 where its parent is no collection, else the store's
-    /// own; `Memory`. After each of them no file has been made, and no lock is left unless the lock system
-    /// didn't take it back, as a dependable one does.
+    /// own; `Memory`. After each of them no file has been made, and no lock is left; a lock system that isn't
+    /// dependable may have kept it.
     ///
     /// Errors of a refresh: 405, 400 unless the header If has one token, 412 where the locks don't permit the
     /// request to write at the path, or no lock of that token stands there or above; `Memory`, after which the

@@ -36,7 +36,7 @@ lock_token token = with_elements (prefixed_element (codes "D:locktoken")) (text_
 abbrev pub lock_root : PathValue → Tree
 lock_root path = with_elements (prefixed_element (codes "D:lockroot")) (href_element path ∷ [])
 
--- the owner last, as the client wrote it, where there is one
+-- the owner last, as the lock has it, where there is one
 abbrev pub active_lock : DavLock → Tree
 active_lock lock =
     with_elements (prefixed_element (codes "D:activelock"))
