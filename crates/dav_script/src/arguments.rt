@@ -1,0 +1,17 @@
+//! The arguments of a program.
+use crate::trouble::{Stopped, Trouble};
+use std::{env, io};
+
+/// The arguments without the program's name. One that isn't UTF-8 can't be a prefix.
+pub fn arguments_of(rt: &HostRuntime) -> Result<Vec<String>, Trouble> {
+    match env::args(rt) {
+        Ok(arguments) => Ok(
+            arguments
+                .skip(1)
+                .collect(rt.alloc())
+                .map_err(Stopped::from)?,
+        ),
+        Err(error) if error.kind() == io::ErrorKind::InvalidData => Err(Trouble::Usage),
+        Err(error) => Err(Stopped::from(error).into()),
+    }
+}

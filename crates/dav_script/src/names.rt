@@ -1,0 +1,94 @@
+//! The names that scripts have for calls of a store and for its errors.
+ghost use Rattle.std.specs.Prelude.{◌≡◌, Some, IfSome};
+ghost use Rattle.dav_store.specs.Calls.{IsOwn};
+ghost use Rattle.dav_script.specs.Refusals.{op_named, refusal_error};
+
+use dav_resource::{FsError, Op};
+
+/// The call of this name, as the store's trait has it; `entry` is the showing of a member in a listing.
+pub fn op_named(name: &str) -> Option<Op>
+    ensures { result ≡ op_named name.now }
+{
+    match name {
+        "metadata" => Some(Op::Metadata),
+        "read_dir" => Some(Op::ReadDir),
+        "create_dir" => Some(Op::CreateDir),
+        "open" => Some(Op::OpenFile),
+        "remove_file" => Some(Op::RemoveFile),
+        "remove_dir" => Some(Op::RemoveDir),
+        "copy" => Some(Op::Copy),
+        "rename" => Some(Op::Rename),
+        "seek" => Some(Op::Seek),
+        "write_bytes" => Some(Op::WriteBytes),
+        "flush" => Some(Op::Flush),
+        "file_metadata" => Some(Op::FileMetadata),
+        "get_prop" => Some(Op::GetProp),
+        "get_props" => Some(Op::GetProps),
+        "patch_props" => Some(Op::PatchProps),
+        "get_quota" => Some(Op::GetQuota),
+        "entry" => Some(Op::Entry),
+        _ => None,
+    }
+}
+
+/// The error of this name, where a store may refuse a call with it: not those that only the tree or the memory gives.
+pub fn refusal_error(name: &str) -> Option<FsError>
+    ensures value { result ≡ refusal_error name.now }
+    ensures own { IfSome result IsOwn }
+{
+    match name {
+        "NotImplemented" => Some(FsError::NotImplemented),
+        "GeneralFailure" => Some(FsError::GeneralFailure),
+        "Forbidden" => Some(FsError::Forbidden),
+        "InsufficientStorage" => Some(FsError::InsufficientStorage),
+        "LoopDetected" => Some(FsError::LoopDetected),
+        "PathTooLong" => Some(FsError::PathTooLong),
+        "TooLarge" => Some(FsError::TooLarge),
+        "IsRemote" => Some(FsError::IsRemote),
+        _ => None,
+    }
+}
+
+/// The name of a call, by which it is read.
+pub fn op_name(op: Op) -> &'static str
+    ensures { op_named result.now ≡ Some op }
+{
+    match op {
+        Op::Metadata => "metadata",
+        Op::ReadDir => "read_dir",
+        Op::CreateDir => "create_dir",
+        Op::OpenFile => "open",
+        Op::RemoveFile => "remove_file",
+        Op::RemoveDir => "remove_dir",
+        Op::Copy => "copy",
+        Op::Rename => "rename",
+        Op::Seek => "seek",
+        Op::WriteBytes => "write_bytes",
+        Op::Flush => "flush",
+        Op::FileMetadata => "file_metadata",
+        Op::GetProp => "get_prop",
+        Op::GetProps => "get_props",
+        Op::PatchProps => "patch_props",
+        Op::GetQuota => "get_quota",
+        Op::Entry => "entry",
+    }
+}
+
+/// The name of an error, by which it is read where a store may refuse a call with it.
+pub fn error_name(error: FsError) -> &'static str
+    ensures { IsOwn error → refusal_error result.now ≡ Some error }
+{
+    match error {
+        FsError::NotImplemented => "NotImplemented",
+        FsError::GeneralFailure => "GeneralFailure",
+        FsError::Exists => "Exists",
+        FsError::NotFound => "NotFound",
+        FsError::Forbidden => "Forbidden",
+        FsError::InsufficientStorage => "InsufficientStorage",
+        FsError::LoopDetected => "LoopDetected",
+        FsError::PathTooLong => "PathTooLong",
+        FsError::TooLarge => "TooLarge",
+        FsError::IsRemote => "IsRemote",
+        FsError::Memory => "Memory",
+    }
+}

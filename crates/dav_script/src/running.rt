@@ -1,0 +1,123 @@
+//! A program that serves a script: the script in, what is printed of it out.
+ghost use Rattle.std.specs.Prelude.{◌≡◌, ◌⊎◌, ◌<◌, length, IfErr, IfOk, IfSome, IsErr, IsErrOf, IsOk, OnOk};
+ghost use Rattle.std.specs.Io.KnownBytes.{Appends, IsAtEnd};
+ghost use Rattle.dav_resource.specs.PathText.{read_prefix};
+ghost use Rattle.dav_resource.specs.Texts.{texts};
+ghost use Rattle.dav_script.specs.Arguments.{AreUsable};
+ghost use Rattle.dav_script.specs.Status.{SaysFault, trouble_line};
+
+use crate::faults::ScriptError;
+use crate::serving::Session;
+use crate::trouble::{Stopped, Trouble, report};
+use dav_resource::{DavError, DavPath};
+use std::alloc::Global;
+use std::io::{Read, Write};
+
+/// What a program makes of a script.
+pub trait Script: Drop {
+    /// Reads a script, whole. The error is the fault of the first line that has one, or `Memory`.
+    fn read(alloc: Global, text: &[u8]) -> Result<Self, ScriptError>;
+
+    /// Serves it in order, and prints what is answered.
+    fn serve<O: Write>(
+        self,
+        alloc: Global,
+        session: &mut Session<'_>,
+        output: &mut O,
+    ) -> Result<(), Stopped>;
+}
+
+/// Runs the program of this name on its arguments without its name, and gives its status: 0 where the whole script
+/// was served, 2 where the arguments aren't one prefix or none or a line of the script is at fault, 3 where reading,
+/// writing or memory failed. With 2 nothing was served or printed, and one line of `errors` says why; with 0 nothing
+/// was said in `errors`.
+pub fn run_script<S: Script, I: Read, O: Write, E: Write>(
+    alloc: Global,
+    program: &str,
+    arguments: &[String],
+    input: &mut I,
+    output: &mut O,
+    errors: &mut E,
+) -> u8
+    ensures status { (result ≡ 0) ⊎ (result ≡ 2) ⊎ (result ≡ 3) }
+
+    // More than one argument: nothing is read, and the usage is said.
+    ensures unread { 1 < length arguments.now → input.new ≡ input.old }
+    ensures usage { 1 < length arguments.now → result ≡ 2
+        → Appends (E.contents errors.old) (E.contents errors.new) (trouble_line program.now Trouble.Usage) }
+
+    // With 0 the arguments were usable, the script was read to its end, and nothing was said.
+    ensures arguments { result ≡ 0 → AreUsable (texts arguments.now) }
+    ensures whole { result ≡ 0 → IsAtEnd (I.remaining input.new) }
+    ensures served { result ≡ 0 → errors.new ≡ errors.old }
+
+    // With 2 nothing was printed, and what is at fault was said.
+    ensures refused { result ≡ 2 → output.new ≡ output.old }
+    ensures said { result ≡ 2 → SaysFault program.now (texts arguments.now) (E.contents errors.old) (E.contents errors.new) }
+{
+    let (prefix, script) = match read_all::<S, I>(alloc, arguments, input) {
+        Ok(read) => read,
+        Err(trouble) => return report(errors, program, trouble),
+    };
+    match serve_all(alloc, prefix, script, output) {
+        Ok(()) => 0,
+        Err(stopped) => report(errors, program, Trouble::Stopped(stopped)),
+    }
+}
+
+/// The prefix, and then the whole script.
+fn read_all<'a, S: Script, I: Read>(
+    alloc: Global,
+    arguments: &'a [String],
+    input: &mut I,
+) -> Result<(&'a str, S), Trouble>
+    ensures usage { 1 < length arguments.now → IsErrOf result Trouble.Usage × (input.new ≡ input.old) }
+    ensures usable { OnOk result (AreUsable (texts arguments.now)) }
+    ensures unusable { IfErr result (λ e. e ≡ Trouble.Usage → ¬ (AreUsable (texts arguments.now))) }
+    ensures whole { OnOk result (IsAtEnd (I.remaining input.new)) }
+{
+    let prefix = match arguments {
+        [] => "",
+        [prefix] => prefix.as_str(),
+        _ => return Err(Trouble::Usage),
+    };
+    check_prefix(alloc, prefix)?;
+    let script = read_input(alloc, input)?;
+    Ok((prefix, S::read(alloc, script.as_slice())?))
+}
+
+/// Whether a prefix can be read: it is empty, or begins with `/` and has segments as a path has them.
+fn check_prefix(alloc: Global, prefix: &str) -> Result<(), Trouble>
+    ensures ok { OnOk result (IsOk (read_prefix prefix.now)) }
+    ensures err { IfErr result (λ e. (e ≡ Trouble.Stopped Stopped.Memory) ⊎ ((e ≡ Trouble.Usage) × IsErr (read_prefix prefix.now))) }
+{
+    match DavPath::from_str_and_prefix(alloc, "/", prefix) {
+        // Of a prefix that can be read, the root is below it or not.
+        Ok(_) | Err(DavError::IllegalPath) => Ok(()),
+        Err(DavError::Memory) => Err(Stopped::Memory.into()),
+        Err(_) => Err(Trouble::Usage),
+    }
+}
+
+/// The bytes that are left of the input, all of them.
+fn read_input<I: Read>(alloc: Global, input: &mut I) -> Result<Vec<u8>, Stopped>
+    ensures bytes { IfOk result (λ script. IfSome (I.remaining input.old) (λ bytes. script.items ≡ bytes)) }
+    ensures whole { OnOk result (IsAtEnd (I.remaining input.new)) }
+{
+    let mut script = Vec::new(alloc);
+    input.read_to_end(&mut script)?;
+    Ok(script)
+}
+
+/// Serves a script over a store and a lock system of its own, and prints what is answered and then what both hold.
+fn serve_all<S: Script, O: Write>(
+    alloc: Global,
+    prefix: &str,
+    script: S,
+    output: &mut O,
+) -> Result<(), Stopped> {
+    let mut session = Session::new(alloc, prefix)?;
+    script.serve(alloc, &mut session, output)?;
+    session.print_end(alloc, output)?;
+    Ok(output.flush()?)
+}

@@ -1,5 +1,0 @@
-use Rattle.davrun.proofs.OutlineLines.{IsCharBoundary-spaces}
-use Rattle.davrun.proofs.outline_line.split_level.Goals as goal
-
-pub split_at-requires : goal.split_at-requires
-split_at-requires c = rw (c.spaces-spaces.ensures.value, c.as_bytes.ensures.value) (IsCharBoundary-spaces c.args.line.now c.utf8.line)
