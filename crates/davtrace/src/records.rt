@@ -1,0 +1,55 @@
+//! The records of a store's log, printed.
+use dav_resource::{Outcome, Record};
+use dav_script::{Stopped, error_name, op_name};
+use dav_store::{GuardedFileSystem, MemFs, Refusing};
+use std::alloc::{AllocError, Global};
+use std::io::Write;
+
+/// Prints a line for each record of the store's log, in order, and empties the log.
+pub fn print_records<O: Write>(
+    alloc: Global,
+    output: &mut O,
+    store: &mut Refusing<MemFs>,
+) -> Result<(), Stopped> {
+    for record in GuardedFileSystem::<()>::records(store) {
+        let text = record_text(alloc, record)?;
+        writeln!(output, "- {text}")?;
+    }
+    GuardedFileSystem::<()>::clear_log(store);
+    Ok(())
+}
+
+/// A record: the call, its paths without their last slashes, which don't count, how it ended, and the statuses that it
+/// answered.
+fn record_text(alloc: Global, record: &Record) -> Result<String, AllocError> {
+    let mut text = String::from_str(alloc, op_name(record.op))?;
+    for path in record.paths.as_slice() {
+        text.push(' ')?;
+        text.push_str(without_slash(path.as_url_string()?.as_str()))?;
+    }
+    push_outcome(&mut text, record.outcome)?;
+    for status in record.statuses.as_slice() {
+        let code = status.as_u16();
+        write!(text, " {code}")?;
+    }
+    Ok(text)
+}
+
+/// A path's text without its last slash. The root's has no other.
+fn without_slash(path: &str) -> &str {
+    match path.strip_suffix('/') {
+        Some(key) if !key.is_empty() => key,
+        _ => path,
+    }
+}
+
+/// Adds how a call ended.
+fn push_outcome(text: &mut String, outcome: Outcome) -> Result<(), AllocError> {
+    let (word, error) = match outcome {
+        Outcome::Granted => return text.push_str(" granted"),
+        Outcome::Barred(error) => (" barred ", error),
+        Outcome::Refused(error) => (" refused ", error),
+    };
+    text.push_str(word)?;
+    text.push_str(error_name(error))
+}

@@ -1,0 +1,160 @@
+//! A script of requests and of calls, in order.
+use crate::call::CallLine;
+use crate::records::print_records;
+use dav_script::{
+    Block, BlockReader, Fault, LineError, OutlineReader, Script, ScriptError, Session, Stopped,
+};
+use std::alloc::Global;
+use std::io::Write;
+
+/// The blocks of a script, in order.
+#[derive(Drop)]
+pub struct Trace {
+    steps: Vec<Step>,
+}
+
+/// A block of a script.
+#[derive(Drop)]
+enum Step {
+    /// One request.
+    Request(Block),
+    /// Lines that call the store or the lock system themselves.
+    Calls(Vec<CallLine>),
+}
+
+impl Script for Trace {
+    fn read(alloc: Global, text: &[u8]) -> Result<Trace, ScriptError> {
+        let mut reader = TraceReader {
+            steps: Vec::new(alloc),
+            blocks: BlockReader::new(alloc),
+            calls: None,
+        };
+        for (number, line) in (1..=u64::MAX).zip(text.split(|byte| *byte == b'\n')) {
+            reader.read_line(number, line)?;
+        }
+        reader.end_block()?;
+        Ok(Trace {
+            steps: reader.steps,
+        })
+    }
+
+    fn serve<O: Write>(
+        self,
+        alloc: Global,
+        session: &mut Session<'_>,
+        output: &mut O,
+    ) -> Result<(), Stopped> {
+        let mut file = None;
+        for step in self.steps {
+            match step {
+                Step::Request(block) => {
+                    session.serve(alloc, block, output)?;
+                    print_records(alloc, output, &mut session.store)?;
+                }
+                Step::Calls(calls) => {
+                    for call in calls {
+                        call.make(alloc, session, &mut file, output)?;
+                    }
+                }
+            }
+            output.write_all(b"\n")?;
+        }
+        Ok(())
+    }
+}
+
+/// What has been read of a script.
+#[derive(Drop)]
+struct TraceReader {
+    steps: Vec<Step>,
+    /// What reads the blocks with requests.
+    blocks: BlockReader,
+    /// The block of calls that further lines belong to.
+    calls: Option<OpenCalls>,
+}
+
+impl TraceReader {
+    /// Reads the line of this number, without its line feed.
+    fn read_line(&mut self, number: u64, line: &[u8]) -> Result<(), ScriptError> {
+        if line.is_empty() {
+            return self.end_block();
+        }
+        match &mut self.calls {
+            Some(calls) => calls.read_line(number, line),
+            None if !self.blocks.is_in_block() && line.starts_with(b"! ") => {
+                let mut calls = OpenCalls {
+                    lines: Vec::new(*self.steps.allocator()),
+                    outline: None,
+                };
+                calls.read_line(number, line)?;
+                self.calls = Some(calls);
+                Ok(())
+            }
+            None => self.read_request_line(number, line),
+        }
+    }
+
+    /// Reads a line of a block with a request.
+    fn read_request_line(&mut self, number: u64, line: &[u8]) -> Result<(), ScriptError> {
+        if let Some(block) = self.blocks.read_line(number, line)? {
+            self.steps.push(Step::Request(block))?;
+        }
+        Ok(())
+    }
+
+    /// Ends the block that is open, where one is.
+    fn end_block(&mut self) -> Result<(), ScriptError> {
+        if let Some(block) = self.blocks.end_block()? {
+            self.steps.push(Step::Request(block))?;
+        }
+        if let Some(calls) = self.calls.take() {
+            self.steps.push(Step::Calls(calls.end()?))?;
+        }
+        Ok(())
+    }
+}
+
+/// A block of calls, of which some lines were read.
+#[derive(Drop)]
+struct OpenCalls {
+    lines: Vec<CallLine>,
+    /// The outline that further lines belong to.
+    outline: Option<OutlineReader>,
+}
+
+impl OpenCalls {
+    /// Reads the line of this number: a call, or a line of the outline that follows `! xml`.
+    fn read_line(&mut self, number: u64, line: &[u8]) -> Result<(), ScriptError> {
+        let Ok(text) = str::from_utf8(line) else {
+            return Err(ScriptError::Fault(number, Fault::NotUtf8));
+        };
+        match self.read_text(number, text) {
+            Ok(()) => Ok(()),
+            Err(error) => Err(error.at(number)),
+        }
+    }
+
+    fn read_text(&mut self, number: u64, text: &str) -> Result<(), LineError> {
+        if let Some(outline) = &mut self.outline {
+            return outline.read_line(text);
+        }
+        let alloc = *self.lines.allocator();
+        let text = text.strip_prefix("! ").ok_or(Fault::UnknownDirective)?;
+        if text == "xml" {
+            self.outline = Some(OutlineReader::new(alloc, number));
+            return Ok(());
+        }
+        self.lines.push(CallLine::read(alloc, text)?)?;
+        Ok(())
+    }
+
+    /// The whole block.
+    fn end(mut self) -> Result<Vec<CallLine>, ScriptError> {
+        if let Some(outline) = self.outline.take() {
+            let alloc = *self.lines.allocator();
+            self.lines
+                .push(CallLine::of_tree(alloc, outline.finish()?)?)?;
+        }
+        Ok(self.lines)
+    }
+}
