@@ -36,18 +36,20 @@ pub fn serve_over<'a, F: GuardedFileSystem<()>, L: DavLockSystem>(
 #[cfg(test)]
 mod conditions;
 #[cfg(test)]
-mod delete;
+mod elements;
+#[cfg(test)]
+mod engine;
+#[cfg(test)]
+mod errors;
 #[cfg(test)]
 mod fixture;
 #[cfg(test)]
-mod lock;
+mod headers;
 #[cfg(test)]
-mod locks;
+mod lock;
 #[cfg(test)]
 mod outline;
 #[cfg(test)]
-mod parts;
+mod trees;
 #[cfg(test)]
-mod put;
-#[cfg(test)]
-mod tests;
+mod values;
