@@ -3,8 +3,6 @@ use Rattle.std.proofs.Common.{◌≡◌, Bool, true, false, List, ◌∷◌, [],
 use Rattle.std.specs.Option.{ForSome, option_map_or}
 use Rattle.dav_resource.specs.declared.error.DavError.TheVariants.{Memory}
 use Rattle.dav_resource.specs.declared.meta.Meta.{Meta}
-use Rattle.dav_resource.specs.declared.method.DavMethod.{DavMethod}
-use Rattle.dav_resource.specs.declared.method.DavMethod.TheVariants.{Head, Get, Put, Patch, Options, PropFind, PropPatch, MkCol, Copy, Move, Delete, Lock, Unlock}
 use Rattle.dav_resource.specs.declared.request.DavRequest.{DavRequest}
 use Rattle.dav_resource.specs.PathText.{PathValue}
 use Rattle.dav_store.specs.Logged.{Logged}
@@ -19,7 +17,9 @@ use Rattle.dav_engine.specs.Locking.{is_refresh, lock_asked, AddsToLocks, TakesB
 use Rattle.dav_engine.specs.Unlocking.{Unlocks, UnlocksNothing}
 use Rattle.dav_engine.specs.Rules.{depth_or_all, fixed_path}
 use Rattle.dav_walks.specs.Deletion.{Removes}
-use Rattle.dav_engine.specs.Methods.{Work, WorkCut}
+use Rattle.dav_engine.specs.Settings.{Settings}
+use Rattle.dav_engine.specs.Method.{Method}
+use Rattle.dav_engine.specs.Methods.{mkcol_method, write_method, delete_method, lock_method, unlock_method}
 
 -- ---- by what becomes of the locks
 
@@ -88,47 +88,36 @@ module _ (request : DavRequest) (found : Option Meta) (old new : State) (records
       by_end (inr is) = refreshed request cut.token old new is h
   lock_cut false cut h = taken_back (lock_asked request found cut.info) old new cut.locks h
 
-  worked : (method : Option DavMethod) → Work method request found old records answer new → IsCompatible old → IsCompatible new
-  worked (Some MkCol) work h = stay old new work.1 h
-  worked (Some Put) work h = stay old new work.1 h
-  worked (Some Patch) work h = stay old new work.1 h
-  worked (Some Delete) work h = by_names work.names request.path old new work.locks h
-  worked (Some Lock) work h = locked (is_refresh request.body) work h
-  worked (Some Unlock) work h = by_end work.done
-    where
-      by_end : Unlocks request found work.token old answer new ⊎ UnlocksNothing request work.token old answer new → IsCompatible new
-      by_end (inl gone) = changed _ (λ list. compatible_without request.path.key work.token list) old new gone.locks h
-      by_end (inr none) = stay old new none.locks h
-  worked None work h = absurd work
-  worked (Some Head) work h = absurd work
-  worked (Some Get) work h = absurd work
-  worked (Some Options) work h = absurd work
-  worked (Some PropFind) work h = absurd work
-  worked (Some PropPatch) work h = absurd work
-  worked (Some Copy) work h = absurd work
-  worked (Some Move) work h = absurd work
+-- locks that stand together before a method's work do so after it
+abbrev pub Keeps : Method → Type 0
+Keeps method =
+    (settings : Settings) (request : DavRequest) (found : method.Found) (old new : State) (records : List Logged) (answer : Answer)
+    → method.Work settings request found old records answer new ⊎ ((answer ≡ Err Memory) × method.Cut settings request found old records new) → IsCompatible old → IsCompatible new
 
-  cut_short : (method : Option DavMethod) → WorkCut method request found old records new → IsCompatible old → IsCompatible new
-  cut_short (Some MkCol) cut h = stay old new cut.1 h
-  cut_short (Some Put) cut h = stay old new cut.1 h
-  cut_short (Some Patch) cut h = stay old new cut.1 h
-  cut_short (Some Delete) cut h = by_end cut.locks
-    where
-      by_end : LocksStay old new ⊎ (Removes (depth_or_all request) (fixed_path request.path found) old.contents new.contents records [] × DropsLocks request.path.key old new) → IsCompatible new
-      by_end (inl same) = stay old new same h
-      by_end (inr gone) = dropped request.path old new gone.1 h
-  cut_short (Some Lock) cut h = lock_cut (is_refresh request.body) cut h
-  cut_short (Some Unlock) cut h = compatible_same old new cut.same h
-  cut_short None cut h = absurd cut
-  cut_short (Some Head) cut h = absurd cut
-  cut_short (Some Get) cut h = absurd cut
-  cut_short (Some Options) cut h = absurd cut
-  cut_short (Some PropFind) cut h = absurd cut
-  cut_short (Some PropPatch) cut h = absurd cut
-  cut_short (Some Copy) cut h = absurd cut
-  cut_short (Some Move) cut h = absurd cut
+pub keeps_mkcol : Keeps mkcol_method
+keeps_mkcol settings request found old new records answer (inl work) h = stay old new work.1 h
+keeps_mkcol settings request found old new records answer (inr cut) h = stay old new cut.1.1 h
 
-pub compatible_work : (method : Option DavMethod) (request : DavRequest) (found : Option Meta) (old new : State) (records : List Logged) (answer : Answer)
-    → Work method request found old records answer new ⊎ ((answer ≡ Err Memory) × WorkCut method request found old records new) → IsCompatible old → IsCompatible new
-compatible_work method request found old new records answer (inl work) h = worked request found old new records answer method work h
-compatible_work method request found old new records answer (inr cut) h = cut_short request found old new records answer method cut.1 h
+pub keeps_put : (partial : Bool) → Keeps (write_method partial)
+keeps_put partial settings request found old new records answer (inl work) h = stay old new work.1 h
+keeps_put partial settings request found old new records answer (inr cut) h = stay old new cut.1.1 h
+
+pub keeps_delete : Keeps delete_method
+keeps_delete settings request found old new records answer (inl work) h = by_names work.names request.path old new work.locks h
+keeps_delete settings request found old new records answer (inr cut) h = by_end cut.1.locks
+  where
+    by_end : LocksStay old new ⊎ (Removes (depth_or_all request) (fixed_path request.path (Some found)) old.contents new.contents records [] × DropsLocks request.path.key old new) → IsCompatible new
+    by_end (inl same) = stay old new same h
+    by_end (inr gone) = dropped request.path old new gone.1 h
+
+pub keeps_lock : Keeps lock_method
+keeps_lock settings request found old new records answer (inl work) h = locked request found old new records answer (is_refresh request.body) work h
+keeps_lock settings request found old new records answer (inr cut) h = lock_cut request found old new records answer (is_refresh request.body) cut.1 h
+
+pub keeps_unlock : Keeps unlock_method
+keeps_unlock settings request found old new records answer (inl work) h = by_end work.done
+  where
+    by_end : Unlocks request found work.token old answer new ⊎ UnlocksNothing request work.token old answer new → IsCompatible new
+    by_end (inl gone) = changed _ (λ list. compatible_without request.path.key work.token list) old new gone.locks h
+    by_end (inr none) = stay old new none.locks h
+keeps_unlock settings request found old new records answer (inr cut) h = compatible_same old new cut.1.same h

@@ -1,5 +1,5 @@
 -- DELETE: its rules, and its work.
-use Rattle.std.proofs.Common.{◌≡◌, ◌≢◌, ◌⊎◌, ◌∙◌, ℕ, Bool, true, false, if◌then◌else◌, List, [], ◌∷◌, ◌++◌, Option, Some, Result, Ok, Err, inl, inr, refl, sym, ap, subst, append-nil, option_map}
+use Rattle.std.proofs.Common.{◌≡◌, ◌≢◌, ◌⊎◌, ◌∙◌, ℕ, true, if◌then◌else◌, List, [], ◌∷◌, ◌++◌, Option, Some, Result, Ok, Err, inl, inr, refl, sym, ap, subst, append-nil, option_map}
 use Rattle.std.specs.Option.{option_map_or}
 use Rattle.std.specs.Result.{IsErrAnd}
 use Rattle.http.specs.declared.response.Response.{Response}
@@ -12,52 +12,44 @@ use Rattle.dav_resource.specs.declared.error.DavError.TheVariants.{Memory, Statu
 use Rattle.dav_resource.specs.declared.error.FsError.{FsError}
 use Rattle.dav_resource.specs.declared.error.FsError.TheVariants as fs_errors
 use Rattle.dav_resource.specs.declared.meta.Meta.{Meta}
-use Rattle.dav_resource.specs.declared.method.DavMethod.TheVariants.{Delete}
+use Rattle.dav_resource.specs.declared.record.Outcome.{Outcome}
 use Rattle.dav_resource.specs.declared.record.Outcome.TheVariants as outcomes
 use Rattle.dav_resource.specs.declared.request.Body.{Body}
 use Rattle.dav_resource.specs.declared.request.Depth.{Depth}
 use Rattle.dav_resource.specs.declared.request.DavRequest.{DavRequest}
 use Rattle.dav_store.specs.Store.{Store}
-use Rattle.dav_store.specs.Calls.{Grants, Declines, IsMetaAt, metadata_call, record_of}
+use Rattle.dav_store.specs.Calls.{Grants, Declines, IsLawful, IsMetaAt, metadata_call, record_of, error_of}
 use Rattle.dav_store.specs.Locks.{Locks}
-use Rattle.dav_parts.specs.Dialogue.{Passed, Refuses, Judges}
+use Rattle.dav_parts.specs.Dialogue.{Passed, Refuses, LeadsTo, Judges}
 use Rattle.dav_parts.specs.Conditions.{conditions}
-use Rattle.dav_parts.specs.Dialogues.{judges_exit, judges_then, judges_pure, judges_if, needs-declined}
+use Rattle.dav_parts.specs.Dialogues.{judges_exit, judges_then, judges_pure, judges_if}
 use Rattle.dav_parts.specs.Multistatus.{Item, multi_answer}
 use Rattle.dav_parts.specs.Reply.{reply_of, Answer, answer_of}
 use Rattle.dav_walks.specs.Deletion.{Removes, RemovesInPart, Removal, RemovesOrStops, removal_answer}
 use Rattle.dav_walks.specs.RemovalLaws.{nothing_removed, whole_in_part}
 use Rattle.dav_engine.specs.State.{State, Seen, state_of, facts_of, LocksStay, DropsLocks, DropsSeen}
-use Rattle.dav_engine.specs.Rules.{judged, as_found, must_find, is_permitted, depth_or_all, depth_verdict, fixed_path}
+use Rattle.dav_engine.specs.Rules.{judged, told_by_look, or_refused, must_find, is_permitted, depth_or_all, depth_verdict, fixed_path}
 use Rattle.dav_engine.specs.Delete.{delete_rules, told_items, LeavesLocks, DeleteWork, DeleteCut}
-use Rattle.dav_engine.specs.Step.{Works}
+use Rattle.dav_engine.specs.Step.{Performs}
 
 -- ---- the rules
 
 pub judges_verdict : {A : Type 0} (verdict : Result A DavError) (store : Store) → Judges (judged verdict) store verdict store
 judges_verdict (Ok a) store = judges_pure (Passed a) store (Ok a) refl
-judges_verdict (Err e) store = judges_pure (Refuses e) store (Err e) (inl refl)
+judges_verdict (Err e) store = judges_pure (Refuses (Err e)) store (Err e) (inl refl)
 
 -- the verdict that is known
 pub judges_known : {A : Type 0} (verdict known : Result A DavError) (store : Store) → verdict ≡ known → Judges (judged verdict) store known store
 judges_known verdict known store is = subst (λ v. Judges (judged verdict) store v store) is (judges_verdict verdict store)
 
-pub found_error : (verdict : Result Meta DavError) (e : DavError) → IsErrAnd verdict (λ d. d ≡ e) → IsErrAnd (as_found verdict) (λ d. d ≡ e)
-found_error (Ok meta) e is = is
-found_error (Err d) e is = is
-
-pub found_if : (permitted : Bool) (meta : Meta) (e : DavError) (verdict : Result Meta DavError) → verdict ≡ (if permitted then Ok meta else Err e) → as_found verdict ≡ (if permitted then Ok (Some meta) else Err e)
-found_if true meta e verdict is = ap as_found is
-found_if false meta e verdict is = ap as_found is
-
 -- a look whose refusal refuses the request
-pub finds : (key : Key) (meta : Meta) (old new : Store) → Grants (metadata_call old.contents key) (IsMetaAt key meta) old new → Judges (must_find old.contents key) old (Ok (Some meta)) new
+pub finds : (key : Key) (meta : Meta) (old new : Store) → Grants (metadata_call old.contents key) (IsMetaAt key meta) old new → Judges (must_find old.contents key) old (Ok meta) new
 finds key meta old new h = record {
   records = record_of (metadata_call old.contents key) outcomes.Granted ∷ [];
   told = h.told;
   same = h.effect.same;
   fixed = h.fixed;
-  ends = (refl, h.allowed, ap Passed (sym h.effect.answer));
+  ends = (refl, h.allowed, ap (λ found. or_refused (told_by_look outcomes.Granted found)) (sym h.effect.answer));
 }
 
 pub finds_nothing : (key : Key) (e : FsError) (old new : Store) → ((e ≡ fs_errors.Memory) × (new ≡ old)) ⊎ Declines (metadata_call old.contents key) e old new → Judges (must_find old.contents key) old (Err (from_fs e)) new
@@ -67,27 +59,32 @@ finds_nothing key e old new (inr h) = record {
   told = h.told;
   same = h.same;
   fixed = h.fixed;
-  ends = inl (needs-declined (metadata_call old.contents key) from_fs _ e h.outcome h.cause h.lawful);
+  ends = inl (declined h.outcome h.cause h.lawful);
 }
+  where
+    declined : (outcome : Outcome) → error_of outcome ≡ Some e → IsLawful (metadata_call old.contents key).bar outcome → LeadsTo (must_find old.contents key) (record_of (metadata_call old.contents key) outcome ∷ []) (Refuses (Err (from_fs e)))
+    declined outcomes.Granted cause lawful = absurd cc
+    declined (outcomes.Barred d) cause lawful = let is : d ≡ e = cc in (refl, lawful, rw is refl)
+    declined (outcomes.Refused d) cause lawful = let is : d ≡ e = cc in (refl, lawful, rw is refl)
 
 module _ (request : DavRequest) (state : State) (old mid new : Store) (meta : Meta) (reached : depth_verdict (depth_or_all request) ≡ Ok tt)
-    (found : Judges (must_find state.contents request.path.key) old (Ok (Some meta)) mid) where
+    (found : Judges (must_find state.contents request.path.key) old (Ok meta) mid) where
   -- a condition refuses the request, by the exit of a `?`
-  pub delete_unheld : (e : DavError) (verdict : Result (Option Meta) DavError) → IsErrAnd verdict (λ d. d ≡ e) → Judges (conditions state.contents state.locks request (Some meta) request.path) mid (Err e) new
+  pub delete_unheld : (e : DavError) (verdict : Result Meta DavError) → IsErrAnd verdict (λ d. d ≡ e) → Judges (conditions state.contents state.locks request (Some meta) request.path) mid (Err e) new
       → Judges (delete_rules request state) old verdict new
   delete_unheld e verdict exit held =
       judges_then _ (judged (depth_verdict (depth_or_all request))) old old new tt verdict (judges_known _ (Ok tt) old reached)
-      (judges_then _ (must_find state.contents request.path.key) old mid new (Some meta) verdict found
+      (judges_then _ (must_find state.contents request.path.key) old mid new meta verdict found
       (judges_exit _ (conditions state.contents state.locks request (Some meta) request.path) mid new e verdict exit held))
 
   -- the conditions hold, and the locks decide
-  pub delete_held : (tokens : List (List ℕ)) (verdict : Result (Option Meta) DavError) → Judges (conditions state.contents state.locks request (Some meta) request.path) mid (Ok tokens) new
-      → verdict ≡ (if is_permitted request state request.path.key true then Ok (Some meta) else Err (Status 423)) → Judges (delete_rules request state) old verdict new
+  pub delete_held : (tokens : List (List ℕ)) (verdict : Result Meta DavError) → Judges (conditions state.contents state.locks request (Some meta) request.path) mid (Ok tokens) new
+      → verdict ≡ (if is_permitted request state request.path.key true then Ok meta else Err (Status 423)) → Judges (delete_rules request state) old verdict new
   delete_held tokens verdict held permitted =
       judges_then _ (judged (depth_verdict (depth_or_all request))) old old new tt verdict (judges_known _ (Ok tt) old reached)
-      (judges_then _ (must_find state.contents request.path.key) old mid new (Some meta) verdict found
+      (judges_then _ (must_find state.contents request.path.key) old mid new meta verdict found
       (judges_then _ (conditions state.contents state.locks request (Some meta) request.path) mid new new tokens verdict held
-      (judges_if (is_permitted request state request.path.key true) (Some meta) (Status 423) new verdict permitted)))
+      (judges_if (is_permitted request state request.path.key true) meta (Status 423) new verdict permitted)))
 
 -- ---- the work
 
@@ -136,7 +133,7 @@ module _ (request : DavRequest) (meta : Meta) where
   path = fixed_path request.path (Some meta)
 
   abbrev Deletes : Seen → Answer → Seen → Type 0
-  Deletes = Works (Some Delete) request (Some meta)
+  Deletes = Performs (DeleteWork request meta) (DeleteCut request meta)
 
   -- nothing was begun
   pub works_unbegun : (seen : Seen) (result : Result (Response Body) DavError) → answer_of result ≡ Err Memory → Deletes seen (answer_of result) seen
@@ -160,9 +157,9 @@ module _ (request : DavRequest) (meta : Meta) where
       Same = ◌≡◌ {A = Answer} (Err Memory) (Err Memory)
 
       Ended : Type 0
-      Ended = DeleteWork request (Some meta) (state_of old) h.records (Err Memory) (state_of new) ⊎ (Same × DeleteCut request (Some meta) (state_of old) h.records (state_of new))
+      Ended = DeleteWork request meta (state_of old) h.records (Err Memory) (state_of new) ⊎ (Same × DeleteCut request meta (state_of old) h.records (state_of new))
 
-      cut : RemovesInPart depth path old.store.contents new.store.contents h.records → DeleteCut request (Some meta) (state_of old) h.records (state_of new)
+      cut : RemovesInPart depth path old.store.contents new.store.contents h.records → DeleteCut request meta (state_of old) h.records (state_of new)
       cut part = record { removed = part; locks = inl (same_locks old new locks) }
 
       by_end : RemovesOrStops depth path old.store.contents new.store.contents h.records had has (Err Memory) → Ended

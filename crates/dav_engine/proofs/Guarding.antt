@@ -5,15 +5,15 @@ use Rattle.std.specs.Result.{result_ok}
 use Rattle.std.specs.FinMap.{get, insert, get-insert}
 use Rattle.std.proofs.lemmas.Slice.Eq.{bytes_eq-Decides}
 use Rattle.dav_resource.specs.Key.{Key, key_cmp, key_cmp_total, tied_decides}
-use Rattle.dav_resource.specs.declared.error.DavError.TheVariants.{Memory, Status}
+use Rattle.dav_resource.specs.declared.error.DavError.TheVariants.{Memory}
 use Rattle.dav_resource.specs.declared.meta.Meta.{Meta}
 use Rattle.dav_resource.specs.declared.method.DavMethod.{DavMethod}
-use Rattle.dav_resource.specs.declared.method.DavMethod.TheVariants.{Head, Get, Put, Patch, Options, PropFind, PropPatch, MkCol, Copy, Move, Delete, Lock, Unlock}
+use Rattle.dav_resource.specs.declared.method.DavMethod.TheVariants.{MkCol, Delete, Lock, Unlock}
 use Rattle.dav_resource.specs.declared.request.DavRequest.{DavRequest}
 use Rattle.dav_store.specs.Logged.{Logged}
 use Rattle.dav_store.specs.Store.{Contents, Node, Tree, File}
 use Rattle.dav_parts.specs.Conditions.{conditions}
-use Rattle.dav_parts.specs.Dialogue.{Passed, Refuses, LeadsTo, look, refusing}
+use Rattle.dav_parts.specs.Dialogue.{Passed, LeadsTo, look, refusing}
 use Rattle.dav_parts.specs.Dialogues.{LeadsTo-last, LeadsTo-unrefused}
 use Rattle.dav_parts.specs.Reply.{Answer}
 use Rattle.dav_engine.specs.State.{State}
@@ -31,7 +31,9 @@ use Rattle.dav_engine.proofs.Trees.{get-inserted}
 use Rattle.dav_engine.specs.Mkcol.{MkcolLeaves}
 use Rattle.dav_engine.specs.Opening.{IsFileAt}
 use Rattle.dav_engine.specs.Put.{PutLeaves, put_rules}
-use Rattle.dav_engine.specs.Methods.{rules_of, Work, WorkCut}
+use Rattle.dav_engine.specs.Settings.{Settings}
+use Rattle.dav_engine.specs.Method.{Method}
+use Rattle.dav_engine.specs.Methods.{mkcol_method, write_method, delete_method, lock_method, unlock_method}
 
 -- nothing is changed where nothing changes
 unchanged : (key : Key) (old new : Contents) → new ≡ old → IsChanged key old new → ⊥
@@ -68,12 +70,12 @@ put_passed partial request state head found h =
     let rules = LeadsTo-last (refusing closing (path_rules request state (result_ok looked.0))) _ aimed.2 found aimed.4 in
     path_passed request state (result_ok looked.0) rules.1 rules.0 (LeadsTo-unrefused closing (path_rules request state (result_ok looked.0)) rules.1 rules.0 rules.3)
 
-delete_passed : (request : DavRequest) (state : State) (head : List Logged) (found : Option Meta) → LeadsTo (delete_rules request state) head (Passed found) → is_permitted request state request.path.key true ≡ true
-delete_passed request state head found h =
-    let reached = LeadsTo-last (judged (depth_verdict (depth_or_all request))) _ head found h in
-    let looked = LeadsTo-last (must_find state.contents request.path.key) _ reached.2 found reached.4 in
-    let held = LeadsTo-last (conditions state.contents state.locks request looked.0 request.path) _ looked.2 found looked.4 in
-    permitted_passed (is_permitted request state request.path.key true) looked.0 found held.2 held.4
+delete_passed : (request : DavRequest) (state : State) (head : List Logged) (meta : Meta) → LeadsTo (delete_rules request state) head (Passed meta) → is_permitted request state request.path.key true ≡ true
+delete_passed request state head meta h =
+    let reached = LeadsTo-last (judged (depth_verdict (depth_or_all request))) _ head meta h in
+    let looked = LeadsTo-last (must_find state.contents request.path.key) _ reached.2 meta reached.4 in
+    let held = LeadsTo-last (conditions state.contents state.locks request (Some looked.0) request.path) _ looked.2 meta looked.4 in
+    permitted_passed (is_permitted request state request.path.key true) looked.0 meta held.2 held.4
 
 -- ---- what the work has changed
 
@@ -151,61 +153,47 @@ guarded_file request old new records (inl made) key changed = by_node (get old.c
     by_node None nothing = inr (made_at nothing (eq_by_cmp key_cmp key request.path.key) refl)
     by_node (Some node) there = absurd (kept_so (λ nothing. let no : Some node ≡ None = sym there ∙ nothing in cc) changed)
 
-module _ (request : DavRequest) (found : Option Meta) (old new : State) (head records : List Logged) (answer : Answer) where
-  abbrev Passes : Option DavMethod → Type 0
-  Passes method = LeadsTo (rules_of method request old) head (Passed found)
+-- what a method's work changes, once its rules are passed, the locks permit
+abbrev pub Guards : Option DavMethod → Method → Type 0
+Guards name method =
+    (settings : Settings) (request : DavRequest) (found : method.Found) (old new : State) (head records : List Logged) (answer : Answer) → LeadsTo (method.rules settings request old) head (Passed found)
+    → method.Work settings request found old records answer new ⊎ ((answer ≡ Err Memory) × method.Cut settings request found old records new) → IsGuarded name request old new
 
-  abbrev Works : Option DavMethod → Type 0
-  Works method = Work method request found old records answer new ⊎ ((answer ≡ Err Memory) × WorkCut method request found old records new)
+pub guards_mkcol : Guards (Some MkCol) mkcol_method
+guards_mkcol settings request found old new head records answer passed (inl work) = guarded_at (Some MkCol) request old new (shallow_passed request old head found passed) (λ key. mkcol_elsewhere request records old.contents new.contents key work.0.leaves)
+guards_mkcol settings request found old new head records answer passed (inr cut) = guarded_at (Some MkCol) request old new (shallow_passed request old head found passed) (λ key apart changed. unchanged key old.contents new.contents cut.1.0.same changed)
 
-  no_work : (method : Option DavMethod) → rules_of method request old ≡ Refuses (Status 501) → Passes method → ⊥
-  no_work method is h = refused head (rw is at h)
-    where
-      refused : (records : List Logged) → LeadsTo {A = Option Meta} (Refuses (Status 501)) records (Passed found) → ⊥
-      refused [] h = cc
-      refused (r ∷ records) h = h
+pub guards_put : (name : Option DavMethod) (partial : Bool) → Guards name (write_method partial)
+guards_put name partial settings request found old new head records answer passed (inl work) = guarded_at name request old new (put_passed partial request old head found passed) (λ key. put_work_elsewhere request work.0.target records old.contents new.contents key work.0.leaves)
+guards_put name partial settings request found old new head records answer passed (inr cut) = guarded_at name request old new (put_passed partial request old head found passed) (λ key. put_work_elsewhere request cut.1.0.target records old.contents new.contents key cut.1.0.leaves)
 
-  guarded : (method : Option DavMethod) → Passes method → Works method → IsGuarded method request old new
-  guarded (Some MkCol) passed (inl work) = guarded_at (Some MkCol) request old new (shallow_passed request old head found passed) (λ key. mkcol_elsewhere request records old.contents new.contents key work.0.leaves)
-  guarded (Some MkCol) passed (inr cut) = guarded_at (Some MkCol) request old new (shallow_passed request old head found passed) (λ key apart changed. unchanged key old.contents new.contents cut.1.0.same changed)
-  guarded (Some Put) passed (inl work) = guarded_at (Some Put) request old new (put_passed false request old head found passed) (λ key. put_work_elsewhere request work.0.target records old.contents new.contents key work.0.leaves)
-  guarded (Some Put) passed (inr cut) = guarded_at (Some Put) request old new (put_passed false request old head found passed) (λ key. put_work_elsewhere request cut.1.0.target records old.contents new.contents key cut.1.0.leaves)
-  guarded (Some Patch) passed (inl work) = guarded_at (Some Patch) request old new (put_passed true request old head found passed) (λ key. put_work_elsewhere request work.0.target records old.contents new.contents key work.0.leaves)
-  guarded (Some Patch) passed (inr cut) = guarded_at (Some Patch) request old new (put_passed true request old head found passed) (λ key. put_work_elsewhere request cut.1.0.target records old.contents new.contents key cut.1.0.leaves)
-  guarded (Some Delete) passed (inl work) =
-      guarded_below (Some Delete) request old new (delete_passed request old head found passed)
-      (removes_within (depth_or_all request) (fixed_path request.path found) old.contents new.contents records (whole_in_part _ _ _ _ _ work.names work.removed))
-  guarded (Some Delete) passed (inr cut) =
-      guarded_below (Some Delete) request old new (delete_passed request old head found passed)
-      (removes_within (depth_or_all request) (fixed_path request.path found) old.contents new.contents records cut.1.removed)
-  guarded None passed works = absurd (no_work None refl passed)
-  guarded (Some Head) passed works = absurd (no_work (Some Head) refl passed)
-  guarded (Some Get) passed works = absurd (no_work (Some Get) refl passed)
-  guarded (Some Options) passed works = absurd (no_work (Some Options) refl passed)
-  guarded (Some PropFind) passed works = absurd (no_work (Some PropFind) refl passed)
-  guarded (Some PropPatch) passed works = absurd (no_work (Some PropPatch) refl passed)
-  guarded (Some Copy) passed works = absurd (no_work (Some Copy) refl passed)
-  guarded (Some Move) passed works = absurd (no_work (Some Move) refl passed)
-  guarded (Some Lock) passed (inl work) = locked (is_refresh request.body) work
-    where
-      locked : (refresh : Bool) → LockWorkBy refresh request found old records answer new → IsGuarded (Some Lock) request old new
-      locked true work = guarded_contents (Some Lock) request old new work.same
-      locked false work = by_end work.done
-        where
-          asked : DavLock
-          asked = lock_asked request found work.info
+pub guards_delete : Guards (Some Delete) delete_method
+guards_delete settings request found old new head records answer passed (inl work) =
+    guarded_below (Some Delete) request old new (delete_passed request old head found passed)
+    (removes_within (depth_or_all request) (fixed_path request.path (Some found)) old.contents new.contents records (whole_in_part _ _ _ _ _ work.names work.removed))
+guards_delete settings request found old new head records answer passed (inr cut) =
+    guarded_below (Some Delete) request old new (delete_passed request old head found passed)
+    (removes_within (depth_or_all request) (fixed_path request.path (Some found)) old.contents new.contents records cut.1.removed)
 
-          by_end : GrantsLock request found asked old records answer new ⊎ DeniesLock asked old records answer new → IsGuarded (Some Lock) request old new
-          by_end (inl granted) = guarded_file request old new records granted.tells.leaves
-          by_end (inr denied) = guarded_same (Some Lock) request old new denied.same
-  guarded (Some Lock) passed (inr cut) = lock_cut (is_refresh request.body) cut.1
-    where
-      lock_cut : (refresh : Bool) → LockCutBy refresh request found old records new → IsGuarded (Some Lock) request old new
-      lock_cut true cut = guarded_contents (Some Lock) request old new cut.same
-      lock_cut false cut = guarded_contents (Some Lock) request old new cut.same
-  guarded (Some Unlock) passed (inl work) = guarded_contents (Some Unlock) request old new work.same
-  guarded (Some Unlock) passed (inr cut) = guarded_same (Some Unlock) request old new cut.1.same
+pub guards_lock : Guards (Some Lock) lock_method
+guards_lock settings request found old new head records answer passed (inl work) = locked (is_refresh request.body) work
+  where
+    locked : (refresh : Bool) → LockWorkBy refresh request found old records answer new → IsGuarded (Some Lock) request old new
+    locked true work = guarded_contents (Some Lock) request old new work.same
+    locked false work = by_end work.done
+      where
+        asked : DavLock
+        asked = lock_asked request found work.info
 
-pub guarded_work : (method : Option DavMethod) (request : DavRequest) (found : Option Meta) (old new : State) (head records : List Logged) (answer : Answer) → LeadsTo (rules_of method request old) head (Passed found)
-    → Work method request found old records answer new ⊎ ((answer ≡ Err Memory) × WorkCut method request found old records new) → IsGuarded method request old new
-guarded_work method request found old new head records answer passed works = guarded request found old new head records answer method passed works
+        by_end : GrantsLock request found asked old records answer new ⊎ DeniesLock asked old records answer new → IsGuarded (Some Lock) request old new
+        by_end (inl granted) = guarded_file request old new records granted.tells.leaves
+        by_end (inr denied) = guarded_same (Some Lock) request old new denied.same
+guards_lock settings request found old new head records answer passed (inr cut) = lock_cut (is_refresh request.body) cut.1
+  where
+    lock_cut : (refresh : Bool) → LockCutBy refresh request found old records new → IsGuarded (Some Lock) request old new
+    lock_cut true cut = guarded_contents (Some Lock) request old new cut.same
+    lock_cut false cut = guarded_contents (Some Lock) request old new cut.same
+
+pub guards_unlock : Guards (Some Unlock) unlock_method
+guards_unlock settings request found old new head records answer passed (inl work) = guarded_contents (Some Unlock) request old new work.same
+guards_unlock settings request found old new head records answer passed (inr cut) = guarded_same (Some Unlock) request old new cut.1.same

@@ -13,7 +13,6 @@ use Rattle.dav_resource.specs.declared.error.FsError.{FsError}
 use Rattle.dav_resource.specs.declared.error.FsError.TheVariants as fs_errors
 use Rattle.dav_resource.specs.declared.meta.Meta.{Meta}
 use Rattle.dav_resource.specs.declared.meta.DavFile.{DavFile}
-use Rattle.dav_resource.specs.declared.method.DavMethod.TheVariants.{Lock, Unlock}
 use Rattle.dav_resource.specs.declared.record.Outcome.TheVariants as outcomes
 use Rattle.dav_resource.specs.declared.request.Body.{Body}
 use Rattle.dav_resource.specs.declared.request.DavRequest.{DavRequest}
@@ -31,13 +30,13 @@ use Rattle.dav_parts.specs.Reply.{Reply, Answer, reply_of, answer_of}
 use Rattle.dav_engine.specs.Answered.{Unbegun}
 use Rattle.dav_engine.specs.LockInfo.{lock_info_of, lock_info_verdict}
 use Rattle.dav_engine.specs.LockReply.{granted_reply, refreshed_reply, unlocked_reply}
-use Rattle.dav_engine.specs.Locking.{refresh_rules, new_lock_rules, lock_asked, AddsToLocks, TakesBack, lock_open_error, HasFile, TellsLock, NewLockWork, NewLockCut, refresh_timeout, RefreshWork, RefreshCut, LockWorkBy, LockCutBy, is_refresh, lock_rules}
+use Rattle.dav_engine.specs.Locking.{refresh_rules, new_lock_rules, lock_asked, AddsToLocks, TakesBack, lock_open_error, HasFile, TellsLock, NewLockWork, NewLockCut, refresh_timeout, RefreshWork, RefreshCut, LockWorkBy, LockCutBy, LockWork, LockCut, is_refresh, lock_rules}
 use Rattle.dav_engine.specs.Opening.{making_options}
 use Rattle.dav_engine.specs.declared.lock_info.LockInfo.{LockInfo}
 use Rattle.dav_engine.specs.Rules.{judged, holding}
 use Rattle.dav_engine.specs.State.{State, Seen, state_of, facts_of, LocksStay, ChangesLocks, KeepsLocks}
-use Rattle.dav_engine.specs.Step.{Performs, WorksOnStore, Works}
-use Rattle.dav_engine.specs.Unlocking.{token_verdict}
+use Rattle.dav_engine.specs.Step.{Performs, WorksOnStore}
+use Rattle.dav_engine.specs.Unlocking.{token_verdict, UnlockWork}
 use Rattle.dav_engine.proofs.Deleting.{judges_known}
 use Rattle.dav_engine.proofs.Granting.{not_granted}
 use Rattle.dav_engine.proofs.Trees.{insert-there}
@@ -46,7 +45,7 @@ use Rattle.dav_engine.proofs.Trees.{insert-there}
 
 pub holds_not : (request : DavRequest) (state : State) (found : Option Meta) (old new : Store) (status : ℕ) → Judges (if_match state.contents state.locks request found request.path) old (Ok (Some status)) new
     → Judges (holding request state found) old (Err (Status status)) new
-holds_not request state found old new status h = judges_then _ (if_match state.contents state.locks request found request.path) old new new (Some status) (Err (Status status)) h (judges_pure (Refuses (Status status)) new (Err (Status status)) (inl refl))
+holds_not request state found old new status h = judges_then _ (if_match state.contents state.locks request found request.path) old new new (Some status) (Err (Status status)) h (judges_pure (Refuses (Err (Status status))) new (Err (Status status)) (inl refl))
 
 pub holds_so : (request : DavRequest) (state : State) (found : Option Meta) (old new : Store) → Judges (if_match state.contents state.locks request found request.path) old (Ok None) new → Judges (holding request state found) old (Ok tt) new
 holds_so request state found old new h = judges_then _ (if_match state.contents state.locks request found request.path) old new new None (Ok tt) h (judges_pure (Passed tt) new (Ok tt) refl)
@@ -300,7 +299,7 @@ module _ (request : DavRequest) (found : Option Meta) (token : List ℕ) (one : 
 
 module _ (request : DavRequest) (found : Option Meta) (token : List ℕ) (named : lock_token_of request.headers ≡ Some token) where
   abbrev Unlocking : Seen → Answer → Seen → Type 0
-  Unlocking = Works (Some Unlock) request found
+  Unlocking = Performs (UnlockWork request found) Unbegun
 
   pub unlocks_unbegun : (seen : Seen) (result : Result (Response Body) DavError) → answer_of result ≡ Err Memory → Unlocking seen (answer_of result) seen
   unlocks_unbegun seen result is = record { records = []; told = sym (append-nil seen.store.log); fixed = refl; done = inr (is, record { none = refl; same = refl }) }
@@ -338,14 +337,14 @@ module _ (request : DavRequest) (is : is_refresh request.body ≡ false) where
   pub judges_new : {old new : Store} {verdict : Result (Option Meta) DavError} (state : State) → Judges (new_lock_rules request state) old verdict new → Judges (lock_rules request state) old verdict new
   judges_new {old = old} {new} {verdict} state h = subst (λ b. Judges (if b then refresh_rules request state else new_lock_rules request state) old verdict new) (sym is) h
 
-  pub works_new : (found : Option Meta) (old new : Seen) (answer : Answer) → Performs (NewLockWork request found) (NewLockCut request found) old answer new → Works (Some Lock) request found old answer new
+  pub works_new : (found : Option Meta) (old new : Seen) (answer : Answer) → Performs (NewLockWork request found) (NewLockCut request found) old answer new → Performs (LockWork request found) (LockCut request found) old answer new
   works_new found old new answer h = subst (λ b. Performs (LockWorkBy b request found) (LockCutBy b request found) old answer new) (sym is) h
 
 module _ (request : DavRequest) (is : is_refresh request.body ≡ true) where
   pub judges_refresh : {old new : Store} {verdict : Result (Option Meta) DavError} (state : State) → Judges (refresh_rules request state) old verdict new → Judges (lock_rules request state) old verdict new
   judges_refresh {old = old} {new} {verdict} state h = subst (λ b. Judges (if b then refresh_rules request state else new_lock_rules request state) old verdict new) (sym is) h
 
-  pub works_refresh : (found : Option Meta) (old new : Seen) (answer : Answer) → Performs (RefreshWork request found) (RefreshCut request) old answer new → Works (Some Lock) request found old answer new
+  pub works_refresh : (found : Option Meta) (old new : Seen) (answer : Answer) → Performs (RefreshWork request found) (RefreshCut request) old answer new → Performs (LockWork request found) (LockCut request found) old answer new
   works_refresh found old new answer h = subst (λ b. Performs (LockWorkBy b request found) (LockCutBy b request found) old answer new) (sym is) h
 
 -- ---- the token of an UNLOCK

@@ -58,9 +58,9 @@ module _ (contents : Contents) (key : Key) where
       passed_is e = cc
   asked (r ∷ s ∷ records) looked h = absurd h.2
 
-  unrefused : (records : List Logged) (e : DavError) → LeadsTo (look_closely contents key) records (Refuses e) → ⊥
+  unrefused : (records : List Logged) (e : DavError) → LeadsTo (look_closely contents key) records (Refuses (Err e)) → ⊥
   unrefused [] e h = cc
-  unrefused (r ∷ []) e h = let p : Refuses e ≡ Passed (told_by_look r.outcome (contents.metas key)) = h.2 in cc
+  unrefused (r ∷ []) e h = let p : Refuses (Err e) ≡ Passed (told_by_look r.outcome (contents.metas key)) = h.2 in cc
   unrefused (r ∷ s ∷ records) e h = h.2
 
   part : (records : List Logged) (left : Dialogue (Result Meta FsError)) → LeadsTo (look_closely contents key) records left → (rest : Dialogue (Option Meta)) × LeadsTo (look contents key) records rest

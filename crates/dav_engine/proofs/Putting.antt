@@ -264,9 +264,9 @@ module _ (request : DavRequest) (target : Target) where
         leaves = leaves_looked h.records j.records _ _ _ _ h.leaves j.same asked;
       }
 
-never : (call : Call) (meta : Option Meta) (records : List Logged) (e : DavError) → LeadsTo (look_by call meta) records (Refuses e) → ⊥
+never : (call : Call) (meta : Option Meta) (records : List Logged) (e : DavError) → LeadsTo (look_by call meta) records (Refuses (Err e)) → ⊥
 never call meta [] e h = absurd cc
-never call meta (r ∷ []) e h = absurd (let p : Refuses e ≡ Passed (if_granted r.outcome meta) = h.2 in cc)
+never call meta (r ∷ []) e h = absurd (let p : Refuses (Err e) ≡ Passed (if_granted r.outcome meta) = h.2 in cc)
 never call meta (r ∷ s ∷ records) e h = absurd h.2
 
 goes : (call : Call) (meta : Option Meta) (records : List Logged) (left : Dialogue (Option Meta)) → LeadsTo (look_by call meta) records left → GoesOn left

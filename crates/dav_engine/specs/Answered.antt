@@ -7,7 +7,7 @@ use Rattle.dav_parts.specs.Reply.{Reply, Answer}
 -- over these records the dialogue ends in this answer; a value may be told by several replies
 abbrev pub IsAnswered : {A : Type 0} → Dialogue A → (A → Reply → Type 0) → List Logged → Answer → Type 0
 IsAnswered {A} dialogue Tells records (Ok reply) = (a : A) × LeadsTo dialogue records (Passed a) × Tells a reply
-IsAnswered dialogue Tells records (Err e) = LeadsTo dialogue records (Refuses e)
+IsAnswered dialogue Tells records (Err e) = LeadsTo dialogue records (Refuses (Err e))
 
 -- memory ran out before any call of the work
 pub record Unbegun {A : Type 0} (old : A) (records : List Logged) (new : A) : Type 0 where

@@ -1,8 +1,9 @@
 -- What a contract sees of an engine: the store and the lock system that were lent to it, and what it was made with.
-use Rattle.std.specs.Prelude.{ℕ, List, Option, option_map, string_bytes}
+use Rattle.std.specs.Prelude.{ℕ, List, Option, None, option_map, string_bytes}
 use Rattle.std.specs.Borrow.{GName}
 use Rattle.dav_store.specs.Store.{Store}
 use Rattle.dav_store.specs.Locks.{Locks}
+use Rattle.dav_engine.specs.Settings.{Settings}
 use Rattle.dav_engine.specs.State.{Seen}
 use Rattle.dav_engine.specs.declared.inner.DavInner.{DavInner}
 
@@ -26,3 +27,7 @@ module _ {C F L : Type 0} where
   -- both, by what contracts see of each
   abbrev pub seen_by : (F → Store) → (L → Locks) → DavInner C F L → Seen
   seen_by see_store see_locks engine = record { store = see_store (lent engine); locks = option_map see_locks (lent_locks engine) }
+
+  -- what no request changes
+  abbrev pub settings_by : (F → Store) → DavInner C F L → Settings
+  settings_by see_store engine = record { prefix = string_bytes engine.prefix; allow = None; keeps_properties = (see_store (lent engine)).keeps_properties }

@@ -74,7 +74,7 @@ one_token _ = Err (Status 400)
 
 -- a lock that doesn't let the request write can't be refreshed by it: 412
 abbrev pub where_held : {A : Type 0} → Bool → A → Dialogue A
-where_held permitted a = if permitted then Passed a else Refuses (Status 412)
+where_held permitted a = if permitted then Passed a else Refuses (Err (Status 412))
 
 -- to refresh a lock: a look at the path, the header If, which names the lock and whose conditions needn't hold, and the locks of the path
 abbrev pub refresh_rules : DavRequest → State → Dialogue (Option Meta)

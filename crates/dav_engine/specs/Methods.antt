@@ -1,5 +1,5 @@
--- Each method: its rules, its work, and what it leaves where memory runs out in the work.
-use Rattle.std.specs.Prelude.{true, false, List, Option, Some}
+-- The methods that are served, and a step by the method of a request.
+use Rattle.std.specs.Prelude.{◌≡◌, true, false, Bool, List, [], Option, Some, Err}
 use Rattle.dav_resource.specs.declared.meta.Meta.{Meta}
 use Rattle.dav_resource.specs.declared.method.DavMethod.{DavMethod}
 use Rattle.dav_resource.specs.declared.method.DavMethod.TheVariants.{Put, Patch, MkCol, Delete, Lock, Unlock}
@@ -7,8 +7,9 @@ use Rattle.dav_resource.specs.declared.error.DavError.TheVariants.{Status}
 use Rattle.dav_resource.specs.declared.request.DavRequest.{DavRequest}
 use Rattle.dav_store.specs.Logged.{Logged}
 use Rattle.dav_parts.specs.Reply.{Answer}
-use Rattle.dav_parts.specs.Dialogue.{Dialogue, Refuses}
-use Rattle.dav_engine.specs.State.{State, LocksStay}
+use Rattle.dav_engine.specs.Settings.{Settings}
+use Rattle.dav_engine.specs.State.{State}
+use Rattle.dav_engine.specs.Method.{Method, StepBy, OnStore, CutOnStore}
 use Rattle.dav_engine.specs.Rules.{shallow_rules}
 use Rattle.dav_engine.specs.Answered.{Unbegun}
 use Rattle.dav_engine.specs.Locking.{lock_rules, LockWork, LockCut}
@@ -17,42 +18,46 @@ use Rattle.dav_engine.specs.Put.{put_rules, PutWork, PutCut}
 use Rattle.dav_engine.specs.Delete.{delete_rules, DeleteWork, DeleteCut}
 use Rattle.dav_engine.specs.Unlocking.{unlock_rules, UnlockWork}
 
--- the methods that are served
-abbrev pub IsServed : Option DavMethod → Type 0
-IsServed (Some MkCol) = Unit {0}
-IsServed (Some Put) = Unit {0}
-IsServed (Some Patch) = Unit {0}
-IsServed (Some Delete) = Unit {0}
-IsServed (Some Lock) = Unit {0}
-IsServed (Some Unlock) = Unit {0}
-IsServed _ = ⊥
+abbrev pub mkcol_method : Method
+mkcol_method =
+    record {
+      Found = Option Meta;
+      rules = λ settings. shallow_rules;
+      Work = λ settings request found. OnStore (MkcolWork request);
+      Cut = λ settings request found. CutOnStore Unbegun;
+    }
 
--- what is asked before anything is done, with what was found at the path; a method that isn't served is 501
-abbrev pub rules_of : Option DavMethod → DavRequest → State → Dialogue (Option Meta)
-rules_of (Some MkCol) request old = shallow_rules request old
-rules_of (Some Put) request old = put_rules false request old
-rules_of (Some Patch) request old = put_rules true request old
-rules_of (Some Delete) request old = delete_rules request old
-rules_of (Some Lock) request old = lock_rules request old
-rules_of (Some Unlock) request old = unlock_rules request old
-rules_of _ request old = Refuses (Status 501)
+-- PUT, and PATCH as partial
+abbrev pub write_method : Bool → Method
+write_method partial =
+    record {
+      Found = Option Meta;
+      rules = λ settings. put_rules partial;
+      Work = λ settings request found. OnStore (PutWork partial request found);
+      Cut = λ settings request found. CutOnStore (PutCut partial request found);
+    }
 
--- the work, once the rules are passed, with its answer
-abbrev pub Work : Option DavMethod → DavRequest → Option Meta → State → List Logged → Answer → State → Type 0
-Work (Some MkCol) request found old records answer new = MkcolWork request old.contents records answer new.contents × LocksStay old new
-Work (Some Put) request found old records answer new = PutWork false request found old.contents records answer new.contents × LocksStay old new
-Work (Some Patch) request found old records answer new = PutWork true request found old.contents records answer new.contents × LocksStay old new
-Work (Some Delete) request found old records answer new = DeleteWork request found old records answer new
-Work (Some Lock) request found old records answer new = LockWork request found old records answer new
-Work (Some Unlock) request found old records answer new = UnlockWork request found old records answer new
-Work _ request found old records answer new = ⊥
+abbrev pub delete_method : Method
+delete_method = record { Found = Meta; rules = λ settings. delete_rules; Work = λ settings. DeleteWork; Cut = λ settings. DeleteCut }
 
--- the work, cut short for want of memory
-abbrev pub WorkCut : Option DavMethod → DavRequest → Option Meta → State → List Logged → State → Type 0
-WorkCut (Some MkCol) request found old records new = Unbegun old.contents records new.contents × LocksStay old new
-WorkCut (Some Put) request found old records new = PutCut false request found old.contents records new.contents × LocksStay old new
-WorkCut (Some Patch) request found old records new = PutCut true request found old.contents records new.contents × LocksStay old new
-WorkCut (Some Delete) request found old records new = DeleteCut request found old records new
-WorkCut (Some Lock) request found old records new = LockCut request found old records new
-WorkCut (Some Unlock) request found old records new = Unbegun old records new
-WorkCut _ request found old records new = ⊥
+abbrev pub lock_method : Method
+lock_method = record { Found = Option Meta; rules = λ settings. lock_rules; Work = λ settings. LockWork; Cut = λ settings. LockCut }
+
+abbrev pub unlock_method : Method
+unlock_method = record { Found = Option Meta; rules = λ settings. unlock_rules; Work = λ settings. UnlockWork; Cut = λ settings request found. Unbegun }
+
+-- a method that isn't served: 501, without a call, and nothing changes
+pub record IsUnserved (old : State) (records : List Logged) (answer : Answer) (new : State) : Type 0 where
+  pub none : records ≡ []
+  pub told : answer ≡ Err (Status 501)
+  pub same : new ≡ old
+
+-- a request served as this method
+abbrev pub Step : Option DavMethod → Settings → DavRequest → State → List Logged → Answer → State → Type 0
+Step (Some MkCol) settings request old records answer new = StepBy mkcol_method settings request old records answer new
+Step (Some Put) settings request old records answer new = StepBy (write_method false) settings request old records answer new
+Step (Some Patch) settings request old records answer new = StepBy (write_method true) settings request old records answer new
+Step (Some Delete) settings request old records answer new = StepBy delete_method settings request old records answer new
+Step (Some Lock) settings request old records answer new = StepBy lock_method settings request old records answer new
+Step (Some Unlock) settings request old records answer new = StepBy unlock_method settings request old records answer new
+Step _ settings request old records answer new = IsUnserved old records answer new

@@ -20,7 +20,7 @@ use Rattle.dav_store.specs.Calls.{metadata_call}
 use Rattle.dav_store.specs.Locks.{permits}
 use Rattle.dav_store.specs.declared.lock.DavLock.{DavLock}
 use Rattle.dav_parts.specs.Conditions.{conditions, if_match, unless_refused, submitted_tokens}
-use Rattle.dav_parts.specs.Dialogue.{Dialogue, Asks, Refuses, Passed, look, needs, ◌>>=◌}
+use Rattle.dav_parts.specs.Dialogue.{Dialogue, Asks, Refuses, Passed, look, ◌>>=◌}
 use Rattle.dav_engine.specs.State.{State}
 
 -- the locks let one who submits these tokens write at the key, or with `deep` at and below it; without a lock system all is let
@@ -33,7 +33,7 @@ is_permitted request state key deep = permits_by state.locks key request.princip
 
 -- what isn't permitted is refused: 423
 abbrev pub where_permitted : {A : Type 0} → Bool → A → Dialogue A
-where_permitted permitted a = if permitted then Passed a else Refuses (Status 423)
+where_permitted permitted a = if permitted then Passed a else Refuses (Err (Status 423))
 
 -- the conditions of a request that changes what stands at its path alone, and the locks of the path
 abbrev pub path_rules : DavRequest → State → Option Meta → Dialogue (Option Meta)
@@ -52,16 +52,7 @@ holding request state found = if_match state.contents state.locks request found 
 -- a verdict that asks nothing
 abbrev pub judged : {A : Type 0} → Result A DavError → Dialogue A
 judged (Ok a) = Passed a
-judged (Err e) = Refuses e
-
--- the verdict on metadata that is there, as one on what was found
-abbrev pub as_found : Result Meta DavError → Result (Option Meta) DavError
-as_found (Ok meta) = Ok (Some meta)
-as_found (Err e) = Err e
-
--- a look at a key, whose refusal refuses the request
-abbrev pub must_find : Contents → Key → Dialogue (Option Meta)
-must_find contents key = needs (metadata_call contents key) from_fs (Passed (contents.metas key))
+judged (Err e) = Refuses (Err e)
 
 -- what a look at a key told, or why it wasn't granted
 abbrev pub told_by_look : Outcome → Option Meta → Result Meta FsError
@@ -73,6 +64,15 @@ told_by_look (Refused e) meta = Err e
 -- a look at a key, whose refusal is told too
 abbrev pub look_closely : Contents → Key → Dialogue (Result Meta FsError)
 look_closely contents key = Asks (metadata_call contents key) (λ outcome. Passed (told_by_look outcome (contents.metas key)))
+
+-- what was told, or the refusal of the request
+abbrev pub or_refused : {A : Type 0} → Result A FsError → Dialogue A
+or_refused (Ok a) = Passed a
+or_refused (Err e) = Refuses (Err (from_fs e))
+
+-- a look at a key, whose refusal refuses the request
+abbrev pub must_find : Contents → Key → Dialogue Meta
+must_find contents key = Asks (metadata_call contents key) (λ outcome. or_refused (told_by_look outcome (contents.metas key)))
 
 -- ---- what several methods read of a request
 

@@ -1,5 +1,5 @@
 -- What requests act on: what a store holds and, where there is a lock system, its locks (RFC 4918, sections 5 and 6).
-use Rattle.std.specs.Prelude.{◌≡◌, ◌⊎◌, Bool, true, false, List, Option, Some, option_map}
+use Rattle.std.specs.Prelude.{◌≡◌, ◌⊎◌, Bool, true, false, List, Option, Some, is_some, option_map}
 use Rattle.std.specs.Option.{ForSome, option_map_or}
 use Rattle.dav_resource.specs.Key.{Key}
 use Rattle.dav_store.specs.Store.{Store, Contents, IsWellFormed}
@@ -42,6 +42,11 @@ state_of seen =
 -- what no request changes: whether the store keeps properties, whether there is a lock system, and whether that is dependable
 abbrev pub facts_of : Seen → Bool × Option Bool
 facts_of seen = (seen.store.keeps_properties, option_map (λ (l : Locks). l.dependable) seen.locks)
+
+-- the same of states: whether there is a lock system, and whether it is dependable
+pub record HasSameSystem (old new : State) : Type 0 where
+  pub there : is_some new.locks ≡ is_some old.locks
+  pub dependable : new.dependable ≡ old.dependable
 
 -- ---- what becomes of the locks
 

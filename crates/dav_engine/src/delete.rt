@@ -4,11 +4,10 @@ ghost use Rattle.dav_resource.specs.declared.method.DavMethod.TheVariants.{Delet
 ghost use Rattle.dav_parts.specs.Dialogue.{Judges};
 ghost use Rattle.dav_parts.specs.Reply.{answer_of};
 ghost use Rattle.dav_walks.specs.Deletion.{Removal};
-ghost use Rattle.dav_engine.specs.DavInner.{lent, lent_locks, loans, settings, seen_by};
+ghost use Rattle.dav_engine.specs.DavInner.{lent, lent_locks, loans, settings, seen_by, settings_by};
 ghost use Rattle.dav_engine.specs.State.{state_of, DropsSeen};
-ghost use Rattle.dav_engine.specs.Rules.{as_found};
-ghost use Rattle.dav_engine.specs.Delete.{delete_rules};
-ghost use Rattle.dav_engine.specs.Step.{Serves, Works};
+ghost use Rattle.dav_engine.specs.Delete.{delete_rules, DeleteWork, DeleteCut};
+ghost use Rattle.dav_engine.specs.Step.{Serves, Performs};
 
 use crate::DavInner;
 use crate::inner::fixed_path;
@@ -30,7 +29,7 @@ impl<'a, C: Drop, F: GuardedFileSystem<C>, L: DavLockSystem> DavInner<'a, C, F, 
     pub fn handle_delete(&mut self, request: &DavRequest) -> DavResult<Response<Body>>
         ensures same_loans { loans self.new ≡ loans self.old }
         ensures same_settings { settings self.new ≡ settings self.old }
-        ensures step { Serves (Some Delete) (seen_by F.seen L.seen self.old) request.entry.now (answer_of result) (seen_by F.seen L.seen self.new) }
+        ensures step { Serves (Some Delete) (settings_by F.seen self.old) (seen_by F.seen L.seen self.old) request.entry.now (answer_of result) (seen_by F.seen L.seen self.new) }
     {
         let meta = self.judge_delete(request)?;
         self.delete_found(request, &meta)
@@ -43,7 +42,7 @@ impl<'a, C: Drop, F: GuardedFileSystem<C>, L: DavLockSystem> DavInner<'a, C, F, 
         ensures same_settings { settings self.new ≡ settings self.old }
         ensures same_locks { lent_locks self.new ≡ lent_locks self.old }
         ensures found { IfOk result (λ meta. (F.seen (lent self.old)).contents.metas request.entry.now.path.key ≡ Some meta) }
-        ensures rules { Judges (delete_rules request.entry.now (state_of (seen_by F.seen L.seen self.old))) (F.seen (lent self.old)) (as_found result) (F.seen (lent self.new)) }
+        ensures rules { Judges (delete_rules request.entry.now (state_of (seen_by F.seen L.seen self.old))) (F.seen (lent self.old)) result (F.seen (lent self.new)) }
     {
         judge_depth(depth_or_all(request))?;
         let meta = self.fs.metadata(&request.path, &self.credentials)?;
@@ -57,7 +56,7 @@ impl<'a, C: Drop, F: GuardedFileSystem<C>, L: DavLockSystem> DavInner<'a, C, F, 
         requires { (F.seen (lent self.old)).contents.metas request.now.path.key ≡ Some meta.now }
         ensures same_loans { loans self.new ≡ loans self.old }
         ensures same_settings { settings self.new ≡ settings self.old }
-        ensures work { Works (Some Delete) request.entry.now (Some meta.now) (seen_by F.seen L.seen self.old) (answer_of result) (seen_by F.seen L.seen self.new) }
+        ensures work { Performs (DeleteWork request.entry.now meta.now) (DeleteCut request.entry.now meta.now) (seen_by F.seen L.seen self.old) (answer_of result) (seen_by F.seen L.seen self.new) }
     {
         let alloc = *self.prefix.allocator();
         let path = fixed_path(&request.path, Some(meta))?;

@@ -8,7 +8,7 @@ ghost use Rattle.dav_store.specs.LockCalls.{AddsLock, RemovesLock, KeepsNamed};
 ghost use Rattle.dav_parts.specs.Dialogue.{Judges};
 ghost use Rattle.dav_parts.specs.Reply.{answer_of};
 ghost use Rattle.dav_engine.specs.Answered.{Unbegun};
-ghost use Rattle.dav_engine.specs.DavInner.{lent, lent_locks, loans, settings, seen_by};
+ghost use Rattle.dav_engine.specs.DavInner.{lent, lent_locks, loans, settings, seen_by, settings_by};
 ghost use Rattle.dav_engine.specs.LockInfo.{lock_info_of};
 ghost use Rattle.dav_engine.specs.Locking.{greatest_timeout as greatest_timeout_of, timeout_for, locks_verdict, look_to_lock as look_to_lock_of, is_refresh as is_refresh_body, new_lock_rules, is_deep as is_deep_depth, lock_asked, lock_error as lock_error_of, lock_open_error as error_of_open, TellsLock, NewLockWork, NewLockCut};
 ghost use Rattle.dav_engine.specs.Rules.{found_in};
@@ -47,7 +47,7 @@ impl<'a, C: Drop, F: GuardedFileSystem<C>, L: DavLockSystem> DavInner<'a, C, F, 
     pub fn handle_lock(&mut self, request: &DavRequest) -> DavResult<Response<Body>>
         ensures same_loans { loans self.new ≡ loans self.old }
         ensures same_settings { settings self.new ≡ settings self.old }
-        ensures step { Serves (Some Lock) (seen_by F.seen L.seen self.old) request.entry.now (answer_of result) (seen_by F.seen L.seen self.new) }
+        ensures step { Serves (Some Lock) (settings_by F.seen self.old) (seen_by F.seen L.seen self.old) request.entry.now (answer_of result) (seen_by F.seen L.seen self.new) }
     {
         if is_refresh(&request.body) {
             self.refresh(request)
@@ -61,7 +61,7 @@ impl<'a, C: Drop, F: GuardedFileSystem<C>, L: DavLockSystem> DavInner<'a, C, F, 
         requires body { is_refresh_body request.now.body ≡ false }
         ensures same_loans { loans self.new ≡ loans self.old }
         ensures same_settings { settings self.new ≡ settings self.old }
-        ensures step { Serves (Some Lock) (seen_by F.seen L.seen self.old) request.entry.now (answer_of result) (seen_by F.seen L.seen self.new) }
+        ensures step { Serves (Some Lock) (settings_by F.seen self.old) (seen_by F.seen L.seen self.old) request.entry.now (answer_of result) (seen_by F.seen L.seen self.new) }
     {
         let (found, info) = self.judge_new_lock(request)?;
         self.grant_lock(request, found, &info)

@@ -1,7 +1,7 @@
 //! A request to its method, and requests one after another.
 ghost use Rattle.std.specs.Prelude.{◌≡◌, Err, map, IfOk, OnErr};
 ghost use Rattle.dav_resource.specs.Methods.{method_of};
-ghost use Rattle.dav_engine.specs.DavInner.{loans, settings, seen_by};
+ghost use Rattle.dav_engine.specs.DavInner.{loans, settings, seen_by, settings_by};
 ghost use Rattle.dav_parts.specs.Reply.{answer_of};
 ghost use Rattle.dav_engine.specs.Step.{Serves, Runs};
 
@@ -16,7 +16,7 @@ impl<'a, C: Drop, F: GuardedFileSystem<C>, L: DavLockSystem> DavInner<'a, C, F, 
     pub fn serve(&mut self, request: &DavRequest) -> DavResult<Response<Body>>
         ensures same_loans { loans self.new ≡ loans self.old }
         ensures same_settings { settings self.new ≡ settings self.old }
-        ensures step { Serves (method_of request.entry.now.method) (seen_by F.seen L.seen self.old) request.entry.now (answer_of result) (seen_by F.seen L.seen self.new) }
+        ensures step { Serves (method_of request.entry.now.method) (settings_by F.seen self.old) (seen_by F.seen L.seen self.old) request.entry.now (answer_of result) (seen_by F.seen L.seen self.new) }
     {
         let Some(method) = DavMethod::from_method(&request.method) else {
             return Err(DavError::Status(StatusCode::NOT_IMPLEMENTED));
@@ -36,7 +36,7 @@ impl<'a, C: Drop, F: GuardedFileSystem<C>, L: DavLockSystem> DavInner<'a, C, F, 
     pub fn run(&mut self, requests: &[DavRequest]) -> DavResult<Vec<DavResult<Response<Body>>>>
         ensures same_loans { loans self.new ≡ loans self.old }
         ensures same_settings { settings self.new ≡ settings self.old }
-        ensures run { IfOk result (λ replies. Runs (seen_by F.seen L.seen self.old) requests.now (map answer_of replies.items) (seen_by F.seen L.seen self.new)) }
+        ensures run { IfOk result (λ replies. Runs (settings_by F.seen self.old) (seen_by F.seen L.seen self.old) requests.now (map answer_of replies.items) (seen_by F.seen L.seen self.new)) }
         ensures memory { OnErr result ((result ≡ Err DavError.Memory) × (seen_by F.seen L.seen self.new ≡ seen_by F.seen L.seen self.old)) }
     {
         let mut replies = Vec::with_capacity(*self.prefix.allocator(), requests.len())?;

@@ -1,7 +1,7 @@
 //! MKCOL (RFC 4918, section 9.3).
 ghost use Rattle.std.specs.Prelude.{◌≡◌, IfOk, IfErr, Some};
 ghost use Rattle.dav_resource.specs.declared.method.DavMethod.TheVariants.{MkCol};
-ghost use Rattle.dav_engine.specs.DavInner.{lent, lent_locks, loans, settings, seen_by};
+ghost use Rattle.dav_engine.specs.DavInner.{lent, lent_locks, loans, settings, seen_by, settings_by};
 ghost use Rattle.dav_parts.specs.Reply.{reply_of, answer_of};
 ghost use Rattle.dav_engine.specs.Mkcol.{mkcol_error as error_of_mkcol, mkcol_reply as reply_of_mkcol, mkcol_location as location_of_mkcol, MkcolWork};
 ghost use Rattle.dav_engine.specs.Answered.{Unbegun};
@@ -25,7 +25,7 @@ impl<'a, C: Drop, F: GuardedFileSystem<C>, L: DavLockSystem> DavInner<'a, C, F, 
     pub fn handle_mkcol(&mut self, request: &DavRequest) -> DavResult<Response<Body>>
         ensures same_loans { loans self.new ≡ loans self.old }
         ensures same_settings { settings self.new ≡ settings self.old }
-        ensures step { Serves (Some MkCol) (seen_by F.seen L.seen self.old) request.entry.now (answer_of result) (seen_by F.seen L.seen self.new) }
+        ensures step { Serves (Some MkCol) (settings_by F.seen self.old) (seen_by F.seen L.seen self.old) request.entry.now (answer_of result) (seen_by F.seen L.seen self.new) }
     {
         self.judge_shallow(request)?;
         self.make_collection(request)

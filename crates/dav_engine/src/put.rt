@@ -3,7 +3,7 @@ ghost use Rattle.std.specs.Prelude.{◌≡◌, ◌≢◌, ◌≤◌, ◌<◌, �
 ghost use Rattle.std.specs.Option.{ForSome};
 ghost use Rattle.dav_resource.specs.Methods.{method_of};
 ghost use Rattle.dav_store.specs.Store.{IsTagText};
-ghost use Rattle.dav_engine.specs.DavInner.{lent, lent_locks, loans, settings, seen_by};
+ghost use Rattle.dav_engine.specs.DavInner.{lent, lent_locks, loans, settings, seen_by, settings_by};
 ghost use Rattle.dav_engine.specs.State.{state_of};
 ghost use Rattle.dav_parts.specs.Reply.{answer_of};
 ghost use Rattle.dav_parts.specs.Dialogue.{Judges};
@@ -44,7 +44,7 @@ impl<'a, C: Drop, F: GuardedFileSystem<C>, L: DavLockSystem> DavInner<'a, C, F, 
     pub fn handle_put(&mut self, request: &DavRequest) -> DavResult<Response<Body>>
         ensures same_loans { loans self.new ≡ loans self.old }
         ensures same_settings { settings self.new ≡ settings self.old }
-        ensures step { Serves (Some (put_method (method_of request.entry.now.method))) (seen_by F.seen L.seen self.old) request.entry.now (answer_of result) (seen_by F.seen L.seen self.new) }
+        ensures step { Serves (Some (put_method (method_of request.entry.now.method))) (settings_by F.seen self.old) (seen_by F.seen L.seen self.old) request.entry.now (answer_of result) (seen_by F.seen L.seen self.new) }
     {
         let partial = is_patch(DavMethod::from_method(&request.method));
         let (found, target) = self.judge_put(partial, request)?;

@@ -6,7 +6,7 @@ ghost use Rattle.dav_store.specs.LockCalls.{RefreshesLock, has_named};
 ghost use Rattle.dav_parts.specs.Conditions.{submitted_tokens};
 ghost use Rattle.dav_parts.specs.Dialogue.{Judges};
 ghost use Rattle.dav_parts.specs.Reply.{answer_of};
-ghost use Rattle.dav_engine.specs.DavInner.{lent, lent_locks, loans, settings, seen_by};
+ghost use Rattle.dav_engine.specs.DavInner.{lent, lent_locks, loans, settings, seen_by, settings_by};
 ghost use Rattle.dav_engine.specs.Locking.{is_refresh as is_refresh_body, one_token as one_token_of, refresh_rules, refresh_timeout, RefreshWork, RefreshCut};
 ghost use Rattle.dav_engine.specs.Rules.{found_in};
 ghost use Rattle.dav_engine.specs.State.{state_of, ChangesLocks, KeepsLocks};
@@ -25,7 +25,7 @@ impl<'a, C: Drop, F: GuardedFileSystem<C>, L: DavLockSystem> DavInner<'a, C, F, 
         requires body { is_refresh_body request.now.body ≡ true }
         ensures same_loans { loans self.new ≡ loans self.old }
         ensures same_settings { settings self.new ≡ settings self.old }
-        ensures step { Serves (Some Lock) (seen_by F.seen L.seen self.old) request.entry.now (answer_of result) (seen_by F.seen L.seen self.new) }
+        ensures step { Serves (Some Lock) (settings_by F.seen self.old) (seen_by F.seen L.seen self.old) request.entry.now (answer_of result) (seen_by F.seen L.seen self.new) }
     {
         let (found, token) = self.judge_refresh(request)?;
         self.refresh_lock(request, found, &token)

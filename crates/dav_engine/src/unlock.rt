@@ -5,11 +5,12 @@ ghost use Rattle.dav_resource.specs.declared.method.DavMethod.TheVariants.{Unloc
 ghost use Rattle.dav_headers.specs.LockToken.{lock_token_of};
 ghost use Rattle.dav_parts.specs.Dialogue.{Judges};
 ghost use Rattle.dav_parts.specs.Reply.{answer_of};
-ghost use Rattle.dav_engine.specs.DavInner.{lent, lent_locks, loans, settings, seen_by};
+ghost use Rattle.dav_engine.specs.Answered.{Unbegun};
+ghost use Rattle.dav_engine.specs.DavInner.{lent, lent_locks, loans, settings, seen_by, settings_by};
 ghost use Rattle.dav_engine.specs.Rules.{found_in};
 ghost use Rattle.dav_engine.specs.State.{state_of};
-ghost use Rattle.dav_engine.specs.Step.{Serves, Works};
-ghost use Rattle.dav_engine.specs.Unlocking.{unlock_rules};
+ghost use Rattle.dav_engine.specs.Step.{Serves, Performs};
+ghost use Rattle.dav_engine.specs.Unlocking.{unlock_rules, UnlockWork};
 
 use crate::DavInner;
 use crate::lock_reply::unlocked_reply;
@@ -29,7 +30,7 @@ impl<'a, C: Drop, F: GuardedFileSystem<C>, L: DavLockSystem> DavInner<'a, C, F, 
     pub fn handle_unlock(&mut self, request: &DavRequest) -> DavResult<Response<Body>>
         ensures same_loans { loans self.new ≡ loans self.old }
         ensures same_settings { settings self.new ≡ settings self.old }
-        ensures step { Serves (Some Unlock) (seen_by F.seen L.seen self.old) request.entry.now (answer_of result) (seen_by F.seen L.seen self.new) }
+        ensures step { Serves (Some Unlock) (settings_by F.seen self.old) (seen_by F.seen L.seen self.old) request.entry.now (answer_of result) (seen_by F.seen L.seen self.new) }
     {
         let (found, token) = self.judge_unlock(request)?;
         self.unlock(request, found, token)
@@ -61,7 +62,7 @@ impl<'a, C: Drop, F: GuardedFileSystem<C>, L: DavLockSystem> DavInner<'a, C, F, 
         requires token { lock_token_of request.now.headers ≡ Some token.now }
         ensures same_loans { loans self.new ≡ loans self.old }
         ensures same_settings { settings self.new ≡ settings self.old }
-        ensures work { Works (Some Unlock) request.entry.now found (seen_by F.seen L.seen self.old) (answer_of result) (seen_by F.seen L.seen self.new) }
+        ensures work { Performs (UnlockWork request.entry.now found) Unbegun (seen_by F.seen L.seen self.old) (answer_of result) (seen_by F.seen L.seen self.new) }
     {
         let reply = unlocked_reply(*self.prefix.allocator(), &request.path, &found)?;
         if self.remove_lock(&request.path, token) {

@@ -1,5 +1,5 @@
 -- Conditions of a request (RFC 7232, sections 3.1 and 3.2; RFC 4918, section 10.4), and which of them are asked of a store.
-use Rattle.std.specs.Prelude.{ℕ, nat_eq, Bool, true, false, not, ◌&&◌, if◌then◌else◌, List, [], ◌∷◌, codes, Option, Some, None, is_some, option_map}
+use Rattle.std.specs.Prelude.{ℕ, nat_eq, Bool, true, false, not, ◌&&◌, if◌then◌else◌, List, [], ◌∷◌, codes, Option, Some, None, Err, is_some, option_map}
 use Rattle.std.specs.Option.{option_map_or}
 use Rattle.std.specs.List.{list_any, filter_map, starts_with, flat_map}
 use Rattle.dav_resource.specs.Key.{Key}
@@ -164,12 +164,12 @@ verdict_after holds request found = if holds then http_verdict request found els
 
 -- a status that refuses, or what is asked without one
 abbrev pub unless_refused : {A : Type 0} → Option ℕ → Dialogue A → Dialogue A
-unless_refused (Some status) next = Refuses (Status status)
+unless_refused (Some status) next = Refuses (Err (Status status))
 unless_refused None next = next
 
 -- the tokens, where the header holds
 abbrev pub tokens_where : Bool × List (List ℕ) → Dialogue (List (List ℕ))
-tokens_where told = if told.0 then Passed told.1 else Refuses (Status 412)
+tokens_where told = if told.0 then Passed told.1 else Refuses (Err (Status 412))
 
 module _ (contents : Contents) (locks : Option (List DavLock)) (request : DavRequest) where
   -- the header If, with the tokens

@@ -11,35 +11,37 @@ use Rattle.dav_resource.specs.declared.error.DavError.TheVariants.{Memory}
 use Rattle.dav_store.specs.Logged.{Logged, logged}
 use Rattle.dav_store.specs.Store.{Store, Contents}
 use Rattle.dav_store.specs.Calls.{Call, record_of, IsLawful, metadata_call}
+use Rattle.dav_parts.specs.Reply.{Answer}
 
--- a call whose outcome leads on; a refusal of the request; or the end, with a value
+-- a call whose outcome leads on; a refusal of the request, by an error or a reply; or the end, with a value
 pub data Dialogue (A : Type 0) : Type 0 where
   Asks : Call → (Outcome → Dialogue A) → Dialogue A
-  Refuses : DavError → Dialogue A
+  Refuses : Answer → Dialogue A
   Passed : A → Dialogue A
 
 -- the request isn't refused
 abbrev pub GoesOn : {A : Type 0} → Dialogue A → Type 0
 GoesOn (Asks call next) = Unit {0}
-GoesOn (Refuses e) = ⊥
+GoesOn (Refuses answer) = ⊥
 GoesOn (Passed a) = Unit {0}
 
 -- one dialogue, and then another
 infixl 10 ◌>>=◌
 unfoldable pub ◌>>=◌ : {A B : Type 0} → Dialogue A → (A → Dialogue B) → Dialogue B
 (Asks call next) >>= then = Asks call (λ outcome. next outcome >>= then)
-(Refuses e) >>= then = Refuses e
+(Refuses answer) >>= then = Refuses answer
 (Passed a) >>= then = then a
+
+-- the same, whose error is told in another way
+abbrev pub told_by : {A : Type 0} → (DavError → DavError) → Result A DavError → Result A DavError
+told_by change (Ok a) = Ok a
+told_by change (Err e) = Err (change e)
 
 -- the same dialogue, whose refusals are told in another way
 unfoldable pub refusing : {A : Type 0} → (DavError → DavError) → Dialogue A → Dialogue A
 refusing change (Asks call next) = Asks call (λ outcome. refusing change (next outcome))
-refusing change (Refuses e) = Refuses (change e)
+refusing change (Refuses answer) = Refuses (told_by change answer)
 refusing change (Passed a) = Passed a
-
-abbrev pub told_by : {A : Type 0} → (DavError → DavError) → Result A DavError → Result A DavError
-told_by change (Ok a) = Ok a
-told_by change (Err e) = Err (change e)
 
 -- a call that the request fails by, where it isn't granted
 abbrev pub needs : {A : Type 0} → Call → (FsError → DavError) → Dialogue A → Dialogue A
@@ -47,8 +49,8 @@ needs {A} call error next = Asks call met
   where
     met : Outcome → Dialogue A
     met Granted = next
-    met (Barred e) = Refuses (error e)
-    met (Refused e) = Refuses (error e)
+    met (Barred e) = Refuses (Err (error e))
+    met (Refused e) = Refuses (Err (error e))
 
 -- what a granted look at a key tells
 abbrev pub if_granted : {A : Type 0} → Outcome → Option A → Option A
@@ -66,13 +68,13 @@ look contents key = Asks (metadata_call contents key) (λ outcome. Passed (if_gr
 abbrev pub LeadsTo : {A : Type 0} → Dialogue A → List Logged → Dialogue A → Type 0
 LeadsTo dialogue [] left = left ≡ dialogue
 LeadsTo (Asks call next) (logged ∷ records) left = (logged ≡ record_of call logged.outcome) × IsLawful call.bar logged.outcome × LeadsTo (next logged.outcome) records left
-LeadsTo (Refuses e) (logged ∷ records) left = ⊥
+LeadsTo (Refuses answer) (logged ∷ records) left = ⊥
 LeadsTo (Passed a) (logged ∷ records) left = ⊥
 
 -- over these records the dialogue ends in a value, or refuses with the error, or memory ran out on the way
 abbrev pub EndsIn : {A : Type 0} → Dialogue A → List Logged → Result A DavError → Type 0
 EndsIn dialogue records (Ok a) = LeadsTo dialogue records (Passed a)
-EndsIn {A} dialogue records (Err e) = LeadsTo dialogue records (Refuses e) ⊎ ((e ≡ Memory) × ((left : Dialogue A) × LeadsTo dialogue records left))
+EndsIn {A} dialogue records (Err e) = LeadsTo dialogue records (Refuses (Err e)) ⊎ ((e ≡ Memory) × ((left : Dialogue A) × LeadsTo dialogue records left))
 
 -- a call of this op on this key was granted
 abbrev pub WasGranted : Op → Key → List Logged → Type 0

@@ -36,12 +36,12 @@ module _ {A B : Type 0} (after : A → Dialogue B) where
 
   EndsIn-err : (first : Dialogue A) (records : List Logged) (e : DavError) → EndsIn first records (Err e) → EndsIn (first >>= after) records (Err e)
   unfolding ◌>>=◌
-  EndsIn-err first records e (inl h) = inl (LeadsTo-first first (Refuses e) records h)
+  EndsIn-err first records e (inl h) = inl (LeadsTo-first first (Refuses (Err e)) records h)
   EndsIn-err first records e (inr h) = inr (h.0, (h.1.0 >>= after, LeadsTo-first first h.1.0 records h.1.1))
 
   EndsIn-then : (first : Dialogue A) (records more : List Logged) (a : A) (verdict : Result B DavError) → LeadsTo first records (Passed a) → EndsIn (after a) more verdict → EndsIn (first >>= after) (records ++ more) verdict
   EndsIn-then first records more a (Ok b) h g = LeadsTo-then first records more a (Passed b) h g
-  EndsIn-then first records more a (Err e) h (inl g) = inl (LeadsTo-then first records more a (Refuses e) h g)
+  EndsIn-then first records more a (Err e) h (inl g) = inl (LeadsTo-then first records more a (Refuses (Err e)) h g)
   EndsIn-then first records more a (Err e) h (inr g) = inr (g.0, (g.1.0, LeadsTo-then first records more a g.1.0 h g.1.1))
 
   -- the first ends it, by the exit of a `?`
@@ -96,7 +96,7 @@ module _ {A : Type 0} (change : DavError → DavError) where
   EndsIn-refusing : (dialogue : Dialogue A) (records : List Logged) (verdict : Result A DavError) → change Memory ≡ Memory → EndsIn dialogue records verdict → EndsIn (refusing change dialogue) records (told_by change verdict)
   unfolding refusing
   EndsIn-refusing dialogue records (Ok a) memory h = LeadsTo-refusing dialogue (Passed a) records h
-  EndsIn-refusing dialogue records (Err e) memory (inl h) = inl (LeadsTo-refusing dialogue (Refuses e) records h)
+  EndsIn-refusing dialogue records (Err e) memory (inl h) = inl (LeadsTo-refusing dialogue (Refuses (Err e)) records h)
   EndsIn-refusing dialogue records (Err e) memory (inr h) = inr (rw (h.0, memory) refl, (refusing change h.1.0, LeadsTo-refusing dialogue h.1.0 records h.1.1))
 
   pub judges_refusing : (dialogue : Dialogue A) (old new : Store) (verdict : Result A DavError) → change Memory ≡ Memory → Judges dialogue old verdict new → Judges (refusing change dialogue) old (told_by change verdict) new
@@ -129,9 +129,9 @@ pub given_is : {A : Type 0} (a b : A) → GivesBy (λ x. x) (Ok b) (Ok a) → b 
 given_is a b is = cc
 
 -- a value, or a refusal, by a test
-pub judges_if : {A : Type 0} (b : Bool) (a : A) (e : DavError) (store : Store) (verdict : Result A DavError) → verdict ≡ (if b then Ok a else Err e) → Judges (if b then Passed a else Refuses e) store verdict store
+pub judges_if : {A : Type 0} (b : Bool) (a : A) (e : DavError) (store : Store) (verdict : Result A DavError) → verdict ≡ (if b then Ok a else Err e) → Judges (if b then Passed a else Refuses (Err e)) store verdict store
 judges_if true a e store verdict is = rw is (judges_pure (Passed a) store (Ok a) refl)
-judges_if false a e store verdict is = rw is (judges_pure (Refuses e) store (Err e) (inl refl))
+judges_if false a e store verdict is = rw is (judges_pure (Refuses (Err e)) store (Err e) (inl refl))
 
 -- ---- a dialogue that is held step by step
 
@@ -151,7 +151,7 @@ judges_left {A} dialogue left old mid new verdict h g = record {
   where
     ends : (verdict : Result A DavError) → EndsIn left g.records verdict → EndsIn dialogue (h.records ++ g.records) verdict
     ends (Ok a) e = LeadsTo-more dialogue left (Passed a) h.records g.records h.leads e
-    ends (Err d) (inl e) = inl (LeadsTo-more dialogue left (Refuses d) h.records g.records h.leads e)
+    ends (Err d) (inl e) = inl (LeadsTo-more dialogue left (Refuses (Err d)) h.records g.records h.leads e)
     ends (Err d) (inr e) = inr (e.0, (e.1.0, LeadsTo-more dialogue left e.1.0 h.records g.records h.leads e.1.1))
 
 -- the next part ends in a value
@@ -174,7 +174,7 @@ unlike e (outcomes.Refused d) cause same = cc
 
 -- and refuses the request
 pub needs-declined : {A : Type 0} (call : Call) (error : FsError → DavError) (next : Dialogue A) (e : FsError) (outcome : Outcome) → error_of outcome ≡ Some e → IsLawful call.bar outcome
-    → LeadsTo (needs call error next) (record_of call outcome ∷ []) (Refuses (error e))
+    → LeadsTo (needs call error next) (record_of call outcome ∷ []) (Refuses (Err (error e)))
 needs-declined call error next e outcomes.Granted cause lawful = absurd cc
 needs-declined call error next e (outcomes.Barred d) cause lawful = let is : d ≡ e = cc in (refl, lawful, rw is refl)
 needs-declined call error next e (outcomes.Refused d) cause lawful = let is : d ≡ e = cc in (refl, lawful, rw is refl)

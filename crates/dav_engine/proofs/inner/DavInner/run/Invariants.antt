@@ -1,5 +1,5 @@
 use Rattle.std.proofs.Common.{◌≡◌, ◌≤◌, take, length, map, vec_len, vec_capacity}
-use Rattle.dav_engine.specs.DavInner.{loans, settings, seen_by}
+use Rattle.dav_engine.specs.DavInner.{loans, settings, seen_by, settings_by}
 use Rattle.dav_parts.specs.Reply.{answer_of}
 use Rattle.dav_engine.specs.Step.{Runs}
 use Rattle.dav_engine.proofs.inner.DavInner.run.Given as goal
@@ -11,7 +11,7 @@ invariant-loop-request g l =
     record {
       same_loans : loans l.self ≡ loans l.fn.self;
       same_settings : settings l.self ≡ settings l.fn.self;
-      served : Runs (seen l.fn.self) (take l.request-index l.requests) (map answer_of l.replies.items) (seen l.self);
+      served : Runs (settings_by g.F.GuardedFileSystem.seen l.fn.self) (seen l.fn.self) (take l.request-index l.requests) (map answer_of l.replies.items) (seen l.self);
       told : vec_len l.replies ≡ l.request-index;
       room : length l.requests ≤ vec_capacity l.replies;
     }

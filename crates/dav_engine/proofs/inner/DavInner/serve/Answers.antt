@@ -3,7 +3,7 @@ use Rattle.dav_engine.proofs.Serving.{serves_none, serves_as, unserved}
 use Rattle.dav_engine.proofs.inner.DavInner.serve.Goals as goal
 
 pub returns-in_default-clause-step : goal.returns-in_default-clause-step
-returns-in_default-clause-step g c = serves_as None _ _ c.args.request.now _ _ (sym c.in_default.is ∙ c.from_method.ensures) (serves_none None c.args.request.now _ (λ state. refl))
+returns-in_default-clause-step g c = serves_as None _ _ _ c.args.request.now _ _ (sym c.in_default.is ∙ c.from_method.ensures) (serves_none None _ c.args.request.now _ (λ state. record { none = refl; told = refl; same = refl }))
 
 pub returns-in_default-method : goal.returns-in_default-method
 returns-in_default-method g c =
@@ -12,6 +12,6 @@ returns-in_default-method g c =
       same_loans = refl;
       same_settings = refl;
       step =
-          serves_as (Some method) _ _ c.args.request.now _ _ (sym c.in-Some.is ∙ c.from_method.ensures)
-          (serves_none (Some method) c.args.request.now _ (unserved c.args.request.now method c.in_default-method.not-MkCol c.in_default-method.not-Put c.in_default-method.not-Patch c.in_default-method.not-Delete c.in_default-method.not-Lock c.in_default-method.not-Unlock));
+          serves_as (Some method) _ _ _ c.args.request.now _ _ (sym c.in-Some.is ∙ c.from_method.ensures)
+          (serves_none (Some method) _ c.args.request.now _ (unserved _ c.args.request.now method c.in_default-method.not-MkCol c.in_default-method.not-Put c.in_default-method.not-Patch c.in_default-method.not-Delete c.in_default-method.not-Lock c.in_default-method.not-Unlock));
     }
