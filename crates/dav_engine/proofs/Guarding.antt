@@ -48,15 +48,15 @@ guarded_contents method request old new same key changed = absurd (unchanged key
 
 -- ---- what the rules have asked
 
-permitted_passed : {A : Type 0} (permitted : Bool) (a b : A) (records : List Logged) → LeadsTo (where_permitted permitted a) records (Passed b) → permitted ≡ true
-permitted_passed true a b records h = refl
-permitted_passed false a b [] h = absurd cc
-permitted_passed false a b (r ∷ records) h = absurd h
+permitted_passed : {A : Type 0} (status : ℕ) (permitted : Bool) (a b : A) (records : List Logged) → LeadsTo (where_permitted status permitted a) records (Passed b) → permitted ≡ true
+permitted_passed status true a b records h = refl
+permitted_passed status false a b [] h = absurd cc
+permitted_passed status false a b (r ∷ records) h = absurd h
 
 path_passed : (request : DavRequest) (state : State) (looked : Option Meta) (head : List Logged) (found : Option Meta) → LeadsTo (path_rules request state looked) head (Passed found) → is_permitted request state request.path.key false ≡ true
 path_passed request state looked head found h =
     let held = LeadsTo-last (conditions state.contents state.locks request looked request.path) _ head found h in
-    permitted_passed (is_permitted request state request.path.key false) looked found held.2 held.4
+    permitted_passed 423 (is_permitted request state request.path.key false) looked found held.2 held.4
 
 shallow_passed : (request : DavRequest) (state : State) (head : List Logged) (found : Option Meta) → LeadsTo (shallow_rules request state) head (Passed found) → is_permitted request state request.path.key false ≡ true
 shallow_passed request state head found h =
@@ -75,7 +75,7 @@ delete_passed request state head meta h =
     let reached = LeadsTo-last (judged (depth_verdict (depth_or_all request))) _ head meta h in
     let looked = LeadsTo-last (must_find state.contents request.path.key) _ reached.2 meta reached.4 in
     let held = LeadsTo-last (conditions state.contents state.locks request (Some looked.0) request.path) _ looked.2 meta looked.4 in
-    permitted_passed (is_permitted request state request.path.key true) looked.0 meta held.2 held.4
+    permitted_passed 423 (is_permitted request state request.path.key true) looked.0 meta held.2 held.4
 
 -- ---- what the work has changed
 

@@ -14,7 +14,7 @@ use Rattle.dav_store.specs.Locks.{Locks}
 use Rattle.dav_store.specs.LockCalls.{HasDistinctTokens}
 use Rattle.dav_parts.specs.Reply.{Answer, answer_of}
 use Rattle.dav_engine.specs.State.{State, Seen, state_of, facts_of, IsLawfulState, HasSameSystem}
-use Rattle.dav_engine.specs.DavInner.{lent, lent_locks, settings, seen_by, settings_by}
+use Rattle.dav_engine.specs.DavInner.{lent, lent_locks, frame, seen_by, settings_by}
 use Rattle.dav_engine.specs.Settings.{Settings}
 use Rattle.dav_engine.specs.declared.inner.DavInner.{DavInner}
 use Rattle.dav_engine.specs.Guarded.{IsGuarded}
@@ -76,9 +76,9 @@ module _ (settings : Settings) where
   runs_none seen = record { records = []; told = rw append-nil; fixed = refl; run = (refl, refl); compatible = λ h. h }
 
 -- an engine keeps its settings
-pub same_settings : {C F L : Type 0} (see_store : F → Store) (see_locks : L → Locks) (old new : DavInner C F L) → settings new ≡ settings old → facts_of (seen_by see_store see_locks new) ≡ facts_of (seen_by see_store see_locks old)
+pub same_settings : {C F L : Type 0} (see_store : F → Store) (see_locks : L → Locks) (old new : DavInner C F L) → frame new ≡ frame old → facts_of (seen_by see_store see_locks new) ≡ facts_of (seen_by see_store see_locks old)
     → settings_by see_store new ≡ settings_by see_store old
-same_settings see_store see_locks old new same fixed = λ i. record { prefix = (same i).0; allow = None; keeps_properties = (fixed i).0 }
+same_settings see_store see_locks old new same fixed = λ i. record { prefix = (same i).1.0; allow = (same i).1.1; keeps_properties = (fixed i).0 }
 
 pub served_under : (method : Option DavMethod) (now settings : Settings) (old : Seen) (request : DavRequest) (answer : Answer) (new : Seen) → now ≡ settings → Serves method now old request answer new → Serves method settings old request answer new
 served_under method now settings old request answer new same serves = subst (λ s. Serves method s old request answer new) same serves

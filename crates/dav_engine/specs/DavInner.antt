@@ -1,10 +1,11 @@
 -- What a contract sees of an engine: the store and the lock system that were lent to it, and what it was made with.
-use Rattle.std.specs.Prelude.{ℕ, List, Option, None, option_map, string_bytes}
+use Rattle.std.specs.Prelude.{ℕ, List, Option, option_map, string_bytes}
 use Rattle.std.specs.Borrow.{GName}
+use Rattle.dav_resource.specs.declared.method.DavMethodSet.{DavMethodSet}
 use Rattle.dav_store.specs.Store.{Store}
 use Rattle.dav_store.specs.Locks.{Locks}
 use Rattle.dav_engine.specs.Settings.{Settings}
-use Rattle.dav_engine.specs.State.{Seen}
+use Rattle.dav_engine.specs.State.{State, Seen, state_of}
 use Rattle.dav_engine.specs.declared.inner.DavInner.{DavInner}
 
 module _ {C F L : Type 0} where
@@ -20,14 +21,22 @@ module _ {C F L : Type 0} where
   abbrev pub loans : DavInner C F L → GName × Option GName
   loans engine = (engine.fs.ghost_name, option_map (λ ls. ls.ghost_name) engine.ls)
 
-  -- the prefix of its paths, and what the store knows the caller by
-  abbrev pub settings : DavInner C F L → List ℕ × C
-  settings engine = (string_bytes engine.prefix, engine.credentials)
+  -- the prefix of its paths, the methods that are let, and what the store knows the caller by
+  abbrev pub made_with : DavInner C F L → List ℕ × Option DavMethodSet × C
+  made_with engine = (string_bytes engine.prefix, engine.allow, engine.credentials)
+
+  -- what no call changes of the engine itself: its loans, and what it was made with
+  abbrev pub frame : DavInner C F L → (GName × Option GName) × (List ℕ × Option DavMethodSet × C)
+  frame engine = (loans engine, made_with engine)
 
   -- both, by what contracts see of each
   abbrev pub seen_by : (F → Store) → (L → Locks) → DavInner C F L → Seen
   seen_by see_store see_locks engine = record { store = see_store (lent engine); locks = option_map see_locks (lent_locks engine) }
 
+  -- the state that they are in
+  abbrev pub state_by : (F → Store) → (L → Locks) → DavInner C F L → State
+  state_by see_store see_locks engine = state_of (seen_by see_store see_locks engine)
+
   -- what no request changes
   abbrev pub settings_by : (F → Store) → DavInner C F L → Settings
-  settings_by see_store engine = record { prefix = string_bytes engine.prefix; allow = None; keeps_properties = (see_store (lent engine)).keeps_properties }
+  settings_by see_store engine = record { prefix = string_bytes engine.prefix; allow = engine.allow; keeps_properties = (see_store (lent engine)).keeps_properties }

@@ -4,13 +4,12 @@ use Rattle.dav_resource.specs.PathText.{PathValue}
 use Rattle.dav_resource.specs.declared.meta.Meta.{Meta}
 use Rattle.dav_resource.specs.declared.request.DavRequest.{DavRequest}
 use Rattle.dav_store.specs.Logged.{Logged}
-use Rattle.dav_parts.specs.Conditions.{conditions}
 use Rattle.dav_parts.specs.Dialogue.{Dialogue, ◌>>=◌}
 use Rattle.dav_parts.specs.Multistatus.{Item, multi_answer}
 use Rattle.dav_parts.specs.Reply.{Answer}
 use Rattle.dav_walks.specs.Deletion.{Removes, RemovesInPart}
 use Rattle.dav_engine.specs.State.{State, LocksStay, DropsLocks}
-use Rattle.dav_engine.specs.Rules.{judged, must_find, is_permitted, where_permitted, depth_or_all, depth_verdict, fixed_path}
+use Rattle.dav_engine.specs.Rules.{judged, must_find, own_conditions, is_permitted, where_permitted, depth_or_all, depth_verdict, fixed_path}
 
 -- ---- the rules
 
@@ -19,8 +18,8 @@ abbrev pub delete_rules : DavRequest → State → Dialogue Meta
 delete_rules request state =
     judged (depth_verdict (depth_or_all request)) >>= λ _.
     must_find state.contents request.path.key >>= λ meta.
-    conditions state.contents state.locks request (Some meta) request.path >>= λ _.
-    where_permitted (is_permitted request state request.path.key true) meta
+    own_conditions request state (Some meta) >>= λ _.
+    where_permitted 423 (is_permitted request state request.path.key true) meta
 
 -- ---- the work
 

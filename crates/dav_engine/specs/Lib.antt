@@ -8,6 +8,7 @@ pub mod Settings
 pub mod Method
 pub mod Methods
 pub mod Step
+pub mod Served
 pub mod State
 pub mod Answered
 pub mod Rules

@@ -22,19 +22,19 @@ use Rattle.dav_headers.specs.declared.timeout.DavTimeout.TheVariants.{Infinite, 
 use Rattle.dav_store.specs.Logged.{Logged}
 use Rattle.dav_store.specs.Store.{Contents}
 use Rattle.dav_store.specs.Calls.{open_call, limit_of}
-use Rattle.dav_store.specs.Locks.{grants}
-use Rattle.dav_store.specs.LockCalls.{asked_lock, is_named, refreshed, with_refreshed}
+use Rattle.dav_store.specs.Locks.{Locks, grants}
+use Rattle.dav_store.specs.LockCalls.{asked_lock, is_named, has_named, refreshed, with_refreshed, RefreshesLock}
 use Rattle.dav_store.specs.declared.lock.DavLock.{DavLock}
 use Rattle.dav_store.specs.declared.lock.LockError.{LockError}
 use Rattle.dav_store.specs.declared.lock.LockError.TheVariants as lock_errors
-use Rattle.dav_parts.specs.Conditions.{dav_if_match, submitted_tokens}
+use Rattle.dav_parts.specs.Conditions.{submitted_tokens}
 use Rattle.dav_parts.specs.Dialogue.{Dialogue, Passed, Refuses, needs, look, ◌>>=◌, WasGranted}
 use Rattle.dav_parts.specs.Reply.{Answer}
 use Rattle.dav_engine.specs.Answered.{IsAnswered}
 use Rattle.dav_engine.specs.LockInfo.{lock_info_of, lock_info_verdict}
 use Rattle.dav_engine.specs.LockReply.{granted_reply, refreshed_reply}
 use Rattle.dav_engine.specs.Opening.{making_options, open_error, IsFileAt}
-use Rattle.dav_engine.specs.Rules.{judged, holding, depth_or_all, depth_verdict, fixed_path, is_permitted}
+use Rattle.dav_engine.specs.Rules.{judged, own_if, holding, depth_or_all, depth_verdict, fixed_path, is_permitted, where_permitted}
 use Rattle.dav_engine.specs.State.{State, LocksStay}
 use Rattle.dav_engine.specs.declared.lock_info.LockInfo.{LockInfo}
 
@@ -72,17 +72,13 @@ abbrev pub one_token : List (List ℕ) → Result (List ℕ) DavError
 one_token (token ∷ []) = Ok token
 one_token _ = Err (Status 400)
 
--- a lock that doesn't let the request write can't be refreshed by it: 412
-abbrev pub where_held : {A : Type 0} → Bool → A → Dialogue A
-where_held permitted a = if permitted then Passed a else Refuses (Err (Status 412))
-
--- to refresh a lock: a look at the path, the header If, which names the lock and whose conditions needn't hold, and the locks of the path
+-- to refresh a lock: a look at the path, the header If, which names the lock and whose conditions needn't hold, and the locks of the path, which don't let the request write where it doesn't hold the lock: 412
 abbrev pub refresh_rules : DavRequest → State → Dialogue (Option Meta)
 refresh_rules request state =
     look_to_lock request state >>= λ found.
-    dav_if_match state.contents state.locks request request.path >>= λ told.
+    own_if request state >>= λ told.
     judged (one_token told.1) >>= λ _.
-    where_held (is_permitted request state request.path.key false) found
+    where_permitted 412 (is_permitted request state request.path.key false) found
 
 -- for a new lock: a look at the path, the depth, the conditions, and the body
 abbrev pub new_lock_rules : DavRequest → State → Dialogue (Option Meta)
@@ -108,6 +104,10 @@ abbrev pub lock_asked : DavRequest → Option Meta → LockInfo → DavLock
 lock_asked request found info =
     asked_lock (fixed_path request.path found) request.principal info.owner (timeout_for (timeout_of request.headers) false info.shared) info.shared (is_deep (depth_or_all request))
     request.token request.now
+
+-- the lock system's locks don't grant what the request asks for
+abbrev pub DeniesAsked : DavRequest → Option Meta → LockInfo → Locks → Type 0
+DeniesAsked request found info locks = grants locks.list (lock_asked request found info) ≡ false
 
 -- whether the locks grant it
 abbrev pub is_granted : State → DavLock → Bool
@@ -186,6 +186,14 @@ pub record NewLockCut (request : DavRequest) (found : Option Meta) (old : State)
 -- the timeout that it asks for is cut as that of an exclusive lock, whatever the lock is
 abbrev pub refresh_timeout : DavRequest → Option ℕ
 refresh_timeout request = timeout_for (timeout_of request.headers) true false
+
+-- the lock system gives the lock of this token the new timeout, and this is the lock then
+abbrev pub RefreshesAsked : DavRequest → List ℕ → DavLock → Locks → Locks → Type 0
+RefreshesAsked request token lock = RefreshesLock request.path.key token (refresh_timeout request) request.now lock
+
+-- it has no lock of this token at the path or above it
+abbrev pub LacksLock : DavRequest → List ℕ → Locks → Type 0
+LacksLock request token locks = has_named request.path.key token locks.list ≡ false
 
 -- the lock of this token that stands at the path or above it, with the new timeout
 abbrev pub lock_refreshed : DavRequest → List ℕ → State → Option DavLock

@@ -19,7 +19,7 @@ use Rattle.dav_store.specs.Store.{Contents}
 use Rattle.dav_store.specs.Calls.{metadata_call}
 use Rattle.dav_store.specs.Locks.{permits}
 use Rattle.dav_store.specs.declared.lock.DavLock.{DavLock}
-use Rattle.dav_parts.specs.Conditions.{conditions, if_match, unless_refused, submitted_tokens}
+use Rattle.dav_parts.specs.Conditions.{conditions, if_match, dav_if_match, unless_refused, submitted_tokens}
 use Rattle.dav_parts.specs.Dialogue.{Dialogue, Asks, Refuses, Passed, look, ◌>>=◌}
 use Rattle.dav_engine.specs.State.{State}
 
@@ -31,15 +31,27 @@ permits_by locks key principal deep tokens = option_map_or (λ list. permits lis
 abbrev pub is_permitted : DavRequest → State → Key → Bool → Bool
 is_permitted request state key deep = permits_by state.locks key request.principal deep (submitted_tokens request)
 
--- what isn't permitted is refused: 423
-abbrev pub where_permitted : {A : Type 0} → Bool → A → Dialogue A
-where_permitted permitted a = if permitted then Passed a else Refuses (Err (Status 423))
+-- what isn't permitted is refused, by this status
+abbrev pub where_permitted : {A : Type 0} → ℕ → Bool → A → Dialogue A
+where_permitted status permitted a = if permitted then Passed a else Refuses (Err (Status status))
+
+-- the conditions of a request, as they are in a state and where this was found at its path
+abbrev pub own_conditions : DavRequest → State → Option Meta → Dialogue (List (List ℕ))
+own_conditions request state found = conditions state.contents state.locks request found request.path
+
+-- the status by which they refuse it
+abbrev pub own_if_match : DavRequest → State → Option Meta → Dialogue (Option ℕ)
+own_if_match request state found = if_match state.contents state.locks request found request.path
+
+-- its header If alone, and the tokens that it submits
+abbrev pub own_if : DavRequest → State → Dialogue (Bool × List (List ℕ))
+own_if request state = dav_if_match state.contents state.locks request request.path
 
 -- the conditions of a request that changes what stands at its path alone, and the locks of the path
 abbrev pub path_rules : DavRequest → State → Option Meta → Dialogue (Option Meta)
 path_rules request state found =
-    conditions state.contents state.locks request found request.path >>= λ _.
-    where_permitted (is_permitted request state request.path.key false) found
+    own_conditions request state found >>= λ _.
+    where_permitted 423 (is_permitted request state request.path.key false) found
 
 -- the same after a look at the path, whose refusal is passed over
 abbrev pub shallow_rules : DavRequest → State → Dialogue (Option Meta)
@@ -47,7 +59,7 @@ shallow_rules request state = look state.contents request.path.key >>= path_rule
 
 -- the conditions alone: a request is refused where they don't hold
 abbrev pub holding : DavRequest → State → Option Meta → Dialogue (Unit {0})
-holding request state found = if_match state.contents state.locks request found request.path >>= λ refusal. unless_refused refusal (Passed tt)
+holding request state found = own_if_match request state found >>= λ refusal. unless_refused refusal (Passed tt)
 
 -- a verdict that asks nothing
 abbrev pub judged : {A : Type 0} → Result A DavError → Dialogue A

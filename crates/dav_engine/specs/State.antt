@@ -1,7 +1,9 @@
 -- What requests act on: what a store holds and, where there is a lock system, its locks (RFC 4918, sections 5 and 6).
-use Rattle.std.specs.Prelude.{◌≡◌, ◌⊎◌, Bool, true, false, List, Option, Some, is_some, option_map}
+use Rattle.std.specs.Prelude.{◌≡◌, ◌⊎◌, ℕ, Bool, true, false, List, Option, Some, is_some, option_map}
 use Rattle.std.specs.Option.{ForSome, option_map_or}
 use Rattle.dav_resource.specs.Key.{Key}
+use Rattle.dav_resource.specs.declared.error.DavError.{DavError}
+use Rattle.dav_resource.specs.declared.error.DavError.TheVariants.{Memory, Status}
 use Rattle.dav_store.specs.Store.{Store, Contents, IsWellFormed}
 use Rattle.dav_store.specs.Locks.{Locks, elsewhere, AreCompatible}
 use Rattle.dav_store.specs.LockCalls.{HasDistinctTokens}
@@ -77,3 +79,7 @@ pub record ChangesLocks (Change : Locks → Locks → Type 0) (old new : Seen) :
 pub record KeepsLocks (Cause : Locks → Type 0) (old new : Seen) : Type 0 where
   pub cause : ForSome old.locks Cause
   pub same : new ≡ old
+
+-- such a call's error: this status for the cause, or memory ran out; nothing changes
+abbrev pub IsRefusedByLocks : (Locks → Type 0) → ℕ → DavError → Seen → Seen → Type 0
+IsRefusedByLocks Cause status e old new = ((e ≡ Memory) × (new ≡ old)) ⊎ ((e ≡ Status status) × KeepsLocks Cause old new)

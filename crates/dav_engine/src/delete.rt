@@ -4,10 +4,11 @@ ghost use Rattle.dav_resource.specs.declared.method.DavMethod.TheVariants.{Delet
 ghost use Rattle.dav_parts.specs.Dialogue.{Judges};
 ghost use Rattle.dav_parts.specs.Reply.{answer_of};
 ghost use Rattle.dav_walks.specs.Deletion.{Removal};
-ghost use Rattle.dav_engine.specs.DavInner.{lent, lent_locks, loans, settings, seen_by, settings_by};
-ghost use Rattle.dav_engine.specs.State.{state_of, DropsSeen};
+ghost use Rattle.dav_engine.specs.DavInner.{lent, lent_locks, frame, seen_by, state_by};
+ghost use Rattle.dav_engine.specs.Served.{IsServed};
+ghost use Rattle.dav_engine.specs.State.{DropsSeen};
 ghost use Rattle.dav_engine.specs.Delete.{delete_rules, DeleteWork, DeleteCut};
-ghost use Rattle.dav_engine.specs.Step.{Serves, Performs};
+ghost use Rattle.dav_engine.specs.Step.{Performs};
 
 use crate::DavInner;
 use crate::inner::fixed_path;
@@ -27,9 +28,8 @@ impl<'a, C: Drop, F: GuardedFileSystem<C>, L: DavLockSystem> DavInner<'a, C, F, 
     /// section 10.4), 423 where the locks at or below the path don't permit it; after each of these nothing
     /// has changed. `Memory` at any time: what was removed by then stays so.
     pub fn handle_delete(&mut self, request: &DavRequest) -> DavResult<Response<Body>>
-        ensures same_loans { loans self.new ≡ loans self.old }
-        ensures same_settings { settings self.new ≡ settings self.old }
-        ensures step { Serves (Some Delete) (settings_by F.seen self.old) (seen_by F.seen L.seen self.old) request.entry.now (answer_of result) (seen_by F.seen L.seen self.new) }
+        ensures same_engine { frame self.new ≡ frame self.old }
+        ensures step { IsServed F.seen L.seen (Some Delete) self.old request.entry.now (answer_of result) self.new }
     {
         let meta = self.judge_delete(request)?;
         self.delete_found(request, &meta)
@@ -38,24 +38,22 @@ impl<'a, C: Drop, F: GuardedFileSystem<C>, L: DavLockSystem> DavInner<'a, C, F, 
     /// The rules: the depth, a look at the path, the conditions, and the locks at the path and below it.
     /// What was found passes.
     fn judge_delete(&mut self, request: &DavRequest) -> DavResult<Meta>
-        ensures same_loans { loans self.new ≡ loans self.old }
-        ensures same_settings { settings self.new ≡ settings self.old }
+        ensures same_engine { frame self.new ≡ frame self.old }
         ensures same_locks { lent_locks self.new ≡ lent_locks self.old }
         ensures found { IfOk result (λ meta. (F.seen (lent self.old)).contents.metas request.entry.now.path.key ≡ Some meta) }
-        ensures rules { Judges (delete_rules request.entry.now (state_of (seen_by F.seen L.seen self.old))) (F.seen (lent self.old)) result (F.seen (lent self.new)) }
+        ensures rules { Judges (delete_rules request.entry.now (state_by F.seen L.seen self.old)) (F.seen (lent self.old)) result (F.seen (lent self.new)) }
     {
         judge_depth(depth_or_all(request))?;
         let meta = self.fs.metadata(&request.path, &self.credentials)?;
         let tokens = self.judge_conditions(request, Some(&meta))?;
         let permitted = self.is_permitted(request, tokens.as_slice(), &request.path, true);
-        where_permitted(permitted, meta)
+        where_permitted(StatusCode::LOCKED, permitted, meta)
     }
 
     /// The work: what was found is removed, then its locks are dropped, and the reply is made.
     fn delete_found(&mut self, request: &DavRequest, meta: &Meta) -> DavResult<Response<Body>>
         requires { (F.seen (lent self.old)).contents.metas request.now.path.key ≡ Some meta.now }
-        ensures same_loans { loans self.new ≡ loans self.old }
-        ensures same_settings { settings self.new ≡ settings self.old }
+        ensures same_engine { frame self.new ≡ frame self.old }
         ensures work { Performs (DeleteWork request.entry.now meta.now) (DeleteCut request.entry.now meta.now) (seen_by F.seen L.seen self.old) (answer_of result) (seen_by F.seen L.seen self.new) }
     {
         let alloc = *self.prefix.allocator();
@@ -88,8 +86,7 @@ impl<'a, C: Drop, F: GuardedFileSystem<C>, L: DavLockSystem> DavInner<'a, C, F, 
         path: &DavPath,
     ) -> DavResult<()>
         requires { (F.seen (lent self.old)).contents.metas path.now.key ≡ Some meta.now }
-        ensures same_loans { loans self.new ≡ loans self.old }
-        ensures same_settings { settings self.new ≡ settings self.old }
+        ensures same_engine { frame self.new ≡ frame self.old }
         ensures same_locks { lent_locks self.new ≡ lent_locks self.old }
         ensures removal { Removal depth path.now (F.seen (lent self.old)) (F.seen (lent self.new)) res.old res.new result }
     {
@@ -99,8 +96,7 @@ impl<'a, C: Drop, F: GuardedFileSystem<C>, L: DavLockSystem> DavInner<'a, C, F, 
 
     /// Drops the locks at a path and below it. A refusal is passed over.
     fn drop_locks(&mut self, path: &DavPath)
-        ensures same_loans { loans self.new ≡ loans self.old }
-        ensures same_settings { settings self.new ≡ settings self.old }
+        ensures same_engine { frame self.new ≡ frame self.old }
         ensures same_store { lent self.new ≡ lent self.old }
         ensures dropped { DropsSeen path.now.key (seen_by F.seen L.seen self.old) (seen_by F.seen L.seen self.new) }
     {

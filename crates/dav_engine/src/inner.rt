@@ -1,10 +1,10 @@
 //! The engine's struct, and what several methods share.
 ghost use Rattle.std.specs.Prelude.{◌≡◌, IfOk, OnErr, option_map, option_copied, string_bytes};
-ghost use Rattle.dav_engine.specs.DavInner.{lent, lent_locks, loans, settings};
+ghost use Rattle.dav_engine.specs.DavInner.{lent, lent_locks, loans, made_with, frame};
 ghost use Rattle.dav_parts.specs.Dialogue.{Judges, look as look_of};
 ghost use Rattle.dav_engine.specs.Rules.{look_closely as close_look_of, fixed_path as fixed_path_of, is_directory as is_directory_found};
 
-use dav_resource::{DavError, DavPath, DavResult, FsError, FsResult, Meta};
+use dav_resource::{DavError, DavMethodSet, DavPath, DavResult, FsError, FsResult, Meta};
 use dav_store::{DavLockSystem, GuardedFileSystem};
 use std::alloc::AllocError;
 
@@ -14,22 +14,31 @@ pub struct DavInner<'a, C, F, L> {
     pub(crate) fs: &'a mut F,
     pub(crate) ls: Option<&'a mut L>,
     pub(crate) prefix: String,
+    pub(crate) allow: Option<DavMethodSet>,
     pub(crate) credentials: C,
 }
 
 impl<'a, C: Drop, F: GuardedFileSystem<C>, L: DavLockSystem> DavInner<'a, C, F, L> {
-    /// An engine over this store and this lock system. `prefix` is what the paths of requests begin with,
-    /// and `credentials` what the store knows the caller by.
-    pub fn new(fs: &'a mut F, ls: Option<&'a mut L>, prefix: String, credentials: C) -> Self
+    /// An engine over this store and, where there is one, this lock system. `prefix` is what the paths of
+    /// requests begin with, `allow` the methods that a handler above lets through (`None`: all), and
+    /// `credentials` what the store knows the caller by. No request changes any of the three.
+    pub fn new(
+        fs: &'a mut F,
+        ls: Option<&'a mut L>,
+        prefix: String,
+        allow: Option<DavMethodSet>,
+        credentials: C,
+    ) -> Self
         ensures same_loans { loans result ≡ (fs.entry.ghost_name, option_map (λ l. l.ghost_name) ls.entry) }
         ensures store { lent result ≡ fs.old }
         ensures locks { lent_locks result ≡ option_map (λ l. l.now) ls.entry }
-        ensures settings { settings result ≡ (string_bytes prefix, credentials) }
+        ensures settings { made_with result ≡ (string_bytes prefix, allow, credentials) }
     {
         DavInner {
             fs,
             ls,
             prefix,
+            allow,
             credentials,
         }
     }
@@ -45,8 +54,7 @@ impl<'a, C: Drop, F: GuardedFileSystem<C>, L: DavLockSystem> DavInner<'a, C, F, 
 
     /// Looks at a path, where a refusal counts as nothing there.
     pub(crate) fn look(&mut self, path: &DavPath) -> DavResult<Option<Meta>>
-        ensures same_loans { loans self.new ≡ loans self.old }
-        ensures same_settings { settings self.new ≡ settings self.old }
+        ensures same_engine { frame self.new ≡ frame self.old }
         ensures same_locks { lent_locks self.new ≡ lent_locks self.old }
         ensures rules { Judges (look_of (F.seen (lent self.old)).contents path.now.key) (F.seen (lent self.old)) result (F.seen (lent self.new)) }
         ensures memory { OnErr result (F.seen (lent self.new) ≡ F.seen (lent self.old)) }
@@ -56,8 +64,7 @@ impl<'a, C: Drop, F: GuardedFileSystem<C>, L: DavLockSystem> DavInner<'a, C, F, 
 
     /// Looks at a path, and tells a refusal too.
     pub(crate) fn look_closely(&mut self, path: &DavPath) -> DavResult<FsResult<Meta>>
-        ensures same_loans { loans self.new ≡ loans self.old }
-        ensures same_settings { settings self.new ≡ settings self.old }
+        ensures same_engine { frame self.new ≡ frame self.old }
         ensures same_locks { lent_locks self.new ≡ lent_locks self.old }
         ensures rules { Judges (close_look_of (F.seen (lent self.old)).contents path.now.key) (F.seen (lent self.old)) result (F.seen (lent self.new)) }
         ensures memory { OnErr result (F.seen (lent self.new) ≡ F.seen (lent self.old)) }

@@ -2,10 +2,9 @@
 ghost use Rattle.std.specs.Prelude.{◌≡◌, if◌then◌else◌, Ok, Err, IfOk, option_map, option_copied};
 ghost use Rattle.dav_resource.specs.declared.error.DavError.TheVariants.{Status};
 ghost use Rattle.dav_parts.specs.Dialogue.{Judges, told_by};
-ghost use Rattle.dav_parts.specs.Conditions.{conditions as conditions_of, dav_if_match as dav_if_match_of, if_match as if_match_of, submitted_tokens};
-ghost use Rattle.dav_engine.specs.DavInner.{lent, lent_locks, loans, settings, seen_by};
-ghost use Rattle.dav_engine.specs.State.{state_of};
-ghost use Rattle.dav_engine.specs.Rules.{permits_by, path_rules, shallow_rules, holding, depth_or_all as depth_or_all_of, depth_verdict, closing as closing_error};
+ghost use Rattle.dav_parts.specs.Conditions.{submitted_tokens};
+ghost use Rattle.dav_engine.specs.DavInner.{lent, lent_locks, frame, state_by};
+ghost use Rattle.dav_engine.specs.Rules.{permits_by, own_conditions, own_if_match, own_if, path_rules, shallow_rules, holding, depth_or_all as depth_or_all_of, depth_verdict, closing as closing_error};
 
 use crate::DavInner;
 use dav_headers::read_depth;
@@ -18,10 +17,9 @@ impl<'a, C: Drop, F: GuardedFileSystem<C>, L: DavLockSystem> DavInner<'a, C, F, 
     /// The rules of a request that changes what stands at its path alone: a look at the path, the
     /// conditions, and the locks of the path. What was found passes.
     pub(crate) fn judge_shallow(&mut self, request: &DavRequest) -> DavResult<Option<Meta>>
-        ensures same_loans { loans self.new ≡ loans self.old }
-        ensures same_settings { settings self.new ≡ settings self.old }
+        ensures same_engine { frame self.new ≡ frame self.old }
         ensures same_locks { lent_locks self.new ≡ lent_locks self.old }
-        ensures rules { Judges (shallow_rules request.entry.now (state_of (seen_by F.seen L.seen self.old))) (F.seen (lent self.old)) result (F.seen (lent self.new)) }
+        ensures rules { Judges (shallow_rules request.entry.now (state_by F.seen L.seen self.old)) (F.seen (lent self.old)) result (F.seen (lent self.new)) }
     {
         let found = self.look(&request.path)?;
         self.judge_path(request, found)
@@ -33,15 +31,14 @@ impl<'a, C: Drop, F: GuardedFileSystem<C>, L: DavLockSystem> DavInner<'a, C, F, 
         request: &DavRequest,
         found: Option<Meta>,
     ) -> DavResult<Option<Meta>>
-        ensures same_loans { loans self.new ≡ loans self.old }
-        ensures same_settings { settings self.new ≡ settings self.old }
+        ensures same_engine { frame self.new ≡ frame self.old }
         ensures same_locks { lent_locks self.new ≡ lent_locks self.old }
         ensures found { IfOk result (λ passed. passed ≡ found) }
-        ensures rules { Judges (path_rules request.entry.now (state_of (seen_by F.seen L.seen self.old)) found) (F.seen (lent self.old)) result (F.seen (lent self.new)) }
+        ensures rules { Judges (path_rules request.entry.now (state_by F.seen L.seen self.old) found) (F.seen (lent self.old)) result (F.seen (lent self.new)) }
     {
         let tokens = self.judge_conditions(request, found.as_ref())?;
         let permitted = self.is_permitted(request, tokens.as_slice(), &request.path, false);
-        where_permitted(permitted, found)
+        where_permitted(StatusCode::LOCKED, permitted, found)
     }
 
     /// The tokens that the request submits, where its conditions hold.
@@ -50,11 +47,10 @@ impl<'a, C: Drop, F: GuardedFileSystem<C>, L: DavLockSystem> DavInner<'a, C, F, 
         request: &DavRequest,
         found: Option<&Meta>,
     ) -> DavResult<Items<Text>>
-        ensures same_loans { loans self.new ≡ loans self.old }
-        ensures same_settings { settings self.new ≡ settings self.old }
+        ensures same_engine { frame self.new ≡ frame self.old }
         ensures same_locks { lent_locks self.new ≡ lent_locks self.old }
         ensures tokens { IfOk result (λ tokens. tokens ≡ submitted_tokens request.entry.now) }
-        ensures rules { Judges (conditions_of (F.seen (lent self.old)).contents (state_of (seen_by F.seen L.seen self.old)).locks request.entry.now (option_copied found.entry) request.entry.now.path) (F.seen (lent self.old)) result (F.seen (lent self.new)) }
+        ensures rules { Judges (own_conditions request.entry.now (state_by F.seen L.seen self.old) (option_copied found.entry)) (F.seen (lent self.old)) result (F.seen (lent self.new)) }
     {
         let alloc = *self.prefix.allocator();
         if_match_get_tokens(
@@ -74,10 +70,9 @@ impl<'a, C: Drop, F: GuardedFileSystem<C>, L: DavLockSystem> DavInner<'a, C, F, 
         request: &DavRequest,
         found: Option<&Meta>,
     ) -> DavResult<()>
-        ensures same_loans { loans self.new ≡ loans self.old }
-        ensures same_settings { settings self.new ≡ settings self.old }
+        ensures same_engine { frame self.new ≡ frame self.old }
         ensures same_locks { lent_locks self.new ≡ lent_locks self.old }
-        ensures rules { Judges (holding request.entry.now (state_of (seen_by F.seen L.seen self.old)) (option_copied found.entry)) (F.seen (lent self.old)) result (F.seen (lent self.new)) }
+        ensures rules { Judges (holding request.entry.now (state_by F.seen L.seen self.old) (option_copied found.entry)) (F.seen (lent self.old)) result (F.seen (lent self.new)) }
     {
         match self.judge_if_match(request, found)? {
             Some(status) => Err(DavError::Status(status)),
@@ -91,10 +86,9 @@ impl<'a, C: Drop, F: GuardedFileSystem<C>, L: DavLockSystem> DavInner<'a, C, F, 
         request: &DavRequest,
         found: Option<&Meta>,
     ) -> DavResult<Option<StatusCode>>
-        ensures same_loans { loans self.new ≡ loans self.old }
-        ensures same_settings { settings self.new ≡ settings self.old }
+        ensures same_engine { frame self.new ≡ frame self.old }
         ensures same_locks { lent_locks self.new ≡ lent_locks self.old }
-        ensures rules { Judges (if_match_of (F.seen (lent self.old)).contents (state_of (seen_by F.seen L.seen self.old)).locks request.entry.now (option_copied found.entry) request.entry.now.path) (F.seen (lent self.old)) result (F.seen (lent self.new)) }
+        ensures rules { Judges (own_if_match request.entry.now (state_by F.seen L.seen self.old) (option_copied found.entry)) (F.seen (lent self.old)) result (F.seen (lent self.new)) }
     {
         if_match(
             *self.prefix.allocator(),
@@ -109,11 +103,10 @@ impl<'a, C: Drop, F: GuardedFileSystem<C>, L: DavLockSystem> DavInner<'a, C, F, 
 
     /// The tokens that the request submits, with whether its header If holds.
     pub(crate) fn judge_if(&mut self, request: &DavRequest) -> DavResult<(bool, Items<Text>)>
-        ensures same_loans { loans self.new ≡ loans self.old }
-        ensures same_settings { settings self.new ≡ settings self.old }
+        ensures same_engine { frame self.new ≡ frame self.old }
         ensures same_locks { lent_locks self.new ≡ lent_locks self.old }
         ensures tokens { IfOk result (λ told. told.1 ≡ submitted_tokens request.entry.now) }
-        ensures rules { Judges (dav_if_match_of (F.seen (lent self.old)).contents (state_of (seen_by F.seen L.seen self.old)).locks request.entry.now request.entry.now.path) (F.seen (lent self.old)) result (F.seen (lent self.new)) }
+        ensures rules { Judges (own_if request.entry.now (state_by F.seen L.seen self.old)) (F.seen (lent self.old)) result (F.seen (lent self.new)) }
     {
         dav_if_match(
             *self.prefix.allocator(),
@@ -133,7 +126,7 @@ impl<'a, C: Drop, F: GuardedFileSystem<C>, L: DavLockSystem> DavInner<'a, C, F, 
         path: &DavPath,
         deep: bool,
     ) -> bool
-        ensures { result ≡ permits_by (state_of (seen_by F.seen L.seen self.now)).locks path.now.key request.entry.now.principal deep tokens.now }
+        ensures { result ≡ permits_by (state_by F.seen L.seen self.now).locks path.now.key request.entry.now.principal deep tokens.now }
     {
         match &self.ls {
             Some(ls) => ls.check(path, principal(request), false, deep, tokens),
@@ -182,14 +175,19 @@ pub(crate) fn principal(request: &DavRequest) -> Option<&str>
     }
 }
 
-/// Lets a value pass, where that is permitted: else 423 (RFC 4918, section 11.3).
-pub(crate) fn where_permitted<T: Drop>(permitted: bool, value: T) -> DavResult<T>
-    ensures { result ≡ (if permitted then Ok value else Err (Status 423)) }
+/// Lets a value pass, where that is permitted: else the request is refused by this status, 423 (RFC 4918,
+/// section 11.3) or, of a refresh, 412 (section 9.10.2).
+pub(crate) fn where_permitted<T: Drop>(
+    status: StatusCode,
+    permitted: bool,
+    value: T,
+) -> DavResult<T>
+    ensures { result ≡ (if permitted then Ok value else Err (Status status)) }
 {
     if permitted {
         Ok(value)
     } else {
-        Err(DavError::Status(StatusCode::LOCKED))
+        Err(DavError::Status(status))
     }
 }
 

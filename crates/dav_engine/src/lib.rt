@@ -6,6 +6,7 @@ mod http_date;
 mod inner;
 mod judge;
 mod lock;
+mod lock_calls;
 mod lock_info;
 mod lock_reply;
 mod machine;

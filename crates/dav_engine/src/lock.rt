@@ -1,23 +1,24 @@
 //! LOCK (RFC 4918, section 9.10), for a new lock.
-ghost use Rattle.std.specs.Prelude.{◌≡◌, ◌⊎◌, true, false, IfOk, IfErr, OnOk, OnErr, Ok, Err, Some, is_some};
+ghost use Rattle.std.specs.Prelude.{◌≡◌, true, false, IfOk, IfErr, OnOk, Ok, Err, Some, is_some};
 ghost use Rattle.dav_resource.specs.declared.error.DavError.TheVariants.{Memory, Status};
 ghost use Rattle.dav_resource.specs.declared.method.DavMethod.TheVariants.{Lock};
 ghost use Rattle.dav_headers.specs.Timeout.{timeout_of};
-ghost use Rattle.dav_store.specs.Locks.{grants};
-ghost use Rattle.dav_store.specs.LockCalls.{AddsLock, RemovesLock, KeepsNamed};
+ghost use Rattle.dav_store.specs.LockCalls.{AddsLock};
 ghost use Rattle.dav_parts.specs.Dialogue.{Judges};
 ghost use Rattle.dav_parts.specs.Reply.{answer_of};
 ghost use Rattle.dav_engine.specs.Answered.{Unbegun};
-ghost use Rattle.dav_engine.specs.DavInner.{lent, lent_locks, loans, settings, seen_by, settings_by};
+ghost use Rattle.dav_engine.specs.DavInner.{lent, lent_locks, frame, seen_by, state_by};
+ghost use Rattle.dav_engine.specs.Served.{IsServed};
 ghost use Rattle.dav_engine.specs.LockInfo.{lock_info_of};
-ghost use Rattle.dav_engine.specs.Locking.{greatest_timeout as greatest_timeout_of, timeout_for, locks_verdict, look_to_lock as look_to_lock_of, is_refresh as is_refresh_body, new_lock_rules, is_deep as is_deep_depth, lock_asked, lock_error as lock_error_of, lock_open_error as error_of_open, TellsLock, NewLockWork, NewLockCut};
+ghost use Rattle.dav_engine.specs.Locking.{greatest_timeout as greatest_timeout_of, timeout_for, is_refresh as is_refresh_body, new_lock_rules, is_deep as is_deep_depth, lock_asked, DeniesAsked, lock_open_error as error_of_open, TellsLock, NewLockWork, NewLockCut};
 ghost use Rattle.dav_engine.specs.Rules.{found_in};
-ghost use Rattle.dav_engine.specs.State.{state_of, ChangesLocks, KeepsLocks};
-ghost use Rattle.dav_engine.specs.Step.{Serves, Performs, WorksOnStore};
+ghost use Rattle.dav_engine.specs.State.{ChangesLocks, IsRefusedByLocks};
+ghost use Rattle.dav_engine.specs.Step.{Performs, WorksOnStore};
 
 use crate::DavInner;
 use crate::inner::fixed_path;
 use crate::judge::{depth_or_all, judge_depth, principal};
+use crate::lock_calls::lock_error;
 use crate::lock_info::{LockInfo, read_lock_info};
 use crate::lock_reply::granted_reply;
 use crate::opening::{making_options, misplaced_status};
@@ -45,9 +46,8 @@ impl<'a, C: Drop, F: GuardedFileSystem<C>, L: DavLockSystem> DavInner<'a, C, F, 
     /// request to write at the path, or no lock of that token stands there or above; `Memory`, after which the
     /// lock may have been refreshed. After the others nothing has changed.
     pub fn handle_lock(&mut self, request: &DavRequest) -> DavResult<Response<Body>>
-        ensures same_loans { loans self.new ≡ loans self.old }
-        ensures same_settings { settings self.new ≡ settings self.old }
-        ensures step { Serves (Some Lock) (settings_by F.seen self.old) (seen_by F.seen L.seen self.old) request.entry.now (answer_of result) (seen_by F.seen L.seen self.new) }
+        ensures same_engine { frame self.new ≡ frame self.old }
+        ensures step { IsServed F.seen L.seen (Some Lock) self.old request.entry.now (answer_of result) self.new }
     {
         if is_refresh(&request.body) {
             self.refresh(request)
@@ -59,9 +59,8 @@ impl<'a, C: Drop, F: GuardedFileSystem<C>, L: DavLockSystem> DavInner<'a, C, F, 
     /// A new lock: the rules, and then the work.
     fn new_lock(&mut self, request: &DavRequest) -> DavResult<Response<Body>>
         requires body { is_refresh_body request.now.body ≡ false }
-        ensures same_loans { loans self.new ≡ loans self.old }
-        ensures same_settings { settings self.new ≡ settings self.old }
-        ensures step { Serves (Some Lock) (settings_by F.seen self.old) (seen_by F.seen L.seen self.old) request.entry.now (answer_of result) (seen_by F.seen L.seen self.new) }
+        ensures same_engine { frame self.new ≡ frame self.old }
+        ensures step { IsServed F.seen L.seen (Some Lock) self.old request.entry.now (answer_of result) self.new }
     {
         let (found, info) = self.judge_new_lock(request)?;
         self.grant_lock(request, found, &info)
@@ -70,40 +69,17 @@ impl<'a, C: Drop, F: GuardedFileSystem<C>, L: DavLockSystem> DavInner<'a, C, F, 
     /// The rules of a new lock: a look at the path, the depth, the conditions and the body. What was found
     /// passes, with what the body asks for.
     fn judge_new_lock(&mut self, request: &DavRequest) -> DavResult<(Option<Meta>, LockInfo)>
-        ensures same_loans { loans self.new ≡ loans self.old }
-        ensures same_settings { settings self.new ≡ settings self.old }
+        ensures same_engine { frame self.new ≡ frame self.old }
         ensures same_locks { lent_locks self.new ≡ lent_locks self.old }
         ensures locks { OnOk result (is_some (lent_locks self.old) ≡ true) }
         ensures info { IfOk result (λ passed. lock_info_of request.entry.now.body ≡ Some passed.1) }
-        ensures rules { Judges (new_lock_rules request.entry.now (state_of (seen_by F.seen L.seen self.old))) (F.seen (lent self.old)) (found_in result) (F.seen (lent self.new)) }
+        ensures rules { Judges (new_lock_rules request.entry.now (state_by F.seen L.seen self.old)) (F.seen (lent self.old)) (found_in result) (F.seen (lent self.new)) }
     {
         let found = self.look_to_lock(request)?;
         judge_depth(depth_or_all(request))?;
         self.judge_holding(request, found.as_ref())?;
         let info = read_lock_info(*self.prefix.allocator(), &request.body)?;
         Ok((found, info))
-    }
-
-    /// A look at the path, where there is a lock system: else 405.
-    pub(crate) fn look_to_lock(&mut self, request: &DavRequest) -> DavResult<Option<Meta>>
-        ensures same_loans { loans self.new ≡ loans self.old }
-        ensures same_settings { settings self.new ≡ settings self.old }
-        ensures same_locks { lent_locks self.new ≡ lent_locks self.old }
-        ensures locks { OnOk result (is_some (lent_locks self.old) ≡ true) }
-        ensures rules { Judges (look_to_lock_of request.entry.now (state_of (seen_by F.seen L.seen self.old))) (F.seen (lent self.old)) result (F.seen (lent self.new)) }
-    {
-        self.judge_locks()?;
-        self.look(&request.path)
-    }
-
-    /// Refuses a request about locks where there is no lock system: 405.
-    pub(crate) fn judge_locks(&self) -> DavResult<()>
-        ensures { result ≡ locks_verdict (state_of (seen_by F.seen L.seen self.now)) }
-    {
-        match self.ls {
-            Some(_) => Ok(()),
-            None => Err(DavError::Status(StatusCode::METHOD_NOT_ALLOWED)),
-        }
     }
 
     /// The work of a new lock: it is granted, and told, with the file where nothing was found. Where that
@@ -116,8 +92,7 @@ impl<'a, C: Drop, F: GuardedFileSystem<C>, L: DavLockSystem> DavInner<'a, C, F, 
     ) -> DavResult<Response<Body>>
         requires locks { is_some (lent_locks self.old) ≡ true }
         requires info { lock_info_of request.now.body ≡ Some info.now }
-        ensures same_loans { loans self.new ≡ loans self.old }
-        ensures same_settings { settings self.new ≡ settings self.old }
+        ensures same_engine { frame self.new ≡ frame self.old }
         ensures work { Performs (NewLockWork request.entry.now found) (NewLockCut request.entry.now found) (seen_by F.seen L.seen self.old) (answer_of result) (seen_by F.seen L.seen self.new) }
     {
         let lock = self.add_lock(request, &found, info)?;
@@ -138,11 +113,10 @@ impl<'a, C: Drop, F: GuardedFileSystem<C>, L: DavLockSystem> DavInner<'a, C, F, 
         info: &LockInfo,
     ) -> DavResult<DavLock>
         requires locks { is_some (lent_locks self.old) ≡ true }
-        ensures same_loans { loans self.new ≡ loans self.old }
-        ensures same_settings { settings self.new ≡ settings self.old }
+        ensures same_engine { frame self.new ≡ frame self.old }
         ensures lock { IfOk result (λ lock. lock ≡ lock_asked request.entry.now found.now info.now) }
         ensures granted { OnOk result (ChangesLocks (AddsLock (lock_asked request.entry.now found.now info.now)) (seen_by F.seen L.seen self.old) (seen_by F.seen L.seen self.new)) }
-        ensures refused { IfErr result (λ e. ((e ≡ Memory) × (seen_by F.seen L.seen self.new ≡ seen_by F.seen L.seen self.old)) ⊎ ((e ≡ Status 423) × KeepsLocks (λ locks. grants locks.list (lock_asked request.entry.now found.now info.now) ≡ false) (seen_by F.seen L.seen self.old) (seen_by F.seen L.seen self.new))) }
+        ensures refused { IfErr result (λ e. IsRefusedByLocks (DeniesAsked request.entry.now found.now info.now) 423 e (seen_by F.seen L.seen self.old) (seen_by F.seen L.seen self.new)) }
     {
         let path = fixed_path(&request.path, found.as_ref())?;
         let Some(ls) = &mut self.ls else {
@@ -170,8 +144,7 @@ impl<'a, C: Drop, F: GuardedFileSystem<C>, L: DavLockSystem> DavInner<'a, C, F, 
         found: &Option<Meta>,
         lock: &DavLock,
     ) -> DavResult<Response<Body>>
-        ensures same_loans { loans self.new ≡ loans self.old }
-        ensures same_settings { settings self.new ≡ settings self.old }
+        ensures same_engine { frame self.new ≡ frame self.old }
         ensures same_locks { lent_locks self.new ≡ lent_locks self.old }
         ensures work { WorksOnStore (TellsLock request.entry.now found.now lock.now) Unbegun (F.seen (lent self.old)) (answer_of result) (F.seen (lent self.new)) }
     {
@@ -184,20 +157,6 @@ impl<'a, C: Drop, F: GuardedFileSystem<C>, L: DavLockSystem> DavInner<'a, C, F, 
         match self.fs.open(&request.path, &options, &self.credentials) {
             Ok(_) => Ok(reply),
             Err(error) => Err(lock_open_error(&options, error)),
-        }
-    }
-
-    /// Removes the lock of this token, at the path or above it, and says whether there was one that went.
-    pub(crate) fn remove_lock(&mut self, path: &DavPath, token: &str) -> bool
-        requires locks { is_some (lent_locks self.old) ≡ true }
-        ensures same_loans { loans self.new ≡ loans self.old }
-        ensures same_settings { settings self.new ≡ settings self.old }
-        ensures removed { result ≡ true → ChangesLocks (RemovesLock path.now.key token.now) (seen_by F.seen L.seen self.old) (seen_by F.seen L.seen self.new) }
-        ensures kept { result ≡ false → KeepsLocks (KeepsNamed path.now.key token.now) (seen_by F.seen L.seen self.old) (seen_by F.seen L.seen self.new) }
-    {
-        match &mut self.ls {
-            Some(ls) => ls.unlock(path, token).is_ok(),
-            None => false,
         }
     }
 }
@@ -239,16 +198,6 @@ fn is_deep(depth: Depth) -> bool
     ensures { result ≡ is_deep_depth depth }
 {
     depth != Depth::Zero
-}
-
-/// This status, but for a want of memory.
-pub(crate) fn lock_error(status: StatusCode, error: LockError) -> DavError
-    ensures { result ≡ lock_error_of status error }
-{
-    match error {
-        LockError::Memory => DavError::Memory,
-        _ => DavError::Status(status),
-    }
 }
 
 fn lock_open_error(options: &OpenOptions, error: FsError) -> DavError

@@ -1,5 +1,5 @@
 //! What the body of a LOCK asks for (RFC 4918, section 14.11).
-ghost use Rattle.std.specs.Prelude.{◌≡◌, IfOk, option_map, option_copied};
+ghost use Rattle.std.specs.Prelude.{◌≡◌, IfOk, option_copied};
 ghost use Rattle.std.specs.List.{list_all, list_any};
 ghost use Rattle.dav_resource.specs.Gives.{GivesBy};
 ghost use Rattle.dav_resource.specs.Tree.{elements_of};

@@ -1,9 +1,7 @@
 //! The replies to LOCK and UNLOCK.
-ghost use Rattle.std.specs.Prelude.{◌≡◌, if◌then◌else◌, is_some, ◌++◌, [], ◌∷◌, codes, IfOk, OnOk, IfErr};
-ghost use Rattle.http_header.specs.FieldValue.{plain_value};
+ghost use Rattle.std.specs.Prelude.{◌≡◌, if◌then◌else◌, is_some, ◌++◌, [], codes, IfOk, OnOk, IfErr};
 ghost use Rattle.dav_resource.specs.LockToken.{coded};
 ghost use Rattle.dav_resource.specs.declared.error.DavError.TheVariants.{Memory};
-ghost use Rattle.dav_parts.specs.Multistatus.{xml_type};
 ghost use Rattle.dav_parts.specs.Reply.{reply_of};
 ghost use Rattle.dav_parts.specs.ReplyHeader.{HasRoomFor};
 ghost use Rattle.dav_engine.specs.LockReply.{fixed_location as location_of_fixed, location_fields, lock_reply as reply_of_lock, granted_reply as reply_of_granted, refreshed_reply as reply_of_refreshed, unlocked_reply as reply_of_unlocked};

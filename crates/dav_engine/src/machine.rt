@@ -1,9 +1,10 @@
 //! A request to its method, and requests one after another.
 ghost use Rattle.std.specs.Prelude.{◌≡◌, Err, map, IfOk, OnErr};
 ghost use Rattle.dav_resource.specs.Methods.{method_of};
-ghost use Rattle.dav_engine.specs.DavInner.{loans, settings, seen_by, settings_by};
+ghost use Rattle.dav_engine.specs.DavInner.{frame, seen_by};
+ghost use Rattle.dav_engine.specs.Served.{IsServed, AreServed};
 ghost use Rattle.dav_parts.specs.Reply.{answer_of};
-ghost use Rattle.dav_engine.specs.Step.{Serves, Runs};
+ghost use Rattle.dav_engine.specs.Step.{Serves};
 
 use crate::DavInner;
 use dav_resource::{Body, DavError, DavMethod, DavRequest, DavResult};
@@ -14,9 +15,8 @@ impl<'a, C: Drop, F: GuardedFileSystem<C>, L: DavLockSystem> DavInner<'a, C, F, 
     /// Serves a request by its method. A method that isn't served is answered 501, and nothing is asked of
     /// the store. The errors are those of the method's own call.
     pub fn serve(&mut self, request: &DavRequest) -> DavResult<Response<Body>>
-        ensures same_loans { loans self.new ≡ loans self.old }
-        ensures same_settings { settings self.new ≡ settings self.old }
-        ensures step { Serves (method_of request.entry.now.method) (settings_by F.seen self.old) (seen_by F.seen L.seen self.old) request.entry.now (answer_of result) (seen_by F.seen L.seen self.new) }
+        ensures same_engine { frame self.new ≡ frame self.old }
+        ensures step { IsServed F.seen L.seen (method_of request.entry.now.method) self.old request.entry.now (answer_of result) self.new }
     {
         let Some(method) = DavMethod::from_method(&request.method) else {
             return Err(DavError::Status(StatusCode::NOT_IMPLEMENTED));
@@ -34,9 +34,8 @@ impl<'a, C: Drop, F: GuardedFileSystem<C>, L: DavLockSystem> DavInner<'a, C, F, 
     /// Serves the requests in order, and answers each. The room for the replies is taken first: the only
     /// `Err` is `Memory`, and it has served nothing.
     pub fn run(&mut self, requests: &[DavRequest]) -> DavResult<Vec<DavResult<Response<Body>>>>
-        ensures same_loans { loans self.new ≡ loans self.old }
-        ensures same_settings { settings self.new ≡ settings self.old }
-        ensures run { IfOk result (λ replies. Runs (settings_by F.seen self.old) (seen_by F.seen L.seen self.old) requests.now (map answer_of replies.items) (seen_by F.seen L.seen self.new)) }
+        ensures same_engine { frame self.new ≡ frame self.old }
+        ensures run { IfOk result (λ replies. AreServed F.seen L.seen self.old requests.now (map answer_of replies.items) self.new) }
         ensures memory { OnErr result ((result ≡ Err DavError.Memory) × (seen_by F.seen L.seen self.new ≡ seen_by F.seen L.seen self.old)) }
     {
         let mut replies = Vec::with_capacity(*self.prefix.allocator(), requests.len())?;

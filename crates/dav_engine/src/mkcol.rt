@@ -1,11 +1,12 @@
 //! MKCOL (RFC 4918, section 9.3).
 ghost use Rattle.std.specs.Prelude.{◌≡◌, IfOk, IfErr, Some};
 ghost use Rattle.dav_resource.specs.declared.method.DavMethod.TheVariants.{MkCol};
-ghost use Rattle.dav_engine.specs.DavInner.{lent, lent_locks, loans, settings, seen_by, settings_by};
+ghost use Rattle.dav_engine.specs.DavInner.{lent, lent_locks, frame};
+ghost use Rattle.dav_engine.specs.Served.{IsServed};
 ghost use Rattle.dav_parts.specs.Reply.{reply_of, answer_of};
 ghost use Rattle.dav_engine.specs.Mkcol.{mkcol_error as error_of_mkcol, mkcol_reply as reply_of_mkcol, mkcol_location as location_of_mkcol, MkcolWork};
 ghost use Rattle.dav_engine.specs.Answered.{Unbegun};
-ghost use Rattle.dav_engine.specs.Step.{Serves, WorksOnStore};
+ghost use Rattle.dav_engine.specs.Step.{WorksOnStore};
 
 use crate::DavInner;
 use dav_parts::{add_header, header_value};
@@ -23,9 +24,8 @@ impl<'a, C: Drop, F: GuardedFileSystem<C>, L: DavLockSystem> DavInner<'a, C, F, 
     /// where something is there, 409 where its parent is no collection, else the store's own; `Memory`.
     /// After each of them nothing has changed.
     pub fn handle_mkcol(&mut self, request: &DavRequest) -> DavResult<Response<Body>>
-        ensures same_loans { loans self.new ≡ loans self.old }
-        ensures same_settings { settings self.new ≡ settings self.old }
-        ensures step { Serves (Some MkCol) (settings_by F.seen self.old) (seen_by F.seen L.seen self.old) request.entry.now (answer_of result) (seen_by F.seen L.seen self.new) }
+        ensures same_engine { frame self.new ≡ frame self.old }
+        ensures step { IsServed F.seen L.seen (Some MkCol) self.old request.entry.now (answer_of result) self.new }
     {
         self.judge_shallow(request)?;
         self.make_collection(request)
@@ -33,8 +33,7 @@ impl<'a, C: Drop, F: GuardedFileSystem<C>, L: DavLockSystem> DavInner<'a, C, F, 
 
     /// The work. The reply is made first, so that memory can't be lacking once the collection is there.
     fn make_collection(&mut self, request: &DavRequest) -> DavResult<Response<Body>>
-        ensures same_loans { loans self.new ≡ loans self.old }
-        ensures same_settings { settings self.new ≡ settings self.old }
+        ensures same_engine { frame self.new ≡ frame self.old }
         ensures same_locks { lent_locks self.new ≡ lent_locks self.old }
         ensures work { WorksOnStore (MkcolWork request.entry.now) Unbegun (F.seen (lent self.old)) (answer_of result) (F.seen (lent self.new)) }
     {

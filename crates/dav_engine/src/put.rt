@@ -1,17 +1,17 @@
 //! PUT (RFC 9110, section 9.3.4; RFC 4918, section 9.7) and PATCH (RFC 5789).
-ghost use Rattle.std.specs.Prelude.{◌≡◌, ◌≢◌, ◌≤◌, ◌<◌, ◌+◌, ◌^◌, ◌∷◌, true, false, length, if◌then◌else◌, IfOk, IfErr, OnErr, MatchResult, Some, Ok, is_some, option_map};
+ghost use Rattle.std.specs.Prelude.{◌≡◌, ◌<◌, ◌+◌, ◌^◌, true, false, length, if◌then◌else◌, IfOk, IfErr, OnErr, Some, Ok, option_map};
 ghost use Rattle.std.specs.Option.{ForSome};
 ghost use Rattle.dav_resource.specs.Methods.{method_of};
 ghost use Rattle.dav_store.specs.Store.{IsTagText};
-ghost use Rattle.dav_engine.specs.DavInner.{lent, lent_locks, loans, settings, seen_by, settings_by};
-ghost use Rattle.dav_engine.specs.State.{state_of};
+ghost use Rattle.dav_engine.specs.DavInner.{lent, lent_locks, frame, state_by};
+ghost use Rattle.dav_engine.specs.Served.{IsServed};
 ghost use Rattle.dav_parts.specs.Reply.{answer_of};
 ghost use Rattle.dav_parts.specs.Dialogue.{Judges};
 ghost use Rattle.dav_headers.specs.Body.{checksum_of};
 ghost use Rattle.dav_engine.specs.Target.{target_of};
 ghost use Rattle.dav_engine.specs.Put.{body_bytes as bytes_of_body, new_bytes as bytes_of_request, has_length as has_stated_length, put_rules, put_method, is_patch as is_patch_method, as_looked, put_options as options_of_put, put_open_error as error_of_open, put_seek_error as seek_error_of, PutWork, PutCut, SeeksPlace, WritesBody, look_at_file as file_look, body_verdict};
 ghost use Rattle.dav_engine.specs.Rules.{found_in};
-ghost use Rattle.dav_engine.specs.Step.{Serves, WorksOnStore};
+ghost use Rattle.dav_engine.specs.Step.{WorksOnStore};
 
 use crate::DavInner;
 use crate::judge::closed;
@@ -42,9 +42,8 @@ impl<'a, C: Drop, F: GuardedFileSystem<C>, L: DavLockSystem> DavInner<'a, C, F, 
     /// the store's own; `Memory`. What was refused before the file was opened has changed nothing; after that
     /// the file stands as it was opened, empty or with what is kept, or has the whole body in it.
     pub fn handle_put(&mut self, request: &DavRequest) -> DavResult<Response<Body>>
-        ensures same_loans { loans self.new ≡ loans self.old }
-        ensures same_settings { settings self.new ≡ settings self.old }
-        ensures step { Serves (Some (put_method (method_of request.entry.now.method))) (settings_by F.seen self.old) (seen_by F.seen L.seen self.old) request.entry.now (answer_of result) (seen_by F.seen L.seen self.new) }
+        ensures same_engine { frame self.new ≡ frame self.old }
+        ensures step { IsServed F.seen L.seen (Some (put_method (method_of request.entry.now.method))) self.old request.entry.now (answer_of result) self.new }
     {
         let partial = is_patch(DavMethod::from_method(&request.method));
         let (found, target) = self.judge_put(partial, request)?;
@@ -58,12 +57,11 @@ impl<'a, C: Drop, F: GuardedFileSystem<C>, L: DavLockSystem> DavInner<'a, C, F, 
         partial: bool,
         request: &DavRequest,
     ) -> DavResult<(Option<Meta>, Target)>
-        ensures same_loans { loans self.new ≡ loans self.old }
-        ensures same_settings { settings self.new ≡ settings self.old }
+        ensures same_engine { frame self.new ≡ frame self.old }
         ensures same_locks { lent_locks self.new ≡ lent_locks self.old }
         ensures aimed { IfOk result (λ passed. target_of partial request.entry.now.headers (as_looked passed.0) ≡ Ok passed.1) }
         ensures reach { IfOk result (λ passed. passed.1.part ≡ true → passed.1.start + length (bytes_of_request request.entry.now.body) < 2 ^ 64) }
-        ensures rules { Judges (put_rules partial request.entry.now (state_of (seen_by F.seen L.seen self.old))) (F.seen (lent self.old)) (found_in result) (F.seen (lent self.new)) }
+        ensures rules { Judges (put_rules partial request.entry.now (state_by F.seen L.seen self.old)) (F.seen (lent self.old)) (found_in result) (F.seen (lent self.new)) }
     {
         let looked = self.look_closely(&request.path)?;
         let target = find_target(partial, &request.headers, &looked)?;
@@ -81,8 +79,7 @@ impl<'a, C: Drop, F: GuardedFileSystem<C>, L: DavLockSystem> DavInner<'a, C, F, 
     ) -> DavResult<Response<Body>>
         requires aimed { target_of partial request.now.headers (as_looked found) ≡ Ok target.now }
         requires reach { target.now.part ≡ true → target.now.start + length (bytes_of_request request.now.body) < 2 ^ 64 }
-        ensures same_loans { loans self.new ≡ loans self.old }
-        ensures same_settings { settings self.new ≡ settings self.old }
+        ensures same_engine { frame self.new ≡ frame self.old }
         ensures same_locks { lent_locks self.new ≡ lent_locks self.old }
         ensures work { WorksOnStore (PutWork partial request.entry.now found) (PutCut partial request.entry.now found) (F.seen (lent self.old)) (answer_of result) (F.seen (lent self.new)) }
     {
@@ -102,8 +99,7 @@ impl<'a, C: Drop, F: GuardedFileSystem<C>, L: DavLockSystem> DavInner<'a, C, F, 
         requires aimed { target_of partial request.now.headers (as_looked found) ≡ Ok target.now }
         requires reach { target.now.part ≡ true → target.now.start + length (bytes_of_request request.now.body) < 2 ^ 64 }
         requires options { options.now ≡ options_of_put request.now target.now }
-        ensures same_loans { loans self.new ≡ loans self.old }
-        ensures same_settings { settings self.new ≡ settings self.old }
+        ensures same_engine { frame self.new ≡ frame self.old }
         ensures same_locks { lent_locks self.new ≡ lent_locks self.old }
         ensures work { WorksOnStore (PutWork partial request.entry.now found) (PutCut partial request.entry.now found) (F.seen (lent self.old)) (answer_of result) (F.seen (lent self.new)) }
     {
@@ -122,8 +118,7 @@ impl<'a, C: Drop, F: GuardedFileSystem<C>, L: DavLockSystem> DavInner<'a, C, F, 
 
     /// Goes to the place of a part.
     fn seek_place(&mut self, file: &mut DavFile, target: &Target) -> FsResult<()>
-        ensures same_loans { loans self.new ≡ loans self.old }
-        ensures same_settings { settings self.new ≡ settings self.old }
+        ensures same_engine { frame self.new ≡ frame self.old }
         ensures same_locks { lent_locks self.new ≡ lent_locks self.old }
         ensures place { IfOk result (λ _. file.new ≡ record file.old { pos = if target.now.part then target.now.start else file.old.pos }) }
         ensures sought { SeeksPlace target.now (F.seen (lent self.old)) file.old.path.key result (F.seen (lent self.new)) }
@@ -137,8 +132,7 @@ impl<'a, C: Drop, F: GuardedFileSystem<C>, L: DavLockSystem> DavInner<'a, C, F, 
     /// Writes the bytes, where there are any.
     fn write_body(&mut self, file: &mut DavFile, bytes: &[u8]) -> FsResult<()>
         requires { file.old.append ≡ false → file.old.pos + length bytes.now < 2 ^ 64 }
-        ensures same_loans { loans self.new ≡ loans self.old }
-        ensures same_settings { settings self.new ≡ settings self.old }
+        ensures same_engine { frame self.new ≡ frame self.old }
         ensures same_locks { lent_locks self.new ≡ lent_locks self.old }
         ensures same_file { file.new.path ≡ file.old.path }
         ensures written { WritesBody (F.seen (lent self.old)) file.old bytes.now result (F.seen (lent self.new)) }
@@ -151,8 +145,7 @@ impl<'a, C: Drop, F: GuardedFileSystem<C>, L: DavLockSystem> DavInner<'a, C, F, 
 
     /// Looks at an open file, where a refusal counts as nothing known.
     fn look_at_file(&mut self, file: &DavFile) -> DavResult<Option<Meta>>
-        ensures same_loans { loans self.new ≡ loans self.old }
-        ensures same_settings { settings self.new ≡ settings self.old }
+        ensures same_engine { frame self.new ≡ frame self.old }
         ensures same_locks { lent_locks self.new ≡ lent_locks self.old }
         ensures looked { Judges (file_look (F.seen (lent self.old)).contents file.now.path.key) (F.seen (lent self.old)) result (F.seen (lent self.new)) }
         ensures memory { OnErr result (F.seen (lent self.new) ≡ F.seen (lent self.old)) }

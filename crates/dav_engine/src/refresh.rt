@@ -1,19 +1,21 @@
 //! LOCK (RFC 4918, section 9.10.2), for a lock that is refreshed.
-ghost use Rattle.std.specs.Prelude.{◌≡◌, ◌⊎◌, ◌∷◌, [], true, false, if◌then◌else◌, IfOk, IfErr, OnOk, OnErr, Ok, Err, Some, is_some};
-ghost use Rattle.dav_resource.specs.declared.error.DavError.TheVariants.{Memory, Status};
+ghost use Rattle.std.specs.Prelude.{◌≡◌, ◌∷◌, [], true, false, if◌then◌else◌, IfOk, IfErr, OnOk, Ok, Err, Some, is_some};
+ghost use Rattle.dav_resource.specs.declared.error.DavError.TheVariants.{Status};
 ghost use Rattle.dav_resource.specs.declared.method.DavMethod.TheVariants.{Lock};
-ghost use Rattle.dav_store.specs.LockCalls.{RefreshesLock, has_named};
 ghost use Rattle.dav_parts.specs.Conditions.{submitted_tokens};
 ghost use Rattle.dav_parts.specs.Dialogue.{Judges};
 ghost use Rattle.dav_parts.specs.Reply.{answer_of};
-ghost use Rattle.dav_engine.specs.DavInner.{lent, lent_locks, loans, settings, seen_by, settings_by};
-ghost use Rattle.dav_engine.specs.Locking.{is_refresh as is_refresh_body, one_token as one_token_of, refresh_rules, refresh_timeout, RefreshWork, RefreshCut};
+ghost use Rattle.dav_engine.specs.DavInner.{lent, lent_locks, frame, seen_by, state_by};
+ghost use Rattle.dav_engine.specs.Served.{IsServed};
+ghost use Rattle.dav_engine.specs.Locking.{is_refresh as is_refresh_body, one_token as one_token_of, refresh_rules, RefreshesAsked, LacksLock, RefreshWork, RefreshCut};
 ghost use Rattle.dav_engine.specs.Rules.{found_in};
-ghost use Rattle.dav_engine.specs.State.{state_of, ChangesLocks, KeepsLocks};
-ghost use Rattle.dav_engine.specs.Step.{Serves, Performs};
+ghost use Rattle.dav_engine.specs.State.{ChangesLocks, IsRefusedByLocks};
+ghost use Rattle.dav_engine.specs.Step.{Performs};
 
 use crate::DavInner;
-use crate::lock::{get_timeout, lock_error};
+use crate::judge::where_permitted;
+use crate::lock::get_timeout;
+use crate::lock_calls::lock_error;
 use crate::lock_reply::refreshed_reply;
 use dav_resource::{Body, DavError, DavRequest, DavResult, Meta, Text};
 use dav_store::{DavLock, DavLockSystem, GuardedFileSystem};
@@ -23,9 +25,8 @@ impl<'a, C: Drop, F: GuardedFileSystem<C>, L: DavLockSystem> DavInner<'a, C, F, 
     /// A refresh: the rules, and then the work.
     pub(crate) fn refresh(&mut self, request: &DavRequest) -> DavResult<Response<Body>>
         requires body { is_refresh_body request.now.body ≡ true }
-        ensures same_loans { loans self.new ≡ loans self.old }
-        ensures same_settings { settings self.new ≡ settings self.old }
-        ensures step { Serves (Some Lock) (settings_by F.seen self.old) (seen_by F.seen L.seen self.old) request.entry.now (answer_of result) (seen_by F.seen L.seen self.new) }
+        ensures same_engine { frame self.new ≡ frame self.old }
+        ensures step { IsServed F.seen L.seen (Some Lock) self.old request.entry.now (answer_of result) self.new }
     {
         let (found, token) = self.judge_refresh(request)?;
         self.refresh_lock(request, found, &token)
@@ -34,18 +35,20 @@ impl<'a, C: Drop, F: GuardedFileSystem<C>, L: DavLockSystem> DavInner<'a, C, F, 
     /// The rules of a refresh: a look at the path, the header If, and the locks of the path. What was found
     /// passes, with the token.
     fn judge_refresh(&mut self, request: &DavRequest) -> DavResult<(Option<Meta>, Text)>
-        ensures same_loans { loans self.new ≡ loans self.old }
-        ensures same_settings { settings self.new ≡ settings self.old }
+        ensures same_engine { frame self.new ≡ frame self.old }
         ensures same_locks { lent_locks self.new ≡ lent_locks self.old }
         ensures locks { OnOk result (is_some (lent_locks self.old) ≡ true) }
         ensures token { IfOk result (λ passed. submitted_tokens request.entry.now ≡ passed.1 ∷ []) }
-        ensures rules { Judges (refresh_rules request.entry.now (state_of (seen_by F.seen L.seen self.old))) (F.seen (lent self.old)) (found_in result) (F.seen (lent self.new)) }
+        ensures rules { Judges (refresh_rules request.entry.now (state_by F.seen L.seen self.old)) (F.seen (lent self.old)) (found_in result) (F.seen (lent self.new)) }
     {
         let found = self.look_to_lock(request)?;
         let (_, tokens) = self.judge_if(request)?;
         let token = one_token(tokens.as_slice())?;
         let permitted = self.is_permitted(request, tokens.as_slice(), &request.path, false);
-        Ok((where_held(permitted, found)?, token.clone()?))
+        Ok((
+            where_permitted(StatusCode::PRECONDITION_FAILED, permitted, found)?,
+            token.clone()?,
+        ))
     }
 
     /// The work of a refresh.
@@ -57,8 +60,7 @@ impl<'a, C: Drop, F: GuardedFileSystem<C>, L: DavLockSystem> DavInner<'a, C, F, 
     ) -> DavResult<Response<Body>>
         requires locks { is_some (lent_locks self.old) ≡ true }
         requires token { submitted_tokens request.now ≡ token.now ∷ [] }
-        ensures same_loans { loans self.new ≡ loans self.old }
-        ensures same_settings { settings self.new ≡ settings self.old }
+        ensures same_engine { frame self.new ≡ frame self.old }
         ensures work { Performs (RefreshWork request.entry.now found) (RefreshCut request.entry.now) (seen_by F.seen L.seen self.old) (answer_of result) (seen_by F.seen L.seen self.new) }
     {
         let lock = self.renew_lock(request, token)?;
@@ -68,10 +70,9 @@ impl<'a, C: Drop, F: GuardedFileSystem<C>, L: DavLockSystem> DavInner<'a, C, F, 
     /// Has the lock system give the lock its new timeout.
     fn renew_lock(&mut self, request: &DavRequest, token: &Text) -> DavResult<DavLock>
         requires locks { is_some (lent_locks self.old) ≡ true }
-        ensures same_loans { loans self.new ≡ loans self.old }
-        ensures same_settings { settings self.new ≡ settings self.old }
-        ensures refreshed { IfOk result (λ lock. ChangesLocks (RefreshesLock request.entry.now.path.key token.now (refresh_timeout request.entry.now) request.entry.now.now lock) (seen_by F.seen L.seen self.old) (seen_by F.seen L.seen self.new)) }
-        ensures refused { IfErr result (λ e. ((e ≡ Memory) × (seen_by F.seen L.seen self.new ≡ seen_by F.seen L.seen self.old)) ⊎ ((e ≡ Status 412) × KeepsLocks (λ locks. has_named request.entry.now.path.key token.now locks.list ≡ false) (seen_by F.seen L.seen self.old) (seen_by F.seen L.seen self.new))) }
+        ensures same_engine { frame self.new ≡ frame self.old }
+        ensures refreshed { IfOk result (λ lock. ChangesLocks (RefreshesAsked request.entry.now token.now lock) (seen_by F.seen L.seen self.old) (seen_by F.seen L.seen self.new)) }
+        ensures refused { IfErr result (λ e. IsRefusedByLocks (LacksLock request.entry.now token.now) 412 e (seen_by F.seen L.seen self.old) (seen_by F.seen L.seen self.new)) }
     {
         let timeout = get_timeout(request, true, false);
         let Some(ls) = &mut self.ls else {
@@ -92,16 +93,5 @@ fn one_token(tokens: &[Text]) -> DavResult<&Text>
     match tokens {
         [token] => Ok(token),
         _ => Err(DavError::Status(StatusCode::BAD_REQUEST)),
-    }
-}
-
-/// Lets what was found pass, where the locks let the request write: else 412.
-fn where_held(permitted: bool, found: Option<Meta>) -> DavResult<Option<Meta>>
-    ensures { result ≡ (if permitted then Ok found else Err (Status 412)) }
-{
-    if permitted {
-        Ok(found)
-    } else {
-        Err(DavError::Status(StatusCode::PRECONDITION_FAILED))
     }
 }

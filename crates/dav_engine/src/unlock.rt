@@ -6,10 +6,10 @@ ghost use Rattle.dav_headers.specs.LockToken.{lock_token_of};
 ghost use Rattle.dav_parts.specs.Dialogue.{Judges};
 ghost use Rattle.dav_parts.specs.Reply.{answer_of};
 ghost use Rattle.dav_engine.specs.Answered.{Unbegun};
-ghost use Rattle.dav_engine.specs.DavInner.{lent, lent_locks, loans, settings, seen_by, settings_by};
+ghost use Rattle.dav_engine.specs.DavInner.{lent, lent_locks, frame, seen_by, state_by};
+ghost use Rattle.dav_engine.specs.Served.{IsServed};
 ghost use Rattle.dav_engine.specs.Rules.{found_in};
-ghost use Rattle.dav_engine.specs.State.{state_of};
-ghost use Rattle.dav_engine.specs.Step.{Serves, Performs};
+ghost use Rattle.dav_engine.specs.Step.{Performs};
 ghost use Rattle.dav_engine.specs.Unlocking.{unlock_rules, UnlockWork};
 
 use crate::DavInner;
@@ -28,9 +28,8 @@ impl<'a, C: Drop, F: GuardedFileSystem<C>, L: DavLockSystem> DavInner<'a, C, F, 
     /// lock (or a lock system that isn't dependable doesn't let it go); `Memory`. After each of them nothing
     /// has changed.
     pub fn handle_unlock(&mut self, request: &DavRequest) -> DavResult<Response<Body>>
-        ensures same_loans { loans self.new ≡ loans self.old }
-        ensures same_settings { settings self.new ≡ settings self.old }
-        ensures step { Serves (Some Unlock) (settings_by F.seen self.old) (seen_by F.seen L.seen self.old) request.entry.now (answer_of result) (seen_by F.seen L.seen self.new) }
+        ensures same_engine { frame self.new ≡ frame self.old }
+        ensures step { IsServed F.seen L.seen (Some Unlock) self.old request.entry.now (answer_of result) self.new }
     {
         let (found, token) = self.judge_unlock(request)?;
         self.unlock(request, found, token)
@@ -39,12 +38,11 @@ impl<'a, C: Drop, F: GuardedFileSystem<C>, L: DavLockSystem> DavInner<'a, C, F, 
     /// The rules: whether there is a lock system, the token, and a look at the path. What was found passes,
     /// with the token.
     fn judge_unlock<'r>(&mut self, request: &'r DavRequest) -> DavResult<(Option<Meta>, &'r str)>
-        ensures same_loans { loans self.new ≡ loans self.old }
-        ensures same_settings { settings self.new ≡ settings self.old }
+        ensures same_engine { frame self.new ≡ frame self.old }
         ensures same_locks { lent_locks self.new ≡ lent_locks self.old }
         ensures locks { OnOk result (is_some (lent_locks self.old) ≡ true) }
         ensures token { IfOk result (λ passed. lock_token_of request.entry.now.headers ≡ Some passed.1.now) }
-        ensures rules { Judges (unlock_rules request.entry.now (state_of (seen_by F.seen L.seen self.old))) (F.seen (lent self.old)) (found_in result) (F.seen (lent self.new)) }
+        ensures rules { Judges (unlock_rules request.entry.now (state_by F.seen L.seen self.old)) (F.seen (lent self.old)) (found_in result) (F.seen (lent self.new)) }
     {
         self.judge_locks()?;
         let token = named_token(&request.headers)?;
@@ -60,8 +58,7 @@ impl<'a, C: Drop, F: GuardedFileSystem<C>, L: DavLockSystem> DavInner<'a, C, F, 
     ) -> DavResult<Response<Body>>
         requires locks { is_some (lent_locks self.old) ≡ true }
         requires token { lock_token_of request.now.headers ≡ Some token.now }
-        ensures same_loans { loans self.new ≡ loans self.old }
-        ensures same_settings { settings self.new ≡ settings self.old }
+        ensures same_engine { frame self.new ≡ frame self.old }
         ensures work { Performs (UnlockWork request.entry.now found) Unbegun (seen_by F.seen L.seen self.old) (answer_of result) (seen_by F.seen L.seen self.new) }
     {
         let reply = unlocked_reply(*self.prefix.allocator(), &request.path, &found)?;

@@ -111,6 +111,6 @@ fn serve_request<'a>(
     prefix: String,
     request: DavRequest,
 ) -> DavResult<Vec<DavResult<Response<Body>>>> {
-    let mut engine = DavInner::new(store, Some(locks), prefix, ());
+    let mut engine = DavInner::new(store, Some(locks), prefix, None, ());
     engine.run(&[request])
 }

@@ -18,7 +18,7 @@ fn serve_alone<'a>(
     method: &str,
     condition: &str,
 ) -> Result<u16, Fail> {
-    let mut engine = DavInner::new(store, None::<&mut MemLs>, String::new(alloc), ());
+    let mut engine = DavInner::new(store, None::<&mut MemLs>, String::new(alloc), None, ());
     let request = request(alloc, method, "/f", &[("If", condition)], "")?;
     Ok(status(&engine.serve(&request)))
 }
@@ -62,7 +62,7 @@ fn handled<'a>(
     store: &'a mut MemFs,
     locks: &'a mut MemLs,
 ) -> Result<([u16; 4], usize), Fail> {
-    let mut engine = DavInner::new(store, Some(locks), String::new(alloc), ());
+    let mut engine = DavInner::new(store, Some(locks), String::new(alloc), None, ());
     let directory = request(alloc, "GET", "/d/", &[], "")?;
     let file = request(alloc, "MKCOL", "/d/a", &[], "")?;
     let statuses = [

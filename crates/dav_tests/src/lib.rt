@@ -1,10 +1,10 @@
 //! Tests that cross crates: the engine over a store and a lock system in memory.
 #![tactic(auto)]
 
-ghost use Rattle.std.specs.Prelude.{◌≡◌, [], None, map, IfOk, OnErr};
+ghost use Rattle.std.specs.Prelude.{◌≡◌, map, IfOk, OnErr};
 ghost use Rattle.dav_parts.specs.Reply.{answer_of};
 ghost use Rattle.dav_engine.specs.State.{seen_with};
-ghost use Rattle.dav_engine.specs.Step.{Runs};
+ghost use Rattle.dav_engine.specs.Served.{AreServedOver};
 
 use dav_engine::{Body, DavInner, DavLockSystem, DavRequest, DavResult, GuardedFileSystem};
 use http::Response;
@@ -24,10 +24,10 @@ pub fn serve_over<'a, F: GuardedFileSystem<()>, L: DavLockSystem>(
 )
     ensures same_store { result.1.ghost_name ≡ store.entry.ghost_name }
     ensures same_locks { result.2.ghost_name ≡ locks.entry.ghost_name }
-    ensures run { IfOk result.0 (λ replies. Runs (record { prefix = []; allow = None; keeps_properties = (F.seen store.old).keeps_properties }) (seen_with (F.seen store.old) (L.seen locks.old)) requests.now (map answer_of replies.items) (seen_with (F.seen result.1.now) (L.seen result.2.now))) }
+    ensures run { IfOk result.0 (λ replies. AreServedOver F.seen L.seen (store.old, locks.old) requests.now (map answer_of replies.items) (result.1.now, result.2.now)) }
     ensures err { OnErr result.0 (seen_with (F.seen result.1.now) (L.seen result.2.now) ≡ seen_with (F.seen store.old) (L.seen locks.old)) }
 {
-    let mut engine = DavInner::new(store, Some(locks), String::new(alloc), ());
+    let mut engine = DavInner::new(store, Some(locks), String::new(alloc), None, ());
     let replies = engine.run(requests);
     let (store, locks) = engine.finish();
     (replies, store, locks.unwrap())

@@ -37,7 +37,7 @@ const PLAIN: (&str, &str) = ("If", "");
 
 /// The statuses of a LOCK, a refresh and an UNLOCK over the store alone.
 fn without_locks<'a>(alloc: Global, store: &'a mut MemFs) -> Result<[u16; 3], Fail> {
-    let mut engine = DavInner::new(store, None::<&mut MemLs>, String::new(alloc), ());
+    let mut engine = DavInner::new(store, None::<&mut MemLs>, String::new(alloc), None, ());
     let new = lock(alloc, PLAIN, EXCLUSIVE, "t")?;
     let refresh = lock(alloc, ("If", "(<t>)"), "", "t")?;
     let unlock = unlock(alloc, "<t>")?;

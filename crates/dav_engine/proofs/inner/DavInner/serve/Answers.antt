@@ -9,8 +9,7 @@ pub returns-in_default-method : goal.returns-in_default-method
 returns-in_default-method g c =
     let method = c.in-Some.method in
     record {
-      same_loans = refl;
-      same_settings = refl;
+      same_engine = refl;
       step =
           serves_as (Some method) _ _ _ c.args.request.now _ _ (sym c.in-Some.is ∙ c.from_method.ensures)
           (serves_none (Some method) _ c.args.request.now _ (unserved _ c.args.request.now method c.in_default-method.not-MkCol c.in_default-method.not-Put c.in_default-method.not-Patch c.in_default-method.not-Delete c.in_default-method.not-Lock c.in_default-method.not-Unlock));

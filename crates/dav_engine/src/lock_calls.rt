@@ -1,0 +1,58 @@
+//! What requests about locks share: LOCK, for a new lock or a refresh, and UNLOCK.
+ghost use Rattle.std.specs.Prelude.{◌≡◌, true, false, OnOk, is_some};
+ghost use Rattle.dav_store.specs.LockCalls.{RemovesLock, KeepsNamed};
+ghost use Rattle.dav_parts.specs.Dialogue.{Judges};
+ghost use Rattle.dav_engine.specs.DavInner.{lent, lent_locks, frame, seen_by, state_by};
+ghost use Rattle.dav_engine.specs.Locking.{locks_verdict, look_to_lock as look_to_lock_of, lock_error as lock_error_of};
+ghost use Rattle.dav_engine.specs.State.{ChangesLocks, KeepsLocks};
+
+use crate::DavInner;
+use dav_resource::{DavError, DavPath, DavRequest, DavResult, Meta};
+use dav_store::{DavLockSystem, GuardedFileSystem, LockError};
+use http::StatusCode;
+
+impl<'a, C: Drop, F: GuardedFileSystem<C>, L: DavLockSystem> DavInner<'a, C, F, L> {
+    /// A look at the path, where there is a lock system: else 405.
+    pub(crate) fn look_to_lock(&mut self, request: &DavRequest) -> DavResult<Option<Meta>>
+        ensures same_engine { frame self.new ≡ frame self.old }
+        ensures same_locks { lent_locks self.new ≡ lent_locks self.old }
+        ensures locks { OnOk result (is_some (lent_locks self.old) ≡ true) }
+        ensures rules { Judges (look_to_lock_of request.entry.now (state_by F.seen L.seen self.old)) (F.seen (lent self.old)) result (F.seen (lent self.new)) }
+    {
+        self.judge_locks()?;
+        self.look(&request.path)
+    }
+
+    /// Refuses a request about locks where there is no lock system: 405.
+    pub(crate) fn judge_locks(&self) -> DavResult<()>
+        ensures { result ≡ locks_verdict (state_by F.seen L.seen self.now) }
+    {
+        match self.ls {
+            Some(_) => Ok(()),
+            None => Err(DavError::Status(StatusCode::METHOD_NOT_ALLOWED)),
+        }
+    }
+
+    /// Removes the lock of this token, at the path or above it, and says whether there was one that went.
+    pub(crate) fn remove_lock(&mut self, path: &DavPath, token: &str) -> bool
+        requires locks { is_some (lent_locks self.old) ≡ true }
+        ensures same_engine { frame self.new ≡ frame self.old }
+        ensures removed { result ≡ true → ChangesLocks (RemovesLock path.now.key token.now) (seen_by F.seen L.seen self.old) (seen_by F.seen L.seen self.new) }
+        ensures kept { result ≡ false → KeepsLocks (KeepsNamed path.now.key token.now) (seen_by F.seen L.seen self.old) (seen_by F.seen L.seen self.new) }
+    {
+        match &mut self.ls {
+            Some(ls) => ls.unlock(path, token).is_ok(),
+            None => false,
+        }
+    }
+}
+
+/// This status, but for a want of memory.
+pub(crate) fn lock_error(status: StatusCode, error: LockError) -> DavError
+    ensures { result ≡ lock_error_of status error }
+{
+    match error {
+        LockError::Memory => DavError::Memory,
+        _ => DavError::Status(status),
+    }
+}
