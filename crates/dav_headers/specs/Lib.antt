@@ -1,4 +1,5 @@
 pub mod Values
+pub mod ValueLaws
 pub mod Number
 pub mod Range
 pub mod Body

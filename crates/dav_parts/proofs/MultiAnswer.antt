@@ -6,7 +6,8 @@ use Rattle.dav_resource.specs.declared.request.Body.{Body}
 use Rattle.dav_resource.specs.declared.error.DavError.{DavError}
 use Rattle.dav_resource.specs.declared.error.DavError.TheVariants.{Memory}
 use Rattle.dav_resource.specs.PathText.{PathValue}
-use Rattle.dav_store.proofs.LockLists.{same_key-is}
+use Rattle.std.proofs.lemmas.Bool.Decides.{same_from_decides}
+use Rattle.dav_resource.specs.Key.{is_same_key, same_key_decides}
 use Rattle.dav_parts.specs.Reply.{Reply, Answer, reply_of, bare_reply}
 use Rattle.dav_parts.specs.Multistatus.{Item, multi_answer, multistatus_reply}
 
@@ -14,7 +15,7 @@ use Rattle.dav_parts.specs.Multistatus.{Item, multi_answer, multistatus_reply}
 pub multi_answer-one : (path : PathValue) (items : List Item) (default other : Item) (own : Bool) → 1 ≤ length items → length items < 2 → (IsTrue own ↔ (path.key ≡ (get_or items 0 default).0.key)) → multi_answer path items ≡ cond own (Ok (bare_reply (get_or items 0 other).1 [])) (Ok (multistatus_reply items))
 multi_answer-one path [] default other own some few same = absurd (omega arith)
 multi_answer-one path (item ∷ []) default other own some few same =
-    ap (λ b. cond b (Ok (bare_reply item.1 [])) (Ok (multistatus_reply (item ∷ [])))) (sym (same_key-is path.key item.0.key own same))
+    ap (λ b. cond b (Ok (bare_reply item.1 [])) (Ok (multistatus_reply (item ∷ [])))) (sym (same_from_decides own (is_same_key path.key item.0.key) same (same_key_decides path.key item.0.key)))
 multi_answer-one path (item ∷ next ∷ items) default other own some few same = absurd (omega arith)
 
 -- several items

@@ -3,11 +3,11 @@ use Rattle.std.specs.Prelude.{ℕ, ◌==◌, if◌then◌else◌, List, [], ◌�
 use Rattle.std.specs.Option.{option_map_or}
 use Rattle.http.specs.StatusCode.{code_digits, reason_phrase}
 use Rattle.http.specs.declared.version.TheConstants.Version.{HTTP_11}
+use Rattle.dav_resource.specs.Key.{is_same_key}
 use Rattle.dav_resource.specs.PathText.{PathValue}
 use Rattle.dav_resource.specs.Tree.{Tree, prefixed_element}
 use Rattle.dav_resource.specs.declared.request.Body.{Body}
 use Rattle.dav_resource.specs.declared.error.DavError.TheVariants.{ChanError}
-use Rattle.dav_store.specs.Locks.{is_same_key}
 use Rattle.dav_parts.specs.DavElement.{with_elements, declaring_element, text_element, href_element}
 use Rattle.dav_parts.specs.Reply.{Reply, Answer, bare_reply, field}
 

@@ -4,15 +4,15 @@ use Rattle.std.proofs.lemmas.List.{append-nil}
 use Rattle.std.proofs.lemmas.Bool.{agree_below_at}
 use Rattle.std.proofs.lemmas.Bool.Decides.{nat_tests}
 use Rattle.std.proofs.lemmas.List.Splits.{slice_split_at, slice_split_none}
-use Rattle.std.proofs.lemmas.Str.{is_utf8-from_IsUtf8, IsUtf8-nil}
 use Rattle.std.specs.List.{slice_split}
 use Rattle.std.specs.Char.{is_ascii_hexdigit}
 use Rattle.std.specs.Fmt.{digit_glyph}
 use Rattle.percent_encoding.specs.Percent.{percent_decode, percent_encode_byte}
-use Rattle.percent_encoding.proofs.PercentLemmas.{round_trip, percent_decode-nil}
+use Rattle.percent_encoding.proofs.PercentLemmas.{round_trip}
 use Rattle.dav_resource.specs.Key.{Key}
 use Rattle.dav_resource.specs.declared.path.write.TheConstants.{ESCAPED}
 use Rattle.dav_resource.specs.PathText.{PathValue, is_slash, is_unreserved, has_whole_escapes, escape, key_text, last_slash, url_text, read_part, enter_part, enter_parts, read_key, IsSegment, IsKey}
+use Rattle.dav_resource.specs.PathLaws.{read_part_nil}
 use Rattle.dav_resource.proofs.EscapeLemmas.{percent_encode-escape, All-escape}
 
 -- ---- one segment
@@ -48,9 +48,6 @@ percent_decode-escape s bytes = rw (← percent_encode-escape s) (round_trip ESC
 
 pub read_part-escape : (s : List ℕ) → IsSegment s → read_part (escape s) ≡ Ok s
 read_part-escape s is = rw (has_whole_escapes-escape s, percent_decode-escape s is.written.bytes, is.written.text)
-
-read_part-nil : read_part [] ≡ Ok []
-read_part-nil = rw (percent_decode-nil, is_utf8-from_IsUtf8 [] IsUtf8-nil)
 
 pub escape-unslashed : (s : List ℕ) → All (λ b. is_slash b ≡ false) (escape s)
 escape-unslashed s = All-escape (λ b. is_slash b ≡ false) not_slash (λ b escaped. grind (arith, nat_tests)) s
@@ -94,7 +91,7 @@ enter-segment : (key : Key) (s : List ℕ) → IsSegment s → enter_part key (e
 enter-segment key s is = rw (read_part-escape s is, is.kept, is.child)
 
 enter-nil : (key : Key) → enter_part key [] ≡ Ok key
-enter-nil key = rw read_part-nil
+enter-nil key = rw read_part_nil
 
 enter-key : (before key : Key) (rest : Key) → IsKey key → enter_parts before (map escape key ++ rest) ≡ enter_parts (before ++ key) rest
 enter-key before [] rest is = ap (λ k. enter_parts k rest) (sym (append-nil before))

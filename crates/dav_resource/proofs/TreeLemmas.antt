@@ -17,14 +17,6 @@ append_nodes_assoc (element_then tag inner ks) ms ns = ap (element_then tag inne
 
 -- ---- elements
 
-pub elements-append : (ts us : List Tree) → elements (ts ++ us) ≡ append_nodes (elements ts) (elements us)
-elements-append [] us = refl
-elements-append (t ∷ ts) us = ap (element_then t.tag t.children) (elements-append ts us)
-
--- one more element
-pub elements-snoc : (ts : List Tree) (t : Tree) → append_nodes (elements ts) (one_element t) ≡ elements (ts ++ t ∷ [])
-elements-snoc ts t = sym (elements-append ts (t ∷ []))
-
 pub elements_of-elements : (ts : List Tree) → elements_of (elements ts) ≡ ts
 elements_of-elements [] = refl
 elements_of-elements (t ∷ ts) = ap (λ us. t ∷ us) (elements_of-elements ts)

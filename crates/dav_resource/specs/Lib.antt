@@ -3,10 +3,12 @@ pub mod Gives
 pub mod Key
 pub mod PathText
 pub mod PathForms
+pub mod PathLaws
 pub mod Texts
 pub mod Path
 pub mod Mime
 pub mod Tree
+pub mod TreeLaws
 pub mod TreeCode
 pub mod Element
 pub mod ElementFalls

@@ -2,12 +2,11 @@
 use Rattle.std.proofs.Common.{◌≡◌, ◌≢◌, Bool, true, false, List, [], ◌∷◌, ℕ, Result, Ok, Err, refl, sym, ap, ◌∙◌, inl, inr, if◌then◌else◌, IsOk, IsErr, MatchResult}
 use Rattle.std.specs.List.{slice_split}
 use Rattle.dav_resource.specs.Key.{Key}
-use Rattle.dav_resource.specs.PathText.{PathValue, read_path, read_prefix, read_key, read_part, enter, enter_part, enter_parts, on_ok, below_prefix, is_slash}
-use Rattle.dav_resource.specs.PathForms.{root_path}
+use Rattle.dav_resource.specs.PathText.{PathValue, read_path, read_prefix, read_part, enter, enter_part, enter_parts, on_ok, below_prefix, is_slash}
+use Rattle.dav_resource.specs.PathLaws.{read_key_root}
 use Rattle.dav_resource.specs.Gives.{GivesBy}
 use Rattle.dav_resource.specs.declared.error.DavError.{DavError}
 use Rattle.dav_resource.specs.declared.error.DavError.TheVariants.{InvalidPath, ForbiddenPath, IllegalPath, Memory}
-use Rattle.dav_resource.proofs.RoundTrip.{read_key-url_text}
 
 -- not the error that a path isn't below a prefix
 abbrev IsApart : {A : Type 0} → Result A DavError → Type 0
@@ -50,9 +49,7 @@ abbrev pub root_below : Result Key DavError → Result PathValue DavError
 root_below prefix = on_ok prefix (below_prefix true [])
 
 pub root-is : (prefix : List ℕ) → read_path (47 ∷ []) prefix ≡ root_below (read_prefix prefix)
-root-is prefix =
-    let root : read_key (47 ∷ []) ≡ Ok [] = read_key-url_text root_path tt refl in
-    ap (λ key. on_ok key (λ key. on_ok (read_prefix prefix) (below_prefix true key))) root
+root-is prefix = ap (λ key. on_ok key (λ key. on_ok (read_prefix prefix) (below_prefix true key))) read_key_root
 
 pub root-apart : (key : Key) (e : DavError) → below_prefix true [] key ≡ Err e → e ≡ IllegalPath
 root-apart [] e h = absurd cc

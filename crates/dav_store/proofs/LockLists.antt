@@ -1,25 +1,21 @@
 -- Lists of locks: what a filter and a new lock leave of their distinct tokens, what a new lock and a refreshed one leave of their standing together, and the place of a lock that is named.
-use Rattle.std.proofs.Common.{◌≡◌, ◌∙◌, ℕ, Bool, true, false, cond, not, List, [], ◌∷◌, ◌++◌, map, Option, Some, None, refl, sym, ap, subst, ◌&&◌, ◌||◌, ◌==◌, ◌<◌, ◌+◌, length, get_or, zero, suc, arith, bytes_eq, IsTrue, ◌↔◌}
+use Rattle.std.proofs.Common.{◌≡◌, ◌∙◌, ℕ, Bool, true, false, cond, not, List, [], ◌∷◌, ◌++◌, map, Option, Some, None, refl, sym, ap, subst, ◌&&◌, ◌||◌, ◌==◌, ◌<◌, ◌+◌, length, get_or, zero, suc, arith, bytes_eq}
 use Rattle.std.proofs.Math.ListN.{set}
 use Rattle.std.proofs.lemmas.List.{map-append}
 use Rattle.std.proofs.lemmas.Iterator.Adapters.{position_from-zero}
 use Rattle.std.proofs.lemmas.Map.Keys.{IsDistinct-head, IsDistinct-tail, IsDistinct-cons, IsDistinct-push}
-use Rattle.std.proofs.lemmas.Slice.Eq.{bytes_eq-Decides, slice_eq-Decides}
-use Rattle.std.proofs.lemmas.Bool.Decides.{same_from_decides, nat_tests}
+use Rattle.std.proofs.lemmas.Slice.Eq.{bytes_eq-Decides}
+use Rattle.std.proofs.lemmas.Bool.Decides.{nat_tests}
 use Rattle.std.proofs.lemmas.Cmp.{nat_list_eq_equiv}
 use Rattle.std.specs.Option.{option_map}
 use Rattle.std.specs.List.{IsDistinct, AllByRecursion, filter, find, list_any, position, position_from}
 use Rattle.dav_resource.specs.Key.{Key}
 use Rattle.dav_store.specs.declared.lock.DavLock.{DavLock}
-use Rattle.dav_store.specs.Locks.{is_same_key, is_at_or_below, has_token, grants, AreCompatible}
+use Rattle.dav_store.specs.Locks.{is_at_or_below, has_token, grants, AreCompatible}
 use Rattle.dav_store.specs.LockCalls.{HasDistinctTokens, is_named, has_named, refreshed, with_refreshed}
 use Rattle.dav_store.specs.LockLaws.{compatible_granted, compatible_with_refreshed}
 
--- ---- keys and filters
-
--- what says whether keys are the same is the test of it
-pub same_key-is : (a b : Key) (r : Bool) → (IsTrue r ↔ (a ≡ b)) → r ≡ is_same_key a b
-same_key-is a b r h = same_from_decides r (is_same_key a b) h (slice_eq-Decides bytes_eq-Decides a b (is_same_key a b) refl)
+-- ---- filters
 
 -- a filter is empty where nothing passes
 pub filter_none : {X : Type 0} (test : X → Bool) (xs : List X) → (length (filter test xs) == 0) ≡ not (list_any test xs)

@@ -2,11 +2,11 @@
 use Rattle.std.proofs.Common.{◌≡◌, ◌∙◌, ℕ, Bool, true, false, cond, not, ◌&&◌, ◌||◌, List, [], ◌∷◌, ◌++◌, map, filter, Option, refl, sym, ap, ap₂, subst}
 use Rattle.std.proofs.lemmas.Bool.{and_parts, and_from, not-true}
 use Rattle.std.proofs.lemmas.List.Folds.{list_all-append, list_all-map}
-use Rattle.std.proofs.lemmas.Slice.Eq.{bytes_eq-Decides, slice_eq-Decides}
+use Rattle.std.proofs.lemmas.Slice.Eq.{bytes_eq-Decides}
 use Rattle.std.specs.List.{list_all, list_any}
-use Rattle.dav_resource.specs.Key.{Key}
+use Rattle.dav_resource.specs.Key.{Key, is_same_key, same_key_decides}
 use Rattle.dav_store.specs.declared.lock.DavLock.{DavLock}
-use Rattle.dav_store.specs.Locks.{Locks, is_same_key, is_at_or_below, covers, covering, at_or_below, elsewhere, conflicts, has_token, grants, meet, stand_together, are_compatible, AreCompatible}
+use Rattle.dav_store.specs.Locks.{Locks, is_at_or_below, covers, covering, at_or_below, elsewhere, conflicts, has_token, grants, meet, stand_together, are_compatible, AreCompatible}
 use Rattle.dav_store.specs.LockCalls.{AddsLock, is_named, has_named, without_named, RemovesLock, refreshed, with_refreshed, RefreshesLock}
 
 -- ---- tests of lists
@@ -34,24 +34,18 @@ none_kept true test kept lock locks h =
 
 -- ---- two locks
 
-same_key : (a b : Key) → is_same_key a b ≡ true → a ≡ b
-same_key a b e = (slice_eq-Decides bytes_eq-Decides a b (is_same_key a b) refl).0 e
-
-same_key-itself : (key : Key) → is_same_key key key ≡ true
-same_key-itself key = (slice_eq-Decides bytes_eq-Decides key key (is_same_key key key) refl).1 refl
-
 below_itself : (key : Key) → is_at_or_below key key ≡ true
 below_itself [] = refl
 below_itself (segment ∷ key) = and_from _ _ ((bytes_eq-Decides segment segment).1 refl) (below_itself key)
 
 covers_itself : (lock : DavLock) → covers lock lock.path.key ≡ true
-covers_itself lock = elim lock.deep as (λ b. cond b (is_at_or_below lock.path.key lock.path.key) (is_same_key lock.path.key lock.path.key) ≡ true) [ true ↦ below_itself lock.path.key | false ↦ same_key-itself lock.path.key ]
+covers_itself lock = elim lock.deep as (λ b. cond b (is_at_or_below lock.path.key lock.path.key) (is_same_key lock.path.key lock.path.key) ≡ true) [ true ↦ below_itself lock.path.key | false ↦ (same_key_decides lock.path.key lock.path.key).1 refl ]
 
 -- locks meet where the one covers the other's key or, the other being deep, stands at its key or below it
 meet-is : (a b : DavLock) → meet a b ≡ (covers a b.path.key || (b.deep && is_at_or_below a.path.key b.path.key))
 meet-is a b = elim b.deep as (λ d. (covers a b.path.key || cond d (is_at_or_below a.path.key b.path.key) (is_same_key a.path.key b.path.key)) ≡ (covers a b.path.key || (d && is_at_or_below a.path.key b.path.key))) [
   | true ↦ refl
-  | false ↦ at_one_key (covers a b.path.key) (is_same_key a.path.key b.path.key) (λ same. sym (ap (covers a) (same_key a.path.key b.path.key same)) ∙ covers_itself a)
+  | false ↦ at_one_key (covers a b.path.key) (is_same_key a.path.key b.path.key) (λ same. sym (ap (covers a) ((same_key_decides a.path.key b.path.key).0 same)) ∙ covers_itself a)
 ]
   where
     at_one_key : (c s : Bool) → (s ≡ true → c ≡ true) → (c || s) ≡ (c || false)

@@ -1,9 +1,8 @@
 -- Locks (RFC 4918, section 6): what a lock covers, which locks conflict, whether a request may go on, whether a lock is granted, and which locks stand together.
 use Rattle.std.specs.Prelude.{◌≡◌, ℕ, Bool, true, not, ◌&&◌, ◌||◌, bytes_eq, if◌then◌else◌, List, [], ◌∷◌, length, ◌==◌, Option}
 use Rattle.std.specs.List.{filter, list_all, list_any, starts_with}
-use Rattle.std.specs.Cmp.Lexicographic.{pointwise}
 use Rattle.std.specs.Option.{option_eq}
-use Rattle.dav_resource.specs.Key.{Key}
+use Rattle.dav_resource.specs.Key.{Key, is_same_key}
 use Rattle.dav_store.specs.declared.lock.DavLock.{DavLock}
 
 -- what contracts see of a lock system: its locks, the oldest first, and whether it removes a lock each time that it is told to
@@ -12,9 +11,6 @@ pub record Locks : Type 0 where
   pub dependable : Bool
 
 -- ---- where a lock stands
-
-abbrev pub is_same_key : Key → Key → Bool
-is_same_key = pointwise bytes_eq
 
 abbrev pub is_at_or_below : Key → Key → Bool
 is_at_or_below key above = starts_with bytes_eq key above

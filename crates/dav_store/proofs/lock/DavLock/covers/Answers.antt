@@ -1,5 +1,9 @@
-use Rattle.dav_store.proofs.LockLists.{same_key-is}
+use Rattle.std.proofs.lemmas.Bool.Decides.{same_from_decides}
+use Rattle.dav_resource.specs.Key.{is_same_key, same_key_decides}
 use Rattle.dav_store.proofs.lock.DavLock.covers.Goals as goal
 
 pub returns-else-self : goal.returns-else-self
-returns-else-self c = rw c.if-self.false (same_key-is c.args.path.now.key c.args.self.now.path.key c.same_key.result c.same_key.ensures)
+returns-else-self c =
+    let asked = c.args.path.now.key in
+    let own = c.args.self.now.path.key in
+    rw c.if-self.false (same_from_decides c.same_key.result (is_same_key asked own) c.same_key.ensures (same_key_decides asked own))
