@@ -1,5 +1,5 @@
 //! The header If (RFC 4918, section 10.4).
-ghost use Rattle.std.specs.Prelude.{◌≡◌, List, false, Some, Ok, IfOk, IfSome, option_map};
+ghost use Rattle.std.specs.Prelude.{◌≡◌, List, false, Some, Ok, IfOk, IfSome, option_map, option_copied};
 ghost use Rattle.dav_resource.specs.Gives.{GivesBy};
 ghost use Rattle.dav_headers.specs.IfHeader.{item_of, conditions_of, first_entry, lists_of, if_lists, if_of};
 ghost use Rattle.dav_headers.specs.IfGrammar.{IfHeaderSpells};
@@ -107,7 +107,7 @@ fn lists_of(alloc: Global, mut tokens: VecDeque<IfToken>) -> DavResult<Option<It
             return Ok(None);
         };
         governing = tag.or(governing);
-        let resource_tag = copy_of(&governing)?;
+        let resource_tag = copy_of(governing.as_ref())?;
         lists.push(IfList {
             resource_tag,
             conditions,
@@ -120,8 +120,8 @@ fn lists_of(alloc: Global, mut tokens: VecDeque<IfToken>) -> DavResult<Option<It
 }
 
 /// The same tag, where there is one. Only memory can be lacking.
-fn copy_of(tag: &Option<Text>) -> Result<Option<Text>, AllocError>
-    ensures { IfOk result (λ copy. copy ≡ tag.now) }
+fn copy_of(tag: Option<&Text>) -> Result<Option<Text>, AllocError>
+    ensures { IfOk result (λ copy. copy ≡ option_copied tag.entry) }
 {
     match tag {
         Some(text) => Ok(Some(text.clone()?)),

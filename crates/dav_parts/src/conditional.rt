@@ -53,7 +53,7 @@ pub fn http_if_match(
 {
     let tag = current_tag(meta)?;
     let tags = read_if_match(alloc, &req.headers)?;
-    if if_match_fails(&tags, meta.is_some(), tag.as_ref()) {
+    if if_match_fails(tags.as_ref(), meta.is_some(), tag.as_ref()) {
         return Ok(Some(StatusCode::PRECONDITION_FAILED));
     }
     none_match_verdict(alloc, req, meta.is_some(), tag.as_ref())
@@ -78,7 +78,7 @@ fn none_match_verdict(
     ensures { GivesBy (λ status. status) result (Ok (verdict_of_none_match req.entry.now exists (option_copied tag.entry))) }
 {
     let tags = read_if_none_match(alloc, &req.headers)?;
-    if !if_none_match_fails(&tags, exists, tag) {
+    if !if_none_match_fails(tags.as_ref(), exists, tag) {
         return Ok(None);
     }
     let method = DavMethod::from_method(&req.method);
@@ -86,8 +86,8 @@ fn none_match_verdict(
 }
 
 /// Whether If-Match refuses: it is there, and doesn't match.
-fn if_match_fails(tags: &Option<ETagList>, exists: bool, tag: Option<&ETag>) -> bool
-    ensures { result ≡ fails_if_match tags.now exists (option_copied tag.entry) }
+fn if_match_fails(tags: Option<&ETagList>, exists: bool, tag: Option<&ETag>) -> bool
+    ensures { result ≡ fails_if_match (option_copied tags.entry) exists (option_copied tag.entry) }
 {
     match tags {
         Some(tags) => !etaglist_match(tags, exists, tag),
@@ -96,8 +96,8 @@ fn if_match_fails(tags: &Option<ETagList>, exists: bool, tag: Option<&ETag>) -> 
 }
 
 /// Whether If-None-Match refuses: it is there, and matches.
-fn if_none_match_fails(tags: &Option<ETagList>, exists: bool, tag: Option<&ETag>) -> bool
-    ensures { result ≡ fails_if_none_match tags.now exists (option_copied tag.entry) }
+fn if_none_match_fails(tags: Option<&ETagList>, exists: bool, tag: Option<&ETag>) -> bool
+    ensures { result ≡ fails_if_none_match (option_copied tags.entry) exists (option_copied tag.entry) }
 {
     match tags {
         Some(tags) => etaglist_match(tags, exists, tag),
@@ -131,8 +131,8 @@ pub fn dav_if_match<C, F: GuardedFileSystem<C>, L: DavLockSystem>(
     ensures judged { Judges (dav_if_match_of (F.seen fs.old).contents (locks_in L.seen (option_copied ls.entry)) req.entry.now path.now) (F.seen fs.old) result (F.seen fs.new) }
 {
     let lists = read_if(alloc, &req.headers)?;
-    let tokens = submitted_tokens(alloc, &lists)?;
-    let holds = if_holds(alloc, &lists, fs, ls, path, credentials)?;
+    let tokens = submitted_tokens(alloc, lists.as_ref())?;
+    let holds = if_holds(alloc, lists.as_ref(), fs, ls, path, credentials)?;
     Ok((holds, tokens))
 }
 
@@ -150,7 +150,7 @@ pub fn if_match<C, F: GuardedFileSystem<C>, L: DavLockSystem>(
     ensures { Judges (if_match_of (F.seen fs.old).contents (locks_in L.seen (option_copied ls.entry)) req.entry.now (option_copied meta.entry) path.now) (F.seen fs.old) result (F.seen fs.new) }
 {
     let lists = read_if(alloc, &req.headers)?;
-    let holds = if_holds(alloc, &lists, fs, ls, path, credentials)?;
+    let holds = if_holds(alloc, lists.as_ref(), fs, ls, path, credentials)?;
     verdict_after(holds, alloc, req, meta)
 }
 

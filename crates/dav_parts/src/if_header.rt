@@ -11,9 +11,9 @@ use std::alloc::{AllocError, Global};
 /// The state tokens of all lists, in order.
 pub(crate) fn submitted_tokens(
     alloc: Global,
-    lists: &Option<Items<IfList>>,
+    lists: Option<&Items<IfList>>,
 ) -> Result<Items<Text>, AllocError>
-    ensures { IfOk result (λ tokens. tokens ≡ all_tokens lists.now) }
+    ensures { IfOk result (λ tokens. tokens ≡ all_tokens (option_copied lists.entry)) }
 {
     let mut tokens = Vec::new(alloc);
     if let Some(lists) = lists {
@@ -49,13 +49,13 @@ fn token_of(condition: &IfCondition) -> Option<&Text>
 /// Whether the header If holds: it isn't there, or one of its lists holds.
 pub(crate) fn if_holds<C, F: GuardedFileSystem<C>, L: DavLockSystem>(
     alloc: Global,
-    lists: &Option<Items<IfList>>,
+    lists: Option<&Items<IfList>>,
     fs: &mut F,
     ls: Option<&L>,
     path: &DavPath,
     credentials: &C,
 ) -> DavResult<bool>
-    ensures { Judges (lists_hold (F.seen fs.old).contents (locks_in L.seen (option_copied ls.entry)) path.now lists.now) (F.seen fs.old) result (F.seen fs.new) }
+    ensures { Judges (lists_hold (F.seen fs.old).contents (locks_in L.seen (option_copied ls.entry)) path.now (option_copied lists.entry)) (F.seen fs.old) result (F.seen fs.new) }
 {
     match lists {
         Some(lists) => any_holds(alloc, lists.as_slice(), fs, ls, path, credentials),

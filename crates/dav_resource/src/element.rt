@@ -1,5 +1,5 @@
 //! Element trees, as a WebDAV body holds them (RFC 4918, section 14; Namespaces in XML 1.0).
-ghost use Rattle.std.specs.Prelude.{◌≡◌, ◌↔◌, ◌<◌, ◌++◌, length, [], None, map, position, unwrap_or, IsTrue, IfOk, OnOk, OnErr, option_map, string_bytes};
+ghost use Rattle.std.specs.Prelude.{◌≡◌, ◌↔◌, ◌<◌, ◌++◌, length, [], None, map, position, unwrap_or, IsTrue, IfOk, OnOk, OnErr, option_map, option_copied, string_bytes};
 ghost use Rattle.dav_resource.specs.Tree.{empty_element, prefixed_element, with_attribute, xmlns_name, with_children, one_text, one_element, texts_of, elements_of, first_named, without_first_named};
 ghost use Rattle.dav_resource.specs.Element.{nodes_of, text_pair, node_is_named, child_elements};
 ghost use Rattle.std.specs.Iterator.{YieldsFirstRef, item_count};
@@ -159,8 +159,8 @@ impl Element {
         }
         Ok(Element {
             name: self.name.clone()?,
-            prefix: clone_text(&self.prefix)?,
-            namespace: clone_text(&self.namespace)?,
+            prefix: clone_text(self.prefix.as_ref())?,
+            namespace: clone_text(self.namespace.as_ref())?,
             attributes: clone_attributes(&self.attributes)?,
             children,
         })
@@ -245,10 +245,13 @@ fn take_named(nodes: &mut Vec<XMLNode>, name: &str) -> Option<Element>
 }
 
 /// The same text again, where there is one.
-fn clone_text(text: &Option<String>) -> Result<Option<String>, AllocError>
-    ensures { IfOk result (λ copy. option_map string_bytes copy ≡ option_map string_bytes text.now) }
+fn clone_text(text: Option<&String>) -> Result<Option<String>, AllocError>
+    ensures { IfOk result (λ copy. option_map string_bytes copy ≡ option_map string_bytes (option_copied text.entry)) }
 {
-    text.clone()
+    match text {
+        Some(text) => Ok(Some(text.clone()?)),
+        None => Ok(None),
+    }
 }
 
 /// The same names with the same values again.

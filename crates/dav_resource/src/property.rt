@@ -1,5 +1,5 @@
 //! Properties of a resource (RFC 4918, section 4).
-ghost use Rattle.std.specs.Prelude.{◌≡◌, IfOk};
+ghost use Rattle.std.specs.Prelude.{◌≡◌, IfOk, option_copied};
 
 use crate::{Element, Text};
 use std::alloc::AllocError;
@@ -28,16 +28,16 @@ impl DavProp {
         };
         Ok(DavProp {
             name: self.name.clone()?,
-            prefix: clone_text(&self.prefix)?,
-            namespace: clone_text(&self.namespace)?,
+            prefix: clone_text(self.prefix.as_ref())?,
+            namespace: clone_text(self.namespace.as_ref())?,
             element,
         })
     }
 }
 
 /// The same text again, where there is one.
-fn clone_text(text: &Option<Text>) -> Result<Option<Text>, AllocError>
-    ensures { IfOk result (λ copy. copy ≡ text.now) }
+fn clone_text(text: Option<&Text>) -> Result<Option<Text>, AllocError>
+    ensures { IfOk result (λ copy. copy ≡ option_copied text.entry) }
 {
     match text {
         Some(text) => Ok(Some(text.clone()?)),

@@ -38,8 +38,8 @@ impl DavLock {
         Ok(DavLock {
             token: self.token.clone()?,
             path: self.path.clone()?,
-            principal: clone_principal(&self.principal)?,
-            owner: clone_owner(&self.owner)?,
+            principal: clone_principal(self.principal.as_ref())?,
+            owner: clone_owner(self.owner.as_ref())?,
             timeout: self.timeout,
             timeout_at: self.timeout_at,
             shared: self.shared,
@@ -74,7 +74,7 @@ impl DavLock {
     ) -> bool
         ensures { result ≡ is_submitted (option_copied principal.entry) ignore_principal tokens.now self.now }
     {
-        self.is_among(tokens) && (ignore_principal || is_text(&self.principal, principal))
+        self.is_among(tokens) && (ignore_principal || is_text(self.principal.as_ref(), principal))
     }
 
     /// Whether its token is among these.
@@ -124,8 +124,8 @@ pub(crate) fn timeout_end(now: u64, timeout: Option<u64>) -> Option<u64>
 }
 
 /// Whether both are none, or one text.
-fn is_text(text: &Option<Text>, other: Option<&str>) -> bool
-    ensures { result ≡ option_eq bytes_eq text.now (option_copied other.entry) }
+fn is_text(text: Option<&Text>, other: Option<&str>) -> bool
+    ensures { result ≡ option_eq bytes_eq (option_copied text.entry) (option_copied other.entry) }
 {
     match (text, other) {
         (Some(text), Some(other)) => text.as_str() == other,
@@ -135,8 +135,8 @@ fn is_text(text: &Option<Text>, other: Option<&str>) -> bool
 }
 
 /// The same principal again, where there is one.
-fn clone_principal(principal: &Option<Text>) -> Result<Option<Text>, AllocError>
-    ensures { IfOk result (λ copy. copy ≡ principal.now) }
+fn clone_principal(principal: Option<&Text>) -> Result<Option<Text>, AllocError>
+    ensures { IfOk result (λ copy. copy ≡ option_copied principal.entry) }
 {
     match principal {
         Some(principal) => Ok(Some(principal.clone()?)),
@@ -145,8 +145,8 @@ fn clone_principal(principal: &Option<Text>) -> Result<Option<Text>, AllocError>
 }
 
 /// The same owner again, where there is one.
-fn clone_owner(owner: &Option<Element>) -> Result<Option<Element>, AllocError>
-    ensures { IfOk result (λ copy. copy ≡ owner.now) }
+pub(crate) fn clone_owner(owner: Option<&Element>) -> Result<Option<Element>, AllocError>
+    ensures { IfOk result (λ copy. copy ≡ option_copied owner.entry) }
 {
     match owner {
         Some(owner) => Ok(Some(owner.clone()?)),

@@ -8,7 +8,7 @@ ghost use Rattle.std.specs.List.{IsDistinct-prop};
 
 mod list;
 
-use crate::lock::timeout_end;
+use crate::lock::{clone_owner, timeout_end};
 use crate::{DavLock, DavLockSystem, LockError};
 use dav_resource::{DavPath, Element, Items, Text};
 use std::alloc::{AllocError, Global};
@@ -79,7 +79,7 @@ impl DavLockSystem for MemLs {
             token: Text::from_string(String::from_str(alloc, token)?),
             path: path.clone()?,
             principal: copy_principal(alloc, principal)?,
-            owner: copy_owner(owner)?,
+            owner: clone_owner(owner)?,
             timeout,
             timeout_at: timeout_end(now, timeout),
             shared,
@@ -141,16 +141,6 @@ fn copy_principal(alloc: Global, principal: Option<&str>) -> Result<Option<Text>
 {
     match principal {
         Some(principal) => Ok(Some(Text::from_string(String::from_str(alloc, principal)?))),
-        None => Ok(None),
-    }
-}
-
-/// The owner of a lock, where there is one.
-fn copy_owner(owner: Option<&Element>) -> Result<Option<Element>, AllocError>
-    ensures { IfOk result (λ copy. copy ≡ option_copied owner.entry) }
-{
-    match owner {
-        Some(owner) => Ok(Some(owner.clone()?)),
         None => Ok(None),
     }
 }

@@ -19,7 +19,7 @@ pub loop-alloc-preserved : goal.loop-alloc-preserved
 loop-alloc-preserved c =
     let some : 0 < length c.loop-alloc.tokens.items = grind (arith, nat_tests) in
     let e : first_entry c.loop-alloc.tokens.items ≡ Some ((c.in-Some.tag, c.in-Some.conditions), c.first_entry.new.tokens.items) = (let f = rw c.in-Some.is at c.in_ok-tag.ensures in cc) in
-    rw (c.in_ok-push.ensures.items, c.in_ok-resource_tag.ensures, c.or-governing.ensures) (listed_next c.args.tokens.items c.loop-alloc.lists.items c.loop-alloc.governing c.loop-alloc.tokens.items c.in-Some.tag c.in-Some.conditions c.first_entry.new.tokens.items e some c.loop-alloc.invariant)
+    rw (c.in_ok-push.ensures.items, c.in_ok-resource_tag.ensures, c.as_ref.ensures.value, c.or-governing.ensures) (listed_next c.args.tokens.items c.loop-alloc.lists.items c.loop-alloc.governing c.loop-alloc.tokens.items c.in-Some.tag c.in-Some.conditions c.first_entry.new.tokens.items e some c.loop-alloc.invariant)
 
 pub returns-then-is_empty : goal.returns-then-is_empty
 returns-then-is_empty c =
