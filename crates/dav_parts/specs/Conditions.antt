@@ -22,10 +22,9 @@ use Rattle.dav_headers.specs.declared.if_header.IfCondition.{IfCondition}
 use Rattle.dav_headers.specs.declared.if_header.IfItem.{IfItem}
 use Rattle.dav_headers.specs.declared.if_header.IfItem.TheVariants.{StateToken, ETag as EntityTag}
 use Rattle.dav_store.specs.Store.{Contents}
-use Rattle.dav_store.specs.Calls.{metadata_call}
 use Rattle.dav_store.specs.Locks.{Locks, permits}
 use Rattle.dav_store.specs.declared.lock.DavLock.{DavLock}
-use Rattle.dav_parts.specs.Dialogue.{Dialogue, Asks, Refuses, Passed, if_granted, ◌>>=◌}
+use Rattle.dav_parts.specs.Dialogue.{Dialogue, Refuses, Passed, look, ◌>>=◌}
 
 -- ---- If-Match, If-None-Match, If-Range
 
@@ -95,7 +94,7 @@ token_holds locks key token = not (starts_with nat_eq token (codes "DAV:")) && o
 
 -- an entity tag holds at a key where a look at it is granted, and the tag is the current one
 abbrev pub tag_holds : Contents → Key → ETag → Dialogue Bool
-tag_holds contents key tag = Asks (metadata_call contents key) (λ outcome. Passed (is_tagged tag (current_tag (if_granted outcome (contents.metas key)))))
+tag_holds contents key tag = look contents key >>= λ found. Passed (is_tagged tag (current_tag found))
 
 -- the opposite, where `Not` stands before it
 abbrev pub turned : Bool → Bool → Bool

@@ -32,7 +32,8 @@ pub fn etaglist_match(tags: &ETagList, exists: bool, tag: Option<&ETag>) -> bool
     }
 }
 
-fn is_tagged(listed: &ETag, tag: Option<&ETag>) -> bool
+/// Whether an entity tag is there, and strongly equal to the listed one.
+pub(crate) fn is_tagged(listed: &ETag, tag: Option<&ETag>) -> bool
     ensures { result ≡ is_tagged listed.now (option_copied tag.entry) }
 {
     match tag {
@@ -60,7 +61,7 @@ pub fn http_if_match(
 }
 
 /// The entity tag of what was found.
-fn current_tag(meta: Option<&Meta>) -> Result<Option<ETag>, AllocError>
+pub(crate) fn current_tag(meta: Option<&Meta>) -> Result<Option<ETag>, AllocError>
     ensures { IfOk result (λ tag. tag ≡ current_tag (option_copied meta.entry)) }
 {
     match meta {

@@ -3,8 +3,10 @@ ghost use Rattle.std.specs.Prelude.{◌≡◌, ◌++◌, IfOk, option_map, optio
 ghost use Rattle.dav_parts.specs.Dialogue.{Judges};
 ghost use Rattle.dav_parts.specs.Conditions.{locks_in, token_of, tokens_in, all_tokens, token_holds, tag_holds, item_holds, item_holds_at, turned as turned_by, condition_holds, all_hold, conditions_hold, list_holds, any_holds, lists_hold};
 
+use crate::conditional::{current_tag, is_tagged};
+use crate::looking::look;
 use dav_headers::{IfCondition, IfItem, IfList, read_tagged_path};
-use dav_resource::{DavError, DavPath, DavResult, ETag, FsError, Items, Text};
+use dav_resource::{DavPath, DavResult, ETag, Items, Text};
 use dav_store::{DavLockSystem, GuardedFileSystem};
 use std::alloc::{AllocError, Global};
 
@@ -209,12 +211,7 @@ fn tag_holds<C, F: GuardedFileSystem<C>>(
 ) -> DavResult<bool>
     ensures { Judges (tag_holds (F.seen fs.old).contents path.now.key tag.now) (F.seen fs.old) result (F.seen fs.new) }
 {
-    match fs.metadata(path, credentials) {
-        Ok(meta) => match ETag::from_meta(&meta)? {
-            Some(current) => Ok(tag.strong_eq(&current)),
-            None => Ok(false),
-        },
-        Err(FsError::Memory) => Err(DavError::Memory),
-        Err(_) => Ok(false),
-    }
+    let found = look(fs, path, credentials)?;
+    let current = current_tag(found.as_ref())?;
+    Ok(is_tagged(tag, current.as_ref()))
 }

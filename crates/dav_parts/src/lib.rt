@@ -6,6 +6,7 @@ mod conditional;
 mod dav_element;
 mod if_header;
 mod lock_tree;
+mod looking;
 mod multierror;
 mod multistatus;
 mod reply_header;
@@ -14,6 +15,7 @@ pub use conditional::{
     dav_if_match, etaglist_match, http_if_match, if_match, if_match_get_tokens, ifrange_match,
 };
 pub use lock_tree::{build_lock_prop, list_lockdiscovery, list_supportedlock, timeout_text};
+pub use looking::look;
 pub use multierror::{MultiError, multi_error};
 pub use multistatus::xml_headers;
 pub use reply_header::{add_header, header_value};

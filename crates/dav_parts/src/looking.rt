@@ -1,0 +1,24 @@
+//! A look at a path.
+ghost use Rattle.std.specs.Prelude.{◌≡◌, OnErr};
+ghost use Rattle.dav_parts.specs.Dialogue.{Judges, look as look_of};
+
+use dav_resource::{DavError, DavPath, DavResult, FsError, Meta};
+use dav_store::GuardedFileSystem;
+
+/// What is known of what stands at a path; a refusal of the store counts as nothing there.
+///
+/// The only error is `Memory`, and then nothing happened.
+pub fn look<C, F: GuardedFileSystem<C>>(
+    fs: &mut F,
+    path: &DavPath,
+    credentials: &C,
+) -> DavResult<Option<Meta>>
+    ensures rules { Judges (look_of (F.seen fs.old).contents path.now.key) (F.seen fs.old) result (F.seen fs.new) }
+    ensures memory { OnErr result (F.seen fs.new ≡ F.seen fs.old) }
+{
+    match fs.metadata(path, credentials) {
+        Ok(meta) => Ok(Some(meta)),
+        Err(FsError::Memory) => Err(DavError::Memory),
+        Err(_) => Ok(None),
+    }
+}
