@@ -124,3 +124,7 @@ pub record IsLetBy (plan : List Planned) (directory : PathValue) (children : Lis
   pub shown : listing ≡ map (λ c. c.1) (shown_by plan directory.key children)
   pub told : unseen ≡ told_by plan directory children hidden
   pub left_is : left ≡ left_by plan directory.key children
+
+-- so it shows its members, whichever they are
+abbrev pub LetsThrough : List Planned → PathValue → List (Result DirEntry FsError) → List Record → List (Result DirEntry FsError) → List Record → List Planned → Type 0
+LetsThrough plan directory listing hidden shown unseen left = (children : List Child) → IsListingOf directory.key children listing hidden → IsLetBy plan directory children hidden shown unseen left

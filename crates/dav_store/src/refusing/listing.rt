@@ -1,8 +1,8 @@
 //! What a plan leaves of a listing.
-ghost use Rattle.std.specs.Prelude.{◌≡◌, List, [], ◌∷◌, ◌++◌, IfOk, IfErr};
+ghost use Rattle.std.specs.Prelude.{◌≡◌, [], ◌∷◌, ◌++◌, IfOk, IfErr};
 ghost use Rattle.dav_resource.specs.PathText.{IsSegment};
-ghost use Rattle.dav_store.specs.Members.{Child, member};
-ghost use Rattle.dav_store.specs.Plans.{plan_of, refusal_for, without_first, refused_record, HaveSegmentNames, IsListingOf, IsLetBy};
+ghost use Rattle.dav_store.specs.Members.{member};
+ghost use Rattle.dav_store.specs.Plans.{plan_of, refusal_for, without_first, refused_record, HaveSegmentNames, LetsThrough};
 
 use super::plan::Plan;
 use dav_resource::{DavPath, DirEntry, FsError, FsResult, Items, Op, Outcome, Record};
@@ -19,7 +19,7 @@ pub(super) fn refuse_members(
     hidden: &[Record],
 ) -> FsResult<Vec<Record>>
     requires { HaveSegmentNames listing.old }
-    ensures let_by { IfOk result (λ unseen. (children : List Child) → IsListingOf path.now.key children listing.old hidden.now → IsLetBy (plan_of plan.old.refusals.items) path.now children hidden.now listing.new unseen.items (plan_of plan.new.refusals.items)) }
+    ensures let_by { IfOk result (λ unseen. LetsThrough (plan_of plan.old.refusals.items) path.now listing.old hidden.now listing.new unseen.items (plan_of plan.new.refusals.items)) }
     ensures err { IfErr result (λ e. e ≡ FsError.Memory) }
 {
     let mut rest = hidden;
