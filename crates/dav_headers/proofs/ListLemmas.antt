@@ -4,7 +4,7 @@ use Rattle.std.specs.Option.{option_or}
 use Rattle.std.proofs.lemmas.List.{append-nil}
 use Rattle.dav_headers.specs.Repeated.{all_of}
 use Rattle.dav_headers.specs.IfHeader.{item_of, with_condition, conditions_of, first_list, with_tag, first_entry, governed, some_lists, lists_of}
-use Rattle.dav_headers.specs.IfGrammar.{IsItem, coded, plain, tagged, Conditions, no_condition, condition, negated, Lists, no_list, list, about}
+use Rattle.dav_headers.specs.IfGrammar.{IsItem, coded, plain, tagged, Conditions, no_condition, condition, negated, AreLists, no_list, list, about}
 use Rattle.dav_headers.specs.declared.if_token.IfToken.{IfToken}
 use Rattle.dav_headers.specs.declared.if_token.IfToken.TheVariants.{Open, Close, Not, Angle, Bracket, Word}
 use Rattle.dav_headers.specs.declared.if_header.IfItem.{IfItem}
@@ -167,14 +167,14 @@ some_lists-none (l ∷ lists) none = absurd (omega arith)
 -- ---- what is read is in the grammar
 
 entry_read : (tokens : List IfToken) (own : Option (List ℕ)) (conditions : List IfCondition) (rest : List IfToken) → EntryAt tokens own conditions rest
-    → (tag : Option (List ℕ)) (others : List IfList) → Lists (option_or own tag) rest others → Lists tag tokens (record { resource_tag = option_or own tag; conditions = conditions } ∷ others)
+    → (tag : Option (List ℕ)) (others : List IfList) → AreLists (option_or own tag) rest others → AreLists tag tokens (record { resource_tag = option_or own tag; conditions = conditions } ∷ others)
 entry_read _ _ _ _ (bare tokens conditions rest is) tag others inner = list tag tokens is.inside rest conditions others is.whole is.spelled inner
 entry_read _ _ _ _ (behind text tokens conditions rest is) tag others inner =
     let one = list (Some text) (Open ∷ (is.inside ++ Close ∷ rest)) is.inside rest conditions others refl is.spelled inner in
-    subst (λ ts. Lists tag (Angle text ∷ ts) (record { resource_tag = Some text; conditions = conditions } ∷ others)) (sym is.whole)
+    subst (λ ts. AreLists tag (Angle text ∷ ts) (record { resource_tag = Some text; conditions = conditions } ∷ others)) (sym is.whole)
     (about tag text (is.inside ++ Close ∷ rest) (record { resource_tag = Some text; conditions = conditions } ∷ others) one)
 
-lists_read : (tokens : List IfToken) (entries : List (Option (List ℕ) × List IfCondition)) → Repeats first_entry tokens entries → (tag : Option (List ℕ)) → Lists tag tokens (governed tag entries)
+lists_read : (tokens : List IfToken) (entries : List (Option (List ℕ) × List IfCondition)) → Repeats first_entry tokens entries → (tag : Option (List ℕ)) → AreLists tag tokens (governed tag entries)
 lists_read _ _ done tag = no_list tag
 lists_read tokens _ (more _ found entries e some others) tag =
     entry_read tokens found.0.0 found.0.1 found.1 (first_entry-found tokens found e) tag (governed (option_or found.0.0 tag) entries) (lists_read found.1 entries others (option_or found.0.0 tag))
@@ -189,7 +189,7 @@ some_lists-is [] lists e = absurd cc
 some_lists-is (x ∷ xs) lists e = record { is = cc; some = λ none. cc }
 
 pub record IsRead (tokens : List IfToken) (lists : List IfList) : Type 0 where
-  pub listed : Lists None tokens lists
+  pub listed : AreLists None tokens lists
   pub some : lists ≢ []
 
 pub lists_of-found : (tokens : List IfToken) (lists : List IfList) → lists_of tokens ≡ Some lists → IsRead tokens lists
@@ -197,7 +197,7 @@ lists_of-found tokens lists e =
     let chained = option_and_then-some (λ entries. some_lists (governed None entries)) (all_of first_entry tokens) lists e in
     let one = some_lists-is (governed None chained.from) lists chained.is in
     record {
-      listed = subst (Lists None tokens) one.is (lists_read tokens chained.from (all_of-repeats first_entry tokens chained.from chained.was) None);
+      listed = subst (AreLists None tokens) one.is (lists_read tokens chained.from (all_of-repeats first_entry tokens chained.from chained.was) None);
       some = one.some;
     }
 
@@ -220,7 +220,7 @@ about_entries tag text tokens lists _ (more _ found entries e some others) is =
       is = ap (λ f. governed (Some text) (f.0 ∷ entries)) mapped.is ∙ is;
     }
 
-entries_of : (tag : Option (List ℕ)) (tokens : List IfToken) (lists : List IfList) → Lists tag tokens lists → HasEntries tag tokens lists
+entries_of : (tag : Option (List ℕ)) (tokens : List IfToken) (lists : List IfList) → AreLists tag tokens lists → HasEntries tag tokens lists
 entries_of _ _ _ (no_list tag) = record { entries = []; repeats = done; is = refl }
 entries_of _ _ _ (list tag tokens inside rest conditions others whole spelled inner) =
     let rec = entries_of tag rest others inner in
@@ -238,7 +238,7 @@ some_lists-some : (lists : List IfList) → lists ≢ [] → some_lists lists �
 some_lists-some [] some = absurd (some refl)
 some_lists-some (l ∷ lists) some = refl
 
-pub lists_of-listed : (tokens : List IfToken) (lists : List IfList) → Lists None tokens lists → lists ≢ [] → lists_of tokens ≡ Some lists
+pub lists_of-listed : (tokens : List IfToken) (lists : List IfList) → AreLists None tokens lists → lists ≢ [] → lists_of tokens ≡ Some lists
 lists_of-listed tokens lists listed some =
     let has = entries_of None tokens lists listed in
     ap (option_and_then (λ entries. some_lists (governed None entries))) (repeats-all_of first_entry first_entry-shortens tokens has.entries has.repeats)

@@ -29,8 +29,8 @@ timeout_text None = codes "Infinite"
 timeout_text (Some seconds) = codes "Second-" ++ decimal seconds
 
 -- the token as it is
-abbrev pub lock_token : List ℕ → Tree
-lock_token token = with_elements (prefixed_element (codes "D:locktoken")) (text_element (codes "D:href") token ∷ [])
+abbrev pub token_element : List ℕ → Tree
+token_element token = with_elements (prefixed_element (codes "D:locktoken")) (text_element (codes "D:href") token ∷ [])
 
 -- the path that was locked
 abbrev pub lock_root : PathValue → Tree
@@ -44,7 +44,7 @@ active_lock lock =
     ∷ lock_type
     ∷ text_element (codes "D:depth") (depth_text lock.deep)
     ∷ text_element (codes "D:timeout") (timeout_text lock.timeout)
-    ∷ lock_token lock.token
+    ∷ token_element lock.token
     ∷ lock_root lock.path
     ∷ option_map_or (λ owner. owner ∷ []) lock.owner [])
 

@@ -2,7 +2,7 @@
 ghost use Rattle.std.specs.Prelude.{◌≡◌, IfOk, IfErr, option_copied, string_bytes};
 ghost use Rattle.dav_resource.specs.declared.error.DavError.TheVariants.{Memory};
 ghost use Rattle.dav_parts.specs.Conditions.{locks_in};
-ghost use Rattle.dav_parts.specs.LockTree.{lock_scope as scope_of_lock, lock_type as type_of_lock, depth_text as text_of_depth, timeout_text as text_of_timeout, lock_token as element_of_token, lock_root as element_of_root, active_lock as tree_of_lock, lock_discovery as tree_of_locks, covering_in, lock_prop as shown_lock, lock_entry as entry_of_scope, supported_lock as tree_of_entries};
+ghost use Rattle.dav_parts.specs.LockTree.{lock_scope as scope_of_lock, lock_type as type_of_lock, depth_text as text_of_depth, timeout_text as text_of_timeout, token_element as element_of_token, lock_root as element_of_root, active_lock as tree_of_lock, lock_discovery as tree_of_locks, covering_in, lock_prop as shown_lock, lock_entry as entry_of_scope, supported_lock as tree_of_entries};
 
 use crate::dav_element::{declaring_element, href_element, outer_element, text_element};
 use dav_resource::{DavError, DavPath, DavResult, Element};

@@ -10,9 +10,9 @@ abbrev pub numbered_token : ℕ → List ℕ
 numbered_token number = codes "urn:lock:" ++ decimal number
 
 -- the token of a lock that the request makes: the block's own, or that of its number
-abbrev pub lock_token : ℕ → Option (List ℕ) → List ℕ
-lock_token number (Some token) = token
-lock_token number None = numbered_token number
+abbrev pub chosen_token : ℕ → Option (List ℕ) → List ℕ
+chosen_token number (Some token) = token
+chosen_token number None = numbered_token number
 
 -- the request of the block of this number, at this moment
 abbrev pub request_of : ℕ → ℕ → PathValue → Block → DavRequest
@@ -23,6 +23,6 @@ request_of number now path block =
       headers = block.headers;
       body = block.body;
       principal = block.principal;
-      token = lock_token number block.token;
+      token = chosen_token number block.token;
       now = now;
     }

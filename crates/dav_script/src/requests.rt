@@ -1,6 +1,6 @@
 //! The request that a block makes.
 ghost use Rattle.std.specs.Prelude.{◌≡◌, IfOk, string_bytes};
-ghost use Rattle.dav_script.specs.Requests.{lock_token, numbered_token, request_of};
+ghost use Rattle.dav_script.specs.Requests.{chosen_token, numbered_token, request_of};
 
 use crate::blocks::Block;
 use dav_resource::{DavPath, DavRequest, LockToken};
@@ -22,14 +22,18 @@ pub fn request(
         headers: block.headers,
         body: block.body,
         principal: block.principal,
-        token: lock_token(alloc, number, block.token)?,
+        token: chosen_token(alloc, number, block.token)?,
         now,
     })
 }
 
 /// The token of a lock that a block's request makes: the block's own, or one by the block's number.
-fn lock_token(alloc: Global, number: u64, token: Option<LockToken>) -> Result<LockToken, AllocError>
-    ensures { IfOk result (λ chosen. chosen ≡ lock_token number token) }
+fn chosen_token(
+    alloc: Global,
+    number: u64,
+    token: Option<LockToken>,
+) -> Result<LockToken, AllocError>
+    ensures { IfOk result (λ chosen. chosen ≡ chosen_token number token) }
 {
     match token {
         Some(token) => Ok(token),

@@ -17,8 +17,8 @@ use Rattle.dav_store.specs.Calls.{IsOwn}
 use Rattle.dav_store.specs.Members.{Child, IsIn, AreChildren, IsShownAs, Lists, ReadsDir, member, names_of, read_dir_bar, unseen_record}
 use Rattle.dav_store.specs.MemoryCalls.{record_on}
 use Rattle.dav_store.specs.Plans as plans
-use Rattle.dav_store.specs.Plans.{Planned, is_for, refusal_for, without_first, shown_as, shown_by, refused_record, told_by, IsNamed, IsListingOf, IsLetBy}
-use Rattle.dav_store.specs.Refusing.{inner_of, plan_of, records_of, seen_behind, IsKept, Passes, GoesByPlan, Follows, PassesListing, PassesReadDir, HasListed, KeepsReading, FollowsReading}
+use Rattle.dav_store.specs.Plans.{Planned, is_for, refusal_for, without_first, shown_as, shown_by, refused_record, hidden_by, IsNamed, IsListingOf, IsLetBy}
+use Rattle.dav_store.specs.Refusing.{inner_of, plan_of, records_of, seen_behind, IsWhollyKept, Passes, GoesByPlan, Follows, PassesListing, PassesReadDir, HasListed, KeepsReading, FollowsReading}
 use Rattle.dav_store.specs.declared.refusing.Refusing.{Refusing}
 use Rattle.dav_store.specs.declared.refusing.plan.Refusal.{Refusal}
 use Rattle.dav_store.proofs.Refusals.{CallBehind, AllOwn, own_first, own_without, own_plan, looks_kept, lawful}
@@ -54,7 +54,7 @@ named old directory (name, Err e) is = tt
 
 -- the keys of the records are those of the members that aren't shown
 told-keys : (plan : List Planned) (directory : PathValue) (children : List Child) (hidden : List Record) → map logged_of hidden ≡ filter_map (unseen_record directory.key) children
-    → map logged_of (told_by plan directory children hidden) ≡ filter_map (unseen_record directory.key) (shown_by plan directory.key children)
+    → map logged_of (hidden_by plan directory children hidden) ≡ filter_map (unseen_record directory.key) (shown_by plan directory.key children)
 told-keys plan directory [] hidden are = refl
 told-keys plan directory ((name, Ok entry) ∷ children) hidden are =
     by_error (refusal_for Entry (member directory.key name) plan) _ (shown_by (without_first Entry (member directory.key name) plan) directory.key children) (told-keys (without_first Entry (member directory.key name) plan) directory children hidden are)
@@ -128,7 +128,7 @@ module _ {F : Type 0} (see : F → Store) (path : PathValue) where
   -- ---- a listing that is granted
 
   pub lists : (old begun ended : Refusing F) (called : F) (paths : List PathValue) (listed shown : List (Result DirEntry FsError)) (before after hidden unseen : List Record) (left : List Refusal)
-      → paths ≡ path ∷ [] → IsKept old begun → Lists path.key (see (inner_of begun)) listed (see called)
+      → paths ≡ path ∷ [] → IsWhollyKept old begun → Lists path.key (see (inner_of begun)) listed (see called)
       → map logged_of before ≡ (see (inner_of begun)).log → map logged_of after ≡ (see called).log → hidden ≡ take (length after - (length before + 1)) (drop (length before + 1) after)
       → ((children : List Child) → IsListingOf path.key children listed hidden → IsLetBy (plan_of begun) path children hidden shown unseen (plans.plan_of left))
       → inner_of ended ≡ called → plan_of ended ≡ plans.plan_of left → records_of ended ≡ records_of begun ++ record_on ReadDir paths Granted ∷ unseen
@@ -153,7 +153,7 @@ module _ {F : Type 0} (see : F → Store) (path : PathValue) where
         plan = plan ∙ let_by.left_is ∙ ap (λ p. plans.left_by p path.key g.children) kept.plan;
         hidden = hidden;
         told = hide;
-        records = records ∙ (λ i. kept.records i ++ record_on ReadDir (ps i) Granted ∷ let_by.told i) ∙ ap (λ p. records_of old ++ record_on ReadDir (path ∷ []) Granted ∷ told_by p path g.children hidden) kept.plan;
+        records = records ∙ (λ i. kept.records i ++ record_on ReadDir (ps i) Granted ∷ let_by.told i) ∙ ap (λ p. records_of old ++ record_on ReadDir (path ∷ []) Granted ∷ hidden_by p path g.children hidden) kept.plan;
       }
 
   pub lawful_listing : (old new : Refusing F) (shown : List (Result DirEntry FsError)) → All (λ r. IsOwn r.error) old.plan.refusals.items → PassesListing see path old shown new → Lists path.key (seen_behind see old) shown (seen_behind see new)
@@ -166,7 +166,7 @@ module _ {F : Type 0} (see : F → Store) (path : PathValue) where
     };
     listed = h.shown;
     same = h.behind.same;
-    told = ap (map logged_of) h.records ∙ map-append logged_of (records_of old) (record_on ReadDir (path ∷ []) Granted ∷ told_by (plan_of old) path h.behind.children h.hidden)
+    told = ap (map logged_of) h.records ∙ map-append logged_of (records_of old) (record_on ReadDir (path ∷ []) Granted ∷ hidden_by (plan_of old) path h.behind.children h.hidden)
         ∙ ap (λ l. map logged_of (records_of old) ++ logged ReadDir (path.key ∷ []) Granted ∷ l) (told-keys (plan_of old) path h.behind.children h.hidden h.told);
     fixed = h.behind.fixed;
   }

@@ -11,7 +11,7 @@ use Rattle.dav_resource.specs.declared.record.Record.{Record}
 use Rattle.dav_resource.specs.declared.error.FsError.{FsError}
 use Rattle.dav_store.specs.Logged.{logged_of}
 use Rattle.dav_store.specs.Members.{Child, member, unseen_record}
-use Rattle.dav_store.specs.Plans.{Planned, refusal_for, without_first, shown_as, shown_by, refused_record, told_by, left_by, AreNamed, IsListingOf, IsLetBy, HaveSegmentNames}
+use Rattle.dav_store.specs.Plans.{Planned, refusal_for, without_first, shown_as, shown_by, refused_record, hidden_by, left_by, AreNamed, IsListingOf, IsLetBy, HaveSegmentNames}
 
 abbrev pub Shown : Type 0
 Shown = Result DirEntry FsError
@@ -26,7 +26,7 @@ pub record Underway (directory : PathValue) (children : List Child) (first : Lis
   pub ahead : drop i listing ≡ map shown_of rest
   pub still : map logged_of hidden ≡ filter_map (unseen_record directory.key) rest
   pub shown : take i listing ++ map shown_of (shown_by plan directory.key rest) ≡ map shown_of (shown_by first directory.key children)
-  pub told : unseen ++ told_by plan directory rest hidden ≡ told_by first directory children all_hidden
+  pub told : unseen ++ hidden_by plan directory rest hidden ≡ hidden_by first directory children all_hidden
   pub left : left_by plan directory.key rest ≡ left_by first directory.key children
 
 pub begins : (directory : PathValue) (children : List Child) (plan : List Planned) (listing : List Shown) (hidden : List Record) → IsListingOf directory.key children listing hidden → Underway directory children plan hidden 0 listing [] plan hidden
@@ -37,7 +37,7 @@ pub ends : (directory : PathValue) (children : List Child) (first plan : List Pl
 ends directory children first plan all_hidden i listing unseen hidden u all = by_rest u.rest u.ahead u.shown u.told u.left
   where
     by_rest : (rest : List Child) → drop i listing ≡ map shown_of rest → take i listing ++ map shown_of (shown_by plan directory.key rest) ≡ map shown_of (shown_by first directory.key children)
-        → unseen ++ told_by plan directory rest hidden ≡ told_by first directory children all_hidden
+        → unseen ++ hidden_by plan directory rest hidden ≡ hidden_by first directory children all_hidden
         → left_by plan directory.key rest ≡ left_by first directory.key children → IsLetBy first directory children all_hidden listing unseen plan
     by_rest [] ahead shown told left = record { shown = sym (take_all i listing all) ∙ sym (append-nil (take i listing)) ∙ shown; told = sym (append-nil unseen) ∙ told; left_is = left }
     by_rest (c ∷ rest) ahead shown told left = absurd (let none : [] ≡ shown_of c ∷ map shown_of rest = sym (drop_all i listing all) ∙ ahead in cc)
@@ -57,11 +57,11 @@ module _ (directory : PathValue) (children : List Child) (first : List Planned) 
   pub still_hidden : Underway directory children first all_hidden i listing unseen plan hidden → (e : FsError) (h : Record) (others next_unseen : List Record) (next_plan : List Planned) → x ≡ Err e → y ≡ x → hidden ≡ h ∷ others
       → next_unseen ≡ unseen ++ h ∷ [] → next_plan ≡ plan → Underway directory children first all_hidden (i + 1) next_listing next_unseen next_plan others
   still_hidden u e h others next_unseen next_plan err same some told_is plan_is = subst (λ l. Underway directory children first all_hidden (i + 1) next_listing l next_plan others) (sym told_is) (subst (λ p. Underway directory children first all_hidden (i + 1) next_listing (unseen ++ h ∷ []) p others) (sym plan_is) (
-      by_rest u.rest u.named (sym ahead_is ∙ u.ahead) (ap (map logged_of) (sym some) ∙ u.still) u.shown (ap (λ l. unseen ++ told_by plan directory u.rest l) (sym some) ∙ u.told) u.left))
+      by_rest u.rest u.named (sym ahead_is ∙ u.ahead) (ap (map logged_of) (sym some) ∙ u.still) u.shown (ap (λ l. unseen ++ hidden_by plan directory u.rest l) (sym some) ∙ u.told) u.left))
     where
       by_rest : (rest : List Child) → AreNamed rest → x ∷ drop (i + 1) listing ≡ map shown_of rest → logged_of h ∷ map logged_of others ≡ filter_map (unseen_record directory.key) rest
           → take i listing ++ map shown_of (shown_by plan directory.key rest) ≡ map shown_of (shown_by first directory.key children)
-          → unseen ++ told_by plan directory rest (h ∷ others) ≡ told_by first directory children all_hidden
+          → unseen ++ hidden_by plan directory rest (h ∷ others) ≡ hidden_by first directory children all_hidden
           → left_by plan directory.key rest ≡ left_by first directory.key children → Underway directory children first all_hidden (i + 1) next_listing (unseen ++ h ∷ []) plan others
       by_rest [] named ahead still shown told left = absurd cc
       by_rest ((name, Ok entry) ∷ rest) named ahead still shown told left = absurd (let one : x ≡ Ok entry = cc in let no : Err e ≡ Ok entry = sym err ∙ one in cc)
@@ -73,7 +73,7 @@ module _ (directory : PathValue) (children : List Child) (first : List Planned) 
             ahead = drop_next ∙ (let more : drop (i + 1) listing ≡ map shown_of rest = cc in more);
             still = (let more : map logged_of others ≡ filter_map (unseen_record directory.key) rest = cc in more);
             shown = take_next (map shown_of (shown_by plan directory.key rest)) ∙ ap (λ s. take i listing ++ s ∷ map shown_of (shown_by plan directory.key rest)) (same ∙ one) ∙ shown;
-            told = append_assoc unseen (h ∷ []) (told_by plan directory rest others) ∙ told;
+            told = append_assoc unseen (h ∷ []) (hidden_by plan directory rest others) ∙ told;
             left = left;
           }
 
@@ -95,7 +95,7 @@ module _ (directory : PathValue) (children : List Child) (first : List Planned) 
     where
       by_rest : (rest : List Child) → AreNamed rest → x ∷ drop (i + 1) listing ≡ map shown_of rest → map logged_of hidden ≡ filter_map (unseen_record directory.key) rest
           → take i listing ++ map shown_of (shown_by plan directory.key rest) ≡ map shown_of (shown_by first directory.key children)
-          → unseen ++ told_by plan directory rest hidden ≡ told_by first directory children all_hidden
+          → unseen ++ hidden_by plan directory rest hidden ≡ hidden_by first directory children all_hidden
           → left_by plan directory.key rest ≡ left_by first directory.key children → Underway directory children first all_hidden (i + 1) next_listing next_unseen next_plan next_hidden
       by_rest [] named ahead still shown told left = absurd cc
       by_rest ((name, Err e) ∷ rest) named ahead still shown told left = absurd (let one : x ≡ Err e = cc in let no : Ok entry ≡ Err e = sym ok ∙ one in cc)
@@ -114,9 +114,9 @@ module _ (directory : PathValue) (children : List Child) (first : List Planned) 
                 ∙ ap (λ s. take i listing ++ s ∷ map shown_of (shown_by next_plan directory.key rest)) seen
                 ∙ (λ j. take i listing ++ shown_as (error_is j) (same j) ∷ map shown_of (shown_by (plan_is j) directory.key rest))
                 ∙ shown;
-            told = ap (λ l. l ++ told_by next_plan directory rest next_hidden) told_is
-                ∙ append_assoc unseen (refused_record directory entry.name error) (told_by next_plan directory rest next_hidden)
-                ∙ (λ j. unseen ++ (refused_record directory (name_is j) (error_is j) ++ told_by (plan_is j) directory rest (hidden_is j)))
+            told = ap (λ l. l ++ hidden_by next_plan directory rest next_hidden) told_is
+                ∙ append_assoc unseen (refused_record directory entry.name error) (hidden_by next_plan directory rest next_hidden)
+                ∙ (λ j. unseen ++ (refused_record directory (name_is j) (error_is j) ++ hidden_by (plan_is j) directory rest (hidden_is j)))
                 ∙ told;
             left = ap (λ p. left_by p directory.key rest) plan_is ∙ left;
           }

@@ -15,7 +15,7 @@ use Rattle.dav_store.specs.Calls.{Answers, Declines, IsOwn}
 use Rattle.dav_store.specs.MemoryCalls.{record_on}
 use Rattle.dav_store.specs.Plans as plans
 use Rattle.dav_store.specs.Plans.{Planned, is_for, refusal_for, without_first}
-use Rattle.dav_store.specs.Refusing.{last_outcome, inner_of, plan_of, records_of, seen_behind, IsKept, Refuses, Passes, GoesByPlan, Follows}
+use Rattle.dav_store.specs.Refusing.{last_outcome, inner_of, plan_of, records_of, seen_behind, IsWhollyKept, Refuses, Passes, GoesByPlan, Follows}
 use Rattle.dav_store.specs.declared.refusing.Refusing.{Refusing}
 use Rattle.dav_store.specs.declared.refusing.plan.Refusal.{Refusal}
 
@@ -114,7 +114,7 @@ module _ {F : Type 0} (see : F → Store) (op : Op) (path : PathValue) {A : Type
 
   -- a call between the room for its record and the record
   pub passes : (old begun ended : Refusing F) (called : F) (paths : List PathValue) (outcome : Outcome) (log : List Record) (answer result : Result A FsError)
-      → paths ≡ path ∷ [] → refusal_for op path.key (plan_of old) ≡ None → IsKept old begun → Behind (see (inner_of begun)) answer (see called)
+      → paths ≡ path ∷ [] → refusal_for op path.key (plan_of old) ≡ None → IsWhollyKept old begun → Behind (see (inner_of begun)) answer (see called)
       → map logged_of log ≡ (see called).log → outcome ≡ last_outcome (map logged_of log)
       → result ≡ answer → inner_of ended ≡ called → plan_of ended ≡ plan_of begun
       → (answer ≡ Err Memory → records_of ended ≡ records_of begun) → (answer ≢ Err Memory → records_of ended ≡ records_of begun ++ record_on op paths outcome ∷ [])

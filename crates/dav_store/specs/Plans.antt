@@ -94,12 +94,12 @@ refused_record directory name None = []
 refused_record directory name (Some e) = record_on Entry (member_path directory name ∷ []) (Refused e) ∷ []
 
 -- the records of the members that aren't shown, in the listing's order; a member that isn't shown anyway keeps its record
-abbrev pub told_by : List Planned → PathValue → List Child → List Record → List Record
-told_by plan directory [] hidden = []
-told_by plan directory ((name, Ok entry) ∷ children) hidden =
-    refused_record directory name (refusal_for Entry (member directory.key name) plan) ++ told_by (without_first Entry (member directory.key name) plan) directory children hidden
-told_by plan directory ((name, Err e) ∷ children) [] = []
-told_by plan directory ((name, Err e) ∷ children) (r ∷ hidden) = r ∷ told_by plan directory children hidden
+abbrev pub hidden_by : List Planned → PathValue → List Child → List Record → List Record
+hidden_by plan directory [] hidden = []
+hidden_by plan directory ((name, Ok entry) ∷ children) hidden =
+    refused_record directory name (refusal_for Entry (member directory.key name) plan) ++ hidden_by (without_first Entry (member directory.key name) plan) directory children hidden
+hidden_by plan directory ((name, Err e) ∷ children) [] = []
+hidden_by plan directory ((name, Err e) ∷ children) (r ∷ hidden) = r ∷ hidden_by plan directory children hidden
 
 -- the names of the entries may stand in a key
 abbrev pub HaveSegmentNames : List (Result DirEntry FsError) → Type 0
@@ -122,7 +122,7 @@ pub record IsListingOf (directory : Key) (children : List Child) (listing : List
 -- it shows them as the plan lets them be seen; these are the records of those that it doesn't show now, and this is left of the plan
 pub record IsLetBy (plan : List Planned) (directory : PathValue) (children : List Child) (hidden : List Record) (listing : List (Result DirEntry FsError)) (unseen : List Record) (left : List Planned) : Type 0 where
   pub shown : listing ≡ map (λ c. c.1) (shown_by plan directory.key children)
-  pub told : unseen ≡ told_by plan directory children hidden
+  pub told : unseen ≡ hidden_by plan directory children hidden
   pub left_is : left ≡ left_by plan directory.key children
 
 -- so it shows its members, whichever they are

@@ -15,7 +15,7 @@ use Rattle.dav_store.specs.Store.{Store}
 use Rattle.dav_store.specs.Members.{Lists, ReadsDir, unseen_record}
 use Rattle.dav_store.specs.MemoryCalls.{record_on}
 use Rattle.dav_store.specs.Plans as plans
-use Rattle.dav_store.specs.Plans.{Planned, refusal_for, without_first, shown_by, told_by, left_by}
+use Rattle.dav_store.specs.Plans.{Planned, refusal_for, without_first, shown_by, hidden_by, left_by}
 use Rattle.dav_store.specs.declared.refusing.Refusing.{Refusing}
 
 -- how the last call ended that the records tell of
@@ -44,7 +44,7 @@ module _ {F : Type 0} where
   -- ---- a call
 
   -- nothing changes, the store behind it included
-  pub record IsKept (old new : Refusing F) : Type 0 where
+  pub record IsWhollyKept (old new : Refusing F) : Type 0 where
     pub inner : inner_of new ≡ inner_of old
     pub plan : plan_of new ≡ plan_of old
     pub records : records_of new ≡ records_of old
@@ -96,7 +96,7 @@ module _ {F : Type 0} where
     pub plan : plan_of new ≡ left_by (plan_of old) path.key behind.children
     pub hidden : List Record
     pub told : map logged_of hidden ≡ filter_map (unseen_record path.key) behind.children
-    pub records : records_of new ≡ records_of old ++ record_on ReadDir (path ∷ []) Granted ∷ told_by (plan_of old) path behind.children hidden
+    pub records : records_of new ≡ records_of old ++ record_on ReadDir (path ∷ []) Granted ∷ hidden_by (plan_of old) path behind.children hidden
 
   abbrev pub PassesReadDir : (F → Store) → PathValue → Refusing F → Result (Vec (Result DirEntry FsError) Global) FsError → Refusing F → Type 0
   PassesReadDir see path old (Ok listing) new = PassesListing see path old listing.items new

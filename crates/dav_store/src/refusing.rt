@@ -37,7 +37,7 @@ pub struct Refusing<F> {
 }
 
 impl<F> Refusing<F> {
-    ghost use Rattle.dav_store.specs.Refusing.{inner_of, plan_of, records_of, IsKept, Refuses};
+    ghost use Rattle.dav_store.specs.Refusing.{inner_of, plan_of, records_of, IsWhollyKept, Refuses};
     ghost use Rattle.dav_store.specs.InnerLends.{LendsInner};
 
     /// A store that stands before another one and refuses these calls, with an empty log.
@@ -80,8 +80,8 @@ impl<F> Refusing<F> {
         ensures paths { IfOk result (λ paths. paths ≡ path.now ∷ []) }
         ensures room { OnOk result (vec_len self.new.log < vec_capacity self.new.log) }
         ensures free { OnOk result (refusal_for op path.now.key (plan_of self.old) ≡ None) }
-        ensures kept { OnOk result (IsKept self.old self.new) }
-        ensures refused { IfErr result (λ e. ((e ≡ FsError.Memory) × IsKept self.old self.new) ⊎ (IsOwn e × Refuses op path.now e self.old self.new)) }
+        ensures kept { OnOk result (IsWhollyKept self.old self.new) }
+        ensures refused { IfErr result (λ e. ((e ≡ FsError.Memory) × IsWhollyKept self.old self.new) ⊎ (IsOwn e × Refuses op path.now e self.old self.new)) }
     {
         self.log.reserve(1)?;
         let mut paths = Vec::with_capacity(*self.log.allocator(), 1)?;
@@ -107,7 +107,7 @@ impl<F> Refusing<F> {
         ensures inner { inner_of self.new ≡ inner_of self.old }
         ensures plan { OnOk result (plan_of self.new ≡ plans.plan_of plan.refusals.items) }
         ensures records { OnOk result (records_of self.new ≡ records_of self.old ++ record_on Op.ReadDir paths Outcome.Granted ∷ unseen.items) }
-        ensures err { IfErr result (λ e. (e ≡ FsError.Memory) × IsKept self.old self.new) }
+        ensures err { IfErr result (λ e. (e ≡ FsError.Memory) × IsWhollyKept self.old self.new) }
     {
         self.log.reserve(1 + unseen.len())?;
         self.tell(Op::ReadDir, paths, Outcome::Granted);

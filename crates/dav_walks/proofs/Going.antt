@@ -13,7 +13,7 @@ use Rattle.dav_store.specs.Members.{IsIn, member, Child, names_of}
 use Rattle.dav_walks.specs.declared.frame.Frame.{Frame}
 use Rattle.dav_walks.specs.declared.frame.Entered.TheVariants.{Over, Opened}
 use Rattle.dav_walks.specs.Trace.{HasKind, Walks, Halts}
-use Rattle.dav_walks.specs.Frames.{IsCut, Opens, entering_call, Enters, path_of_entry}
+use Rattle.dav_walks.specs.Frames.{IsCut, OpensFrame, entering_call, Enters, path_of_entry}
 use Rattle.dav_walks.proofs.Among.{stands_among}
 use Rattle.dav_walks.proofs.Counting.{total, total-cons, total-append, total-nil, count_below, children_count, counts_itself}
 use Rattle.dav_walks.proofs.Halting.{walk_halts, nothing_halts}
@@ -96,7 +96,7 @@ one_unclean false b e = inl refl
 
 -- before the first entry of a directory that was opened
 opened_half : (path value : PathValue) (mid new : Store) (names finally : Names) (frame : Frame) → IsWellFormed mid.contents → IsAt path true value → get mid.contents.tree value.key ≡ Some Directory
-    → Opens value mid new names finally frame → Halfway path mid names new finally frame frame.next
+    → OpensFrame value mid new names finally frame → Halfway path mid names new finally frame frame.next
 opened_half path value mid new names finally frame formed at_path directory opens = record {
   at_path = subst (IsAt path true) (sym opens.at_path) at_path;
   so_far = subst (λ n. Listed path mid new names finally frame.path.key frame.listing.items n frame.clean) (sym opens.first)
@@ -106,7 +106,7 @@ opened_half path value mid new names finally frame formed at_path directory open
       (listed_none path mid new names value.key frame.listing.items formed directory opens.lists))));
 }
 
-entered_opened : (value : PathValue) (old new : Store) (had has : Names) (frame : Frame) (dir : Bool) → Enters dir value old new had has (Opened frame) → (dir ≡ true) × Opens value old new had has frame
+entered_opened : (value : PathValue) (old new : Store) (had has : Names) (frame : Frame) (dir : Bool) → Enters dir value old new had has (Opened frame) → (dir ≡ true) × OpensFrame value old new had has frame
 entered_opened value old new had has frame true opens = (refl, opens)
 entered_opened value old new had has frame false none = absurd none
 
@@ -215,7 +215,7 @@ module _ {path : PathValue} {old mid : Store} {had names : Names} {frame : Frame
           is_directory : entry.meta.dir ≡ true
           is_directory = (entered_opened value mid new names finally inner entry.meta.dir enters).0
 
-          opens : Opens value mid new names finally inner
+          opens : OpensFrame value mid new names finally inner
           opens = (entered_opened value mid new names finally inner entry.meta.dir enters).1
 
           pub inside : Halfway path mid names new finally inner inner.next

@@ -42,7 +42,7 @@ RemovesOne dir path old new had has false = NamesRefusal (removal_by dir old.con
 -- ---- the begin of a path's walk
 
 -- the directory is listed, and the walk of its members may begin
-pub record Opens (path : PathValue) (old new : Store) (had has : List Item) (frame : Frame) : Type 0 where
+pub record OpensFrame (path : PathValue) (old new : Store) (had has : List Item) (frame : Frame) : Type 0 where
   pub lists : Lists path.key old frame.listing.items new
   pub unnamed : has ≡ had
   pub at_path : frame.path ≡ path
@@ -59,7 +59,7 @@ abbrev pub Enters : Bool → PathValue → Store → Store → List Item → Lis
 Enters false path old new had has (Over clean) = RemovesOne false path old new had has clean
 Enters false path old new had has (Opened frame) = ⊥
 Enters true path old new had has (Over clean) = (clean ≡ false) × NamesRefusal (read_dir_call old.contents path.key) path old new had has
-Enters true path old new had has (Opened frame) = Opens path old new had has frame
+Enters true path old new had has (Opened frame) = OpensFrame path old new had has frame
 
 -- the path of a directory's member, with a slash for a directory
 abbrev pub path_of_entry : PathValue → DirEntry → PathValue

@@ -37,8 +37,8 @@ Leaves (Barred e) old new = new ≡ old
 Leaves (Refused e) old new = new ≡ old
 
 -- some call on the key or below it was refused
-abbrev pub IsRefused : Calls → Type 0
-IsRefused calls = (x : Key) × (c : Op × Outcome) × IsIn c (calls x) × WasRefused c.1
+abbrev pub IsRefusedWithin : Calls → Type 0
+IsRefusedWithin calls = (x : Key) × (c : Op × Outcome) × IsIn c (calls x) × WasRefused c.1
 
 -- each call strictly below was granted
 abbrev pub IsGrantedBelow : Calls → Type 0
@@ -53,7 +53,7 @@ pub data Walked : Look → Look → Calls → Type 0 where
   -- a directory whose listing was refused
   unlisted : {old new : Look} {calls : Calls} (outcome : Outcome) → WasRefused outcome → old [] ≡ Some Directory → calls [] ≡ (ReadDir, outcome) ∷ [] → new [] ≡ old [] → IsUntouchedBelow old new calls → Walked old new calls
   -- a directory in which something was refused
-  kept : {old new : Look} {calls : Calls} → old [] ≡ Some Directory → calls [] ≡ (ReadDir, Granted) ∷ [] → new [] ≡ old [] → IsRefused calls → ((name : List ℕ) → Walked (under old name) (under new name) (under calls name)) → Walked old new calls
+  kept : {old new : Look} {calls : Calls} → old [] ≡ Some Directory → calls [] ≡ (ReadDir, Granted) ∷ [] → new [] ≡ old [] → IsRefusedWithin calls → ((name : List ℕ) → Walked (under old name) (under new name) (under calls name)) → Walked old new calls
   -- a directory in which nothing was refused
   emptied : {old new : Look} {calls : Calls} (outcome : Outcome) → old [] ≡ Some Directory → calls [] ≡ (ReadDir, Granted) ∷ (RemoveDir, outcome) ∷ [] → Leaves outcome (old []) (new []) → IsGrantedBelow calls → ((name : List ℕ) → Walked (under old name) (under new name) (under calls name)) → Walked old new calls
 
