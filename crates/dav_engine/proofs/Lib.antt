@@ -5,7 +5,6 @@ pub mod Granting
 pub mod Guarding
 pub mod HttpDate
 pub mod Judging
-pub mod Looking
 pub mod Making
 pub mod PutHeaders
 pub mod Putting

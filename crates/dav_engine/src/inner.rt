@@ -4,6 +4,7 @@ ghost use Rattle.dav_engine.specs.DavInner.{lent, lent_locks, loans, made_with, 
 ghost use Rattle.dav_parts.specs.Dialogue.{Judges, look as look_of};
 ghost use Rattle.dav_engine.specs.Rules.{look_closely as close_look_of, fixed_path as fixed_path_of, is_directory as is_directory_found};
 
+use dav_parts::look;
 use dav_resource::{DavError, DavMethodSet, DavPath, DavResult, FsError, FsResult, Meta};
 use dav_store::{DavLockSystem, GuardedFileSystem};
 use std::alloc::AllocError;
@@ -59,7 +60,7 @@ impl<'a, C: Drop, F: GuardedFileSystem<C>, L: DavLockSystem> DavInner<'a, C, F, 
         ensures rules { Judges (look_of (F.seen (lent self.old)).contents path.now.key) (F.seen (lent self.old)) result (F.seen (lent self.new)) }
         ensures memory { OnErr result (F.seen (lent self.new) ≡ F.seen (lent self.old)) }
     {
-        Ok(self.look_closely(path)?.ok())
+        look(self.fs, path, &self.credentials)
     }
 
     /// Looks at a path, and tells a refusal too.
