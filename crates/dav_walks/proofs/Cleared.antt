@@ -1,17 +1,27 @@
--- Where a deletion names nothing, nothing is left.
-use Rattle.std.proofs.Common.{◌≡◌, ◌≢◌, ◌⊎◌, [], ◌∷◌, ◌++◌, None, inl, inr}
+-- Where a deletion names nothing, nothing is left; what it names has the status of a refusal.
+use Rattle.std.proofs.Common.{◌≡◌, ◌≢◌, ◌⊎◌, [], ◌∷◌, ◌++◌, Some, None, inl, inr, refl, ap, ◌∙◌, subst}
 use Rattle.std.specs.FinMap.{get}
-use Rattle.std.specs.Prelude.{List}
+use Rattle.std.specs.Option.{option_map}
+use Rattle.std.specs.Prelude.{List, IsPermutation}
 use Rattle.dav_resource.specs.Key.{Key}
 use Rattle.dav_resource.specs.PathText.{PathValue}
+use Rattle.dav_resource.specs.Errors.{fs_status}
+use Rattle.dav_resource.specs.declared.error.FsError.{FsError}
+use Rattle.dav_resource.specs.declared.request.Depth.{Depth}
+use Rattle.dav_resource.specs.declared.request.Depth.TheVariants.{Zero, One, Infinity, Default}
 use Rattle.dav_resource.specs.declared.record.Op.{Op}
 use Rattle.dav_resource.specs.declared.record.Op.TheVariants.{ReadDir, Entry}
 use Rattle.dav_resource.specs.declared.record.Outcome.{Outcome}
+use Rattle.dav_resource.specs.declared.record.Outcome.TheVariants.{Granted, Barred, Refused}
+use Rattle.dav_store.specs.Calls.{error_of}
+use Rattle.dav_store.specs.Logged.{Logged}
 use Rattle.dav_store.specs.Store.{Contents}
-use Rattle.dav_store.specs.Members.{IsIn}
+use Rattle.dav_store.specs.Members.{IsIn, IsRemovedAt}
+use Rattle.dav_store.specs.MemberLaws.{come_from, IsIn-unpermuted}
+use Rattle.dav_parts.specs.Multistatus.{Item}
 use Rattle.dav_walks.specs.KeyCall.{KeyCall}
-use Rattle.dav_walks.specs.Deletion.{Calls, under, calls_below, WasRefused, IsHidden, IsLeft, Deletes}
-use Rattle.dav_walks.proofs.Keys.{record_of_call}
+use Rattle.dav_walks.specs.Deletion.{Calls, under, calls_below, WasRefused, IsHidden, IsLeft, named_path, named_by, named_in, Deletes, Removes}
+use Rattle.dav_walks.proofs.Keys.{append-nothing, look_removed, record_of_call}
 use Rattle.dav_walks.proofs.Kept.{none_or}
 use Rattle.dav_walks.proofs.Theorem.{some_named}
 
@@ -34,3 +44,59 @@ clean_leaves_nothing path old new calls deletes x = go (none_or (get new.tree (p
     go : (get new.tree (path.key ++ x) ≡ None) ⊎ (get new.tree (path.key ++ x) ≢ None) → get new.tree (path.key ++ x) ≡ None
     go (inl gone) = gone
     go (inr there) = absurd (unleft (deletes.left x there))
+
+-- ---- a deletion of any depth
+
+-- which outcome a deletion of Depth 0 had
+abbrev IsEndOf : Outcome → PathValue → Contents → Contents → List Item → Type 0
+IsEndOf outcome path old new names = (outcome ≡ Granted → IsRemovedAt path.key old new × (names ≡ [])) × ((e : FsError) → error_of outcome ≡ Some e → (new ≡ old) × (names ≡ (path, fs_status e) ∷ []))
+
+-- where nothing is named the path is gone
+pub path_gone : (depth : Depth) (path : PathValue) (old new : Contents) (records : List Logged) → Removes depth path old new records [] → get new.tree path.key ≡ None
+path_gone Zero path old new records alone = by_outcome alone.outcome (alone.granted, alone.refused)
+  where
+    by_outcome : (outcome : Outcome) → IsEndOf outcome path old new [] → get new.tree path.key ≡ None
+    by_outcome Granted end = ap (λ t. get t path.key) (end.0 refl).0.tree ∙ look_removed old.tree path.key
+    by_outcome (Barred e) end = absurd (let none : [] ≡ (path, fs_status e) ∷ [] = (end.1 e refl).1 in cc)
+    by_outcome (Refused e) end = absurd (let none : [] ≡ (path, fs_status e) ∷ [] = (end.1 e refl).1 in cc)
+path_gone One path old new records r = subst (λ k. get new.tree k ≡ None) (append-nothing path.key) (clean_leaves_nothing path old new r.0 r.2 [])
+path_gone Infinity path old new records r = subst (λ k. get new.tree k ≡ None) (append-nothing path.key) (clean_leaves_nothing path old new r.0 r.2 [])
+path_gone Default path old new records r = subst (λ k. get new.tree k ≡ None) (append-nothing path.key) (clean_leaves_nothing path old new r.0 r.2 [])
+
+-- and, unless Depth is 0, all that was below it
+pub all_gone : (depth : Depth) (path : PathValue) (old new : Contents) (records : List Logged) → depth ≢ Zero → Removes depth path old new records [] → (x : Key) → get new.tree (path.key ++ x) ≡ None
+all_gone Zero path old new records deep r = absurd (deep refl)
+all_gone One path old new records deep r = clean_leaves_nothing path old new r.0 r.2
+all_gone Infinity path old new records deep r = clean_leaves_nothing path old new r.0 r.2
+all_gone Default path old new records deep r = clean_leaves_nothing path old new r.0 r.2
+
+-- the name of a call has the status of the call's refusal
+name_refused : (path : PathValue) (calls : List KeyCall) (names : List Item) → IsPermutation (named_in path calls) names → (item : Item) → IsIn item names → (e : FsError) × (fs_status e ≡ item.1)
+name_refused path calls names bag item inside =
+    let from = come_from (named_by path) calls item (IsIn-unpermuted _ _ _ bag inside) in
+    by_outcome from.0 from.0.outcome from.2
+  where
+    by_outcome : (call : KeyCall) (outcome : Outcome) → option_map (λ e. (named_path path call.op call.key, fs_status e)) (error_of outcome) ≡ Some item → (e : FsError) × (fs_status e ≡ item.1)
+    by_outcome call Granted is = absurd (let none : None ≡ Some item = is in cc)
+    by_outcome call (Barred e) is = (e, let same : (named_path path call.op call.key, fs_status e) ≡ item = cc in ap (λ (i : Item). i.1) same)
+    by_outcome call (Refused e) is = (e, let same : (named_path path call.op call.key, fs_status e) ≡ item = cc in ap (λ (i : Item). i.1) same)
+
+alone_refused : (path : PathValue) (old new : Contents) (names : List Item) (outcome : Outcome) → IsEndOf outcome path old new names → (item : Item) → IsIn item names → (e : FsError) × (fs_status e ≡ item.1)
+alone_refused path old new names Granted end item inside = absurd (let named : IsIn item [] = subst (IsIn item) (end.0 refl).1 inside in named)
+alone_refused path old new names (Barred e) end item inside = (e, first (subst (IsIn item) (end.1 e refl).1 inside))
+  where
+    first : IsIn item ((path, fs_status e) ∷ []) → fs_status e ≡ item.1
+    first (inl same) = ap (λ (i : Item). i.1) same
+    first (inr none) = absurd none
+alone_refused path old new names (Refused e) end item inside = (e, first (subst (IsIn item) (end.1 e refl).1 inside))
+  where
+    first : IsIn item ((path, fs_status e) ∷ []) → fs_status e ≡ item.1
+    first (inl same) = ap (λ (i : Item). i.1) same
+    first (inr none) = absurd none
+
+-- each name has the status of a refusal
+pub names_refused : (depth : Depth) (path : PathValue) (old new : Contents) (records : List Logged) (names : List Item) → Removes depth path old new records names → (item : Item) → IsIn item names → (e : FsError) × (fs_status e ≡ item.1)
+names_refused Zero path old new records names alone = alone_refused path old new names alone.outcome (alone.granted, alone.refused)
+names_refused One path old new records names r = name_refused path r.0 names r.2.named
+names_refused Infinity path old new records names r = name_refused path r.0 names r.2.named
+names_refused Default path old new records names r = name_refused path r.0 names r.2.named
