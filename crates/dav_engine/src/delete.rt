@@ -64,11 +64,9 @@ impl<'a, C: Drop, F: GuardedFileSystem<C>, L: DavLockSystem> DavInner<'a, C, F, 
                 self.drop_locks(&path);
                 res.add_status(&path, StatusCode::NO_CONTENT)?;
             }
-            Err(error) => match error {
-                DavError::Memory => return Err(DavError::Memory),
-                // What was refused is named.
-                _ => {}
-            },
+            Err(DavError::Memory) => return Err(DavError::Memory),
+            // What was refused is named.
+            Err(_) => {}
         }
         multi_error(alloc, &path, res.into_items())
     }

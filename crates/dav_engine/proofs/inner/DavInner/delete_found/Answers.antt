@@ -1,9 +1,10 @@
-use Rattle.std.proofs.Common.{◌∙◌, Err, ap, option_map}
+use Rattle.std.proofs.Common.{◌≢◌, ◌∙◌, Err, ap, option_map, rules}
 use Rattle.std.proofs.lemmas.Result.{err_from_is_err_and}
+use Rattle.dav_resource.specs.declared.error.DavError.TheVariants.{Memory}
 use Rattle.dav_parts.specs.Reply.{answer_of}
 use Rattle.dav_engine.specs.DavInner.{seen_by}
 use Rattle.dav_engine.proofs.Deleting.{works_unbegun, works_stopped, works_untold, works_gone, works_named}
-use Rattle.dav_engine.proofs.inner.DavInner.delete_found.Goals.{in-Ok+in_ok-add_status-in-Ok, in-Err+in_default}
+use Rattle.dav_engine.proofs.inner.DavInner.delete_found.Goals.{in-Ok+in_ok-add_status-in-Ok, in-Err}
 use Rattle.dav_engine.proofs.inner.DavInner.delete_found.Goals as goal
 
 pub returns-in_err-path-clause-work : goal.returns-in_err-path-clause-work
@@ -20,11 +21,11 @@ returns-in_err-add_status-in-Ok-clause-work g c =
     (rw c.in_ok-path.ensures at c.drop_locks.ensures.dropped)
     c.from_residual-in_err-add_status-in-Ok.result (ap answer_of p.1 ∙ ap Err (p.2 ∙ c.in_err-add_status-in-Ok.ensures.err))
 
-pub returns-in-Memory-clause-work : goal.returns-in-Memory-clause-work
-returns-in-Memory-clause-work g c =
+pub returns-in-Err-Memory-clause-work : goal.returns-in-Err-Memory-clause-work
+returns-in-Err-Memory-clause-work g c =
     works_stopped c.args.request.now c.args.meta.now _ _ _ _
-    (rw (c.depth_or_all.ensures, c.in_ok-path.ensures, c.in-Memory.is) at c.in-Err.ensures.removal)
-    (ap (option_map g.L.DavLockSystem.seen) c.in-Err.ensures.same_locks)
+    (rw (c.depth_or_all.ensures, c.in_ok-path.ensures, c.in-Err-Memory.field-0-is) at c.in-Err-Memory.ensures.removal)
+    (ap (option_map g.L.DavLockSystem.seen) c.in-Err-Memory.ensures.same_locks)
 
 pub returns-clause-work : goal.returns-clause-work
 returns-clause-work g c =
@@ -38,8 +39,9 @@ returns-clause-work g c =
           c.into_items.result.items c.multi_error.result
           (c.into_items.ensures ∙ w.res-is ∙ rw (added.1, c.in_ok-path.ensures) at added.2)
           (rw c.in_ok-path.ensures at c.multi_error.ensures))
-      | in-Err+in_default w ↦
-          rw w.self-is (works_named c.args.request.now c.args.meta.now w.in-Err.error _ _ _ c.multi_error.result w.in_default.not-Memory
+      | in-Err w ↦
+          let not_memory : w.in-Err.field-0 ≢ Memory = search rules in
+          rw w.self-is (works_named c.args.request.now c.args.meta.now w.in-Err.field-0 _ _ _ c.multi_error.result not_memory
           (rw (c.depth_or_all.ensures, c.in_ok-path.ensures, c.new-res.ensures) at w.in-Err.ensures.removal)
           (ap (option_map g.L.DavLockSystem.seen) w.in-Err.ensures.same_locks)
           (rw (c.in_ok-path.ensures, c.into_items.ensures, w.res-is) at c.multi_error.ensures))
