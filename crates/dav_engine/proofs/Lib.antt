@@ -1,4 +1,5 @@
 pub mod Aiming
+pub mod DeleteLaws
 pub mod Deleting
 pub mod FieldText
 pub mod Granting

@@ -8,6 +8,7 @@ ghost use Rattle.dav_engine.specs.DavInner.{lent, lent_locks, frame, seen_by, st
 ghost use Rattle.dav_engine.specs.Served.{IsServed};
 ghost use Rattle.dav_engine.specs.State.{DropsSeen};
 ghost use Rattle.dav_engine.specs.Delete.{delete_rules, DeleteWork, DeleteCut};
+ghost use Rattle.dav_engine.specs.DeleteLaws.{EmptiesPath, KeepsLocksUnlessGone};
 ghost use Rattle.dav_engine.specs.Step.{Performs};
 
 use crate::DavInner;
@@ -26,10 +27,13 @@ impl<'a, C: Drop, F: GuardedFileSystem<C>, L: DavLockSystem> DavInner<'a, C, F, 
     ///
     /// Errors: 400 for Depth 1, the store's where nothing is found, the conditions' (RFC 7232; RFC 4918,
     /// section 10.4), 423 where the locks at or below the path don't permit it; after each of these nothing
-    /// has changed. `Memory` at any time: what was removed by then stays so.
+    /// has changed. `Memory` at any time: what was removed by then stays so, and no lock is dropped before
+    /// all is gone.
     pub fn handle_delete(&mut self, request: &DavRequest) -> DavResult<Response<Body>>
         ensures same_engine { frame self.new ≡ frame self.old }
         ensures step { IsServed F.seen L.seen (Some Delete) self.old request.entry.now (answer_of result) self.new }
+        ensures emptied { EmptiesPath request.entry.now (state_by F.seen L.seen self.old) (answer_of result) (state_by F.seen L.seen self.new) }
+        ensures locks_kept { KeepsLocksUnlessGone request.entry.now (state_by F.seen L.seen self.old) (answer_of result) (state_by F.seen L.seen self.new) }
     {
         let meta = self.judge_delete(request)?;
         self.delete_found(request, &meta)
