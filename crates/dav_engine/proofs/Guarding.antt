@@ -80,7 +80,7 @@ delete_passed request state head meta h =
 -- ---- what the work has changed
 
 -- a node that is put at a key changes no other key
-other_node : (tree : Tree) (place key : Key) (n : Node) → (key ≢ place) → get (insert tree place n) key ≡ get tree key
+pub other_node : (tree : Tree) (place key : Key) (n : Node) → (key ≢ place) → get (insert tree place n) key ≡ get tree key
 other_node tree place key n apart = get-insert key_cmp_total tree place n key ∙ kept (eq_by_cmp key_cmp key place) refl
   where
     kept : (b : Bool) → eq_by_cmp key_cmp key place ≡ b → cond b (Some n) (get tree key) ≡ get tree key

@@ -20,3 +20,4 @@ pub mod LockInfo
 pub mod Locking
 pub mod Unlocking
 pub mod LockReply
+pub mod Laws

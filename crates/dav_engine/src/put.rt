@@ -5,6 +5,7 @@ ghost use Rattle.dav_resource.specs.Methods.{method_of};
 ghost use Rattle.dav_store.specs.Store.{IsTagText};
 ghost use Rattle.dav_engine.specs.DavInner.{lent, lent_locks, frame, state_by};
 ghost use Rattle.dav_engine.specs.Served.{IsServed};
+ghost use Rattle.dav_engine.specs.Laws.{ChangesPathAlone};
 ghost use Rattle.dav_parts.specs.Reply.{answer_of};
 ghost use Rattle.dav_parts.specs.Dialogue.{Judges};
 ghost use Rattle.dav_headers.specs.Body.{checksum_of};
@@ -40,9 +41,21 @@ impl<'a, C: Drop, F: GuardedFileSystem<C>, L: DavLockSystem> DavInner<'a, C, F, 
     /// for a body that isn't bytes or isn't of the stated length, 412 where the conditions no longer hold as
     /// the file is opened, 409 where the parent is no collection, 416 where the place can't be sought, else
     /// the store's own; `Memory`. What was refused before the file was opened has changed nothing; after that
-    /// the file stands as it was opened, empty or with what is kept, or has the whole body in it.
+    /// the file stands as it was opened, empty or with what is kept, or has the whole body in it. Whatever
+    /// the answer is, what stands at other paths, the properties and the locks are as before.
     pub fn handle_put(&mut self, request: &DavRequest) -> DavResult<Response<Body>>
         ensures same_engine { frame self.new ≡ frame self.old }
+        ensures step { IsServed F.seen L.seen (Some (put_method (method_of request.entry.now.method))) self.old request.entry.now (answer_of result) self.new }
+        ensures alone { ChangesPathAlone request.entry.now (state_by F.seen L.seen self.old) (state_by F.seen L.seen self.new) }
+        ensures same_locks { lent_locks self.new ≡ lent_locks self.old }
+    {
+        self.put(request)
+    }
+
+    /// The rules, and then the work.
+    fn put(&mut self, request: &DavRequest) -> DavResult<Response<Body>>
+        ensures same_engine { frame self.new ≡ frame self.old }
+        ensures same_locks { lent_locks self.new ≡ lent_locks self.old }
         ensures step { IsServed F.seen L.seen (Some (put_method (method_of request.entry.now.method))) self.old request.entry.now (answer_of result) self.new }
     {
         let partial = is_patch(DavMethod::from_method(&request.method));

@@ -1,0 +1,216 @@
+-- The laws of specs/Laws.antt, by the definitions of the methods.
+use Rattle.std.proofs.Common.{◌≡◌, ◌≢◌, ◌⊎◌, ◌∙◌, inl, inr, refl, sym, ap, ℕ, Bool, true, false, if◌then◌else◌, List, [], ◌∷◌, map, Option, Some, None, option_map, Ok, Err}
+use Rattle.std.specs.Ordering.{eq_by_cmp}
+use Rattle.std.specs.FinMap.{get}
+use Rattle.dav_resource.specs.Key.{Key, key_cmp, tied_decides}
+use Rattle.dav_resource.specs.declared.error.DavError.{DavError}
+use Rattle.dav_resource.specs.declared.error.DavError.TheVariants.{Memory}
+use Rattle.dav_resource.specs.declared.error.FsError.{FsError}
+use Rattle.dav_resource.specs.declared.meta.Meta.{Meta}
+use Rattle.dav_resource.specs.declared.method.DavMethod.{DavMethod}
+use Rattle.dav_resource.specs.declared.method.DavMethod.TheVariants.{Put, Patch, Lock}
+use Rattle.dav_resource.specs.declared.record.Op.{Op}
+use Rattle.dav_resource.specs.declared.record.Op.TheVariants.{OpenFile, WriteBytes}
+use Rattle.dav_resource.specs.declared.record.Outcome.{Outcome}
+use Rattle.dav_resource.specs.declared.record.Outcome.TheVariants as outcomes
+use Rattle.dav_resource.specs.declared.request.DavRequest.{DavRequest}
+use Rattle.dav_store.specs.Calls.{Call, open_call}
+use Rattle.dav_store.specs.LockCalls.{is_named, refreshed, with_refreshed}
+use Rattle.dav_store.specs.Logged.{Logged, logged}
+use Rattle.dav_store.specs.Store.{Contents, File}
+use Rattle.dav_store.specs.declared.lock.DavLock.{DavLock}
+use Rattle.dav_parts.specs.Dialogue.{Dialogue, Asks, Refuses, Passed, needs, LeadsTo, WasGranted}
+use Rattle.dav_parts.specs.Reply.{Reply, Answer}
+use Rattle.dav_engine.specs.Laws.{ChangesPathAlone, tells_lock, untimed, untimed_locks, MayHaveRefreshed, MakesNothing, MakesNothingUnlessLocked}
+use Rattle.dav_engine.specs.LockReply.{granted_reply, refreshed_reply}
+use Rattle.dav_engine.specs.Locking.{is_refresh, lock_open_error, file_steps, FileLeaves, TakesBack, GrantsLock, DeniesLock, RefreshesAlone, RefreshesTold, FindsNoLock, lock_asked, refresh_timeout, LockWorkBy, LockCutBy}
+use Rattle.dav_engine.specs.Method.{StepBy, Refused, Done, CutShort, CutInWork}
+use Rattle.dav_engine.specs.Methods.{Step, write_method, lock_method}
+use Rattle.dav_engine.specs.Opening.{making_options, IsFileAt}
+use Rattle.dav_engine.specs.Put.{PutLeaves, is_patch, put_method}
+use Rattle.dav_engine.specs.Settings.{Settings}
+use Rattle.dav_engine.specs.State.{State, Seen, state_of, LocksStay}
+use Rattle.dav_engine.specs.Step.{Serves}
+use Rattle.dav_engine.specs.declared.target.Target.{Target}
+use Rattle.dav_engine.proofs.Granting.{not_granted}
+use Rattle.dav_engine.proofs.Guarding.{other_node}
+
+-- ---- a call was granted, or it wasn't
+
+is_open : (op : Op) → (op ≡ OpenFile) ⊎ (op ≢ OpenFile)
+is_open OpenFile = inl refl
+is_open op = inr (λ e. cc)
+
+is_write : (op : Op) → (op ≡ WriteBytes) ⊎ (op ≢ WriteBytes)
+is_write WriteBytes = inl refl
+is_write op = inr (λ e. cc)
+
+is_grant : (outcome : Outcome) → (outcome ≡ outcomes.Granted) ⊎ (outcome ≢ outcomes.Granted)
+is_grant outcomes.Granted = inl refl
+is_grant outcome = inr (λ e. cc)
+
+is_none : (statuses : List ℕ) → (statuses ≡ []) ⊎ (statuses ≢ [])
+is_none [] = inl refl
+is_none (status ∷ statuses) = inr (λ e. cc)
+
+module _ (op : Op) (is_op : (o : Op) → (o ≡ op) ⊎ (o ≢ op)) (key : Key) where
+  is_key : (keys : List Key) → (keys ≡ key ∷ []) ⊎ (keys ≢ key ∷ [])
+  is_key [] = inr (λ e. cc)
+  is_key (first ∷ second ∷ keys) = inr (λ e. cc)
+  is_key (first ∷ []) = by_test (eq_by_cmp key_cmp first key) refl
+    where
+      by_test : (b : Bool) → eq_by_cmp key_cmp first key ≡ b → (◌≡◌ {A = List Key} (first ∷ []) (key ∷ [])) ⊎ (◌≢◌ {A = List Key} (first ∷ []) (key ∷ []))
+      by_test true same = inl (let here : first ≡ key = (tied_decides first key).0 same in λ i. here i ∷ [])
+      by_test false apart = inr (λ e. let here : first ≡ key = cc in let no : true ≡ false = sym ((tied_decides first key).1 here) ∙ apart in cc)
+
+  is_granted : (r : Logged) → (r ≡ logged op (key ∷ []) outcomes.Granted) ⊎ (r ≢ logged op (key ∷ []) outcomes.Granted)
+  is_granted r = by_parts (is_op r.op) (is_key r.keys) (is_grant r.outcome) (is_none r.statuses)
+    where
+      by_parts : (r.op ≡ op) ⊎ (r.op ≢ op) → (r.keys ≡ key ∷ []) ⊎ (r.keys ≢ key ∷ []) → (r.outcome ≡ outcomes.Granted) ⊎ (r.outcome ≢ outcomes.Granted) → (r.statuses ≡ []) ⊎ (r.statuses ≢ [])
+          → (r ≡ logged op (key ∷ []) outcomes.Granted) ⊎ (r ≢ logged op (key ∷ []) outcomes.Granted)
+      by_parts (inl a) (inl b) (inl c) (inl d) = inl (λ i. record { op = a i; keys = b i; outcome = c i; statuses = d i })
+      by_parts (inr other) b c d = inr (λ e. other (ap (λ (l : Logged). l.op) e))
+      by_parts (inl a) (inr other) c d = inr (λ e. other (ap (λ (l : Logged). l.keys) e))
+      by_parts (inl a) (inl b) (inr other) d = inr (λ e. other (ap (λ (l : Logged). l.outcome) e))
+      by_parts (inl a) (inl b) (inl c) (inr other) = inr (λ e. other (ap (λ (l : Logged). l.statuses) e))
+
+  granted_or_not : (records : List Logged) → WasGranted op key records ⊎ (WasGranted op key records → ⊥)
+  granted_or_not [] = inr (λ g. g)
+  granted_or_not (r ∷ records) = by_first (is_granted r) (granted_or_not records)
+    where
+      by_first : (r ≡ logged op (key ∷ []) outcomes.Granted) ⊎ (r ≢ logged op (key ∷ []) outcomes.Granted) → WasGranted op key records ⊎ (WasGranted op key records → ⊥) → WasGranted op key (r ∷ records) ⊎ (WasGranted op key (r ∷ records) → ⊥)
+      by_first (inl e) rest = inl (inl e)
+      by_first (inr other) (inl g) = inl (inr g)
+      by_first (inr other) (inr none) = inr neither
+        where
+          neither : WasGranted op key (r ∷ records) → ⊥
+          neither (inl e) = other e
+          neither (inr g) = none g
+
+-- ---- PUT and PATCH change their path alone
+
+module _ (request : DavRequest) (old new : State) where
+  alone_same : new ≡ old → ChangesPathAlone request old new
+  alone_same same = record { elsewhere = λ key apart. ap (λ (s : State). get s.contents.tree key) same; properties = ap (λ (s : State). s.contents.properties) same }
+
+  alone_put : (target : Target) (records : List Logged) → PutLeaves request target records old.contents new.contents → ChangesPathAlone request old new
+  alone_put target records leaves = by_calls (granted_or_not OpenFile is_open request.path.key records) (granted_or_not WriteBytes is_write request.path.key records)
+    where
+      at : (bytes : List ℕ) → IsFileAt request.path.key bytes old.contents new.contents → ChangesPathAlone request old new
+      at bytes file = record { elsewhere = λ key apart. ap (λ t. get t key) file.tree ∙ other_node old.contents.tree request.path.key key (File bytes) apart; properties = file.properties }
+
+      by_calls : WasGranted OpenFile request.path.key records ⊎ (WasGranted OpenFile request.path.key records → ⊥) → WasGranted WriteBytes request.path.key records ⊎ (WasGranted WriteBytes request.path.key records → ⊥) → ChangesPathAlone request old new
+      by_calls opened (inl written) = at _ (leaves.written written)
+      by_calls (inl opened) (inr unwritten) = at _ (leaves.opened opened unwritten)
+      by_calls (inr unopened) (inr unwritten) =
+          let same = leaves.untouched unopened in
+          record { elsewhere = λ key apart. ap (λ (c : Contents). get c.tree key) same; properties = ap (λ (c : Contents). c.properties) same }
+
+  alone_step : (partial : Bool) (settings : Settings) (records : List Logged) (answer : Answer) → StepBy (write_method partial) settings request old records answer new → ChangesPathAlone request old new
+  alone_step partial settings records answer (Refused h) = alone_same h.same
+  alone_step partial settings records answer (Done h) = alone_put h.work.0.target h.rest h.work.0.leaves
+  alone_step partial settings records answer (CutShort h) = alone_same h.same
+  alone_step partial settings records answer (CutInWork h) = alone_put h.work.0.target h.rest h.work.0.leaves
+
+pub serves_alone : (method : Option DavMethod) (settings : Settings) (old : Seen) (request : DavRequest) (answer : Answer) (new : Seen) → Serves (Some (put_method method)) settings old request answer new → ChangesPathAlone request (state_of old) (state_of new)
+serves_alone method settings old request answer new h = by_method (is_patch method) h.step
+  where
+    by_method : (partial : Bool) → Step (Some (if partial then Patch else Put)) settings request (state_of old) h.records answer (state_of new) → ChangesPathAlone request (state_of old) (state_of new)
+    by_method true step = alone_step request (state_of old) (state_of new) true settings h.records answer step
+    by_method false step = alone_step request (state_of old) (state_of new) false settings h.records answer step
+
+-- ---- a LOCK that isn't granted makes nothing
+
+-- what a call leads to by an outcome
+abbrev met : {A : Type 0} → Dialogue A → Outcome → Dialogue A
+met (Asks call next) outcome = next outcome
+met (Refuses answer) outcome = Refuses answer
+met (Passed a) outcome = Passed a
+
+-- a request that a call is needed for is refused by that call alone
+refused_by : {A : Type 0} (a : A) (call : Call) (error : FsError → DavError) (outcome : Outcome) (rest : List Logged) (e : DavError) → LeadsTo (met (needs call error (Passed a)) outcome) rest (Refuses (Err e)) → (outcome ≢ outcomes.Granted) × (rest ≡ [])
+refused_by a call error outcomes.Granted [] e h = absurd cc
+refused_by a call error outcomes.Granted (r ∷ rest) e h = absurd h
+refused_by a call error (outcomes.Barred d) [] e h = (λ same. cc, refl)
+refused_by a call error (outcomes.Barred d) (r ∷ rest) e h = absurd h
+refused_by a call error (outcomes.Refused d) [] e h = (λ same. cc, refl)
+refused_by a call error (outcomes.Refused d) (r ∷ rest) e h = absurd h
+
+-- so no file is made
+no_file : (request : DavRequest) (found : Option Meta) (records : List Logged) (old new : Contents) (e : DavError) → LeadsTo (file_steps request found old) records (Refuses (Err e)) → FileLeaves request records old new → new ≡ old
+no_file request found records old new e h (inr none) = none.1
+no_file request (Some meta) [] old new e h (inl made) = absurd made.0
+no_file request (Some meta) (r ∷ records) old new e h (inl made) = absurd h
+no_file request None [] old new e h (inl made) = absurd made.0
+no_file request None (r ∷ records) old new e h (inl made) =
+    let by = refused_by {A = Unit {0}} tt (open_call old request.path.key (making_options request)) (lock_open_error (making_options request)) r.outcome records e h.2 in
+    absurd (not_granted OpenFile request.path.key r (rw by.1 at made.0) by.0)
+
+-- a lock is told by 200 or 201
+granted_told : (request : DavRequest) (found : Option Meta) (lock : DavLock) → tells_lock (Ok (granted_reply request found lock)) ≡ true
+granted_told request (Some meta) lock = refl
+granted_told request None lock = refl
+
+untold : {A : Type 0} (answer : Answer) (reply : Reply) → answer ≡ Ok reply → tells_lock (Ok reply) ≡ true → tells_lock answer ≡ false → A
+untold answer reply is told otherwise = absurd (let e : true ≡ false = sym told ∙ ap tells_lock (sym is) ∙ otherwise in cc)
+
+-- a lock that is refreshed has another timeout, and all else stays
+untimed_refreshed : (key : Key) (token : List ℕ) (timeout : Option ℕ) (now : ℕ) (locks : List DavLock) → map untimed (with_refreshed key token timeout now locks) ≡ map untimed locks
+untimed_refreshed key token timeout now [] = refl
+untimed_refreshed key token timeout now (lock ∷ locks) = λ i. one (is_named key token lock) i ∷ untimed_refreshed key token timeout now locks i
+  where
+    one : (named : Bool) → untimed (if named then refreshed timeout now lock else lock) ≡ untimed lock
+    one true = refl
+    one false = refl
+
+refreshed_alone : (request : DavRequest) (token : List ℕ) (old new : State) → RefreshesAlone request token old new → untimed_locks new ≡ untimed_locks old
+refreshed_alone request token old new is = ap (option_map (map untimed)) is ∙ by_locks old.locks
+  where
+    by_locks : (locks : Option (List DavLock)) → option_map (map untimed) (option_map (with_refreshed request.path.key token (refresh_timeout request) request.now) locks) ≡ option_map (map untimed) locks
+    by_locks None = refl
+    by_locks (Some list) = ap Some (untimed_refreshed request.path.key token (refresh_timeout request) request.now list)
+
+module _ (request : DavRequest) (old new : State) where
+  nothing_same : (answer : Answer) → new ≡ old → MakesNothing request answer old new
+  nothing_same answer same = record { contents = ap (λ (s : State). s.contents) same; locks = λ _. inl (ap (λ (s : State). s.locks) same) }
+
+  -- a dependable lock system takes it back
+  gone : (lock : DavLock) → TakesBack lock old new → old.dependable ≡ true → LocksStay old new
+  gone lock (inl same) dependable = same
+  gone lock (inr kept) dependable = absurd (let no : true ≡ false = sym dependable ∙ kept.0 in cc)
+
+  ungranted_new : (found : Option Meta) (lock : DavLock) (records : List Logged) (answer : Answer) → GrantsLock request found lock old records answer new → MakesNothingUnlessLocked request answer old new
+  ungranted_new found lock records (Ok reply) h otherwise = untold (Ok reply) (granted_reply request found lock) (ap Ok h.tells.answered.2) (granted_told request found lock) otherwise
+  ungranted_new found lock records (Err e) h otherwise = record { contents = no_file request found records old.contents new.contents e h.tells.answered h.tells.leaves; locks = λ dependable. inl (gone lock h.locks dependable) }
+
+  ungranted_work : (found : Option Meta) (records : List Logged) (answer : Answer) (refresh : Bool) → LockWorkBy refresh request found old records answer new → MakesNothingUnlessLocked request answer old new
+  ungranted_work found records answer false work otherwise = by_end work.done
+    where
+      asked : DavLock
+      asked = lock_asked request found work.info
+
+      by_end : GrantsLock request found asked old records answer new ⊎ DeniesLock asked old records answer new → MakesNothing request answer old new
+      by_end (inl granted) = ungranted_new found asked records answer granted otherwise
+      by_end (inr denied) = nothing_same answer denied.same
+  ungranted_work found records answer true work otherwise = by_end work.done
+    where
+      by_end : RefreshesTold request found work.token old answer new ⊎ FindsNoLock request work.token old answer new → MakesNothing request answer old new
+      by_end (inl told) = untold answer (refreshed_reply request.path found told.lock) told.told refl otherwise
+      by_end (inr none) = record { contents = work.same; locks = λ _. inl none.locks }
+
+  ungranted_cut : (found : Option Meta) (records : List Logged) (answer : Answer) → answer ≡ Err Memory → (refresh : Bool) → is_refresh request.body ≡ refresh → LockCutBy refresh request found old records new → MakesNothing request answer old new
+  ungranted_cut found records answer memory false is cut = record { contents = cut.same; locks = λ dependable. inl (gone (lock_asked request found cut.info) cut.locks dependable) }
+  ungranted_cut found records answer memory true is cut = record { contents = cut.same; locks = λ _. by_end cut.locks }
+    where
+      by_end : LocksStay old new ⊎ RefreshesAlone request cut.token old new → LocksStay old new ⊎ MayHaveRefreshed request answer old new
+      by_end (inl same) = inl same
+      by_end (inr alone) = inr (record { refresh = is; told = memory; same = refreshed_alone request cut.token old new alone })
+
+  ungranted_step : (settings : Settings) (records : List Logged) (answer : Answer) → StepBy lock_method settings request old records answer new → MakesNothingUnlessLocked request answer old new
+  ungranted_step settings records answer (Refused h) otherwise = nothing_same answer h.same
+  ungranted_step settings records answer (Done h) otherwise = ungranted_work h.found h.rest answer (is_refresh request.body) h.work otherwise
+  ungranted_step settings records answer (CutShort h) otherwise = nothing_same answer h.same
+  ungranted_step settings records answer (CutInWork h) otherwise = ungranted_cut h.found h.rest answer h.told (is_refresh request.body) refl h.work
+
+pub serves_ungranted : (settings : Settings) (old : Seen) (request : DavRequest) (answer : Answer) (new : Seen) → Serves (Some Lock) settings old request answer new → MakesNothingUnlessLocked request answer (state_of old) (state_of new)
+serves_ungranted settings old request answer new h = ungranted_step request (state_of old) (state_of new) settings h.records answer h.step

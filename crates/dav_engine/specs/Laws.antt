@@ -1,0 +1,47 @@
+-- What a request changes at the most, in a user's words: each law follows from the method's definition.
+use Rattle.std.specs.Prelude.{◌≡◌, ◌≢◌, ◌⊎◌, ◌||◌, nat_eq, Bool, true, false, List, map, Option, None, option_map, Ok, Err}
+use Rattle.std.specs.FinMap.{get}
+use Rattle.dav_resource.specs.Key.{Key}
+use Rattle.dav_resource.specs.declared.error.DavError.TheVariants.{Memory}
+use Rattle.dav_resource.specs.declared.request.DavRequest.{DavRequest}
+use Rattle.dav_store.specs.declared.lock.DavLock.{DavLock}
+use Rattle.dav_parts.specs.Reply.{Answer}
+use Rattle.dav_engine.specs.Locking.{is_refresh}
+use Rattle.dav_engine.specs.State.{State, LocksStay}
+
+-- ---- PUT and PATCH
+
+-- at each key but the request's path stands what stood there, and every property is as before
+pub record ChangesPathAlone (request : DavRequest) (old new : State) : Type 0 where
+  pub elsewhere : (key : Key) → key ≢ request.path.key → get new.contents.tree key ≡ get old.contents.tree key
+  pub properties : new.contents.properties ≡ old.contents.properties
+
+-- ---- LOCK
+
+-- the answer of a LOCK that locks: 200, or 201 where it made a file
+abbrev pub tells_lock : Answer → Bool
+tells_lock (Ok reply) = nat_eq reply.status 200 || nat_eq reply.status 201
+tells_lock (Err e) = false
+
+-- a lock, whatever its timeout
+abbrev pub untimed : DavLock → DavLock
+untimed lock = record lock { timeout = None; timeout_at = None }
+
+-- the locks, whatever their timeouts
+abbrev pub untimed_locks : State → Option (List DavLock)
+untimed_locks state = option_map (map untimed) state.locks
+
+-- memory ran out in a refresh: the same locks stand, though a timeout may be another
+pub record MayHaveRefreshed (request : DavRequest) (answer : Answer) (old new : State) : Type 0 where
+  pub refresh : is_refresh request.body ≡ true
+  pub told : answer ≡ Err Memory
+  pub same : untimed_locks new ≡ untimed_locks old
+
+-- what the store holds is as before, and so are the locks of a dependable lock system, unless memory ran out in a refresh
+pub record MakesNothing (request : DavRequest) (answer : Answer) (old new : State) : Type 0 where
+  pub contents : new.contents ≡ old.contents
+  pub locks : old.dependable ≡ true → LocksStay old new ⊎ MayHaveRefreshed request answer old new
+
+-- a LOCK that isn't answered by 200 or 201 leaves no file and no lock
+abbrev pub MakesNothingUnlessLocked : DavRequest → Answer → State → State → Type 0
+MakesNothingUnlessLocked request answer old new = tells_lock answer ≡ false → MakesNothing request answer old new
