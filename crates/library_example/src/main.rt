@@ -1,0 +1,77 @@
+//! Serves three WebDAV requests over a store and a lock system in memory, and prints the replies and what is left.
+#![tactic(auto)]
+
+use anyhow::{Context, Result};
+use dav_engine::{
+    Body, DavInner, DavPath, DavRequest, Element, Items, LockToken, MemFs, MemLs, ReqBody,
+};
+use http::{Method, Response};
+use http_header::HeaderMap;
+use std::alloc::Global;
+
+fn main(rt: HostRuntime) -> Result<()> {
+    let mut store = MemFs::new(rt.alloc())?;
+    let mut locks = MemLs::new(rt.alloc());
+    serve(&rt, &mut store, &mut locks)
+}
+
+/// The store and the lock system are lent to the engine under one lifetime.
+fn serve<'a>(rt: &HostRuntime, store: &'a mut MemFs, locks: &'a mut MemLs) -> Result<()> {
+    let alloc = rt.alloc();
+    let hi = b"hi".to_vec(alloc)?;
+    let requests = [
+        request(alloc, "MKCOL", "/d/", ReqBody::None)?,
+        request(alloc, "PUT", "/d/a", ReqBody::Bytes(Items::from_vec(hi)))?,
+        request(alloc, "LOCK", "/d/a", ReqBody::Tree(lock_info(alloc)?))?,
+    ];
+    // No prefix, and nothing that the store knows the caller by.
+    let mut engine = DavInner::new(store, Some(locks), String::new(alloc), ());
+    for reply in &engine.run(&requests)? {
+        match reply {
+            Ok(reply) => print_reply(rt, reply)?,
+            Err(error) => println!(rt; "{}", error.statuscode())?,
+        }
+    }
+    // Both come back as the requests have left them.
+    let (store, _) = engine.finish();
+    for (path, _, _) in &store.dump()? {
+        println!(rt; "left: {}", path.as_url_string()?)?;
+    }
+    Ok(())
+}
+
+fn request(alloc: Global, method: &str, path: &str, body: ReqBody) -> Result<DavRequest> {
+    // What a lock of this request is known by; a server makes a new one for each request.
+    let token = String::from_str(alloc, "urn:lock:1")?;
+    Ok(DavRequest {
+        method: Method::from_bytes(alloc, method.as_bytes())?,
+        path: DavPath::from_str_and_prefix(alloc, path, "")?,
+        headers: HeaderMap::new(alloc),
+        body,
+        principal: None,
+        token: LockToken::from_string(token).context("no lock token")?,
+        now: 0,
+    })
+}
+
+/// The body of a LOCK that asks for an exclusive write lock; a server reads it from XML.
+fn lock_info(alloc: Global) -> Result<Element> {
+    let mut info = Element::new(alloc, "lockinfo")?;
+    for (name, choice) in [("lockscope", "exclusive"), ("locktype", "write")] {
+        let mut part = Element::new(alloc, name)?;
+        part.push_element(Element::new(alloc, choice)?)?;
+        info.push_element(part)?;
+    }
+    Ok(info)
+}
+
+fn print_reply(rt: &HostRuntime, reply: &Response<Body>) -> Result<()> {
+    println!(rt; "{}", reply.status())?;
+    if let Some(token) = reply.headers().get("lock-token") {
+        println!(rt; "lock-token: {}", token.to_str()?)?;
+    }
+    if let Body::Tree(tree) = reply.body() {
+        println!(rt; "the root of its tree: {}", tree.name)?;
+    }
+    Ok(())
+}
