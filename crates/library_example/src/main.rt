@@ -24,8 +24,8 @@ fn serve<'a>(rt: &HostRuntime, store: &'a mut MemFs, locks: &'a mut MemLs) -> Re
         request(alloc, "PUT", "/d/a", ReqBody::Bytes(Items::from_vec(hi)))?,
         request(alloc, "LOCK", "/d/a", ReqBody::Tree(lock_info(alloc)?))?,
     ];
-    // No prefix, and nothing that the store knows the caller by.
-    let mut engine = DavInner::new(store, Some(locks), String::new(alloc), ());
+    // No prefix, every method is let, and the store knows the caller by nothing.
+    let mut engine = DavInner::new(store, Some(locks), String::new(alloc), None, ());
     for reply in &engine.run(&requests)? {
         match reply {
             Ok(reply) => print_reply(rt, reply)?,
