@@ -1,25 +1,38 @@
-//! What the tests share: requests, and a store and a lock system to serve them over.
-use crate::serve_over;
+//! What the tests share: paths, texts, locks and requests as a test writes them, and the status of a reply.
 use dav_engine::{
-    Body, DavPath, DavRequest, DavResult, Items, LockToken, MemFs, MemLs, Refusing, ReqBody,
+    Body, DavLock, DavLockSystem, DavPath, DavRequest, DavResult, Items, LockToken, MemLs, ReqBody,
+    Text,
 };
 use http::{Method, Response};
 use http_header::{HeaderMap, HeaderName, HeaderValue};
-use std::alloc::Global;
+use std::alloc::{AllocError, Global};
 use std::test::Fail;
 
-// ---- requests
-
-pub fn path_of(alloc: Global, text: &str) -> Result<DavPath, Fail> {
-    Ok(DavPath::from_str_and_prefix(alloc, text, "")?)
+pub fn path_of(alloc: Global, text: &str) -> DavResult<DavPath> {
+    DavPath::from_str_and_prefix(alloc, text, "")
 }
 
-/// A request with these headers, each a name and a value, without those of an empty value. An empty body is none.
+pub fn text_of(alloc: Global, text: &str) -> Result<Text, AllocError> {
+    Ok(Text::from_string(String::from_str(alloc, text)?))
+}
+
+/// A lock system with a shared lock `t` of this path and all below it, and that lock.
+pub fn share(alloc: Global, path: &str) -> Result<(MemLs, DavLock), Fail> {
+    let path = path_of(alloc, path)?;
+    let mut locks = MemLs::new(alloc);
+    let lock = locks.lock(&path, None, None, Some(5), true, true, "t", 0)?;
+    Ok((locks, lock))
+}
+
+/// A header, which is a name and a value.
+pub type Field = (&'static str, &'static str);
+
+/// A request with these headers. An empty body is none.
 pub fn request(
     alloc: Global,
     method: &str,
     path: &str,
-    headers: &[(&str, &str)],
+    headers: &[Field],
     body: &str,
 ) -> Result<DavRequest, Fail> {
     Ok(DavRequest {
@@ -28,29 +41,26 @@ pub fn request(
         headers: headers_of(alloc, headers)?,
         body: body_of(alloc, body)?,
         principal: None,
-        token: token_of(alloc, "n")?,
+        token: token_of(alloc)?,
         now: 0,
     })
 }
 
-fn token_of(alloc: Global, text: &str) -> Result<LockToken, Fail> {
-    let token = LockToken::from_string(String::from_str(alloc, text)?);
+fn token_of(alloc: Global) -> Result<LockToken, Fail> {
+    let token = LockToken::from_string(String::from_str(alloc, "n")?);
     Ok(token.ok_or("no lock token")?)
 }
 
-fn headers_of(alloc: Global, fields: &[(&str, &str)]) -> Result<HeaderMap<HeaderValue>, Fail> {
+pub fn headers_of(alloc: Global, fields: &[Field]) -> Result<HeaderMap<HeaderValue>, Fail> {
     let mut headers = HeaderMap::new(alloc);
     for (name, value) in fields {
-        if value.is_empty() {
-            continue;
-        }
         let name = HeaderName::from_bytes(alloc, name.as_bytes())?;
         headers.append(name, HeaderValue::from_str(alloc, value)?)?;
     }
     Ok(headers)
 }
 
-fn body_of(alloc: Global, text: &str) -> Result<ReqBody, Fail> {
+fn body_of(alloc: Global, text: &str) -> Result<ReqBody, AllocError> {
     if text.is_empty() {
         return Ok(ReqBody::None);
     }
@@ -63,36 +73,5 @@ pub fn status(reply: &DavResult<Response<Body>>) -> u16 {
     match reply {
         Ok(reply) => reply.status().as_u16(),
         Err(error) => error.statuscode().as_u16(),
-    }
-}
-
-// ---- servers
-
-/// A store and a lock system in memory, over which requests are served one after another. The store refuses
-/// what it is told to.
-#[derive(Drop)]
-pub struct Server {
-    pub store: Refusing<MemFs>,
-    pub locks: MemLs,
-}
-
-impl Server {
-    /// The root alone, and no lock.
-    pub fn new(alloc: Global) -> Result<Server, Fail> {
-        Ok(Server {
-            store: Refusing::new(alloc, MemFs::new(alloc)?, Vec::new(alloc)),
-            locks: MemLs::new(alloc),
-        })
-    }
-
-    /// The reply to a request.
-    pub fn serve(
-        &mut self,
-        alloc: Global,
-        request: DavRequest,
-    ) -> Result<DavResult<Response<Body>>, Fail> {
-        let (replies, _, _) = serve_over(alloc, &mut self.store, &mut self.locks, &[request]);
-        let mut replies = replies?;
-        Ok(replies.pop().ok_or("no reply")?)
     }
 }

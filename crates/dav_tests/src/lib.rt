@@ -36,17 +36,9 @@ pub fn serve_over<'a, F: GuardedFileSystem<()>, L: DavLockSystem>(
 #[cfg(test)]
 mod conditions;
 #[cfg(test)]
-mod elements;
-#[cfg(test)]
 mod engine;
 #[cfg(test)]
-mod errors;
-#[cfg(test)]
 mod fixture;
-#[cfg(test)]
-mod headers;
-#[cfg(test)]
-mod lock;
 #[cfg(test)]
 mod outline;
 #[cfg(test)]

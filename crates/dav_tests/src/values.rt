@@ -1,101 +1,128 @@
-//! Paths and methods: what no script shows of them.
-use dav_resource::{DavMethod, DavMethodSet, DavPath, DavResult};
-use http::Method;
-use std::alloc::Global;
+//! Elements, paths, methods, copies and errors: the calls that the engine doesn't make, and texts that no script shows.
+use crate::fixture::text_of;
+use dav_resource::{
+    DavError, DavMethod, DavMethodSet, DavPath, DavProp, Element, FsError, Items, Op, Outcome,
+    Record,
+};
+use dav_store::LockError;
+use http::{Method, StatusCode};
+use http_header::{HeaderMapError, HeaderValueError};
+use std::alloc::{AllocError, Global};
 use std::process::Abort;
 use std::test::Fail;
 
+// ---- elements
+
+/// An element of a whole name, with the default namespace declared twice.
+fn show_declaring(alloc: Global) -> Result<String, AllocError> {
+    let element = Element::new(alloc, "a:b")?;
+    let element = element.ns("", "urn:old")?.ns("", "urn:new")?;
+    format!(in alloc; "{} {:?}", element.name.as_str(), element.attributes)
+}
+
+#[test]
+fn default_namespace_is_declared_last(rt: HostRuntime) -> Result<(), Fail> {
+    let shown = show_declaring(rt.alloc())?;
+    assert_eq!(rt; shown.as_str(), "a:b {\"xmlns\": \"urn:new\"}");
+    Ok(())
+}
+
+/// An element with a text, an element and a text in it.
+fn mixed(alloc: Global) -> Result<Element, AllocError> {
+    let mut element = Element::new(alloc, "a")?.text("one ")?;
+    element.push_element(Element::new(alloc, "b")?)?;
+    element.text("two")
+}
+
+/// Whether it has an element in it, and whether `b` is taken out of it a first and a second time.
+fn take(element: &mut Element) -> [bool; 3] {
+    let had = element.has_child_elems();
+    let first = element.take_child("b").is_some();
+    [had, first, element.take_child("b").is_some()]
+}
+
+/// What taking gives, how many nodes are left, and their text.
+fn show_taking(alloc: Global) -> Result<String, AllocError> {
+    let mut element = mixed(alloc)?;
+    let taken = take(&mut element);
+    let left = element.children.len();
+    let text = element.get_text()?;
+    format!(in alloc; "{taken:?} {left} {text:?}")
+}
+
+#[test]
+fn child_is_taken_from_between_texts(rt: HostRuntime) -> Result<(), Fail> {
+    let shown = show_taking(rt.alloc())?;
+    assert_eq!(rt; shown.as_str(), "[true, true, false] 2 Some(\"one two\")");
+    Ok(())
+}
+
+// ---- copies, and what texts and lists give back
+
+/// The name of a property's copy.
+fn copied_name(alloc: Global) -> Result<String, AllocError> {
+    let property = DavProp {
+        name: text_of(alloc, "getetag")?,
+        prefix: None,
+        namespace: None,
+        element: None,
+    };
+    Ok(property.clone()?.name.into_string())
+}
+
+#[test]
+fn copy_of_a_property_has_its_name(rt: HostRuntime) -> Result<(), Fail> {
+    assert_eq!(rt; copied_name(rt.alloc())?.as_str(), "getetag");
+    Ok(())
+}
+
+/// What a record's copy tells.
+fn show_copied(alloc: Global) -> Result<String, AllocError> {
+    let record = Record {
+        op: Op::Rename,
+        paths: Items::from_vec(vec![in alloc; DavPath::root(alloc)]?),
+        outcome: Outcome::Refused(FsError::Forbidden),
+        statuses: Items::from_vec(Vec::new(alloc)),
+    };
+    let copy = record.clone()?;
+    let paths = copy.paths.as_slice().len();
+    format!(in alloc; "{:?} {paths} {:?}", copy.op, copy.outcome)
+}
+
+#[test]
+fn copy_of_a_record_tells_its_call(rt: HostRuntime) -> Result<(), Fail> {
+    let shown = show_copied(rt.alloc())?;
+    assert_eq!(rt; shown.as_str(), "Rename 1 Refused(Forbidden)");
+    Ok(())
+}
+
+#[test]
+fn list_gives_its_items_back(rt: HostRuntime) -> Result<(), Fail> {
+    let items = Items::from_vec([3, 1, 2].to_vec(rt.alloc())?).into_vec();
+    assert_eq!(rt; items.as_slice(), [3, 1, 2].as_slice());
+    Ok(())
+}
+
 // ---- paths
 
-/// What a reader of paths gives: the path, with `star` before that of the star path, or its fault.
-fn show(alloc: Global, read: DavResult<DavPath>) -> Result<String, Fail> {
-    match read {
-        Ok(path) if path.is_star() => Ok(String::from_str(alloc, "star")?),
-        Ok(path) => Ok(path.as_url_string()?),
-        Err(error) => Ok(format!(in alloc; "{error:?}")?),
-    }
-}
-
-/// What a text is below a prefix.
-fn show_below(alloc: Global, text: &str, prefix: &str) -> Result<String, Fail> {
-    show(alloc, DavPath::from_str_and_prefix(alloc, text, prefix))
-}
-
-fn expect_below(rt: &impl Abort, alloc: Global, rows: &[(&str, &str, &str)]) -> Result<(), Fail> {
-    for (text, prefix, want) in rows {
-        let shown = show_below(alloc, text, prefix)?;
-        assert_eq!(rt; shown.as_str(), *want, "{text} below {prefix}");
-    }
-    Ok(())
-}
-
-#[test]
-fn paths_below_a_prefix(rt: HostRuntime) -> Result<(), Fail> {
-    let rows = &[
-        ("*", "/dav", "star"),
-        ("/dav/a/../b/?x", "/dav", "/b/"),
-        ("/davx", "/dav", "IllegalPath"),
-        ("/x", "dav", "InvalidPath"),
-        ("/x", "/..", "ForbiddenPath"),
-        ("/%zz", "/..", "InvalidPath"),
-    ];
-    expect_below(&rt, rt.alloc(), rows)
-}
-
-/// What a text is below the prefix of another path.
-fn show_beside(alloc: Global, text: &str) -> Result<String, Fail> {
-    let path = DavPath::from_str_and_prefix(alloc, "/d%61v/x", "/dav")?;
-    show(alloc, DavPath::from_str_beside(alloc, text, &path))
-}
-
-fn expect_beside(rt: &impl Abort, alloc: Global, rows: &[(&str, &str)]) -> Result<(), Fail> {
-    for (text, want) in rows {
-        let shown = show_beside(alloc, text)?;
-        assert_eq!(rt; shown.as_str(), *want, "{text}");
-    }
-    Ok(())
-}
-
-#[test]
-fn paths_beside_a_path(rt: HostRuntime) -> Result<(), Fail> {
-    let rows = &[
-        ("*", "star"),
-        ("/dav/a/../b/?x", "/b/"),
-        ("/davx", "IllegalPath"),
-        ("/dav/../..", "ForbiddenPath"),
-        ("dav", "InvalidPath"),
-    ];
-    expect_beside(&rt, rt.alloc(), rows)
-}
-
-/// The file `/a/b.txt` below the prefix `/dav`.
-fn file(alloc: Global) -> DavResult<DavPath> {
-    DavPath::from_str_and_prefix(alloc, "/dav/a/b.txt", "/dav")
-}
-
-/// The name of that file, how many segments it and its prefix have, and the collection that it stands in.
-fn show_parts(alloc: Global) -> Result<String, Fail> {
-    let file = file(alloc)?;
-    let name = str::from_utf8(file.file_name_bytes())?;
-    let segments = file.segments().len();
-    let prefix = file.prefix().len();
+/// The name of a file, how many segments its prefix has, and the collection that it stands in.
+fn show_parts(file: &DavPath) -> Result<String, Fail> {
     let parent = file.parent()?.as_url_string()?;
-    Ok(format!(in alloc; "{name} {segments} {prefix} {parent}")?)
+    let prefix = file.prefix().len();
+    let name = str::from_utf8(file.file_name_bytes())?;
+    Ok(format!(in *parent.allocator(); "{name} {prefix} {parent}")?)
 }
 
-/// Whether that file is a collection, and whether it is one once it has a slash.
-fn with_slash(alloc: Global) -> Result<[bool; 2], Fail> {
-    let mut file = file(alloc)?;
-    let before = file.is_collection();
+/// The same of `/dav/a/b.txt` below the prefix `/dav`, once it has a slash.
+fn show_file(alloc: Global) -> Result<String, Fail> {
+    let mut file = DavPath::from_str_and_prefix(alloc, "/dav/a/b.txt", "/dav")?;
     file.add_slash();
-    Ok([before, file.is_collection()])
+    show_parts(&file)
 }
 
 #[test]
 fn parts_of_a_path(rt: HostRuntime) -> Result<(), Fail> {
-    let shown = show_parts(rt.alloc())?;
-    assert_eq!(rt; shown.as_str(), "b.txt 2 1 /a/");
-    assert_eq!(rt; with_slash(rt.alloc())?, [false, true]);
+    assert_eq!(rt; show_file(rt.alloc())?.as_str(), "b.txt 1 /a/");
     Ok(())
 }
 
@@ -127,23 +154,6 @@ fn media_types(rt: HostRuntime) -> Result<(), Fail> {
 
 // ---- methods
 
-/// Each method, by its name.
-const METHODS: [(&str, DavMethod); 13] = [
-    ("HEAD", DavMethod::Head),
-    ("GET", DavMethod::Get),
-    ("PUT", DavMethod::Put),
-    ("PATCH", DavMethod::Patch),
-    ("OPTIONS", DavMethod::Options),
-    ("PROPFIND", DavMethod::PropFind),
-    ("PROPPATCH", DavMethod::PropPatch),
-    ("MKCOL", DavMethod::MkCol),
-    ("COPY", DavMethod::Copy),
-    ("MOVE", DavMethod::Move),
-    ("DELETE", DavMethod::Delete),
-    ("LOCK", DavMethod::Lock),
-    ("UNLOCK", DavMethod::Unlock),
-];
-
 /// The method of this name.
 fn named(alloc: Global, name: &str) -> Result<Option<DavMethod>, Fail> {
     let method = Method::from_bytes(alloc, name.as_bytes())?;
@@ -157,44 +167,85 @@ fn expect_methods(rt: &impl Abort, alloc: Global, rows: &[(&str, DavMethod)]) ->
     Ok(())
 }
 
-fn expect_no_method(rt: &impl Abort, alloc: Global, names: &[&str]) -> Result<(), Fail> {
-    for name in names {
-        assert_eq!(rt; named(alloc, name)?, None, "{name}");
-    }
-    Ok(())
-}
-
 #[test]
 fn methods_by_name(rt: HostRuntime) -> Result<(), Fail> {
-    expect_methods(&rt, rt.alloc(), &METHODS)?;
-    expect_no_method(&rt, rt.alloc(), &["TRACE", "get", "PUTS"])
+    let rows = &[
+        ("HEAD", DavMethod::Head),
+        ("GET", DavMethod::Get),
+        ("PUT", DavMethod::Put),
+        ("PATCH", DavMethod::Patch),
+        ("OPTIONS", DavMethod::Options),
+        ("PROPFIND", DavMethod::PropFind),
+        ("PROPPATCH", DavMethod::PropPatch),
+        ("MKCOL", DavMethod::MkCol),
+        ("COPY", DavMethod::Copy),
+        ("MOVE", DavMethod::Move),
+        ("DELETE", DavMethod::Delete),
+        ("LOCK", DavMethod::Lock),
+        ("UNLOCK", DavMethod::Unlock),
+    ];
+    expect_methods(&rt, rt.alloc(), rows)
 }
 
-/// Whether the set has the method before it is added and behind that.
-fn add(set: &mut DavMethodSet, method: DavMethod) -> [bool; 2] {
-    let before = set.contains(method);
-    set.add(method);
-    [before, set.contains(method)]
-}
-
-/// Whether all methods have it, and whether all but LOCK do.
-fn in_all(method: DavMethod) -> [bool; 2] {
-    let mut set = DavMethodSet::all();
-    let before = set.contains(method);
-    set.remove(DavMethod::Lock);
-    [before, set.contains(method)]
-}
-
-fn expect_sets(rt: &impl Abort, rows: &[(&str, DavMethod)]) {
+/// Whether a set with GET alone has it, and PUT.
+fn set_of_one() -> [bool; 2] {
     let mut set = DavMethodSet::none();
-    for (name, method) in rows {
-        assert_eq!(rt; add(&mut set, *method), [false, true], "{name}");
-        assert_eq!(rt; in_all(*method), [true, *name != "LOCK"], "{name}");
-    }
-    assert!(rt; set == DavMethodSet::all());
+    set.add(DavMethod::Get);
+    [set.contains(DavMethod::Get), set.contains(DavMethod::Put)]
+}
+
+/// Whether a set without LOCK has it, and UNLOCK, and whether with LOCK again it is the set of all.
+fn set_without_one() -> [bool; 3] {
+    let mut set = DavMethodSet::all();
+    set.remove(DavMethod::Lock);
+    let lock = set.contains(DavMethod::Lock);
+    let unlock = set.contains(DavMethod::Unlock);
+    set.add(DavMethod::Lock);
+    [lock, unlock, set == DavMethodSet::all()]
 }
 
 #[test]
 fn sets_of_methods(rt: HostRuntime) {
-    expect_sets(&rt, &METHODS);
+    assert!(rt; set_of_one() == [true, false]);
+    assert!(rt; set_without_one() == [false, true, true]);
+}
+
+// ---- errors
+
+fn of_map(error: HeaderMapError) -> u16 {
+    DavError::from(error).statuscode().as_u16()
+}
+
+fn of_value(error: HeaderValueError) -> u16 {
+    DavError::from(error).statuscode().as_u16()
+}
+
+#[test]
+fn headers_that_cannot_be_made_are_the_servers_fault(rt: HostRuntime) {
+    assert!(rt; of_map(HeaderMapError::MaxSizeReached) == 500);
+    assert!(rt; of_map(HeaderMapError::OutOfMemory) == 507);
+    assert!(rt; of_value(HeaderValueError::Invalid) == 500);
+    assert!(rt; of_value(HeaderValueError::OutOfMemory) == 507);
+}
+
+/// The texts of two errors of the engine, and of those of a lock system.
+fn show_errors(alloc: Global) -> Result<String, AllocError> {
+    let refusal = DavError::FsError(FsError::NotFound);
+    let closing = DavError::StatusClose(StatusCode::BAD_REQUEST);
+    let conflict = LockError::Conflict;
+    let missing = LockError::NotFound;
+    let failed = LockError::Failed;
+    let memory = LockError::Memory;
+    format!(in alloc; "{refusal}; {closing}; {conflict}; {missing}; {failed}; {memory}")
+}
+
+#[test]
+fn texts_of_errors(rt: HostRuntime) -> Result<(), Fail> {
+    let shown = show_errors(rt.alloc())?;
+    assert_eq!(rt;
+        shown.as_str(),
+        "not found; status 400 Bad Request, and the connection closes; \
+         a lock conflicts; no such lock; the lock system failed; out of memory"
+    );
+    Ok(())
 }
