@@ -1,8 +1,8 @@
 -- What follows for its caller from each step of a DELETE.
 use Rattle.std.proofs.Common.{◌≡◌, ◌≢◌, ◌⊎◌, ◌∙◌, ℕ, Bool, true, false, cond, not, List, [], ◌∷◌, ◌++◌, Option, Some, None, Result, Ok, Err, inl, inr, refl, sym, ap, subst, length, drop, option_map, if◌then◌else◌, arith}
 use Rattle.std.specs.FinMap.{get}
-use Rattle.std.proofs.lemmas.Slice.Eq.{bytes_eq-Decides, slice_eq-Decides, starts_is}
-use Rattle.dav_resource.specs.Key.{Key}
+use Rattle.std.proofs.lemmas.Slice.Eq.{bytes_eq-Decides, starts_is}
+use Rattle.dav_resource.specs.Key.{Key, is_same_key, same_key_decides}
 use Rattle.dav_resource.specs.PathText.{PathValue}
 use Rattle.dav_resource.specs.Errors.{fs_status}
 use Rattle.dav_resource.specs.declared.error.DavError.{DavError}
@@ -20,18 +20,18 @@ use Rattle.dav_headers.specs.declared.if_header.IfItem.TheVariants.{StateToken, 
 use Rattle.dav_headers.specs.IfHeader.{if_of}
 use Rattle.dav_store.specs.Logged.{Logged}
 use Rattle.dav_store.specs.Store.{Contents}
-use Rattle.dav_store.specs.Locks.{is_same_key, is_at_or_below, at_or_below, elsewhere}
+use Rattle.dav_store.specs.Locks.{is_at_or_below, at_or_below, elsewhere}
 use Rattle.dav_store.specs.declared.lock.DavLock.{DavLock}
 use Rattle.dav_parts.specs.Conditions.{item_holds_at, condition_holds, all_hold, key_of_list, conditions_hold, list_holds, any_holds, lists_hold, if_holds, while_true, until_true, unless_refused, tokens_where, http_verdict, dav_if_match, conditions}
-use Rattle.dav_parts.specs.Dialogue.{Dialogue, Asks, Refuses, Passed, LeadsTo, ◌>>=◌}
+use Rattle.dav_parts.specs.Dialogue.{Dialogue, Asks, Refuses, Passed, LeadsTo, look, ◌>>=◌}
 use Rattle.dav_parts.specs.Multistatus.{Item, multi_answer, multistatus_reply}
 use Rattle.dav_parts.specs.Reply.{Answer, bare_reply}
 use Rattle.dav_walks.specs.Deletion.{Removes}
-use Rattle.dav_walks.proofs.Cleared.{path_gone, all_gone, names_refused}
+use Rattle.dav_walks.specs.ClearedLaws.{path_gone, all_gone, names_refused}
 use Rattle.dav_engine.specs.State.{State, Seen, state_of, LocksStay, DropsLocks}
 use Rattle.dav_engine.specs.Rules.{judged, told_by_look, or_refused, must_find, is_permitted, where_permitted, depth_or_all, depth_verdict, fixed_path}
 use Rattle.dav_engine.specs.Delete.{delete_rules, told_items, LeavesLocks, DeleteWork, DeleteCut}
-use Rattle.dav_engine.specs.DeleteLaws.{IsNoContent, IsEmptied, IsUnlocked, EmptiesPath, IsGoneWithLocks, KeepsLocksUnlessGone}
+use Rattle.dav_engine.specs.Laws.{IsNoContent, IsEmptied, IsUnlocked, EmptiesPath, IsGoneWithLocks, KeepsLocksUnlessGone}
 use Rattle.dav_engine.specs.Settings.{Settings}
 use Rattle.dav_engine.specs.Method.{StepBy, Refused, Done, CutShort, CutInWork}
 use Rattle.dav_engine.specs.Methods.{delete_method}
@@ -64,7 +64,7 @@ module _ (contents : Contents) (locks : Option (List DavLock)) where
   errs_item : (key : Option Key) (item : IfItem) → RefusesByErrors (item_holds_at contents locks key item)
   errs_item None item = tt
   errs_item (Some key) (StateToken token) = tt
-  errs_item (Some key) (EntityTag tag) = λ outcome. tt
+  errs_item (Some key) (EntityTag tag) = errs_then (look contents key) _ (λ outcome. tt) (λ found. tt)
 
   errs_while : (holds : Bool) (rest : Dialogue Bool) → RefusesByErrors rest → RefusesByErrors (while_true holds rest)
   errs_while true rest h = h
@@ -158,7 +158,7 @@ named_tells path item (next ∷ names) other = λ told. omega (arith, told)
 
 -- where nothing is named it is one
 clean_tells : (path : PathValue) → IsNoContent (multi_answer path ((path, 204) ∷ []))
-clean_tells path = subst (λ b. IsNoContent (if b then Ok (bare_reply 204 []) else Ok (multistatus_reply ((path, 204) ∷ [])))) (sym ((slice_eq-Decides bytes_eq-Decides path.key path.key (is_same_key path.key path.key) refl).1 refl)) refl
+clean_tells path = subst (λ b. IsNoContent (if b then Ok (bare_reply 204 []) else Ok (multistatus_reply ((path, 204) ∷ [])))) (sym ((same_key_decides path.key path.key).1 refl)) refl
 
 -- ---- the locks
 

@@ -15,4 +15,4 @@ pub mod Trees
 pub mod Compatible
 pub mod LastNamed
 pub mod Locking
-pub mod Laws
+pub mod WriteLaws

@@ -4,7 +4,6 @@ pub mod PutReply
 pub mod Mkcol
 pub mod Put
 pub mod Delete
-pub mod DeleteLaws
 pub mod Settings
 pub mod Method
 pub mod Methods

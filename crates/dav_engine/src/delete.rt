@@ -8,7 +8,7 @@ ghost use Rattle.dav_engine.specs.DavInner.{lent, lent_locks, frame, seen_by, st
 ghost use Rattle.dav_engine.specs.Served.{IsServed};
 ghost use Rattle.dav_engine.specs.State.{DropsSeen};
 ghost use Rattle.dav_engine.specs.Delete.{delete_rules, DeleteWork, DeleteCut};
-ghost use Rattle.dav_engine.specs.DeleteLaws.{EmptiesPath, KeepsLocksUnlessGone};
+ghost use Rattle.dav_engine.specs.Laws.{EmptiesPath, KeepsLocksUnlessGone};
 ghost use Rattle.dav_engine.specs.Step.{Performs};
 
 use crate::DavInner;

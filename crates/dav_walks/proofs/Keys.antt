@@ -100,14 +100,3 @@ calls_at-IsIn (s ∷ rs) r (inr i) = go (same_key s.key r.key) (calls_at-IsIn rs
     go : (b : Bool) → IsIn (r.op, r.outcome) (calls_at rs r.key) → IsIn (r.op, r.outcome) (cond b ((s.op, s.outcome) ∷ calls_at rs r.key) (calls_at rs r.key))
     go true j = inr j
     go false j = j
-
--- and each of a key's calls is one of all
-pub record_of_call : (rs : List KeyCall) (k : Key) (c : Op × Outcome) → IsIn c (calls_at rs k) → IsIn (record { key = k; op = c.0; outcome = c.1 }) rs
-record_of_call [] k c i = absurd i
-record_of_call (r ∷ rs) k c i = go (same_key r.key k) refl (λ j. record_of_call rs k c j) i
-  where
-    go : (b : Bool) → same_key r.key k ≡ b → (IsIn c (calls_at rs k) → IsIn (record { key = k; op = c.0; outcome = c.1 }) rs)
-        → IsIn c (cond b ((r.op, r.outcome) ∷ calls_at rs k) (calls_at rs k)) → IsIn (record { key = k; op = c.0; outcome = c.1 }) (r ∷ rs)
-    go true e further (inl is) = inl (λ t. record { key = same_key_is r.key k e t; op = (is t).0; outcome = (is t).1 })
-    go true e further (inr j) = inr (further j)
-    go false e further j = inr (further j)

@@ -1,7 +1,6 @@
 pub mod Alone
 pub mod Among
 pub mod Bound
-pub mod Cleared
 pub mod Counting
 pub mod Ending
 pub mod Facts

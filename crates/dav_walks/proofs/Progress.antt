@@ -23,7 +23,8 @@ use Rattle.dav_store.specs.MemberLaws.{no_members}
 use Rattle.dav_walks.specs.KeyCall.{KeyCall, logged_call, same_key, calls_at, standing}
 use Rattle.dav_walks.specs.Deletion.{look_below, calls_below, under, WasRefused, path_at, named_by, named_in, IsHidden, NothingRemoved}
 use Rattle.dav_walks.specs.Trace.{Leaves, IsGrantedBelow, Walked, absent, unseen, kept, emptied, AllGranted, SomeRefused, IsKept, Walks}
-use Rattle.dav_walks.proofs.Keys.{same_key_itself, other_key, child_below, below_cancel, append-nothing, IsIn-left, IsIn-right, IsIn-append, calls_at-append, calls_at-none, calls_at-IsIn, record_of_call}
+use Rattle.dav_walks.specs.ClearedLaws.{record_of_call}
+use Rattle.dav_walks.proofs.Keys.{same_key_itself, other_key, child_below, below_cancel, append-nothing, IsIn-left, IsIn-right, IsIn-append, calls_at-append, calls_at-none, calls_at-IsIn}
 use Rattle.dav_walks.proofs.Kept.{none_or, kept_itself, kept_further, removal_others, removal_keeps}
 use Rattle.dav_walks.proofs.Facts.{directory_there, HasName, left_only, no_entry_one, no_entry_two, listing_is_no_entry, removal_is_no_entry}
 use Rattle.dav_walks.proofs.Listings.{Shown, unseen_name, unseen_call, AllShown, SomeUnseen, same_walk, shrinks, IsIn-name, find_child, one_child, children_once, children_all, children_there, unseen_is, unseen_in, unseen_one, no_unseen, named_unseen, refused_granted, granted_barred, granted_refused, refused_barred, same_refusal, different, listed, logs, IsRootBar, root_bar}

@@ -22,19 +22,14 @@ use Rattle.dav_parts.specs.Multistatus.{Item}
 use Rattle.dav_walks.specs.KeyCall.{KeyCall, same_key, calls_at}
 use Rattle.dav_walks.specs.Deletion.{calls_below, WasRefused, IsHidden, path_at, named_path, named_by, named_in, IsLeft, IsLawfulRemoval}
 use Rattle.dav_walks.specs.Trace.{AllGranted, SomeRefused, Walks, Halts, WalksWhole}
-use Rattle.dav_walks.proofs.Keys.{same_key_is, append-nothing, parent_above, parent-append, calls_at-IsIn, record_of_call}
+use Rattle.dav_walks.specs.ClearedLaws.{error_there, record_of_call, refusal_named}
+use Rattle.dav_walks.proofs.Keys.{same_key_is, append-nothing, parent_above, parent-append, calls_at-IsIn}
 use Rattle.dav_walks.proofs.Facts.{HasName, HasRefusal, left_only, left_stays, on_reached, few_calls, partly_on_reached, partly_few_calls, entry_at, partly_entry_at, entry_below}
 use Rattle.dav_walks.proofs.Removed.{walked_fits, partly_fits, call_fits, removed_gone, partly_removed_gone, gone_removed, partly_gone_removed}
 use Rattle.dav_walks.proofs.Bound.{call_bound}
 use Rattle.dav_walks.proofs.Kept.{kept_or_gone, kept_same}
 
 -- ---- what a call names
-
--- a refused outcome has an error
-pub error_there : (outcome : Outcome) → WasRefused outcome → (e : FsError) × (error_of outcome ≡ Some e)
-error_there Granted refused = absurd (refused refl)
-error_there (Barred e) refused = (e, refl)
-error_there (Refused e) refused = (e, refl)
 
 pub path_at-key : (path : PathValue) (slash : Bool) (key : Key) → (path_at path slash key).key ≡ key
 path_at-key path slash key = go (same_key key path.key) refl
@@ -114,11 +109,7 @@ module _ (path : PathValue) (calls : List KeyCall) (names : List Item) (bag : Is
       go (call ∷ rest) all = ap (λ o. cons_option (option_map (λ e. (named_path path call.op call.key, fs_status e)) (error_of o)) (named_in path rest)) (all call (inl refl)) ∙ go rest (λ s i. all s (inr i))
 
   pub some_named : SomeRefused calls → names ≢ []
-  some_named s none =
-      let call = s.0 in let error = error_there call.outcome s.2 in
-      let item : Item = (named_path path call.op call.key, fs_status error.0) in
-      let i = kept_in (named_by path) calls call item (ap (option_map (λ e. (named_path path call.op call.key, fs_status e))) error.1) s.1 in
-      subst (λ (l : List Item). IsIn item l) none (IsIn-permuted _ _ _ bag i)
+  some_named s = refusal_named path calls names bag s.0 s.1 s.2
 
 -- ---- the theorem
 

@@ -3,3 +3,4 @@ pub mod Deletion
 pub mod Trace
 pub mod Frames
 pub mod RemovalLaws
+pub mod ClearedLaws

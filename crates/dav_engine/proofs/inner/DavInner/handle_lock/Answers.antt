@@ -1,5 +1,5 @@
 use Rattle.dav_engine.specs.DavInner.{settings_by}
-use Rattle.dav_engine.proofs.Laws.{serves_ungranted}
+use Rattle.dav_engine.proofs.WriteLaws.{serves_ungranted}
 use Rattle.dav_engine.proofs.inner.DavInner.handle_lock.Goals as goal
 
 pub returns-then-is_refresh-clause-ungranted : goal.returns-then-is_refresh-clause-ungranted

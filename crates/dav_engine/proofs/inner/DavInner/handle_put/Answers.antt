@@ -1,6 +1,6 @@
 use Rattle.dav_resource.specs.Methods.{method_of}
 use Rattle.dav_engine.specs.DavInner.{settings_by}
-use Rattle.dav_engine.proofs.Laws.{serves_alone}
+use Rattle.dav_engine.proofs.WriteLaws.{serves_alone}
 use Rattle.dav_engine.proofs.inner.DavInner.handle_put.Goals as goal
 
 pub returns-clause-alone : goal.returns-clause-alone

@@ -1,9 +1,9 @@
 -- Where a deletion names nothing, nothing is left; what it names has the status of a refusal.
-use Rattle.std.proofs.Common.{◌≡◌, ◌≢◌, ◌⊎◌, [], ◌∷◌, ◌++◌, Some, None, inl, inr, refl, ap, ◌∙◌, subst}
-use Rattle.std.specs.FinMap.{get}
+use Rattle.std.proofs.Common.{◌≡◌, ◌≢◌, ◌⊎◌, Bool, true, false, cond, Option, [], ◌∷◌, ◌++◌, append-nil, Some, None, inl, inr, refl, sym, ap, ◌∙◌, subst}
+use Rattle.std.specs.FinMap.{get, get-remove}
 use Rattle.std.specs.Option.{option_map}
 use Rattle.std.specs.Prelude.{List, IsPermutation}
-use Rattle.dav_resource.specs.Key.{Key}
+use Rattle.dav_resource.specs.Key.{Key, key_cmp_total, tied_decides}
 use Rattle.dav_resource.specs.PathText.{PathValue}
 use Rattle.dav_resource.specs.Errors.{fs_status}
 use Rattle.dav_resource.specs.declared.error.FsError.{FsError}
@@ -15,15 +15,41 @@ use Rattle.dav_resource.specs.declared.record.Outcome.{Outcome}
 use Rattle.dav_resource.specs.declared.record.Outcome.TheVariants.{Granted, Barred, Refused}
 use Rattle.dav_store.specs.Calls.{error_of}
 use Rattle.dav_store.specs.Logged.{Logged}
-use Rattle.dav_store.specs.Store.{Contents}
+use Rattle.dav_store.specs.Store.{Contents, Node}
 use Rattle.dav_store.specs.Members.{IsIn, IsRemovedAt}
-use Rattle.dav_store.specs.MemberLaws.{come_from, IsIn-unpermuted}
+use Rattle.dav_store.specs.MemberLaws.{come_from, kept_in, IsIn-permuted, IsIn-unpermuted}
 use Rattle.dav_parts.specs.Multistatus.{Item}
-use Rattle.dav_walks.specs.KeyCall.{KeyCall}
+use Rattle.dav_walks.specs.KeyCall.{KeyCall, calls_at, same_key}
 use Rattle.dav_walks.specs.Deletion.{Calls, under, calls_below, WasRefused, IsHidden, IsLeft, named_path, named_by, named_in, Deletes, Removes}
-use Rattle.dav_walks.proofs.Keys.{append-nothing, look_removed, record_of_call}
-use Rattle.dav_walks.proofs.Kept.{none_or}
-use Rattle.dav_walks.proofs.Theorem.{some_named}
+
+-- ---- calls and their names
+
+-- and each of a key's calls is one of all
+pub record_of_call : (rs : List KeyCall) (k : Key) (c : Op × Outcome) → IsIn c (calls_at rs k) → IsIn (record { key = k; op = c.0; outcome = c.1 }) rs
+record_of_call [] k c i = absurd i
+record_of_call (r ∷ rs) k c i = go (same_key r.key k) refl (λ j. record_of_call rs k c j) i
+  where
+    go : (b : Bool) → same_key r.key k ≡ b → (IsIn c (calls_at rs k) → IsIn (record { key = k; op = c.0; outcome = c.1 }) rs)
+        → IsIn c (cond b ((r.op, r.outcome) ∷ calls_at rs k) (calls_at rs k)) → IsIn (record { key = k; op = c.0; outcome = c.1 }) (r ∷ rs)
+    go true e further (inl is) = inl (λ t. record { key = (tied_decides r.key k).0 e t; op = (is t).0; outcome = (is t).1 })
+    go true e further (inr j) = inr (further j)
+    go false e further j = inr (further j)
+
+-- a refused outcome has an error
+pub error_there : (outcome : Outcome) → WasRefused outcome → (e : FsError) × (error_of outcome ≡ Some e)
+error_there Granted refused = absurd (refused refl)
+error_there (Barred e) refused = (e, refl)
+error_there (Refused e) refused = (e, refl)
+
+-- where a call was refused something is named
+pub refusal_named : (path : PathValue) (calls : List KeyCall) (names : List Item) → IsPermutation (named_in path calls) names → (call : KeyCall) → IsIn call calls → WasRefused call.outcome → names ≢ []
+refusal_named path calls names bag call inside refused none =
+    let error = error_there call.outcome refused in
+    let item : Item = (named_path path call.op call.key, fs_status error.0) in
+    let i = kept_in (named_by path) calls call item (ap (option_map (λ e. (named_path path call.op call.key, fs_status e))) error.1) inside in
+    subst (λ (l : List Item). IsIn item l) none (IsIn-permuted _ _ _ bag i)
+
+-- ---- where nothing is named
 
 -- a withheld key is behind a refused call
 hidden_refused : (calls : Calls) (x : Key) → IsHidden calls x → (z : Key) × (c : Op × Outcome) × IsIn c (calls z) × WasRefused c.1
@@ -33,17 +59,17 @@ hidden_refused calls (n ∷ x) (inr (inl u)) = ([], (ReadDir, u.0), u.1, u.2)
 hidden_refused calls (n ∷ x) (inr (inr h)) = let r = hidden_refused (under calls n) x h in (n ∷ r.0, r.1, r.2, r.3)
 
 pub clean_leaves_nothing : (path : PathValue) (old new : Contents) (calls : List KeyCall) → Deletes path old new calls [] → (x : Key) → get new.tree (path.key ++ x) ≡ None
-clean_leaves_nothing path old new calls deletes x = go (none_or (get new.tree (path.key ++ x)))
+clean_leaves_nothing path old new calls deletes x = go (get new.tree (path.key ++ x)) refl
   where
     unleft : IsLeft [] (calls_below calls path.key) path.key x → ⊥
     unleft (inl n) = n.2
     unleft (inr h) =
         let r = hidden_refused (calls_below calls path.key) x h in
-        some_named path calls [] deletes.named (record { key = path.key ++ r.0; op = r.1.0; outcome = r.1.1 }, record_of_call calls (path.key ++ r.0) r.1 r.2, r.3) (λ i. [])
+        refusal_named path calls [] deletes.named (record { key = path.key ++ r.0; op = r.1.0; outcome = r.1.1 }) (record_of_call calls (path.key ++ r.0) r.1 r.2) r.3 (λ i. [])
 
-    go : (get new.tree (path.key ++ x) ≡ None) ⊎ (get new.tree (path.key ++ x) ≢ None) → get new.tree (path.key ++ x) ≡ None
-    go (inl gone) = gone
-    go (inr there) = absurd (unleft (deletes.left x there))
+    go : (node : Option Node) → get new.tree (path.key ++ x) ≡ node → get new.tree (path.key ++ x) ≡ None
+    go None is = is
+    go (Some node) is = absurd (unleft (deletes.left x (λ none. let no : Some node ≡ None = sym is ∙ none in cc)))
 
 -- ---- a deletion of any depth
 
@@ -56,12 +82,12 @@ pub path_gone : (depth : Depth) (path : PathValue) (old new : Contents) (records
 path_gone Zero path old new records alone = by_outcome alone.outcome (alone.granted, alone.refused)
   where
     by_outcome : (outcome : Outcome) → IsEndOf outcome path old new [] → get new.tree path.key ≡ None
-    by_outcome Granted end = ap (λ t. get t path.key) (end.0 refl).0.tree ∙ look_removed old.tree path.key
+    by_outcome Granted end = ap (λ t. get t path.key) (end.0 refl).0.tree ∙ get-remove key_cmp_total old.tree path.key path.key ∙ ap (λ b. cond b None (get old.tree path.key)) ((tied_decides path.key path.key).1 refl)
     by_outcome (Barred e) end = absurd (let none : [] ≡ (path, fs_status e) ∷ [] = (end.1 e refl).1 in cc)
     by_outcome (Refused e) end = absurd (let none : [] ≡ (path, fs_status e) ∷ [] = (end.1 e refl).1 in cc)
-path_gone One path old new records r = subst (λ k. get new.tree k ≡ None) (append-nothing path.key) (clean_leaves_nothing path old new r.0 r.2 [])
-path_gone Infinity path old new records r = subst (λ k. get new.tree k ≡ None) (append-nothing path.key) (clean_leaves_nothing path old new r.0 r.2 [])
-path_gone Default path old new records r = subst (λ k. get new.tree k ≡ None) (append-nothing path.key) (clean_leaves_nothing path old new r.0 r.2 [])
+path_gone One path old new records r = subst (λ k. get new.tree k ≡ None) (append-nil path.key) (clean_leaves_nothing path old new r.0 r.2 [])
+path_gone Infinity path old new records r = subst (λ k. get new.tree k ≡ None) (append-nil path.key) (clean_leaves_nothing path old new r.0 r.2 [])
+path_gone Default path old new records r = subst (λ k. get new.tree k ≡ None) (append-nil path.key) (clean_leaves_nothing path old new r.0 r.2 [])
 
 -- and, unless Depth is 0, all that was below it
 pub all_gone : (depth : Depth) (path : PathValue) (old new : Contents) (records : List Logged) → depth ≢ Zero → Removes depth path old new records [] → (x : Key) → get new.tree (path.key ++ x) ≡ None

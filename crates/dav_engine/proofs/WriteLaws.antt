@@ -1,4 +1,4 @@
--- The laws of specs/Laws.antt, by the definitions of the methods.
+-- The laws of PUT, PATCH and LOCK, by the definitions of the methods.
 use Rattle.std.proofs.Common.{◌≡◌, ◌≢◌, ◌⊎◌, ◌∙◌, inl, inr, refl, sym, ap, ℕ, Bool, true, false, if◌then◌else◌, List, [], ◌∷◌, map, Option, Some, None, option_map, Ok, Err}
 use Rattle.std.specs.Ordering.{eq_by_cmp}
 use Rattle.std.specs.FinMap.{get}
