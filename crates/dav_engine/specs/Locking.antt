@@ -28,7 +28,7 @@ use Rattle.dav_store.specs.declared.lock.DavLock.{DavLock}
 use Rattle.dav_store.specs.declared.lock.LockError.{LockError}
 use Rattle.dav_store.specs.declared.lock.LockError.TheVariants as lock_errors
 use Rattle.dav_parts.specs.Conditions.{submitted_tokens}
-use Rattle.dav_parts.specs.Dialogue.{Dialogue, Passed, Refuses, needs, look, ◌>>=◌, WasGranted}
+use Rattle.dav_parts.specs.Dialogue.{Dialogue, Passed, needs, look, ◌>>=◌, WasGranted}
 use Rattle.dav_parts.specs.Reply.{Answer}
 use Rattle.dav_engine.specs.Answered.{IsAnswered}
 use Rattle.dav_engine.specs.LockInfo.{lock_info_of, lock_info_verdict}

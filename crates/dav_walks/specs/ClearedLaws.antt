@@ -1,5 +1,5 @@
 -- Where a deletion names nothing, nothing is left; what it names has the status of a refusal.
-use Rattle.std.proofs.Common.{◌≡◌, ◌≢◌, ◌⊎◌, Bool, true, false, cond, Option, [], ◌∷◌, ◌++◌, append-nil, Some, None, inl, inr, refl, sym, ap, ◌∙◌, subst}
+use Rattle.std.proofs.Common.{◌≡◌, ◌≢◌, Bool, true, false, cond, Option, [], ◌∷◌, ◌++◌, append-nil, Some, None, inl, inr, refl, sym, ap, ◌∙◌, subst}
 use Rattle.std.specs.FinMap.{get, get-remove}
 use Rattle.std.specs.Option.{option_map}
 use Rattle.std.specs.Prelude.{List, IsPermutation}
