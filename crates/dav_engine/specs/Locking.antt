@@ -72,7 +72,7 @@ abbrev pub one_token : List (List ℕ) → Result (List ℕ) DavError
 one_token (token ∷ []) = Ok token
 one_token _ = Err (Status 400)
 
--- to refresh a lock: a look at the path, the header If, which names the lock and whose conditions needn't hold, and the locks of the path, which don't let the request write where it doesn't hold the lock: 412
+-- to refresh a lock: a look at the path, the header If, which names the lock and whose conditions needn't hold, and the locks that cover the path, which must let the request write: 412
 abbrev pub refresh_rules : DavRequest → State → Dialogue (Option Meta)
 refresh_rules request state =
     look_to_lock request state >>= λ found.
