@@ -49,15 +49,6 @@ impl<'a, C: Drop, F: GuardedFileSystem<C>, L: DavLockSystem> DavInner<'a, C, F, 
         ensures alone { ChangesPathAlone request.entry.now (state_by F.seen L.seen self.old) (state_by F.seen L.seen self.new) }
         ensures same_locks { lent_locks self.new ≡ lent_locks self.old }
     {
-        self.put(request)
-    }
-
-    /// The rules, and then the work.
-    fn put(&mut self, request: &DavRequest) -> DavResult<Response<Body>>
-        ensures same_engine { frame self.new ≡ frame self.old }
-        ensures same_locks { lent_locks self.new ≡ lent_locks self.old }
-        ensures step { IsServed F.seen L.seen (Some (put_method (method_of request.entry.now.method))) self.old request.entry.now (answer_of result) self.new }
-    {
         let partial = is_patch(DavMethod::from_method(&request.method));
         let (found, target) = self.judge_put(partial, request)?;
         self.write_file(partial, request, found, &target)
