@@ -3,6 +3,7 @@ use Rattle.std.specs.Prelude.{◌≡◌, ◌≢◌, ◌⊎◌, ◌||◌, nat_eq,
 use Rattle.std.specs.FinMap.{get}
 use Rattle.std.specs.Option.{ForSome}
 use Rattle.dav_resource.specs.Key.{Key}
+use Rattle.dav_resource.specs.Errors.{dav_status}
 use Rattle.dav_resource.specs.declared.error.DavError.TheVariants.{Memory}
 use Rattle.dav_resource.specs.declared.request.Depth.TheVariants.{Zero}
 use Rattle.dav_resource.specs.declared.request.DavRequest.{DavRequest}
@@ -15,10 +16,10 @@ use Rattle.dav_engine.specs.State.{State, LocksStay, DropsLocks}
 
 -- ---- DELETE
 
--- 204, No Content: all was deleted
+-- 204, No Content, by a reply or by an error: all was deleted
 abbrev pub IsNoContent : Answer → Type 0
 IsNoContent (Ok reply) = reply.status ≡ 204
-IsNoContent (Err e) = ⊥
+IsNoContent (Err e) = dav_status e ≡ 204
 
 -- nothing stands at the path nor, unless Depth is 0, below it
 pub record IsEmptied (request : DavRequest) (new : State) : Type 0 where

@@ -1,8 +1,16 @@
 use Rattle.dav_engine.specs.DavInner.{settings_by}
 use Rattle.dav_engine.specs.Methods.{delete_method}
 use Rattle.dav_engine.proofs.DeleteLaws.{delete_empties, delete_keeps}
-use Rattle.dav_engine.proofs.Serving.{delete_sound, serves_work}
+use Rattle.dav_engine.proofs.Serving.{delete_sound, serves_exit, serves_work}
 use Rattle.dav_engine.proofs.inner.DavInner.handle_delete.Goals as goal
+
+pub returns-in_err-meta-clause-step : goal.returns-in_err-meta-clause-step
+returns-in_err-meta-clause-step g c =
+    let judged = c.in_err-meta.ensures in
+    rw judged.same_locks (serves_exit delete_method delete_sound (settings_by g.F.GuardedFileSystem.seen c.args.self.now) c.args.request.now _ _ _ _ _ c.from_residual.ensures.1 judged.rules)
+
+pub returns-in_err-meta-clause-emptied : goal.returns-in_err-meta-clause-emptied
+returns-in_err-meta-clause-emptied g c = delete_empties _ _ _ _ _ (returns-in_err-meta-clause-step g c)
 
 pub returns-clause-step : goal.returns-clause-step
 returns-clause-step g c =
