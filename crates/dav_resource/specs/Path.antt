@@ -5,7 +5,7 @@ use Rattle.dav_resource.specs.declared.path.DavPath.TheInside.{Inside}
 
 -- the fields as a path's value
 abbrev pub path_of : Inside → PathValue
-path_of p = record { star = p.star; slash = p.slash; prefix = texts p.prefix.items; key = texts p.segments.items }
+path_of p = record { star = p.star; slash = p.slash; prefix = texts p.prefix.value.items; key = texts p.segments.value.items }
 
 -- what holds of each path
 abbrev pub IsPath : Inside → Type 0

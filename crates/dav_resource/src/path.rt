@@ -11,6 +11,7 @@ ghost use Rattle.dav_resource.specs.Texts.{texts};
 use crate::error::DavResult;
 use std::alloc::{AllocError, Global};
 use std::marker::Model;
+use std::rc::Rc;
 
 mod key;
 mod mime;
@@ -21,12 +22,15 @@ mod write;
 ///
 /// Its key is a list of segments. A segment is a text without `/` and NUL that is neither
 /// empty, `.` nor `..`. The star path `*` has no segment.
+///
+/// Copies of a path have their segments and those of its prefix in common, so that a copy takes
+/// no memory; what makes another key or prefix of it says what it copies.
 #[derive(Debug, Drop)]
 pub struct DavPath {
     star: bool,
     slash: bool,
-    prefix: Vec<String>,
-    segments: Vec<String>,
+    prefix: Rc<Vec<String>>,
+    segments: Rc<Vec<String>>,
 }
 
 impl Model for DavPath {
@@ -57,20 +61,16 @@ impl DavPath {
         ensures { GivesBy (λ path. path) result (read_path text.now prefix.now) }
     {
         if text == "*" {
-            return Ok(DavPath {
-                star: true,
-                slash: true,
-                prefix: Vec::new(alloc),
-                segments: Vec::new(alloc),
-            });
+            return Ok(DavPath::without_segments(alloc, true)?);
         }
         let text = read::path_part(text);
         let key = read::read_key(alloc, text)?;
-        let prefix = read::read_prefix(alloc, prefix)?;
+        let prefix = key::share(read::read_prefix(alloc, prefix)?)?;
         read::below_prefix(text.ends_with('/'), key, prefix)
     }
 
-    /// Reads the path of a URL as `from_str_and_prefix` does, below the prefix of another path.
+    /// Reads the path of a URL as `from_str_and_prefix` does, below the prefix of another path,
+    /// which both have in common from then on.
     ///
     /// The errors are those of the text, from left to right, and last `IllegalPath`, where the
     /// path is not below the prefix. `Memory` may come at any time.
@@ -78,55 +78,56 @@ impl DavPath {
         ensures { GivesBy (λ p. p) result (read_path_below text.now path.now.prefix) }
     {
         if text == "*" {
-            return Ok(DavPath {
-                star: true,
-                slash: true,
-                prefix: Vec::new(alloc),
-                segments: Vec::new(alloc),
-            });
+            return Ok(DavPath::without_segments(alloc, true)?);
         }
         let text = read::path_part(text);
         let key = read::read_key(alloc, text)?;
-        let prefix = key::copy_key(alloc, &path.prefix)?;
-        read::below_prefix(text.ends_with('/'), key, prefix)
+        read::below_prefix(text.ends_with('/'), key, path.prefix.clone()?)
     }
 
-    /// The root, below no prefix, with its slash.
-    pub fn root(alloc: Global) -> DavPath
-        ensures { result ≡ root_path }
+    /// The root, below no prefix, with its slash. Only memory can be lacking.
+    pub fn root(alloc: Global) -> Result<DavPath, AllocError>
+        ensures { IfOk result (λ path. path ≡ root_path) }
     {
-        DavPath {
-            star: false,
-            slash: true,
-            prefix: Vec::new(alloc),
-            segments: Vec::new(alloc),
-        }
+        DavPath::without_segments(alloc, false)
     }
 
-    /// A path of the same contents. Only memory can be lacking.
-    pub fn clone(&self) -> Result<DavPath, AllocError>
-        ensures { IfOk result (λ copy. copy ≡ self.now) }
+    /// The star path, or else the root below no prefix. Only memory can be lacking.
+    fn without_segments(alloc: Global, star: bool) -> Result<DavPath, AllocError>
+        ensures { IfOk result (λ path. path ≡ record root_path { star = star }) }
     {
-        let alloc = *self.segments.allocator();
+        let none = key::share_none(alloc)?;
         Ok(DavPath {
-            star: self.star,
-            slash: self.slash,
-            prefix: key::copy_key(alloc, &self.prefix)?,
-            segments: key::copy_key(alloc, &self.segments)?,
+            star,
+            slash: true,
+            prefix: none.clone()?,
+            segments: none,
         })
     }
 
-    /// The path of the same key below no prefix, with a slash where it is a collection.
-    /// Only memory can be lacking.
+    /// A path of the same contents. It takes no memory, as both have all segments in common; the
+    /// error stands for more copies at once than a `usize` counts.
+    pub fn clone(&self) -> Result<DavPath, AllocError>
+        ensures { IfOk result (λ copy. copy ≡ self.now) }
+    {
+        Ok(DavPath {
+            star: self.star,
+            slash: self.slash,
+            prefix: self.prefix.clone()?,
+            segments: self.segments.clone()?,
+        })
+    }
+
+    /// The path of the same key below no prefix, with a slash where it is a collection. Both have
+    /// the key's segments in common. Only memory can be lacking.
     pub fn resource_path(&self, collection: bool) -> Result<DavPath, AllocError>
         ensures { IfOk result (λ path. path ≡ resource_path collection self.now) }
     {
-        let alloc = *self.segments.allocator();
         Ok(DavPath {
             star: false,
-            slash: key::is_collection(collection, &self.segments),
-            prefix: Vec::new(alloc),
-            segments: key::copy_key(alloc, &self.segments)?,
+            slash: key::is_collection(collection, self.segments()),
+            prefix: key::share_none(*self.prefix.allocator())?,
+            segments: self.segments.clone()?,
         })
     }
 
@@ -142,7 +143,7 @@ impl DavPath {
     pub fn is_collection(&self) -> bool
         ensures { result ≡ is_collection self.now }
     {
-        key::is_collection(self.slash, &self.segments)
+        key::is_collection(self.slash, self.segments())
     }
 
     /// Whether both paths have one key.
@@ -156,7 +157,7 @@ impl DavPath {
     pub fn is_at_or_below(&self, other: &DavPath) -> bool
         ensures { result ≡ starts_with bytes_eq self.now.key other.now.key }
     {
-        key::is_below(&self.segments, &other.segments)
+        key::is_below(self.segments(), other.segments())
     }
 
     /// The segments of the prefix, first to last.
@@ -164,7 +165,7 @@ impl DavPath {
         ensures value { texts result.now ≡ self.now.prefix }
         ensures key { IsKey self.now.prefix }
     {
-        &self.prefix
+        self.prefix.as_slice()
     }
 
     /// The segments of the key, first to last.
@@ -172,29 +173,29 @@ impl DavPath {
         ensures value { texts result.now ≡ self.now.key }
         ensures key { IsKey self.now.key }
     {
-        &self.segments
+        self.segments.as_slice()
     }
 
-    /// The path without its last segment, and with a slash; the root's is the root.
-    /// Only memory can be lacking.
+    /// The path without its last segment, and with a slash; the root's is the root. It copies the
+    /// key's segments, and both have the prefix in common. Only memory can be lacking.
     pub fn parent(&self) -> Result<DavPath, AllocError>
         ensures { IfOk result (λ path. path ≡ parent_path self.now) }
     {
         let mut path = self.clone()?;
-        key::drop_last(&mut path.segments);
+        path.segments = key::copy_parent(&path.segments)?;
         path.slash = true;
         Ok(path)
     }
 
-    /// Goes down to the member of this name: one more segment, and no slash.
+    /// Goes down to the member of this name: one more segment, and no slash. It copies the key's
+    /// segments, which the path's copies keep as they are.
     /// Where memory is lacking the path is as before.
     pub fn push_segment(&mut self, name: &str) -> Result<(), AllocError>
         requires { IsSegment name.now }
         ensures ok { OnOk result (self.new ≡ member_path self.old name.now) }
         ensures err { OnErr result (self.new ≡ self.old) }
     {
-        let segment = String::from_str(*self.segments.allocator(), name)?;
-        self.segments.push(segment)?;
+        self.segments = key::copy_member(&self.segments, name)?;
         self.star = false;
         self.slash = false;
         Ok(())
@@ -214,19 +215,16 @@ impl DavPath {
         self.slash |= wanted;
     }
 
-    /// The path whose key has the prefix's segments first, below no prefix.
+    /// The path whose key has the prefix's segments first, below no prefix. It copies all of them.
     /// Only memory can be lacking.
     pub fn with_prefix(&self) -> Result<DavPath, AllocError>
         ensures { IfOk result (λ path. path ≡ prefixed self.now) }
     {
-        let alloc = *self.segments.allocator();
-        let mut segments = key::copy_key(alloc, &self.prefix)?;
-        key::append_copies(&mut segments, &self.segments)?;
         Ok(DavPath {
             star: self.star,
             slash: self.slash,
-            prefix: Vec::new(alloc),
-            segments,
+            prefix: key::share_none(*self.prefix.allocator())?,
+            segments: key::copy_prefixed(&self.prefix, &self.segments)?,
         })
     }
 
@@ -237,14 +235,14 @@ impl DavPath {
         ensures reads_back { IfOk result (λ text. ReadsBack self.now (string_bytes text)) }
         ensures field_value { IfOk result (λ text. IsFieldValue (string_bytes text)) }
     {
-        write::path_text(self.star, self.slash, &self.segments)
+        write::path_text(self.star, self.slash, self.segments.as_ref())
     }
 
     /// The bytes of the last segment, none for the root.
     pub fn file_name_bytes(&self) -> &[u8]
         ensures { result.now ≡ file_name self.now.key }
     {
-        match self.segments.last() {
+        match self.segments().last() {
             Some(name) => name.as_bytes(),
             None => &[],
         }

@@ -50,7 +50,7 @@ impl MemFs {
         ensures err { IfErr result (λ e. e ≡ FsError.Memory) }
     {
         let mut entries = Vec::new(alloc);
-        entries.push(Entry::directory(DavPath::root(alloc), 0, 0))?;
+        entries.push(Entry::directory(DavPath::root(alloc)?, 0, 0))?;
         Ok(MemFs {
             entries,
             version: 0,

@@ -80,7 +80,7 @@ fn copy_of_a_property_has_its_name(rt: HostRuntime) -> Result<(), Fail> {
 fn show_copied(alloc: Global) -> Result<String, AllocError> {
     let record = Record {
         op: Op::Rename,
-        paths: Items::from_vec(vec![in alloc; DavPath::root(alloc)]?),
+        paths: Items::from_vec(vec![in alloc; DavPath::root(alloc)?]?),
         outcome: Outcome::Refused(FsError::Forbidden),
         statuses: Items::from_vec(Vec::new(alloc)),
     };

@@ -1,10 +1,11 @@
 //! Keys, as lists of segments.
-ghost use Rattle.std.specs.Prelude.{◌≡◌, ◌≤◌, ◌++◌, ◌||◌, ◌==◌, drop, length, vec_len, IsTrue, IfOk, OnOk, bytes_eq};
+ghost use Rattle.std.specs.Prelude.{◌≡◌, ◌≤◌, [], ◌∷◌, ◌++◌, ◌||◌, ◌==◌, drop, length, vec_len, IsTrue, IfOk, OnOk, bytes_eq};
 ghost use Rattle.std.specs.List.{starts_with};
 ghost use Rattle.dav_resource.specs.Key.{parent};
 ghost use Rattle.dav_resource.specs.Texts.{texts};
 
 use std::alloc::{AllocError, Global};
+use std::rc::Rc;
 
 /// Whether the key begins with these segments.
 pub(crate) fn is_below(key: &[String], prefix: &[String]) -> bool
@@ -55,4 +56,51 @@ pub(crate) fn copy_key(alloc: Global, segments: &[String]) -> Result<Vec<String>
     let mut copy = Vec::new(alloc);
     append_copies(&mut copy, segments)?;
     Ok(copy)
+}
+
+/// These segments, for several paths to have at once. Only memory can be lacking.
+pub(crate) fn share(segments: Vec<String>) -> Result<Rc<Vec<String>>, AllocError>
+    ensures { IfOk result (λ shared. shared.value ≡ segments) }
+{
+    let alloc = *segments.allocator();
+    Ok(Rc::new(alloc, segments)?)
+}
+
+/// No segment, for several paths to have at once. Only memory can be lacking.
+pub(crate) fn share_none(alloc: Global) -> Result<Rc<Vec<String>>, AllocError>
+    ensures { IfOk result (λ none. none.value.items ≡ []) }
+{
+    share(Vec::new(alloc))
+}
+
+/// A copy without the last segment, where there is one. Only memory can be lacking.
+pub(crate) fn copy_parent(key: &Rc<Vec<String>>) -> Result<Rc<Vec<String>>, AllocError>
+    ensures { IfOk result (λ copy. texts copy.value.items ≡ parent (texts key.now.value.items)) }
+{
+    let mut copy = copy_key(*key.allocator(), key.as_slice())?;
+    drop_last(&mut copy);
+    share(copy)
+}
+
+/// A copy with one more segment at its end. Only memory can be lacking.
+pub(crate) fn copy_member(key: &Rc<Vec<String>>, name: &str) -> Result<Rc<Vec<String>>, AllocError>
+    ensures { IfOk result (λ copy. texts copy.value.items ≡ texts key.now.value.items ++ name.now ∷ []) }
+{
+    let alloc = *key.allocator();
+    let mut copy = copy_key(alloc, key.as_slice())?;
+    let name = String::from_str(alloc, name)?;
+    copy.push(name)?;
+    share(copy)
+}
+
+/// A copy of the prefix's segments and then of the key's. Only memory can be lacking.
+pub(crate) fn copy_prefixed(
+    prefix: &Rc<Vec<String>>,
+    key: &Rc<Vec<String>>,
+) -> Result<Rc<Vec<String>>, AllocError>
+    ensures { IfOk result (λ copy. texts copy.value.items ≡ texts prefix.now.value.items ++ texts key.now.value.items) }
+{
+    let mut copy = copy_key(*key.allocator(), prefix.as_slice())?;
+    append_copies(&mut copy, key.as_slice())?;
+    share(copy)
 }

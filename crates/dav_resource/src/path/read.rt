@@ -10,6 +10,7 @@ use super::{DavPath, key};
 use crate::error::{DavError, DavResult};
 use percent_encoding::percent_decode_str;
 use std::alloc::{AllocError, Global};
+use std::rc::Rc;
 
 /// The text up to its first `?` or `#`.
 pub(crate) fn path_part(text: &str) -> &str
@@ -34,22 +35,23 @@ pub(crate) fn read_prefix(alloc: Global, prefix: &str) -> DavResult<Vec<String>>
 pub(crate) fn below_prefix(
     slash: bool,
     mut key: Vec<String>,
-    prefix: Vec<String>,
+    prefix: Rc<Vec<String>>,
 ) -> DavResult<DavPath>
     requires key { IsKey (texts key.items) }
-    requires prefix { IsKey (texts prefix.items) }
-    ensures { GivesBy (λ path. path) result (below_prefix slash (texts key.items) (texts prefix.items)) }
+    requires prefix { IsKey (texts prefix.value.items) }
+    ensures { GivesBy (λ path. path) result (below_prefix slash (texts key.items) (texts prefix.value.items)) }
 {
-    if !key::is_below(&key, &prefix) {
+    if !key::is_below(&key, prefix.as_slice()) {
         return Err(DavError::IllegalPath);
     }
     key::drop_first(&mut key, prefix.len());
     let slash = key::is_collection(slash, &key);
+    let segments = key::share(key)?;
     Ok(DavPath {
         star: false,
         slash,
         prefix,
-        segments: key,
+        segments,
     })
 }
 

@@ -6,7 +6,7 @@ use Rattle.dav_resource.proofs.path.DavPath.same_key.Goals as goal
 
 pub returns : goal.returns
 returns c =
-    let a = c.self.inside.segments.items in
-    let b = c.other.inside.segments.items in
+    let a = c.self.inside.segments.value.items in
+    let b = c.other.inside.segments.value.items in
     let same = slice_eq-Decides bytes_eq-Decides (texts a) (texts b) c.eq.result (c.eq.ensures ∙ sym (pointwise-texts a b)) in
     rw (← c.self.view_is, ← c.other.view_is) same

@@ -1,4 +1,4 @@
-use Rattle.std.proofs.Common.{◌∙◌, ◌++◌, ap, sym, subst}
+use Rattle.std.proofs.Common.{ap, sym, subst}
 use Rattle.dav_resource.specs.PathText.{IsPathValue}
 use Rattle.dav_resource.specs.Path.{path_of}
 use Rattle.dav_resource.specs.Texts.{texts}
@@ -8,9 +8,7 @@ use Rattle.dav_resource.proofs.path.DavPath.with_prefix.Goals as goal
 pub invariant_of-result : goal.invariant_of-result
 invariant_of-result c =
     let p = c.self.inside in
-    let first = c.in_ok-segments.ensures ∙ ap texts c.deref.ensures.value in
-    let last = ap texts c.deref-2.ensures.value in
-    let key = c.in_ok-append_copies.ensures ∙ (λ i. first i ++ last i) in
-    let none = ap texts c.new.ensures.items in
+    let none = ap texts c.in_ok-share_none.ensures in
+    let key = c.in_ok-copy_prefixed.ensures in
     let is = IsPathValue-prefixed (path_of p) c.self.invariant in
     subst IsPathValue (λ i. record { star = p.star; slash = p.slash; prefix = sym none i; key = sym key i }) is
