@@ -1,56 +1,56 @@
 -- Copies of all that is kept.
-use Rattle.std.proofs.Common.{◌≡◌, ◌∙◌, ℕ, ◌≤◌, ◌<◌, ◌+◌, List, [], ◌∷◌, ◌++◌, map, take, length, get_or, refl, sym, ap, subst, arith}
-use Rattle.std.proofs.lemmas.List.{take_more, take_all}
-use Rattle.std.proofs.lemmas.List.Elements.{All-cons}
-use Rattle.std.specs.List.{AllZip, IsDistinct}
-use Rattle.std.specs.Prelude.{All}
+use Rattle.std.proofs.Common.{◌≡◌, ◌∙◌, ℕ, zero, suc, ◌<◌, Bool, true, false, cond, List, [], ◌∷◌, ◌++◌, length, get_or, Option, Some, None, refl, sym, ap, subst, arith, append_assoc, append-nil, String, string_bytes}
+use Rattle.std.proofs.lemmas.Slice.Zip.{all_zipped_more}
+use Rattle.std.specs.declared.alloc.Global.{Global}
+use Rattle.std.specs.List.{AllZip}
+use Rattle.std.specs.Option.{option_map}
 use Rattle.std.specs.Ordering.{eq_by_cmp}
-use Rattle.std.specs.FinMap.{from_entries}
-use Rattle.dav_resource.specs.Key.{key_cmp}
-use Rattle.dav_resource.specs.PathForms.{resource_path}
-use Rattle.dav_store.specs.Memory.{Stored, tree_of, IsSound}
-use Rattle.dav_store.specs.Dump.{Dumped, IsDump, IsDumpOf, node_of, is_directory}
-use Rattle.dav_store.specs.Lawful.{key_in, pair_of}
+use Rattle.std.specs.FinMap.{get, entries, get-entries}
+use Rattle.std.specs.FinMap.Entries.{find}
+use Rattle.dav_resource.specs.Key.{Key, key_cmp, tied_decides}
+use Rattle.dav_resource.specs.PathText.{IsKey, IsSegment}
+use Rattle.dav_resource.specs.Texts.{texts}
+use Rattle.dav_store.specs.Memory.{Stored, Resources, IsSound}
+use Rattle.dav_store.specs.Dump.{Dumped, IsDump, IsDumpOf}
+use Rattle.dav_store.specs.EachLaws.{get-each-some}
 
-pushed : (entries : List Stored) (dumped : List Dumped) (s : Stored) (d : Dumped) → AllZip IsDumpOf entries dumped → IsDumpOf s d → AllZip IsDumpOf (entries ++ s ∷ []) (dumped ++ d ∷ [])
-pushed [] [] s d h one = (one, tt)
-pushed [] (e ∷ dumped) s d h one = absurd h
-pushed (x ∷ entries) [] s d h one = absurd h
-pushed (x ∷ entries) (e ∷ dumped) s d h one = (h.0, pushed entries dumped s d h.1 one)
+-- ---- segments
 
--- one more copy
-pub dumped-next : (entries : List Stored) (i : ℕ) (dumped new : List Dumped) (s : Stored) (d : Dumped) → AllZip IsDumpOf (take i entries) dumped → i < length entries → s ≡ get_or entries i s → IsDumpOf s d → new ≡ dumped ++ d ∷ []
-    → AllZip IsDumpOf (take (i + 1) entries) new
-dumped-next entries i dumped new s d h inside read one is =
-    subst (AllZip IsDumpOf (take (i + 1) entries)) (sym is)
-    (subst (λ (es : List Stored). AllZip IsDumpOf es (dumped ++ d ∷ [])) (sym (take_more entries i s inside ∙ ap (λ x. take i entries ++ x ∷ []) (sym read))) (pushed (take i entries) dumped s d h one))
+segment_at : (ss : List (String Global)) (i : ℕ) (d : String Global) → IsKey (texts ss) → i < length ss → IsSegment (string_bytes (get_or ss i d))
+segment_at [] i d is inside = absurd (omega arith)
+segment_at (s ∷ ss) zero d is inside = is.0
+segment_at (s ∷ ss) (suc i) d is inside = segment_at ss i d is.1 (omega arith)
 
-pairs : (entries : List Stored) (dumped : List Dumped) → AllZip IsDumpOf entries dumped → map (λ (d : Dumped). (d.0.key, node_of d.1)) dumped ≡ map pair_of entries
-pairs [] [] h = refl
-pairs [] (e ∷ dumped) h = absurd h
-pairs (x ∷ entries) [] h = absurd h
-pairs (x ∷ entries) (e ∷ dumped) h = λ i. (h.0.key i, h.0.node i) ∷ pairs entries dumped h.1 i
+pub segment_of : (ss : List (String Global)) (i : ℕ) (s : String Global) → IsKey (texts ss) → i < length ss → s ≡ get_or ss i s → IsSegment (string_bytes s)
+segment_of ss i s is inside at = subst (λ x. IsSegment (string_bytes x)) (sym at) (segment_at ss i s is inside)
 
-keys : (entries : List Stored) (dumped : List Dumped) → AllZip IsDumpOf entries dumped → map (λ (d : Dumped). d.0.key) dumped ≡ map key_in entries
-keys [] [] h = refl
-keys [] (e ∷ dumped) h = absurd h
-keys (x ∷ entries) [] h = absurd h
-keys (x ∷ entries) (e ∷ dumped) h = λ i. h.0.key i ∷ keys entries dumped h.1 i
+-- ---- entries
 
-all_of : (P : Dumped → Type 0) → ((s : Stored) (d : Dumped) → IsDumpOf s d → P d) → (entries : List Stored) (dumped : List Dumped) → AllZip IsDumpOf entries dumped → All P dumped
-all_of P f [] [] h = λ k d inside. absurd (omega arith)
-all_of P f [] (e ∷ dumped) h = absurd h
-all_of P f (x ∷ entries) [] h = absurd h
-all_of P f (x ∷ entries) (e ∷ dumped) h = All-cons P e dumped (f x e h.0) (all_of P f entries dumped h.1)
+found_in : {X : Type 0} (done : List (Key × X)) (e : Key × X) (rest : List (Key × X)) → find key_cmp e.0 (done ++ e ∷ rest) ≡ None → ⊥
+found_in [] e rest none =
+    let there : Some e.1 ≡ None = subst (λ b. cond b (Some e.1) (find key_cmp e.0 rest) ≡ None) ((tied_decides e.0 e.0).1 refl) none in
+    cc
+found_in (x ∷ done) e rest none = past (found_in done e rest) (eq_by_cmp key_cmp e.0 x.0) none
+  where
+    past : (find key_cmp e.0 (done ++ e ∷ rest) ≡ None → ⊥) → (b : Bool) → cond b (Some x.1) (find key_cmp e.0 (done ++ e ∷ rest)) ≡ None → ⊥
+    past later true n = cc
+    past later false n = later n
 
-is_dump : (entries : List Stored) (dumped : List Dumped) → IsSound entries → AllZip IsDumpOf entries dumped → IsDump (tree_of entries) dumped
-is_dump entries dumped sound h = record {
-  nodes = ap from_entries (pairs entries dumped h);
-  once = subst (IsDistinct (eq_by_cmp key_cmp)) (sym (keys entries dumped h)) sound.distinct;
-  paths = all_of (λ (d : Dumped). d.0 ≡ resource_path (is_directory d.1) d.0) (λ s d one. one.path) entries dumped h;
-  properties = all_of (λ (d : Dumped). d.2.items ≡ []) (λ s d one. one.properties) entries dumped h;
-}
+no_node : (o : Option Stored) → option_map (λ s. s.node) o ≡ None → o ≡ None
+no_node None e = refl
+no_node (Some s) e = absurd cc
 
--- all were copied
-pub is_dump-whole : (entries : List Stored) (dumped : List Dumped) (n : ℕ) → IsSound entries → AllZip IsDumpOf (take n entries) dumped → length entries ≤ n → IsDump (tree_of entries) dumped
-is_dump-whole entries dumped n sound h past = is_dump entries dumped sound (subst (λ (es : List Stored). AllZip IsDumpOf es dumped) (take_all n entries past) h)
+-- what is kept stands at a key
+pub kept_key : (resources : Resources) (done rest : List (Key × Stored)) (e : Key × Stored) → IsSound resources → done ++ e ∷ rest ≡ entries resources → IsKey e.0
+kept_key resources done rest e sound is = sound.keys e.0 (λ none. found_in done e rest (ap (find key_cmp e.0) is ∙ sym (get-entries resources e.0) ∙ no_node (get resources e.0) (sym (get-each-some (λ s. s.node) resources e.0) ∙ none)))
+
+-- ---- copies
+
+pub copied_next : (done rest all : List (Key × Stored)) (e : Key × Stored) → done ++ e ∷ rest ≡ all → (done ++ e ∷ []) ++ rest ≡ all
+copied_next done rest all e is = append_assoc done (e ∷ []) rest ∙ is
+
+pub copied_more : (done : List (Key × Stored)) (dumped new : List Dumped) (e : Key × Stored) (d : Dumped) → AllZip IsDumpOf done dumped → IsDumpOf e d → new ≡ dumped ++ d ∷ [] → AllZip IsDumpOf (done ++ e ∷ []) new
+copied_more done dumped new e d h one is = subst (AllZip IsDumpOf (done ++ e ∷ [])) (sym is) (all_zipped_more IsDumpOf done dumped e d h one)
+
+pub copied_all : (resources : Resources) (done : List (Key × Stored)) (dumped : List Dumped) → AllZip IsDumpOf done dumped → done ++ [] ≡ entries resources → IsDump resources dumped
+copied_all resources done dumped h is = subst (λ es. AllZip IsDumpOf es dumped) (sym (append-nil done) ∙ is) h

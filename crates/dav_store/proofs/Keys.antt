@@ -1,5 +1,5 @@
 -- Keys in the code.
-use Rattle.std.proofs.Common.{◌≡◌, ◌≢◌, ◌∙◌, ◌==◌, length, arith, sym, List, [], ◌∷◌, ◌++◌, ◌&&◌, Bool, true, false, refl, ap, bytes_eq, string_bytes, Option, Some, None, ℕ}
+use Rattle.std.proofs.Common.{not, ◌≡◌, ◌≢◌, ◌∙◌, ◌==◌, length, arith, sym, List, [], ◌∷◌, ◌++◌, ◌&&◌, Bool, true, false, refl, ap, bytes_eq, string_bytes, Option, Some, None, ℕ}
 use Rattle.std.proofs.lemmas.List.{map-append}
 use Rattle.std.specs.Prelude.{String}
 use Rattle.std.specs.declared.alloc.Global.{Global}
@@ -9,7 +9,8 @@ use Rattle.std.specs.Cmp.Lexicographic.{pointwise}
 use Rattle.std.specs.Ordering.{eq_by_cmp}
 use Rattle.std.specs.String.{string_eq}
 use Rattle.std.proofs.lemmas.Slice.Eq.{slice_eq-Decides, bytes_eq-Decides}
-use Rattle.dav_resource.specs.Key.{Key, key_cmp, parent, tied_decides}
+use Rattle.dav_resource.specs.Key.{Key, key_cmp, parent, tied_decides, is_same_key, same_key_decides}
+use Rattle.dav_store.specs.Below.{is_at_or_below, is_below}
 use Rattle.dav_resource.specs.Texts.{texts}
 use Rattle.dav_store.specs.Members.{name_in, member}
 use Rattle.dav_store.specs.MemberLaws.{name_in-member, member-name_in, parent-member}
@@ -78,3 +79,9 @@ is_root (segment ∷ segments) key is e = absurd (grind (arith, nat_tests, e))
 pub not_root : (segments : List (String Global)) (key : Key) → texts segments ≡ key → (length segments == 0) ≡ false → key ≢ []
 not_root [] key is e = absurd (let both : true ≡ false = e in cc)
 not_root (segment ∷ segments) key is e = λ root. (let both : texts (segment ∷ segments) ≡ [] = is ∙ root in cc)
+
+-- ---- below another key
+
+pub below_test : (above same : Bool) (key other : Key) → above ≡ true → above ≡ is_at_or_below key other → Decides same (key ≡ other) → not same ≡ is_below key other
+below_test above same key other t is d =
+    ap not (same_test same (is_same_key key other) (key ≡ other) d (same_key_decides key other)) ∙ ap (λ b. b && not (is_same_key key other)) (sym t ∙ is)

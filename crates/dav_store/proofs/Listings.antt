@@ -1,5 +1,5 @@
 -- What a plan leaves of a listing, member by member.
-use Rattle.std.proofs.Common.{◌≡◌, ◌∙◌, ℕ, Option, Result, Ok, Err, refl, sym, ap, subst, inl, inr, List, [], ◌∷◌, ◌++◌, ◌<◌, ◌+◌, ◌≤◌, map, filter_map, length, take, drop, get_or, arith, append-nil, append_assoc, add-one, drop-cons}
+use Rattle.std.proofs.Common.{◌≡◌, ◌∙◌, ℕ, Option, Some, Result, Ok, Err, refl, sym, ap, subst, inl, inr, List, [], ◌∷◌, ◌++◌, ◌<◌, ◌+◌, ◌≤◌, map, filter_map, length, take, drop, get_or, arith, append-nil, append_assoc, add-one, drop-cons}
 use Rattle.std.proofs.lemmas.List.{take_all, drop_all, take_more_set, drop-set-lt}
 use Rattle.std.proofs.Math.ListN.{set}
 use Rattle.std.proofs.lemmas.List.Elements.{All-set}
@@ -88,7 +88,7 @@ module _ (directory : PathValue) (children : List Child) (first : List Planned) 
 
   -- a member that it shows
   pub let_be_seen : Underway directory children first all_hidden i listing unseen plan hidden → (entry : DirEntry) (error : Option FsError) (next_unseen : List Record) (next_plan : List Planned) (next_hidden : List Record) → x ≡ Ok entry → y ≡ shown_as error entry
-      → error ≡ refusal_for Entry (member directory.key entry.name) plan → next_plan ≡ without_first Entry (member directory.key entry.name) plan
+      → error ≡ refusal_for Entry (Some (member directory.key entry.name)) plan → next_plan ≡ without_first Entry (Some (member directory.key entry.name)) plan
       → next_unseen ≡ unseen ++ refused_record directory entry.name error → next_hidden ≡ hidden
       → Underway directory children first all_hidden (i + 1) next_listing next_unseen next_plan next_hidden
   let_be_seen u entry error next_unseen next_plan next_hidden ok seen why left_is told_is hidden_is = by_rest u.rest u.named (sym ahead_is ∙ u.ahead) u.still u.shown u.told u.left
@@ -103,8 +103,8 @@ module _ (directory : PathValue) (children : List Child) (first : List Planned) 
           let one : x ≡ Ok entry' = cc in
           let same : entry ≡ entry' = (let both : Ok entry ≡ Ok entry' = sym ok ∙ one in cc) in
           let name_is : entry.name ≡ name = ap (λ n. n.name) same ∙ named (name, Ok entry') (inl refl) in
-          let error_is : error ≡ refusal_for Entry (member directory.key name) plan = why ∙ ap (λ n. refusal_for Entry (member directory.key n) plan) name_is in
-          let plan_is : next_plan ≡ without_first Entry (member directory.key name) plan = left_is ∙ ap (λ n. without_first Entry (member directory.key n) plan) name_is in
+          let error_is : error ≡ refusal_for Entry (Some (member directory.key name)) plan = why ∙ ap (λ n. refusal_for Entry (Some (member directory.key n)) plan) name_is in
+          let plan_is : next_plan ≡ without_first Entry (Some (member directory.key name)) plan = left_is ∙ ap (λ n. without_first Entry (Some (member directory.key n)) plan) name_is in
           record {
             rest = rest;
             named = λ c within. named c (inr within);

@@ -1,15 +1,15 @@
 -- What a copy of all that a store in memory holds is: this project's own choice.
-use Rattle.std.specs.Prelude.{◌≡◌, ℕ, Bool, true, false, List, [], map, Option, Some, None, All, Vec}
-use Rattle.std.specs.List.{IsDistinct}
-use Rattle.std.specs.Ordering.{eq_by_cmp}
-use Rattle.std.specs.FinMap.{from_entries}
+use Rattle.std.specs.Prelude.{◌≡◌, ℕ, Bool, true, false, List, Option, Some, None, Vec}
+use Rattle.std.specs.List.{AllZip}
+use Rattle.std.specs.FinMap.{entries}
 use Rattle.std.specs.declared.alloc.Global.{Global}
-use Rattle.dav_resource.specs.Key.{key_cmp}
+use Rattle.dav_resource.specs.Key.{Key}
 use Rattle.dav_resource.specs.PathText.{PathValue}
 use Rattle.dav_resource.specs.PathForms.{resource_path}
 use Rattle.dav_resource.specs.declared.property.DavProp.{DavProp}
-use Rattle.dav_store.specs.Store.{Node, File, Directory, Tree}
-use Rattle.dav_store.specs.Memory.{Stored}
+use Rattle.dav_store.specs.Store.{Node, File, Directory}
+use Rattle.dav_store.specs.Memory.{Stored, Resources}
+use Rattle.dav_store.specs.MemoryCalls.{IsPropertyList}
 
 -- a path, a file's bytes, and the properties
 abbrev pub Dumped : Type 0
@@ -23,16 +23,13 @@ abbrev pub is_directory : Option (Vec ℕ Global) → Bool
 is_directory (Some bytes) = false
 is_directory None = true
 
--- the copy of one resource
-pub record IsDumpOf (s : Stored) (dumped : Dumped) : Type 0 where
-  pub key : dumped.0.key ≡ s.key
-  pub node : node_of dumped.1 ≡ s.node
+-- the copy of one resource: its path has no prefix, and a slash exactly where it is a directory's
+pub record IsDumpOf (e : Key × Stored) (dumped : Dumped) : Type 0 where
+  pub key : dumped.0.key ≡ e.0
   pub path : dumped.0 ≡ resource_path (is_directory dumped.1) dumped.0
-  pub properties : dumped.2.items ≡ []
+  pub node : node_of dumped.1 ≡ e.1.node
+  pub properties : IsPropertyList e.1.properties dumped.2.items
 
--- each key once, with what stands there; its path has no prefix, and a slash exactly where it is a directory's
-pub record IsDump (tree : Tree) (dumped : List Dumped) : Type 0 where
-  pub nodes : from_entries (map (λ d. (d.0.key, node_of d.1)) dumped) ≡ tree
-  pub once : IsDistinct (eq_by_cmp key_cmp) (map (λ d. d.0.key) dumped)
-  pub paths : All (λ d. d.0 ≡ resource_path (is_directory d.1) d.0) dumped
-  pub properties : All (λ d. d.2.items ≡ []) dumped
+-- each resource once, in the order of the keys
+abbrev pub IsDump : Resources → List Dumped → Type 0
+IsDump resources dumped = AllZip IsDumpOf (entries resources) dumped

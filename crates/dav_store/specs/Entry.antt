@@ -10,4 +10,4 @@ node_of (resources.File bytes) = File bytes.items
 node_of resources.Directory = Directory
 
 abbrev pub stored_of : Inside → Stored
-stored_of e = record { key = e.path.key; node = node_of e.resource; version = e.version; created = e.created; modified = e.modified }
+stored_of e = record { node = node_of e.resource; version = e.version; created = e.created; modified = e.modified; properties = e.properties }

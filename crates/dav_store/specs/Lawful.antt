@@ -1,34 +1,53 @@
 -- That a store in memory is well formed: this project's own choice.
 use Rattle.std.proofs.Common.{◌≡◌, ◌∙◌, ℕ, zero, suc, ◌<◌, ◌%◌, ◌/◌, true, false, cond, List, [], ◌∷◌, map, Option, Some, None, refl, sym, ap, subst, arith, ◌&&◌, ◌==◌, if◌then◌else◌}
-use Rattle.std.specs.Option.{option_map}
+use Rattle.std.specs.Option.{option_map, option_and_then}
 use Rattle.std.specs.List.{list_all}
 use Rattle.std.specs.Fmt.{digits, digits_onto, digit_glyph}
 use Rattle.std.proofs.lemmas.Bool.Decides.{nat_tests}
-use Rattle.std.specs.FinMap.{get, get-empty, get-from_entries}
-use Rattle.std.specs.FinMap.Entries.{find}
-use Rattle.dav_resource.specs.Key.{Key, key_cmp, key_cmp_total}
-use Rattle.dav_store.specs.Store.{Node, File, Directory, IsWellFormed, MetaFits, IsTagText, is_tag_byte}
-use Rattle.dav_store.specs.Memory.{Stored, tree_of, has_key, stored_at, meta_of, contents_of, IsSound, tag_text, is_directory, size_of}
+use Rattle.std.specs.FinMap.{get, empty, len, len-empty}
+use Rattle.dav_resource.specs.Key.{Key, key_cmp}
+use Rattle.dav_resource.specs.Tree as elements
+use Rattle.dav_store.specs.Store.{Node, File, Directory, PropertyMap, IsWellFormed, MetaFits, IsTagText, is_tag_byte}
+use Rattle.dav_store.specs.PropertyCalls.{some_properties}
+use Rattle.dav_store.specs.Memory.{Stored, Resources, Memory, tree_of, properties_of, meta_of, contents_of, IsSound, tag_text, is_directory, size_of}
+use Rattle.dav_store.specs.EachLaws.{get-each}
 
 -- ---- the tree
 
 abbrev pub node_in : Stored → Node
 node_in s = s.node
 
-abbrev pub key_in : Stored → Key
-key_in s = s.key
-
-abbrev pub pair_of : Stored → Key × Node
-pair_of s = (s.key, s.node)
-
-pub find-stored : (key : Key) (entries : List Stored) → find key_cmp key (map pair_of entries) ≡ option_map node_in (stored_at key entries)
-find-stored key [] = refl
-find-stored key (s ∷ entries) =
-    elim (has_key key s) as (λ b. cond b (Some s.node) (find key_cmp key (map pair_of entries)) ≡ option_map node_in (cond b (Some s) (stored_at key entries))) [ true ↦ refl | false ↦ find-stored key entries ]
+some_node : (o : Option Stored) → option_and_then (λ s. Some s.node) o ≡ option_map node_in o
+some_node None = refl
+some_node (Some s) = refl
 
 -- what stands at a key is what is kept there
-pub get-tree : (entries : List Stored) (key : Key) → get (tree_of entries) key ≡ option_map node_in (stored_at key entries)
-get-tree entries key = get-from_entries key_cmp_total (map pair_of entries) key ∙ find-stored key entries
+pub get-tree : (resources : Resources) (key : Key) → get (tree_of resources) key ≡ option_map node_in (get resources key)
+get-tree resources key = get-each (λ s. Some s.node) resources key ∙ some_node (get resources key)
+
+-- ---- the properties
+
+-- a key's properties are those that are kept there, where there are some
+pub get-properties : (resources : Resources) (key : Key) → get (properties_of resources) key ≡ option_and_then (λ s. some_properties s.properties) (get resources key)
+get-properties resources key = get-each (λ s. some_properties s.properties) resources key
+
+nothing_kept : (o : Option Stored) → option_map node_in o ≡ None → option_and_then (λ s. some_properties s.properties) o ≡ None
+nothing_kept None e = refl
+nothing_kept (Some s) e = absurd cc
+
+none_without : (resources : Resources) (key : Key) → get (tree_of resources) key ≡ None → get (properties_of resources) key ≡ None
+none_without resources key none = get-properties resources key ∙ nothing_kept (get resources key) (sym (get-tree resources key) ∙ none)
+
+not_no_properties : (properties : PropertyMap) → some_properties properties ≡ Some empty → ⊥
+not_no_properties properties is =
+    elim (len properties == 0) as (λ b. (len properties == 0) ≡ b → (if b then None else Some properties) ≡ Some empty → ⊥) [
+      | true ↦ λ t e. absurd cc
+      | false ↦ λ t e. let same : properties ≡ empty = cc in (let zero_len : (len properties == 0) ≡ true = ap (λ p. len p == 0) same ∙ ap (λ n. n == 0) (len-empty key_cmp elements.Tree) in cc)
+    ] refl is
+
+none_empty : (o : Option Stored) → option_and_then (λ s. some_properties s.properties) o ≡ Some empty → ⊥
+none_empty None e = absurd cc
+none_empty (Some s) e = not_no_properties s.properties e
 
 -- ---- the metadata
 
@@ -59,11 +78,12 @@ meta_fits (Some s) = elim s.node as (λ n. MetaFits (Some n) (Some (record (meta
   | Directory ↦ (refl, some_tag s.version)
 ]
 
-pub is_well_formed : (entries : List Stored) → IsSound entries → IsWellFormed (contents_of entries)
-is_well_formed entries sound = record {
+pub is_well_formed : (memory : Memory) → IsSound memory.resources → IsWellFormed (contents_of memory)
+is_well_formed memory sound = record {
   root = sound.root;
   parents = sound.parents;
   keys = sound.keys;
-  properties = λ key h. get-empty key_cmp key;
-  metas = λ key. subst (λ o. MetaFits o (option_map meta_of (stored_at key entries))) (sym (get-tree entries key)) (meta_fits (stored_at key entries));
+  properties = none_without memory.resources;
+  none_empty = λ key e. none_empty (get memory.resources key) (sym (get-properties memory.resources key) ∙ e);
+  metas = λ key. subst (λ o. MetaFits o (option_map meta_of (get memory.resources key))) (sym (get-tree memory.resources key)) (meta_fits (get memory.resources key));
 }

@@ -1,9 +1,10 @@
 -- Locks (RFC 4918, section 6): what a lock covers, which locks conflict, whether a request may go on, whether a lock is granted, and which locks stand together.
 use Rattle.std.specs.Prelude.{◌≡◌, ℕ, Bool, true, not, ◌&&◌, ◌||◌, bytes_eq, if◌then◌else◌, List, [], ◌∷◌, length, ◌==◌, Option}
-use Rattle.std.specs.List.{filter, list_all, list_any, starts_with}
+use Rattle.std.specs.List.{filter, list_all, list_any}
 use Rattle.std.specs.Option.{option_eq}
 use Rattle.dav_resource.specs.Key.{Key, is_same_key}
 use Rattle.dav_store.specs.declared.lock.DavLock.{DavLock}
+pub use Rattle.dav_store.specs.Below.{is_at_or_below}
 
 -- what contracts see of a lock system: its locks, the oldest first, and whether it removes a lock each time that it is told to
 pub record Locks : Type 0 where
@@ -11,9 +12,6 @@ pub record Locks : Type 0 where
   pub dependable : Bool
 
 -- ---- where a lock stands
-
-abbrev pub is_at_or_below : Key → Key → Bool
-is_at_or_below key above = starts_with bytes_eq key above
 
 -- it covers its own key, and where it is deep all keys below
 abbrev pub covers : DavLock → Key → Bool

@@ -7,7 +7,7 @@ use Rattle.dav_store.specs.Memory.{Memory, seen_of}
 use Rattle.dav_store.specs.declared.memory.MemFs.{MemFs}
 
 abbrev pub memory_of : MemFs → Memory
-memory_of store = record { entries = store.entries.items; version = store.version; moment = store.moment }
+memory_of store = record { resources = store.entries; version = store.version; moment = store.moment; limit = store.limit }
 
 -- its records, the oldest first
 abbrev pub records_of : MemFs → List Record

@@ -33,7 +33,7 @@ member-name_in (segment ∷ directory) (first ∷ key) name is =
 
 -- ---- parents
 
-parent-below : (segment : List ℕ) (next : List ℕ) (key : Key) → parent (segment ∷ next ∷ key) ≡ segment ∷ parent (next ∷ key)
+pub parent-below : (segment : List ℕ) (next : List ℕ) (key : Key) → parent (segment ∷ next ∷ key) ≡ segment ∷ parent (next ∷ key)
 parent-below segment next key = let e : length (segment ∷ next ∷ key) - 1 ≡ suc (length (next ∷ key) - 1) = omega arith in rw e refl
 
 -- a key but the root's is a member's of its parent

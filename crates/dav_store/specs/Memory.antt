@@ -1,42 +1,48 @@
 -- What a store in memory holds beside its log, and what its calls make of that: this project's own choice.
-use Rattle.std.specs.Prelude.{◌≡◌, ◌≢◌, ℕ, ◌+◌, Bool, true, false, cond, not, filter, List, [], ◌∷◌, ◌++◌, length, map, slice_index_or, Option, Some, None}
+use Rattle.std.specs.Prelude.{◌≡◌, ◌≢◌, ℕ, ◌+◌, ◌-◌, ◌^◌, min, Bool, true, false, List, [], ◌∷◌, length, filter_map, Option, Some, None}
 use Rattle.std.specs.Option.{option_map}
-use Rattle.std.specs.Ordering.{eq_by_cmp}
+use Rattle.std.specs.List.{sum_by}
 use Rattle.std.specs.Fmt.{digits}
-use Rattle.std.specs.FinMap.{empty, from_entries, get}
-use Rattle.std.specs.List.{IsDistinct, position}
+use Rattle.std.specs.FinMap.{FinMap, empty, from_entries, get, insert, remove, entries}
 use Rattle.dav_resource.specs.Key.{Key, key_cmp, parent}
 use Rattle.dav_resource.specs.PathText.{IsKey}
 use Rattle.dav_resource.specs.declared.meta.Meta.{Meta}
+use Rattle.dav_store.specs.Below.{put_at}
 use Rattle.dav_store.specs.Logged.{Logged}
-use Rattle.dav_store.specs.Store.{Node, File, Directory, Tree, Contents, Store}
+use Rattle.dav_store.specs.Store.{Node, File, Directory, Tree, PropertyMap, Properties, Quota, Contents, Store}
+use Rattle.dav_store.specs.Transfers.{IsMoved}
+use Rattle.dav_store.specs.PropertyCalls.{Patch, patched, some_properties}
 
 -- what is kept of a resource: the number of its last change is its entity tag
 pub record Stored : Type 0 where
-  pub key : Key
   pub node : Node
   pub version : ℕ
   pub created : ℕ
   pub modified : ℕ
+  pub properties : PropertyMap
 
--- the resources, the number of changes so far, and the moment
+-- the resources by their keys
+abbrev pub Resources : Type 0
+Resources = FinMap key_cmp Stored
+
+-- the resources, the number of changes so far, the moment, and how many bytes there are, where there is a quota: it may have no limit
 pub record Memory : Type 0 where
-  pub entries : List Stored
+  pub resources : Resources
   pub version : ℕ
   pub moment : ℕ
+  pub limit : Option (Option ℕ)
 
 -- ---- what is seen of it
 
-abbrev pub tree_of : List Stored → Tree
-tree_of entries = from_entries (map (λ s. (s.key, s.node)) entries)
+-- what each value gives, at its key
+abbrev pub each : {X Y : Type 0} → (X → Option Y) → FinMap key_cmp X → FinMap key_cmp Y
+each give m = from_entries (filter_map (λ e. option_map (λ y. (e.0, y)) (give e.1)) (entries m))
 
-abbrev pub has_key : Key → Stored → Bool
-has_key key s = eq_by_cmp key_cmp key s.key
+abbrev pub tree_of : Resources → Tree
+tree_of resources = each (λ s. Some s.node) resources
 
--- what is kept at a key
-abbrev pub stored_at : Key → List Stored → Option Stored
-stored_at key [] = None
-stored_at key (s ∷ more) = cond (has_key key s) (Some s) (stored_at key more)
+abbrev pub properties_of : Resources → Properties
+properties_of resources = each (λ s. some_properties s.properties) resources
 
 abbrev pub is_directory : Node → Bool
 is_directory (File bytes) = false
@@ -46,6 +52,15 @@ abbrev pub size_of : Node → ℕ
 size_of (File bytes) = length bytes
 size_of Directory = 0
 
+-- a file is kept at the key, and it is this one
+pub record IsFileAt (key : Key) (resources : Resources) (s : Stored) : Type 0 where
+  pub there : get resources key ≡ Some s
+  pub file : is_directory s.node ≡ false
+
+-- how many bytes all files have
+abbrev pub used_by : Resources → ℕ
+used_by resources = sum_by (λ e. size_of e.1.node) (entries resources)
+
 -- in lower case hexadecimal
 abbrev pub tag_text : ℕ → List ℕ
 tag_text version = digits 16 false version
@@ -53,60 +68,76 @@ tag_text version = digits 16 false version
 abbrev pub meta_of : Stored → Meta
 meta_of s = record { dir = is_directory s.node; len = size_of s.node; modified = Some s.modified; created = Some s.created; accessed = None; status_changed = None; executable = None; etag = Some (tag_text s.version) }
 
-abbrev pub contents_of : List Stored → Contents
-contents_of entries = record { tree = tree_of entries; properties = empty; metas = λ key. option_map meta_of (stored_at key entries); quota = None }
+-- at most the greatest u64 is told
+abbrev pub quota_of : Memory → Option Quota
+quota_of memory = option_map (λ total. record { used = min (used_by memory.resources) (2 ^ 64 - 1); total = total }) memory.limit
 
--- with this log; dead properties aren't kept
+abbrev pub contents_of : Memory → Contents
+contents_of memory = record { tree = tree_of memory.resources; properties = properties_of memory.resources; metas = λ key. option_map meta_of (get memory.resources key); quota = quota_of memory }
+
+-- with this log; dead properties are kept
 abbrev pub seen_of : Memory → List Logged → Store
-seen_of memory log = record { contents = contents_of memory.entries; keeps_properties = false; log = log }
+seen_of memory log = record { contents = contents_of memory; keeps_properties = true; log = log }
 
--- what always holds: a key is kept once, the root is a directory, and so is the parent of each other key
-pub record IsSound (entries : List Stored) : Type 0 where
-  pub distinct : IsDistinct (eq_by_cmp key_cmp) (map (λ s. s.key) entries)
-  pub root : get (tree_of entries) [] ≡ Some Directory
-  pub parents : (key : Key) → get (tree_of entries) key ≢ None → get (tree_of entries) (parent key) ≡ Some Directory
-  pub keys : (key : Key) → get (tree_of entries) key ≢ None → IsKey key
-
--- the place of what is kept at a key
-abbrev pub index_of : Key → List Stored → Option ℕ
-index_of key entries = position (has_key key) entries
-
--- it is a file's place
-pub record IsFilePlace (key : Key) (entries : List Stored) (i : ℕ) : Type 0 where
-  pub place : index_of key entries ≡ Some i
-  pub file : (d : Stored) → is_directory (slice_index_or entries i d).node ≡ false
+-- what always holds: the root is a directory, and so is the parent of each other key
+pub record IsSound (resources : Resources) : Type 0 where
+  pub root : get (tree_of resources) [] ≡ Some Directory
+  pub parents : (key : Key) → get (tree_of resources) key ≢ None → get (tree_of resources) (parent key) ≡ Some Directory
+  pub keys : (key : Key) → get (tree_of resources) key ≢ None → IsKey key
 
 -- ---- what the calls make of it
 
--- a resource that is made at a moment by a change of this number
-abbrev pub fresh : Key → Node → ℕ → ℕ → Stored
-fresh key node version now = record { key = key; node = node; version = version; created = now; modified = now }
+-- a resource that is made at a moment by a change of this number, without properties
+abbrev pub fresh : Node → ℕ → ℕ → Stored
+fresh node version now = record { node = node; version = version; created = now; modified = now; properties = empty }
 
 -- the resource has other bytes, by a change of this number at a moment
 abbrev pub with_bytes : List ℕ → ℕ → ℕ → Stored → Stored
 with_bytes bytes version now s = record s { node = File bytes; version = version; modified = now }
 
+-- when what stood there was made, or else this moment
+abbrev pub made_when : Option Stored → ℕ → ℕ
+made_when None now = now
+made_when (Some s) now = s.created
+
+-- a copy, in the place of what stood there, by a change of this number at a moment
+abbrev pub copy_of : Option Stored → ℕ → ℕ → Stored → Stored
+copy_of there version now s = record s { version = version; created = made_when there now; modified = now }
+
+abbrev pub with_properties : PropertyMap → Stored → Stored
+with_properties properties s = record s { properties = properties }
+
 -- what is kept at the key, and nothing else, is changed
-abbrev pub change_at : Key → (Stored → Stored) → List Stored → List Stored
-change_at key f [] = []
-change_at key f (s ∷ more) = cond (has_key key s) (f s ∷ more) (s ∷ change_at key f more)
+abbrev pub change_at : Key → (Stored → Stored) → Resources → Resources
+change_at key change resources = put_at resources key (option_map change (get resources key))
 
--- what is kept at other keys, in its order
-abbrev pub elsewhere : Key → List Stored → List Stored
-elsewhere key entries = filter (λ s. not (has_key key s)) entries
-
--- a resource is made, as the last one
+-- a resource is made
 abbrev pub made : Key → Node → Memory → Memory
-made key node old = record { entries = old.entries ++ fresh key node (old.version + 1) old.moment ∷ []; version = old.version + 1; moment = old.moment }
+made key node old = record old { resources = insert old.resources key (fresh node (old.version + 1) old.moment); version = old.version + 1 }
 
 -- the file at the key gets these bytes
 abbrev pub filled : Key → List ℕ → Memory → Memory
-filled key bytes old = record { entries = change_at key (with_bytes bytes (old.version + 1) old.moment) old.entries; version = old.version + 1; moment = old.moment }
+filled key bytes old = record old { resources = change_at key (with_bytes bytes (old.version + 1) old.moment) old.resources; version = old.version + 1 }
 
 -- what is kept at the key is taken out, which counts as no change
 abbrev pub without : Key → Memory → Memory
-without key old = record { entries = elsewhere key old.entries; version = old.version; moment = old.moment }
+without key old = record old { resources = remove old.resources key }
 
--- the root alone
-abbrev pub first_memory : Memory
-first_memory = record { entries = fresh [] Directory 0 0 ∷ []; version = 0; moment = 0 }
+-- what is kept at the first key is copied to the second
+abbrev pub copied : Key → Key → Memory → Memory
+copied from to old = record old { resources = put_at old.resources to (option_map (copy_of (get old.resources to) (old.version + 1) old.moment) (get old.resources from)); version = old.version + 1 }
+
+-- the properties at the key are changed, which counts as no change
+abbrev pub with_patches : Key → List Patch → Memory → Memory
+with_patches key patches old = record old { resources = change_at key (λ s. with_properties (patched patches s.properties) s) old.resources }
+
+-- what is kept at the first key and below it goes to the second, which counts as no change
+pub record IsRenamed (from to : Key) (old new : Memory) : Type 0 where
+  pub resources : IsMoved from to old.resources new.resources
+  pub version : new.version ≡ old.version
+  pub moment : new.moment ≡ old.moment
+  pub limit : new.limit ≡ old.limit
+
+-- the root alone, with this number of changes and this quota
+abbrev pub first_memory : ℕ → Option (Option ℕ) → Memory
+first_memory version limit = record { resources = insert empty [] (fresh Directory 0 0); version = version; moment = 0; limit = limit }

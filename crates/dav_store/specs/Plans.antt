@@ -51,20 +51,26 @@ planned_of refusal = record { op = refusal.op; key = refusal.path.key; error = r
 abbrev pub plan_of : List Refusal → List Planned
 plan_of refusals = map planned_of refusals
 
--- it is for this call
-abbrev pub is_for : Op → Key → Planned → Bool
-is_for op key p = same_op p.op op && eq_by_cmp key_cmp key p.key
+-- the key of a call's first path, where it has one
+abbrev pub first_key : List PathValue → Option Key
+first_key [] = None
+first_key (path ∷ paths) = Some path.key
 
-abbrev pub refuses : Op → Key → Refusal → Bool
+-- it is for this call: of a call without a path only the kind counts
+abbrev pub is_for : Op → Option Key → Planned → Bool
+is_for op None p = same_op p.op op
+is_for op (Some key) p = same_op p.op op && eq_by_cmp key_cmp key p.key
+
+abbrev pub refuses : Op → Option Key → Refusal → Bool
 refuses op key refusal = is_for op key (planned_of refusal)
 
 -- the error of the first one for the call, where there is one
-abbrev pub refusal_for : Op → Key → List Planned → Option FsError
+abbrev pub refusal_for : Op → Option Key → List Planned → Option FsError
 refusal_for op key [] = None
 refusal_for op key (p ∷ plan) = if is_for op key p then Some p.error else refusal_for op key plan
 
 -- the plan without that one; where there is none, as it is
-abbrev pub without_first : Op → Key → List Planned → List Planned
+abbrev pub without_first : Op → Option Key → List Planned → List Planned
 without_first op key [] = []
 without_first op key (p ∷ plan) = if is_for op key p then plan else p ∷ without_first op key plan
 
@@ -79,13 +85,13 @@ shown_as (Some e) entry = Err e
 abbrev pub shown_by : List Planned → Key → List Child → List Child
 shown_by plan directory [] = []
 shown_by plan directory ((name, Ok entry) ∷ children) =
-    (name, shown_as (refusal_for Entry (member directory name) plan) entry) ∷ shown_by (without_first Entry (member directory name) plan) directory children
+    (name, shown_as (refusal_for Entry (Some (member directory name)) plan) entry) ∷ shown_by (without_first Entry (Some (member directory name)) plan) directory children
 shown_by plan directory ((name, Err e) ∷ children) = (name, Err e) ∷ shown_by plan directory children
 
 -- what is left of the plan then
 abbrev pub left_by : List Planned → Key → List Child → List Planned
 left_by plan directory [] = plan
-left_by plan directory ((name, Ok entry) ∷ children) = left_by (without_first Entry (member directory name) plan) directory children
+left_by plan directory ((name, Ok entry) ∷ children) = left_by (without_first Entry (Some (member directory name)) plan) directory children
 left_by plan directory ((name, Err e) ∷ children) = left_by plan directory children
 
 -- the record of a member that the plan refuses, by the directory's path with the member's name
@@ -97,7 +103,7 @@ refused_record directory name (Some e) = record_on Entry (member_path directory 
 abbrev pub hidden_by : List Planned → PathValue → List Child → List Record → List Record
 hidden_by plan directory [] hidden = []
 hidden_by plan directory ((name, Ok entry) ∷ children) hidden =
-    refused_record directory name (refusal_for Entry (member directory.key name) plan) ++ hidden_by (without_first Entry (member directory.key name) plan) directory children hidden
+    refused_record directory name (refusal_for Entry (Some (member directory.key name)) plan) ++ hidden_by (without_first Entry (Some (member directory.key name)) plan) directory children hidden
 hidden_by plan directory ((name, Err e) ∷ children) [] = []
 hidden_by plan directory ((name, Err e) ∷ children) (r ∷ hidden) = r ∷ hidden_by plan directory children hidden
 

@@ -1,5 +1,5 @@
--- What each call of a store that refuses by plan does: this project's own choice.
-use Rattle.std.specs.Prelude.{◌≡◌, ◌≢◌, List, [], ◌∷◌, ◌++◌, map, filter_map, Option, Some, None, Result, Ok, Err, Vec, ◌⊎◌}
+-- What each call of a store does that refuses by plan or by number: this project's own choice.
+use Rattle.std.specs.Prelude.{◌≡◌, ◌≢◌, ℕ, List, [], ◌∷◌, ◌++◌, map, filter_map, Option, Some, None, Result, Ok, Err, Vec, ◌⊎◌}
 use Rattle.std.specs.declared.alloc.Global.{Global}
 use Rattle.dav_resource.specs.PathText.{PathValue}
 use Rattle.dav_resource.specs.declared.meta.DirEntry.{DirEntry}
@@ -10,12 +10,13 @@ use Rattle.dav_resource.specs.declared.record.Outcome.TheVariants.{Granted, Refu
 use Rattle.dav_resource.specs.declared.record.Record.{Record}
 use Rattle.dav_resource.specs.declared.error.FsError.{FsError}
 use Rattle.dav_resource.specs.declared.error.FsError.TheVariants.{Memory}
-use Rattle.dav_store.specs.Logged.{Logged, logged, logged_of}
+use Rattle.dav_store.specs.Logged.{Logged, logged_of}
 use Rattle.dav_store.specs.Store.{Store}
 use Rattle.dav_store.specs.Members.{Lists, ReadsDir, unseen_record}
-use Rattle.dav_store.specs.MemoryCalls.{record_on}
-use Rattle.dav_store.specs.Plans as plans
-use Rattle.dav_store.specs.Plans.{Planned, refusal_for, without_first, shown_by, hidden_by, left_by}
+use Rattle.dav_store.specs.MemoryCalls.{record_with, record_on}
+use Rattle.dav_store.specs.Plans.{Planned, first_key, shown_by, hidden_by, left_by}
+use Rattle.dav_store.specs.Pending as pendings
+use Rattle.dav_store.specs.Pending.{Pending, due, after_call}
 use Rattle.dav_store.specs.declared.refusing.Refusing.{Refusing}
 
 -- how the last call ended that the records tell of
@@ -29,9 +30,13 @@ module _ {F : Type 0} where
   abbrev pub inner_of : Refusing F → F
   inner_of store = store.inner
 
-  -- the refusals to come
+  -- what it is to refuse yet
+  abbrev pub pending_of : Refusing F → Pending
+  pending_of store = pendings.pending_of store.pending
+
+  -- of that the plan
   abbrev pub plan_of : Refusing F → List Planned
-  plan_of store = plans.plan_of store.plan.refusals.items
+  plan_of store = (pending_of store).plan
 
   -- its records, the oldest first
   abbrev pub records_of : Refusing F → List Record
@@ -46,43 +51,44 @@ module _ {F : Type 0} where
   -- nothing changes, the store behind it included
   pub record IsWhollyKept (old new : Refusing F) : Type 0 where
     pub inner : inner_of new ≡ inner_of old
-    pub plan : plan_of new ≡ plan_of old
+    pub pending : pending_of new ≡ pending_of old
     pub records : records_of new ≡ records_of old
 
   -- nothing changes that is seen, here or of the store behind it
   pub record LooksKept (see : F → Store) (old new : Refusing F) : Type 0 where
     pub inner : see (inner_of new) ≡ see (inner_of old)
-    pub plan : plan_of new ≡ plan_of old
+    pub pending : pending_of new ≡ pending_of old
     pub records : records_of new ≡ records_of old
 
-  -- the call is refused with the error of the plan's first refusal for it, which is used up; the store behind isn't asked
-  pub record Refuses (op : Op) (path : PathValue) (e : FsError) (old new : Refusing F) : Type 0 where
-    pub planned : refusal_for op path.key (plan_of old) ≡ Some e
+  -- the call is refused with the error that is due, which is used up; the store behind isn't asked
+  pub record Refuses (op : Op) (paths : List PathValue) (e : FsError) (old new : Refusing F) : Type 0 where
+    pub is_due : due op (first_key paths) (pending_of old) ≡ Some e
     pub inner : inner_of new ≡ inner_of old
-    pub plan : plan_of new ≡ without_first op path.key (plan_of old)
-    pub records : records_of new ≡ records_of old ++ record_on op (path ∷ []) (Refused e) ∷ []
+    pub left : pending_of new ≡ after_call op (first_key paths) (pending_of old)
+    pub records : records_of new ≡ records_of old ++ record_on op paths (Refused e) ∷ []
 
-  -- the call is that of the store behind, with its answer and with its record's outcome
-  pub record Passes {A : Type 0} (see : F → Store) (op : Op) (path : PathValue) (Behind : Store → Result A FsError → Store → Type 0) (old : Refusing F) (answer : Result A FsError) (new : Refusing F) : Type 0 where
+  -- the call is that of the store behind, with its answer and with its record's outcome and statuses
+  pub record Passes {A : Type 0} (see : F → Store) (op : Op) (paths : List PathValue) (Behind : Store → Result A FsError → Store → Type 0) (old : Refusing F) (answer : Result A FsError) (new : Refusing F) : Type 0 where
     pub behind : Behind (see (inner_of old)) answer (see (inner_of new))
-    pub plan : plan_of new ≡ plan_of old
+    pub left : pending_of new ≡ after_call op (first_key paths) (pending_of old)
     pub outcome : Outcome
-    pub told : (see (inner_of new)).log ≡ (see (inner_of old)).log ++ logged op (path.key ∷ []) outcome ∷ []
-    pub records : records_of new ≡ records_of old ++ record_on op (path ∷ []) outcome ∷ []
+    pub statuses : List ℕ
+    pub told : (see (inner_of new)).log ≡ (see (inner_of old)).log ++ logged_of (record_with op paths outcome statuses) ∷ []
+    pub records : records_of new ≡ records_of old ++ record_with op paths outcome statuses ∷ []
 
-  -- a call for which the plan has a refusal is refused; each other call is passed on
-  abbrev pub GoesByPlan : {A : Type 0} → Op → PathValue → (Refusing F → Result A FsError → Refusing F → Type 0) → Option FsError → Refusing F → Result A FsError → Refusing F → Type 0
-  GoesByPlan op path Passed (Some e) old answer new = (answer ≡ Err e) × Refuses op path e old new
-  GoesByPlan op path Passed None old answer new = Passed old answer new
+  -- a call for which an error is due is refused with it; each other call is passed on
+  abbrev pub GoesByPlan : {A : Type 0} → Op → List PathValue → (Refusing F → Result A FsError → Refusing F → Type 0) → Option FsError → Refusing F → Result A FsError → Refusing F → Type 0
+  GoesByPlan op paths Passed (Some e) old answer new = (answer ≡ Err e) × Refuses op paths e old new
+  GoesByPlan op paths Passed None old answer new = Passed old answer new
 
   -- so it goes, or memory is lacking, and then this much stays as it was
-  abbrev pub FollowsPlan : {A : Type 0} → (Refusing F → Refusing F → Type 0) → Op → PathValue → (Refusing F → Result A FsError → Refusing F → Type 0) → Refusing F → Result A FsError → Refusing F → Type 0
-  FollowsPlan Kept op path Passed old answer new =
-      ((answer ≡ Err Memory) × Kept old new) ⊎ ((answer ≢ Err Memory) × GoesByPlan op path Passed (refusal_for op path.key (plan_of old)) old answer new)
+  abbrev pub FollowsPlan : {A : Type 0} → (Refusing F → Refusing F → Type 0) → Op → List PathValue → (Refusing F → Result A FsError → Refusing F → Type 0) → Refusing F → Result A FsError → Refusing F → Type 0
+  FollowsPlan Kept op paths Passed old answer new =
+      ((answer ≡ Err Memory) × Kept old new) ⊎ ((answer ≢ Err Memory) × GoesByPlan op paths Passed (due op (first_key paths) (pending_of old)) old answer new)
 
   -- a call that does so of the store behind; without memory nothing changes that is seen
-  abbrev pub Follows : {A : Type 0} → (F → Store) → Op → PathValue → (Store → Result A FsError → Store → Type 0) → Refusing F → Result A FsError → Refusing F → Type 0
-  Follows see op path Behind = FollowsPlan (LooksKept see) op path (Passes see op path Behind)
+  abbrev pub Follows : {A : Type 0} → (F → Store) → Op → List PathValue → (Store → Result A FsError → Store → Type 0) → Refusing F → Result A FsError → Refusing F → Type 0
+  Follows see op paths Behind = FollowsPlan (LooksKept see) op paths (Passes see op paths Behind)
 
   -- ---- read_dir
 
@@ -93,27 +99,27 @@ module _ {F : Type 0} where
     pub listed : List (Result DirEntry FsError)
     pub behind : Lists path.key (see (inner_of old)) listed (see (inner_of new))
     pub shown : answer ≡ map (λ c. c.1) (shown_by (plan_of old) path.key behind.children)
-    pub plan : plan_of new ≡ left_by (plan_of old) path.key behind.children
+    pub left : pending_of new ≡ record (after_call ReadDir (Some path.key) (pending_of old)) { plan = left_by (plan_of old) path.key behind.children }
     pub hidden : List Record
     pub told : map logged_of hidden ≡ filter_map (unseen_record path.key) behind.children
     pub records : records_of new ≡ records_of old ++ record_on ReadDir (path ∷ []) Granted ∷ hidden_by (plan_of old) path behind.children hidden
 
   abbrev pub PassesReadDir : (F → Store) → PathValue → Refusing F → Result (Vec (Result DirEntry FsError) Global) FsError → Refusing F → Type 0
   PassesReadDir see path old (Ok listing) new = PassesListing see path old listing.items new
-  PassesReadDir see path old (Err e) new = Passes see ReadDir path (λ s. ReadsDir s path.key) old (Err e) new
+  PassesReadDir see path old (Err e) new = Passes see ReadDir (path ∷ []) (λ s. ReadsDir s path.key) old (Err e) new
 
-  -- the plan has no refusal for the listing, and the store behind has listed the directory, which changes its log alone
+  -- no error is due for the listing, and the store behind has listed the directory, which changes its log alone
   pub record HasListed (see : F → Store) (path : PathValue) (old new : Refusing F) : Type 0 where
-    pub free : refusal_for ReadDir path.key (plan_of old) ≡ None
+    pub free : due ReadDir (Some path.key) (pending_of old) ≡ None
     pub listed : List (Result DirEntry FsError)
     pub behind : Lists path.key (see (inner_of old)) listed (see (inner_of new))
 
   -- nothing changes that is seen, here or of the store behind it, but that the latter may have listed the directory
   pub record KeepsReading (see : F → Store) (path : PathValue) (old new : Refusing F) : Type 0 where
     pub inner : (see (inner_of new) ≡ see (inner_of old)) ⊎ HasListed see path old new
-    pub plan : plan_of new ≡ plan_of old
+    pub pending : pending_of new ≡ pending_of old
     pub records : records_of new ≡ records_of old
 
   -- a listing goes by the plan; without memory the store behind it may have listed the directory
   abbrev pub FollowsReading : (F → Store) → PathValue → Refusing F → Result (Vec (Result DirEntry FsError) Global) FsError → Refusing F → Type 0
-  FollowsReading see path = FollowsPlan (KeepsReading see path) ReadDir path (PassesReadDir see path)
+  FollowsReading see path = FollowsPlan (KeepsReading see path) ReadDir (path ∷ []) (PassesReadDir see path)

@@ -2,7 +2,7 @@
 use Rattle.std.specs.Prelude.{◌≡◌, ◌≢◌, ◌&&◌, not, nat_eq, nat_le, ℕ, Bool, true, false, IsTrue, List, [], ◌∷◌, length, Option, Some, None}
 use Rattle.std.specs.List.{list_all}
 use Rattle.std.specs.Option.{ForSome}
-use Rattle.std.specs.FinMap.{FinMap, get}
+use Rattle.std.specs.FinMap.{FinMap, empty, get}
 use Rattle.dav_resource.specs.Key.{Key, key_cmp, parent}
 use Rattle.dav_resource.specs.PathText.{IsKey}
 use Rattle.dav_resource.specs.Tree as elements
@@ -22,9 +22,13 @@ abbrev pub property_key : Option (List ℕ) → List ℕ → Key
 property_key None name = [] ∷ name ∷ []
 property_key (Some namespace) name = (1 ∷ namespace) ∷ name ∷ []
 
--- the dead properties of each key (RFC 4918, section 4.2), by their names
+-- dead properties (RFC 4918, section 4.2): elements by the properties' names
+abbrev pub PropertyMap : Type 0
+PropertyMap = FinMap key_cmp elements.Tree
+
+-- those of each key that has some
 abbrev pub Properties : Type 0
-Properties = FinMap key_cmp (FinMap key_cmp elements.Tree)
+Properties = FinMap key_cmp PropertyMap
 
 -- how many bytes are used, and how many there are, where there is a limit (RFC 4331)
 pub record Quota : Type 0 where
@@ -60,10 +64,11 @@ MetaFits (Some node) None = ⊥
 MetaFits (Some Directory) (Some meta) = (meta.dir ≡ true) × ForSome meta.etag IsTagText
 MetaFits (Some (File bytes)) (Some meta) = (meta.dir ≡ false) × (meta.len ≡ length bytes) × ForSome meta.etag IsTagText
 
--- the root is a directory, and so is the parent of each other key; properties stand on what is there
+-- the root is a directory, and so is the parent of each other key; properties stand on what is there, and no key has an empty map of them
 pub record IsWellFormed (contents : Contents) : Type 0 where
   pub root : get contents.tree [] ≡ Some Directory
   pub parents : (key : Key) → get contents.tree key ≢ None → get contents.tree (parent key) ≡ Some Directory
   pub keys : (key : Key) → get contents.tree key ≢ None → IsKey key
   pub properties : (key : Key) → get contents.tree key ≡ None → get contents.properties key ≡ None
+  pub none_empty : (key : Key) → get contents.properties key ≢ Some empty
   pub metas : (key : Key) → MetaFits (get contents.tree key) (contents.metas key)

@@ -5,6 +5,7 @@ mod lock;
 mod lock_system;
 mod memory;
 mod memory_locks;
+mod paths;
 mod refusing;
 mod store;
 

@@ -1,11 +1,16 @@
 //! The contract of a store.
-ghost use Rattle.std.specs.Prelude.{◌≡◌, ◌+◌, ◌<◌, ◌^◌, false, [], length, map, MatchResult, OnErr};
+ghost use Rattle.std.specs.Prelude.{◌≡◌, ◌≢◌, ◌+◌, ◌<◌, ◌^◌, All, false, [], length, map, MatchResult};
 ghost use Rattle.dav_store.specs.Logged.{logged_of};
 ghost use Rattle.dav_store.specs.Store.{Store, IsWellFormed};
 ghost use Rattle.dav_store.specs.Calls.{Looks, MakesDirectory, Opens, Seeks, Writes, Flushes, LooksAtFile, place_of};
 ghost use Rattle.dav_store.specs.Members.{ReadsDir, RemovesFile, RemovesDir};
+ghost use Rattle.dav_store.specs.Transfers.{Copies, Renames};
+ghost use Rattle.dav_store.specs.PropertyCalls.{GetsProp, GetsProps, PatchesProps, GetsQuota, IsWhole, name_of};
 
-use dav_resource::{DavFile, DavPath, DirEntry, FsResult, Meta, OpenOptions, Record};
+use dav_resource::{
+    DavFile, DavPath, DavProp, DirEntry, Element, FsResult, Meta, OpenOptions, Record,
+};
+use http::StatusCode;
 
 /// A store of resources, which keeps a log of its calls and may refuse any of them.
 ///
@@ -42,6 +47,18 @@ pub trait GuardedFileSystem<C> {
     fn remove_dir(&mut self, path: &DavPath, credentials: &C) -> FsResult<()>
         ensures { RemovesDir (seen self.old) path.now.key result (seen self.new) };
 
+    /// Copies a file to where a file or nothing is, with its properties, in the place of all that were there. Barred:
+    /// nothing is there to be copied (`NotFound`), the new place's parent is no directory (`NotFound`), or a
+    /// directory is to be copied or is in the new place (`Forbidden`).
+    fn copy(&mut self, from: &DavPath, to: &DavPath, credentials: &C) -> FsResult<()>
+        ensures { Copies (seen self.old) from.now.key to.now.key result (seen self.new) };
+
+    /// Moves what is there, with all below it and all properties, to where nothing is. Barred: nothing is there
+    /// to be moved (`NotFound`), it is the root (`Forbidden`), the new place is below it (`Forbidden`), something
+    /// is in the new place (`Exists`), or the new place's parent is no directory (`NotFound`).
+    fn rename(&mut self, from: &DavPath, to: &DavPath, credentials: &C) -> FsResult<()>
+        ensures { Renames (seen self.old) from.now.key to.now.key result (seen self.new) };
+
     /// Opens a file, with the place at its start, and makes or empties it where that is asked. Barred:
     /// something is there where a new file is to be made (`Exists`), a directory is there (`Forbidden`),
     /// or nothing is there and no file may be made (`NotFound`).
@@ -68,6 +85,34 @@ pub trait GuardedFileSystem<C> {
     /// What is known of an open file. Barred: the file isn't there (`NotFound`).
     fn file_metadata(&mut self, file: &DavFile, credentials: &C) -> FsResult<Meta>
         ensures { LooksAtFile (seen self.old) file.now.path.key result (seen self.new) };
+
+    /// The element of a dead property, which is sought by its namespace and its name. Barred: the property isn't
+    /// there (`NotFound`).
+    fn get_prop(&mut self, path: &DavPath, prop: &DavProp, credentials: &C) -> FsResult<Element>
+        ensures { GetsProp (seen self.old) path.now.key (name_of prop.now) result (seen self.new) };
+
+    /// All dead properties with their elements, each once. Barred: the store keeps no properties (`NotFound`), or
+    /// nothing is there (`NotFound`).
+    fn get_props(&mut self, path: &DavPath, credentials: &C) -> FsResult<Vec<DavProp>>
+        ensures { GetsProps (seen self.old) path.now.key result (seen self.new) };
+
+    /// Sets (`true`) or removes dead properties, in the given order, and answers the status of each change. Either
+    /// all are made, and each is answered 200, or none is, and not all are; that is recorded as refused with
+    /// `GeneralFailure`. Barred: the store keeps no properties (`NotFound`), or nothing is there (`NotFound`).
+    fn patch_props(
+        &mut self,
+        path: &DavPath,
+        patches: &[(bool, DavProp)],
+        credentials: &C,
+    ) -> FsResult<Vec<StatusCode>>
+        requires some { patches.now ≢ [] }
+        requires whole { All IsWhole patches.now }
+        ensures { PatchesProps (seen self.old) path.now.key patches.now result (seen self.new) };
+
+    /// How many bytes are used, and how many there are, where there is a limit (RFC 4331). Barred: there is no quota
+    /// (`NotImplemented`).
+    fn get_quota(&mut self, credentials: &C) -> FsResult<(u64, Option<u64>)>
+        ensures { GetsQuota (seen self.old) result (seen self.new) };
 
     /// Whether the store keeps dead properties. It leaves no record, and no call changes it.
     fn have_props(&self) -> bool

@@ -1,14 +1,13 @@
 //! What a store in memory keeps of a resource.
-ghost use Rattle.std.specs.Prelude.{◌≡◌, ◌<◌, ◌+◌, ◌^◌, IfOk, OnOk, OnErr, false, [], ◌++◌, ◌-◌, ◌≤◌, length, take, drop, replicate, string_bytes};
-ghost use Rattle.std.specs.Option.{option_copied, option_map, is_some};
-ghost use Rattle.dav_resource.specs.Texts.{texts};
+ghost use Rattle.std.specs.Prelude.{◌≡◌, ◌<◌, ◌+◌, ◌^◌, IfOk, OnOk, OnErr, false, [], ◌++◌, ◌-◌, ◌≤◌, length, take, drop, replicate, string_bytes, Vec};
+ghost use Rattle.std.specs.Option.{option_copied, option_map};
 ghost use Rattle.dav_store.specs.Store.{File, Directory};
 ghost use Rattle.dav_store.specs.Calls.{bytes_at, written_at};
-ghost use Rattle.dav_store.specs.Members.{name_in};
-ghost use Rattle.dav_store.specs.Memory.{has_key, is_directory, size_of, tag_text, meta_of, fresh, with_bytes};
-ghost use Rattle.dav_store.specs.Dump.{IsDumpOf};
+ghost use Rattle.dav_store.specs.Memory.{is_directory, size_of, tag_text, meta_of, fresh, with_bytes, with_properties};
+ghost use Rattle.dav_store.specs.Dump.{node_of};
 
-use dav_resource::{DavPath, DavProp, Meta, Text};
+use super::properties::Properties;
+use dav_resource::{Meta, Text};
 use std::alloc::{AllocError, Global};
 use std::marker::Model;
 
@@ -19,20 +18,25 @@ enum Resource {
     Directory,
 }
 
-/// A resource, the number of its last change, and the moments of its making and of its last change.
+/// A resource, the number of its last change, the moments of its making and of its last change, and its
+/// properties.
 #[derive(Debug, Drop)]
 pub struct Entry {
-    path: DavPath,
     resource: Resource,
     version: u64,
     created: u64,
     modified: u64,
+    properties: Properties,
 }
 
 impl Model for Entry {
     ghost use Rattle.dav_store.specs.Memory.{Stored};
 
     ghost Value = { Stored };
+
+    ghost use Rattle.dav_store.specs.Codes.{stored_code};
+
+    ghost coded = { stored_code };
 
     ghost use Rattle.dav_store.specs.Entry.{stored_of};
 
@@ -41,51 +45,29 @@ impl Model for Entry {
 
 impl Entry {
     /// A directory that is made at a moment.
-    pub fn directory(path: DavPath, version: u64, now: u64) -> Entry
-        ensures { result ≡ fresh path.key Directory version now }
+    pub fn directory(alloc: Global, version: u64, now: u64) -> Entry
+        ensures { result ≡ fresh Directory version now }
     {
         Entry {
-            path,
             resource: Resource::Directory,
             version,
             created: now,
             modified: now,
+            properties: Properties::new(alloc),
         }
     }
 
     /// An empty file that is made at a moment.
-    pub fn file(alloc: Global, path: DavPath, version: u64, now: u64) -> Entry
-        ensures { result ≡ fresh path.key (File []) version now }
+    pub fn file(alloc: Global, version: u64, now: u64) -> Entry
+        ensures { result ≡ fresh (File []) version now }
     {
         Entry {
-            path,
             resource: Resource::File(Vec::new(alloc)),
             version,
             created: now,
             modified: now,
+            properties: Properties::new(alloc),
         }
-    }
-
-    /// Whether it stands at this key.
-    pub fn has_key(&self, key: &[String]) -> bool
-        ensures { result ≡ has_key (texts key.now) self.now }
-    {
-        self.path.segments() == key
-    }
-
-    /// The last segment of its path, where it stands directly in this directory.
-    pub fn name_in(&self, directory: &[String]) -> Option<&String>
-        ensures { option_map string_bytes (option_copied result) ≡ name_in (texts directory.now) self.now.key }
-    {
-        let (name, above) = self.path.segments().split_last()?;
-        if above == directory { Some(name) } else { None }
-    }
-
-    /// Whether it stands directly in this directory.
-    pub fn is_in(&self, directory: &[String]) -> bool
-        ensures { result ≡ is_some (name_in (texts directory.now) self.now.key) }
-    {
-        self.name_in(directory).is_some()
     }
 
     /// Whether it is a directory.
@@ -106,6 +88,27 @@ impl Entry {
         }
     }
 
+    /// When it was made.
+    pub fn created(&self) -> u64
+        ensures { result ≡ self.now.created }
+    {
+        self.created
+    }
+
+    /// Its properties.
+    pub fn properties(&self) -> &Properties
+        ensures { result.now ≡ self.now.properties }
+    {
+        &self.properties
+    }
+
+    /// Gives it these properties in the place of its own.
+    pub fn set_properties(&mut self, properties: Properties)
+        ensures { self.new ≡ with_properties properties self.old }
+    {
+        self.properties = properties;
+    }
+
     /// What is known of it. Only memory can be lacking.
     pub fn meta(&self, alloc: Global) -> Result<Meta, AllocError>
         ensures { IfOk result (λ meta. meta ≡ meta_of self.now) }
@@ -123,20 +126,32 @@ impl Entry {
         })
     }
 
-    /// A copy: the path without prefix, and with a slash exactly for a directory, a file's bytes, and the
-    /// properties. Only memory can be lacking.
-    pub fn dump(
-        &self,
-        alloc: Global,
-    ) -> Result<(DavPath, Option<Vec<u8>>, Vec<DavProp>), AllocError>
-        ensures { IfOk result (λ dumped. IsDumpOf self.now dumped) }
+    /// A copy of a file's bytes; nothing of a directory. Only memory can be lacking.
+    pub fn bytes(&self) -> Result<Option<Vec<u8>>, AllocError>
+        ensures { IfOk result (λ bytes. node_of bytes ≡ self.now.node) }
     {
-        let path = self.path.resource_path(self.is_directory())?;
-        let bytes = match &self.resource {
-            Resource::File(bytes) => Some(bytes.clone()?),
-            Resource::Directory => None,
+        match &self.resource {
+            Resource::File(bytes) => Ok(Some(bytes.clone()?)),
+            Resource::Directory => Ok(None),
+        }
+    }
+
+    /// The same bytes and properties again, as they are made at a moment by a change of this number in the place
+    /// of what was made when `created` says. Only memory can be lacking.
+    pub fn copy(&self, created: u64, version: u64, now: u64) -> Result<Entry, AllocError>
+        ensures { IfOk result (λ copy. copy ≡ record self.now { version = version; created = created; modified = now }) }
+    {
+        let resource = match &self.resource {
+            Resource::File(bytes) => Resource::File(bytes.clone()?),
+            Resource::Directory => Resource::Directory,
         };
-        Ok((path, bytes, Vec::new(alloc)))
+        Ok(Entry {
+            resource,
+            version,
+            created,
+            modified: now,
+            properties: self.properties.clone()?,
+        })
     }
 
     /// Empties the file, by a change of this number at a moment.

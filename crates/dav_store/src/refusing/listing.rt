@@ -1,5 +1,5 @@
 //! What a plan leaves of a listing.
-ghost use Rattle.std.specs.Prelude.{◌≡◌, [], ◌∷◌, ◌++◌, IfOk, IfErr};
+ghost use Rattle.std.specs.Prelude.{◌≡◌, [], ◌∷◌, ◌++◌, IfOk, IfErr, Some};
 ghost use Rattle.dav_resource.specs.PathText.{IsSegment};
 ghost use Rattle.dav_store.specs.Members.{member};
 ghost use Rattle.dav_store.specs.Plans.{plan_of, refusal_for, without_first, refused_record, HaveSegmentNames, LetsThrough};
@@ -42,7 +42,8 @@ pub(super) fn refuse_members(
     Ok(unseen)
 }
 
-/// Takes the refusal for a member out of the plan, where there is one, and writes the member's record.
+/// Takes the refusal for a member out of the plan, where there is one, and writes the member's record. Where the plan is
+/// empty no memory is taken.
 fn refuse_member(
     path: &DavPath,
     plan: &mut Plan,
@@ -50,19 +51,22 @@ fn refuse_member(
     unseen: &mut Vec<Record>,
 ) -> FsResult<Option<FsError>>
     requires { IsSegment entry.now.name }
-    ensures error { IfOk result (λ error. error ≡ refusal_for Op.Entry (member path.now.key entry.now.name) (plan_of plan.old.refusals.items)) }
-    ensures left { IfOk result (λ error. plan_of plan.new.refusals.items ≡ without_first Op.Entry (member path.now.key entry.now.name) (plan_of plan.old.refusals.items)) }
+    ensures error { IfOk result (λ error. error ≡ refusal_for Op.Entry (Some (member path.now.key entry.now.name)) (plan_of plan.old.refusals.items)) }
+    ensures left { IfOk result (λ error. plan_of plan.new.refusals.items ≡ without_first Op.Entry (Some (member path.now.key entry.now.name)) (plan_of plan.old.refusals.items)) }
     ensures told { IfOk result (λ error. unseen.new.items ≡ unseen.old.items ++ refused_record path.now entry.now.name error) }
     ensures err { IfErr result (λ e. e ≡ FsError.Memory) }
 {
+    if plan.is_empty() {
+        return Ok(None);
+    }
     let alloc = *unseen.allocator();
     let mut member = path.clone()?;
     member.push_segment(entry.name.as_str())?;
-    let Some(error) = plan.take(Op::Entry, member.segments()) else {
-        return Ok(None);
-    };
     let mut paths = Vec::with_capacity(alloc, 1)?;
     paths.push(member)?;
+    let Some(error) = plan.take(Op::Entry, &paths) else {
+        return Ok(None);
+    };
     unseen.push(Record {
         op: Op::Entry,
         paths: Items::from_vec(paths),

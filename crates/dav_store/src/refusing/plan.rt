@@ -1,9 +1,8 @@
 //! The plan of a store that refuses by plan.
-ghost use Rattle.std.specs.Prelude.{◌≡◌, [], ◌∷◌, ◌++◌, All, IfOk, OnOk, OnErr, IfSome, position};
+ghost use Rattle.std.specs.Prelude.{◌≡◌, ◌↔◌, [], ◌∷◌, ◌++◌, All, IsTrue, IfOk, OnOk, OnErr, IfSome, position};
 ghost use Rattle.std.proofs.Props.{props};
-ghost use Rattle.dav_resource.specs.Texts.{texts};
 ghost use Rattle.dav_store.specs.Calls.{IsOwn};
-ghost use Rattle.dav_store.specs.Plans.{refuses, plan_of, refusal_for, without_first};
+ghost use Rattle.dav_store.specs.Plans.{first_key, refuses, plan_of, refusal_for, without_first};
 
 use dav_resource::{DavPath, FsError, Op};
 use std::alloc::{AllocError, Global};
@@ -13,18 +12,23 @@ use std::alloc::{AllocError, Global};
 pub struct Refusal {
     /// Which call; `Op::Entry` is the showing of a member in a listing.
     pub op: Op,
-    /// The call's first path, of which the key counts; of a call on an open file the file's.
+    /// The call's first path, of which the key counts; of a call on an open file the file's. Of `Op::GetQuota` any: the
+    /// call has no path.
     pub path: DavPath,
     /// What it is refused with.
     pub error: FsError,
 }
 
 impl Refusal {
-    /// Whether it is for a call of this kind on this key.
-    fn is_for(&self, op: Op, key: &[String]) -> bool
-        ensures { result ≡ refuses op (texts key.now) self.now }
+    /// Whether it is for a call of this kind on these paths.
+    fn is_for(&self, op: Op, paths: &[DavPath]) -> bool
+        ensures { result ≡ refuses op (first_key paths.now) self.now }
     {
-        self.op == op && self.path.segments() == key
+        self.op == op
+            && match paths.first() {
+                Some(path) => self.path.segments() == path.segments(),
+                None => true,
+            }
     }
 
     /// A value of the same contents. Only memory can be lacking.
@@ -39,7 +43,7 @@ impl Refusal {
     }
 }
 
-/// The calls that are to be refused, those of one kind on one key in their order.
+/// The calls that are to be refused by a plan, those of one kind on one key in their order.
 #[derive(Debug, Drop)]
 pub(crate) struct Plan {
     refusals: Vec<Refusal>,
@@ -65,15 +69,22 @@ impl Plan {
         Ok(())
     }
 
-    /// Takes the first refusal for a call of this kind on this key out, and gives its error.
-    pub(crate) fn take(&mut self, op: Op, key: &[String]) -> Option<FsError>
-        ensures error { result ≡ refusal_for op (texts key.now) (plan_of self.old.refusals.items) }
-        ensures left { plan_of self.new.refusals.items ≡ without_first op (texts key.now) (plan_of self.old.refusals.items) }
+    /// Takes the first refusal for a call of this kind on these paths out, and gives its error.
+    pub(crate) fn take(&mut self, op: Op, paths: &[DavPath]) -> Option<FsError>
+        ensures error { result ≡ refusal_for op (first_key paths.now) (plan_of self.old.refusals.items) }
+        ensures left { plan_of self.new.refusals.items ≡ without_first op (first_key paths.now) (plan_of self.old.refusals.items) }
         ensures own { IfSome result IsOwn }
     {
-        let index = index_for(&self.refusals, op, key)?;
+        let index = index_for(&self.refusals, op, paths)?;
         let refusal = self.refusals.remove(index);
         Some(refusal.error)
+    }
+
+    /// Whether nothing is to be refused.
+    pub(crate) fn is_empty(&self) -> bool
+        ensures { IsTrue result ↔ plan_of self.now.refusals.items ≡ [] }
+    {
+        self.refusals.is_empty()
     }
 
     /// The allocator that the refusals are kept by.
@@ -81,7 +92,7 @@ impl Plan {
         *self.refusals.allocator()
     }
 
-    /// A plan of the same refusals. Only memory can be lacking.
+    /// A plan of the same refusals. Only memory can be lacking, and of an empty plan none is taken.
     pub(crate) fn clone(&self) -> Result<Plan, AllocError>
         ensures { IfOk result (λ copy. copy.refusals.items ≡ self.now.refusals.items) }
     {
@@ -93,9 +104,11 @@ impl Plan {
     }
 }
 
-/// The place of the first refusal for a call of this kind on this key.
-fn index_for(refusals: &[Refusal], op: Op, key: &[String]) -> Option<usize>
-    ensures { result ≡ position (refuses op (texts key.now)) refusals.now }
+/// The place of the first refusal for a call of this kind on these paths.
+fn index_for(refusals: &[Refusal], op: Op, paths: &[DavPath]) -> Option<usize>
+    ensures { result ≡ position (refuses op (first_key paths.now)) refusals.now }
 {
-    refusals.iter().position(|refusal| refusal.is_for(op, key))
+    refusals
+        .iter()
+        .position(|refusal| refusal.is_for(op, paths))
 }

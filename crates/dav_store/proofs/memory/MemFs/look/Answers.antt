@@ -7,8 +7,8 @@ use Rattle.dav_store.proofs.memory.MemFs.look.Goals as goal
 
 pub returns-in_ok-meta-in-Some-clause-answer : goal.returns-in_ok-meta-in-Some-clause-answer
 returns-in_ok-meta-in-Some-clause-answer c =
-    gives-ok _ _ _ _ _ (ap metadata_bar (get-tree c.args.self.now.entries.items c.args.path.now.key ∙ ap (option_map node_in) (sym (rw (c.segments.ensures.value, c.deref.ensures.value) at c.in-Some.ensures)))) refl
+    gives-ok _ _ _ _ _ (ap metadata_bar (get-tree c.args.self.now.entries c.args.path.now.key ∙ ap (option_map node_in) (sym (rw c.segments.ensures.value at c.in-Some.ensures)))) refl
 
 pub returns-in-None-clause-answer : goal.returns-in-None-clause-answer
 returns-in-None-clause-answer c =
-    gives-error _ _ _ _ (ap metadata_bar (get-tree c.args.self.now.entries.items c.args.path.now.key ∙ ap (option_map node_in) (sym (rw (c.segments.ensures.value, c.deref.ensures.value) at c.in-None.ensures))))
+    gives-error _ _ _ _ (ap metadata_bar (get-tree c.args.self.now.entries c.args.path.now.key ∙ ap (option_map node_in) (sym (rw c.segments.ensures.value at c.in-None.ensures))))

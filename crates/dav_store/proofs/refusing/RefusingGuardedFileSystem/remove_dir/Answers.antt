@@ -1,17 +1,18 @@
-use Rattle.std.specs.FinMap.{get}
+use Rattle.std.proofs.Common.{[], ◌∷◌, ap}
+use Rattle.dav_resource.specs.declared.record.Record.{Record}
 use Rattle.dav_resource.specs.declared.record.Op.TheVariants.{RemoveDir}
-use Rattle.dav_store.specs.Members.{members, remove_dir_bar, IsRemovedAt}
+use Rattle.dav_store.proofs.CallsBehind.{removes_dir_call}
 use Rattle.dav_store.proofs.Refusals.{passes, lawful}
 use Rattle.dav_store.proofs.refusing.RefusingGuardedFileSystem.remove_dir.Goals as goal
 
 pub returns-clause-plan : goal.returns-clause-plan
 returns-clause-plan g c =
-    passes g.F.GuardedFileSystem.seen RemoveDir c.args.path.now (λ old. remove_dir_bar c.args.path.now.key (get old.tree c.args.path.now.key) (members old.tree c.args.path.now.key)) (λ _. IsRemovedAt c.args.path.now.key)
-    c.args.self.now c.begin.new.self c.finish.new.self c.remove_dir-answer.new.self c.in_ok-paths.paths c.last_outcome-outcome.result c.records.result.now c.remove_dir-answer.result c.finish.result
-    c.in_ok-paths.ensures.paths c.in_ok-paths.ensures.free c.in_ok-paths.ensures.kept c.remove_dir-answer.ensures
-    c.records.ensures c.last_outcome-outcome.ensures c.finish.ensures.answer c.finish.ensures.inner c.finish.ensures.plan c.finish.ensures.memory c.finish.ensures.told
+    passes g.F.GuardedFileSystem.seen RemoveDir (c.args.path.now ∷ []) (removes_dir_call c.args.path.now.key)
+    c.args.self.now c.begin.new.self c.finish.new.self c.remove_dir-answer.new.self c.in_ok-paths.paths (record c.in_ok-call.call { outcome = c.last_outcome-call.result }) c.last_outcome-call.result c.records.result.now c.remove_dir-answer.result c.finish.result
+    c.in_ok-paths.ensures c.in_ok-call.ensures.free c.in_ok-call.ensures.kept c.remove_dir-answer.ensures
+    (ap (λ (r : Record). record r { outcome = c.last_outcome-call.result }) c.in_ok-call.ensures.call) c.records.ensures c.last_outcome-call.ensures
+    c.finish.ensures.answer c.finish.ensures.inner c.finish.ensures.memory c.finish.ensures.counted c.finish.ensures.told
 
 pub returns-clause-seen : goal.returns-clause-seen
 returns-clause-seen g c =
-    lawful g.F.GuardedFileSystem.seen RemoveDir c.args.path.now (λ old. remove_dir_bar c.args.path.now.key (get old.tree c.args.path.now.key) (members old.tree c.args.path.now.key)) (λ _. IsRemovedAt c.args.path.now.key)
-    c.args.self.now c.finish.new.self c.finish.result c.args.self.now.plan.own (returns-clause-plan g c)
+    lawful g.F.GuardedFileSystem.seen RemoveDir (c.args.path.now ∷ []) (removes_dir_call c.args.path.now.key) c.args.self.now c.finish.new.self c.finish.result (returns-clause-plan g c)

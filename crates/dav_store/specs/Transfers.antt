@@ -1,0 +1,67 @@
+-- What the calls of a store do that copy a file, or rename what stands at a key (RFC 4918, sections 9.8 and 9.9).
+use Rattle.std.specs.Prelude.{◌≡◌, false, if◌then◌else◌, [], ◌∷◌, ◌++◌, Option, Some, None, Result}
+use Rattle.std.specs.FinMap.{FinMap, get, insert}
+use Rattle.dav_resource.specs.Key.{Key, key_cmp, parent}
+use Rattle.dav_resource.specs.declared.record.Op.TheVariants.{Copy, Rename}
+use Rattle.dav_resource.specs.declared.error.FsError.{FsError}
+use Rattle.dav_resource.specs.declared.error.FsError.TheVariants.{NotFound, Exists, Forbidden}
+use Rattle.dav_store.specs.Below.{is_at_or_below, is_below, put_at}
+use Rattle.dav_store.specs.Store.{Store, Contents, Node, File, Directory}
+use Rattle.dav_store.specs.Calls.{Call, Answers, limit_of, bytes_at}
+
+-- ---- copy
+
+-- a file is copied, below a directory, to where a file or nothing is
+abbrev pub copy_bar : Option Node → Option Node → Option Node → Option FsError
+copy_bar None there above = Some NotFound
+copy_bar (Some node) there None = Some NotFound
+copy_bar (Some node) there (Some (File bytes)) = Some NotFound
+copy_bar (Some Directory) there (Some Directory) = Some Forbidden
+copy_bar (Some (File bytes)) (Some Directory) (Some Directory) = Some Forbidden
+copy_bar (Some (File bytes)) (Some (File old)) (Some Directory) = None
+copy_bar (Some (File bytes)) None (Some Directory) = None
+
+abbrev pub copy_call : Contents → Key → Key → Call
+copy_call old from to = record { op = Copy; keys = from ∷ to ∷ []; bar = copy_bar (get old.tree from) (get old.tree to) (get old.tree (parent to)) }
+
+-- a file has the bytes of the other, and exactly its properties
+pub record IsCopiedTo (from to : Key) (old new : Contents) : Type 0 where
+  pub tree : new.tree ≡ insert old.tree to (File (bytes_at (get old.tree from)))
+  pub properties : new.properties ≡ put_at old.properties to (get old.properties from)
+  pub limit : limit_of new ≡ limit_of old
+
+abbrev pub Copies : Store → Key → Key → Result (Unit {0}) FsError → Store → Type 0
+Copies old from to = Answers (copy_call old.contents from to) (λ _. IsCopiedTo from to) old
+
+-- ---- rename
+
+-- nothing may stand there, and above it a directory has to
+abbrev pub place_bar : Option Node → Option Node → Option FsError
+place_bar (Some node) above = Some Exists
+place_bar None None = Some NotFound
+place_bar None (Some (File bytes)) = Some NotFound
+place_bar None (Some Directory) = None
+
+-- what is there and isn't the root goes to such a place, but not to one below itself
+abbrev pub rename_bar : Key → Key → Option Node → Option Node → Option Node → Option FsError
+rename_bar from to None there above = Some NotFound
+rename_bar [] to (Some node) there above = Some Forbidden
+rename_bar (segment ∷ from) to (Some node) there above = if is_below to (segment ∷ from) then Some Forbidden else place_bar there above
+
+abbrev pub rename_call : Contents → Key → Key → Call
+rename_call old from to = record { op = Rename; keys = from ∷ to ∷ []; bar = rename_bar from to (get old.tree from) (get old.tree to) (get old.tree (parent to)) }
+
+-- what stood at a key and below it stands at another and below that, and nothing else changes
+pub record IsMoved {X : Type 0} (from to : Key) (old new : FinMap key_cmp X) : Type 0 where
+  pub moved : (below : Key) → get new (to ++ below) ≡ get old (from ++ below)
+  pub gone : (below : Key) → get new (from ++ below) ≡ None
+  pub rest : (key : Key) → is_at_or_below key from ≡ false → is_at_or_below key to ≡ false → get new key ≡ get old key
+
+-- with the properties
+pub record IsRenamedTo (from to : Key) (old new : Contents) : Type 0 where
+  pub tree : IsMoved from to old.tree new.tree
+  pub properties : IsMoved from to old.properties new.properties
+  pub limit : limit_of new ≡ limit_of old
+
+abbrev pub Renames : Store → Key → Key → Result (Unit {0}) FsError → Store → Type 0
+Renames old from to = Answers (rename_call old.contents from to) (λ _. IsRenamedTo from to) old
