@@ -3,6 +3,14 @@ pub mod Bytes
 pub mod Sound
 pub mod Rows
 pub mod Answering
+pub mod Ascending
+pub mod Reached
+pub mod ByKeys
+pub mod LockRows
+pub mod LockFound
+pub mod Indexing
+pub mod CoveringNumbers
+pub mod LockLooks
 pub mod LockLists
 pub mod MemoryListings
 pub mod OrderedKeys

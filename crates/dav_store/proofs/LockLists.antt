@@ -1,5 +1,5 @@
 -- Lists of locks: what a filter and a new lock leave of their distinct tokens, what a new lock and a refreshed one leave of their standing together, and the place of a lock that is named.
-use Rattle.std.proofs.Common.{◌≡◌, ◌∙◌, ℕ, Bool, true, false, cond, not, List, [], ◌∷◌, ◌++◌, map, Option, Some, None, refl, sym, ap, subst, ◌&&◌, ◌||◌, ◌==◌, ◌<◌, ◌+◌, length, get_or, zero, suc, arith, bytes_eq}
+use Rattle.std.proofs.Common.{◌≡◌, ◌∙◌, ℕ, Bool, true, false, cond, not, List, [], ◌∷◌, ◌++◌, map, Option, Some, None, Result, Ok, Err, OnOk, OnErr, refl, sym, ap, subst, ◌&&◌, ◌||◌, ◌==◌, ◌<◌, ◌+◌, length, get_or, zero, suc, arith, bytes_eq}
 use Rattle.std.proofs.Math.ListN.{set}
 use Rattle.std.proofs.lemmas.List.{map-append}
 use Rattle.std.proofs.lemmas.Iterator.Adapters.{position_from-zero}
@@ -8,12 +8,14 @@ use Rattle.std.proofs.lemmas.Slice.Eq.{bytes_eq-Decides}
 use Rattle.std.proofs.lemmas.Bool.Decides.{nat_tests}
 use Rattle.std.proofs.lemmas.Cmp.{nat_list_eq_equiv}
 use Rattle.std.specs.Option.{option_map}
-use Rattle.std.specs.List.{IsDistinct, AllByRecursion, filter, find, list_any, position, position_from}
+use Rattle.std.specs.List.{IsDistinct, AllByRecursion, filter, find, list_any, position, position_from, remove}
 use Rattle.dav_resource.specs.Key.{Key}
 use Rattle.dav_store.specs.declared.lock.DavLock.{DavLock}
-use Rattle.dav_store.specs.Locks.{is_at_or_below, has_token, grants, AreCompatible}
-use Rattle.dav_store.specs.LockCalls.{HasDistinctTokens, is_named, has_named, refreshed, with_refreshed}
-use Rattle.dav_store.specs.LockLaws.{compatible_granted, compatible_with_refreshed}
+use Rattle.dav_store.specs.Locks.{is_at_or_below, at_or_below, elsewhere, has_token, grants, AreCompatible}
+use Rattle.dav_store.specs.LockCalls.{HasDistinctTokens, is_named, has_named, without_named, refreshed, with_refreshed}
+use Rattle.dav_store.specs.LockLaws.{compatible_filtered, compatible_granted, compatible_with_refreshed}
+use Rattle.dav_store.specs.LockIndex.{StandsBelow}
+use Rattle.dav_store.proofs.Reached.{bytes_eq-sym}
 
 -- ---- filters
 
@@ -168,3 +170,93 @@ pub found-refreshed : (key : Key) (token : List ℕ) (timeout : Option ℕ) (now
     → option_map (refreshed timeout now) (find (is_named key token) locks) ≡ Some lock
 found-refreshed key token timeout now locks i d copy lock place read same is =
     ap (option_map (refreshed timeout now)) (place.found d) ∙ ap (λ l. Some (refreshed timeout now l)) (sym read ∙ sym same) ∙ ap Some (sym is)
+
+-- ---- a lock that is removed
+
+other_token : (P : List ℕ → Type 0) (locks : List DavLock) (i : ℕ) (d : DavLock) → AllByRecursion P (map token_of locks) → i < length locks → P (token_of (get_or locks i d))
+other_token P [] i d a inside = absurd (omega arith)
+other_token P (lock ∷ locks) zero d a inside = a.0
+other_token P (lock ∷ locks) (suc i) d a inside = other_token P locks i d a.1 (omega arith)
+
+kept_all : (token : List ℕ) (locks : List DavLock) → AllByRecursion (λ t. bytes_eq token t ≡ false) (map token_of locks) → filter (λ l. not (has_token token l)) locks ≡ locks
+kept_all token [] a = refl
+kept_all token (lock ∷ locks) a = ap (λ b. cond (not b) (lock ∷ filter (λ l. not (has_token token l)) locks) (filter (λ l. not (has_token token l)) locks)) a.0 ∙ ap (λ more. lock ∷ more) (kept_all token locks a.1)
+
+remove_filter : (locks : List DavLock) (i : ℕ) (d : DavLock) → HasDistinctTokens locks → i < length locks → remove locks i ≡ filter (λ l. not (has_token (token_of (get_or locks i d)) l)) locks
+remove_filter [] i d distinct inside = absurd (omega arith)
+remove_filter (lock ∷ locks) zero d distinct inside =
+    sym (ap (λ b. cond (not b) (lock ∷ filter (λ l. not (has_token lock.token l)) locks) (filter (λ l. not (has_token lock.token l)) locks)) ((bytes_eq-Decides lock.token lock.token).1 refl) ∙ kept_all lock.token locks (IsDistinct-head bytes_eq lock.token (map token_of locks) distinct))
+remove_filter (lock ∷ locks) (suc i) d distinct inside =
+    let token : List ℕ = token_of (get_or locks i d) in
+    let apart : bytes_eq token lock.token ≡ false = bytes_eq-sym token lock.token ∙ other_token (λ t. bytes_eq lock.token t ≡ false) locks i d (IsDistinct-head bytes_eq lock.token (map token_of locks) distinct) (omega arith) in
+    ap (λ more. lock ∷ more) (remove_filter locks i d (IsDistinct-tail bytes_eq lock.token (map token_of locks) distinct) (omega arith))
+    ∙ sym (ap (λ b. cond (not b) (lock ∷ filter (λ l. not (has_token token l)) locks) (filter (λ l. not (has_token token l)) locks)) apart)
+
+pub distinct-remove : (locks : List DavLock) (i : ℕ) → HasDistinctTokens locks → i < length locks → HasDistinctTokens (remove locks i)
+distinct-remove [] i distinct inside = absurd (omega arith)
+distinct-remove (lock ∷ locks) i distinct inside = subst HasDistinctTokens (sym (remove_filter (lock ∷ locks) i lock distinct inside)) (distinct-filter (λ l. not (has_token (token_of (get_or (lock ∷ locks) i lock)) l)) (lock ∷ locks) distinct)
+
+pub compatible-remove : (locks : List DavLock) (i : ℕ) → HasDistinctTokens locks → i < length locks → AreCompatible locks → AreCompatible (remove locks i)
+compatible-remove [] i distinct inside together = absurd (omega arith)
+compatible-remove (lock ∷ locks) i distinct inside together = subst AreCompatible (sym (remove_filter (lock ∷ locks) i lock distinct inside)) (compatible_filtered (λ l. not (has_token (token_of (get_or (lock ∷ locks) i lock)) l)) (lock ∷ locks) together)
+
+others_stay : (key : Key) (token : List ℕ) (locks : List DavLock) → AllByRecursion (λ t. bytes_eq token t ≡ false) (map token_of locks) → without_named key token locks ≡ locks
+others_stay key token [] h = refl
+others_stay key token (lock ∷ locks) h =
+    ap (λ b. cond (not (b && is_at_or_below key lock.path.key)) (lock ∷ without_named key token locks) (without_named key token locks)) h.0
+    ∙ ap (λ more. lock ∷ more) (others_stay key token locks h.1)
+
+-- what the place of a named lock says: without the lock, none is left that is named
+without_from : (key : Key) (token : List ℕ) (locks : List DavLock) → HasDistinctTokens locks → (n i : ℕ) → position_from (is_named key token) n locks ≡ Some i
+    → (j : ℕ) × (i ≡ n + j) × (j < length locks) × (without_named key token locks ≡ remove locks j) × (has_named key token locks ≡ true)
+without_from key token [] distinct n i e = absurd cc
+without_from key token (lock ∷ locks) distinct n i e =
+    elim (is_named key token lock) as (λ b. is_named key token lock ≡ b → cond b (Some n) (position_from (is_named key token) (n + 1) locks) ≡ Some i → (j : ℕ) × (i ≡ n + j) × (j < length (lock ∷ locks)) × (cond (not b) (lock ∷ without_named key token locks) (without_named key token locks) ≡ remove (lock ∷ locks) j) × ((b || has_named key token locks) ≡ true)) [
+      | true ↦ λ t e. (
+        zero,
+        (let same : n ≡ i = cc in omega arith),
+        omega arith,
+        others_stay key token locks (let P : List ℕ → Type 0 = λ k. AllByRecursion (λ other. bytes_eq k other ≡ false) (map token_of locks) in
+            subst P (sym (has_it token lock (is_at_or_below key lock.path.key) t)) (IsDistinct-head bytes_eq lock.token (map token_of locks) distinct)),
+        refl,
+      )
+      | false ↦ λ t e. one_on (without_from key token locks (IsDistinct-tail bytes_eq lock.token (map token_of locks) distinct) (n + 1) i e)
+    ] refl e
+  where
+    one_on : (j : ℕ) × (i ≡ n + 1 + j) × (j < length locks) × (without_named key token locks ≡ remove locks j) × (has_named key token locks ≡ true) → (j : ℕ) × (i ≡ n + j) × (j < length (lock ∷ locks)) × (lock ∷ without_named key token locks ≡ remove (lock ∷ locks) j) × (has_named key token locks ≡ true)
+    one_on (j, at, inside, rest, has) = (suc j, omega arith, omega arith, ap (λ more. lock ∷ more) rest, has)
+
+pub record LeavesOthers (key : Key) (token : List ℕ) (locks : List DavLock) (i : ℕ) : Type 0 where
+  pub inside : i < length locks
+  pub rest : without_named key token locks ≡ remove locks i
+  pub has : has_named key token locks ≡ true
+
+pub named_removed : (key : Key) (token : List ℕ) (locks : List DavLock) (r : Option ℕ) (i : ℕ) → HasDistinctTokens locks → r ≡ position (is_named key token) locks → r ≡ Some i → LeavesOthers key token locks i
+named_removed key token locks r i distinct is e =
+    let (j, at, inside, rest, has) = without_from key token locks distinct zero i (sym (position_from-zero (is_named key token) locks) ∙ sym is ∙ e) in
+    subst (LeavesOthers key token locks) (let back : j ≡ i = omega arith in back) (record { inside = inside; rest = rest; has = has })
+
+-- ---- the locks at a key or below it
+
+pub elsewhere-remove : (key : Key) (locks : List DavLock) (i : ℕ) (d : DavLock) → i < length locks → is_at_or_below (get_or locks i d).path.key key ≡ true → elsewhere (remove locks i) key ≡ elsewhere locks key
+elsewhere-remove key [] i d inside below = absurd (omega arith)
+elsewhere-remove key (lock ∷ locks) zero d inside below = sym (ap (λ b. cond (not b) (lock ∷ elsewhere locks key) (elsewhere locks key)) below)
+elsewhere-remove key (lock ∷ locks) (suc i) d inside below = ap (λ more. cond (not (is_at_or_below lock.path.key key)) (lock ∷ more) more) (elsewhere-remove key locks i d (omega arith) below)
+
+pub elsewhere-all : (key : Key) (locks : List DavLock) → at_or_below locks key ≡ [] → elsewhere locks key ≡ locks
+elsewhere-all key [] none = refl
+elsewhere-all key (lock ∷ locks) none =
+    elim (is_at_or_below lock.path.key key) as (λ b. cond b (lock ∷ at_or_below locks key) (at_or_below locks key) ≡ [] → cond (not b) (lock ∷ elsewhere locks key) (elsewhere locks key) ≡ lock ∷ locks) [
+      | true ↦ λ e. absurd cc
+      | false ↦ λ e. ap (λ more. lock ∷ more) (elsewhere-all key locks e)
+    ] none
+
+pub removed_below : (key : Key) (locks : List DavLock) (i : ℕ) → StandsBelow locks key i → elsewhere (remove locks i) key ≡ elsewhere locks key
+removed_below key [] i at = absurd (let h = at.inside in omega arith)
+removed_below key (lock ∷ locks) i at = elsewhere-remove key (lock ∷ locks) i lock at.inside (at.below lock)
+
+-- ---- a call that may lack memory
+
+pub either_way : {A E : Type 0} (r : Result A E) (P : List DavLock → Type 0) (old new : List DavLock) (lock : DavLock) → OnOk r (new ≡ old ++ lock ∷ []) → OnErr r (new ≡ old) → P (old ++ lock ∷ []) → P old → P new
+either_way (Ok a) P old new lock ok err more same = subst P (sym ok) more
+either_way (Err e) P old new lock ok err more same = subst P (sym err) same

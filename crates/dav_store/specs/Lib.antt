@@ -28,4 +28,7 @@ pub mod Lawful
 pub mod Locks
 pub mod LockCalls
 pub mod LockLaws
+pub mod Numbers
+pub mod ByKey
+pub mod LockIndex
 pub mod MemLs

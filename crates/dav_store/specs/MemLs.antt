@@ -6,7 +6,7 @@ use Rattle.dav_store.specs.declared.memory_locks.MemLs.{MemLs}
 
 -- its locks, the oldest first
 abbrev pub list_of : MemLs → List DavLock
-list_of system = system.locks.items
+list_of system = system.locks.locks.items
 
 -- as the engine sees it
 abbrev pub locks_of : MemLs → Locks

@@ -6,19 +6,32 @@ ghost use Rattle.dav_store.specs.LockCalls.{HasDistinctTokens, RemovesLock, has_
 ghost use Rattle.std.proofs.Props.{props};
 ghost use Rattle.std.specs.List.{IsDistinct-prop};
 
+mod by_key;
+mod index;
+mod indexed;
 mod list;
+mod numbers;
 
 use crate::lock::{clone_owner, timeout_end};
 use crate::{DavLock, DavLockSystem, LockError};
 use dav_resource::{DavPath, Element, Items, Text};
+use indexed::IndexedLocks;
 use std::alloc::{AllocError, Global};
 
 /// A lock system in memory. It is dependable, and `unlock` and `delete` take no memory.
+///
+/// A call looks at the locks at its path, above it or below it alone, however many are held elsewhere: hash
+/// maps lead from a token and from keys to the locks. `check`, `lock` and `discover` take a look for the path and
+/// for each above it, down to the first without a lock at or below it, and then the time to judge the locks
+/// found; `unlock` and `refresh` a look for the token. `unlock`, and `delete` for each lock, newest first, move
+/// those newer than the lock by a place. `lock` takes memory for the lock, for its token and a number once more,
+/// and for the key of its path and of each above it, where no lock stands there or below. Where the newest lock
+/// has the greatest `u64` as its number (each is one above that of the newest held), `lock` answers `Memory`.
 #[derive(Debug, Drop)]
 pub struct MemLs {
-    locks: Vec<DavLock>,
-    ghost distinct_tokens: { HasDistinctTokens locks.items } by { Prim.hlevel (props, IsDistinct-prop) },
-    ghost compatible: { AreCompatible locks.items } by { Prim.hlevel props },
+    locks: IndexedLocks,
+    ghost distinct_tokens: { HasDistinctTokens locks.locks.items } by { Prim.hlevel (props, IsDistinct-prop) },
+    ghost compatible: { AreCompatible locks.locks.items } by { Prim.hlevel props },
 }
 
 impl MemLs {
@@ -29,7 +42,7 @@ impl MemLs {
         ensures { list_of result ≡ [] }
     {
         MemLs {
-            locks: Vec::new(alloc),
+            locks: IndexedLocks::new(alloc),
         }
     }
 
@@ -39,7 +52,7 @@ impl MemLs {
         ensures value { result.now ≡ list_of self.now }
         ensures compatible { AreCompatible (list_of self.now) }
     {
-        &self.locks
+        self.locks.as_slice()
     }
 }
 
@@ -74,7 +87,7 @@ impl DavLockSystem for MemLs {
         token: &str,
         now: u64,
     ) -> Result<DavLock, LockError> {
-        let alloc = *self.locks.allocator();
+        let alloc = self.locks.allocator();
         let lock = DavLock {
             token: Text::from_string(String::from_str(alloc, token)?),
             path: path.clone()?,
@@ -98,10 +111,10 @@ impl DavLockSystem for MemLs {
         ensures err { OnErr result (locks_of self.new ≡ locks_of self.old) }
         ensures cause { IfErr result (λ e. (e ≡ LockError.NotFound) × (has_named path.now.key token.now (list_of self.old) ≡ false)) }
     {
-        if !list::has_named(&self.locks, path, token) {
+        let Some(place) = self.locks.named(path, token) else {
             return Err(LockError::NotFound);
-        }
-        list::remove_named(&mut self.locks, path, token);
+        };
+        self.locks.remove(place);
         Ok(())
     }
 
@@ -112,17 +125,17 @@ impl DavLockSystem for MemLs {
         timeout: Option<u64>,
         now: u64,
     ) -> Result<DavLock, LockError> {
-        let Some(index) = list::named_index(&self.locks, path, token) else {
+        let Some(place) = self.locks.named(path, token) else {
             return Err(LockError::NotFound);
         };
-        let mut copy = self.locks[index].clone()?;
+        let mut copy = self.locks.as_slice()[place].clone()?;
         copy.refresh(timeout, now);
-        self.locks[index].refresh(timeout, now);
+        self.locks.refresh(place, timeout, now);
         Ok(copy)
     }
 
     fn discover(&self, path: &DavPath) -> Result<Items<DavLock>, LockError> {
-        let found = list::copy_covering(*self.locks.allocator(), &self.locks, path)?;
+        let found = self.locks.covering(path)?;
         Ok(Items::from_vec(found))
     }
 
@@ -130,7 +143,9 @@ impl DavLockSystem for MemLs {
         ensures removed { RemovesLocks path.now.key (locks_of self.old) (locks_of self.new) }
         ensures ok { result ≡ Ok tt }
     {
-        list::remove_below(&mut self.locks, path);
+        while let Some(last) = self.locks.last_below(path) {
+            self.locks.remove(last);
+        }
         Ok(())
     }
 }

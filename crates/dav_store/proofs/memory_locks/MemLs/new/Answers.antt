@@ -3,4 +3,4 @@ use Rattle.dav_store.proofs.LockLists.{distinct-none}
 use Rattle.dav_store.proofs.memory_locks.MemLs.new.Goals as goal
 
 pub invariant_of-result : goal.invariant_of-result
-invariant_of-result c = record { distinct_tokens = rw c.new.ensures.items distinct-none; compatible = rw c.new.ensures.items refl }
+invariant_of-result c = record { distinct_tokens = rw c.new.ensures distinct-none; compatible = rw c.new.ensures refl }
