@@ -111,7 +111,7 @@ fn is_qualified_name(text: &str) -> bool
 }
 
 /// Whether a text may stand as a name: it isn't empty, and each of its bytes may stand in one.
-fn is_name(text: &str) -> bool
+pub fn is_name(text: &str) -> bool
     ensures { result ≡ is_name text.now }
 {
     !text.is_empty() && has_name_bytes_alone(text.as_bytes())

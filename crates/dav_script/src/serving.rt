@@ -78,6 +78,12 @@ impl<'a> Session<'a> {
         self.store.inner_mut().set_now(now);
     }
 
+    /// Begins anew with another store, which refuses nothing. The moment and the locks stay.
+    pub fn set_store(&mut self, alloc: Global, mut store: MemFs) {
+        store.set_now(self.now);
+        self.store = Refusing::new(alloc, store, Vec::new(alloc));
+    }
+
     /// Plans a refusal, behind those that are planned and not used. Only memory can be lacking.
     pub fn plan(&mut self, refusal: PlannedRefusal) -> Result<(), Stopped> {
         let PlannedRefusal { op, path, error } = refusal;

@@ -1,11 +1,16 @@
 //! A line that calls the store or the lock system itself.
+use crate::change::read_changes;
 use crate::lock_call::LockCall;
+use crate::new_store::NewStore;
+use crate::numbered::NumberedRefusal;
 use crate::records::print_records;
 use crate::store_call::StoreCall;
 use dav_headers::read_number;
-use dav_resource::{DavFile, Element};
-use dav_script::{Fault, LineError, PlannedRefusal, Session, Stopped, outline, read_refusal};
-use std::alloc::{AllocError, Global};
+use dav_resource::{DavFile, DavPath, Element};
+use dav_script::{
+    Fault, LineError, PlannedRefusal, Session, Stopped, outline, read_path, read_refusal,
+};
+use std::alloc::Global;
 use std::io::Write;
 
 /// A line of a block of calls.
@@ -14,6 +19,37 @@ pub struct CallLine {
     /// The line as it is written, without its mark.
     text: String,
     call: Call,
+}
+
+/// A line that an outline follows.
+#[derive(Drop)]
+pub struct Heading {
+    /// The line as it is written, without its mark.
+    text: String,
+    calls: Outlined,
+}
+
+/// What a line asks for that an outline follows.
+#[derive(Drop)]
+enum Outlined {
+    /// The outline of its tree.
+    Tree,
+    /// The changes that it shows, of the properties of this path.
+    Patch(DavPath),
+}
+
+impl Heading {
+    /// Reads a line without its mark; none where no outline follows it.
+    pub fn read(alloc: Global, line: &str) -> Result<Option<Heading>, LineError> {
+        let (name, value) = line.split_once(' ').unwrap_or((line, ""));
+        let calls = match name {
+            "xml" if line == name => Outlined::Tree,
+            "patch_props" => Outlined::Patch(read_path(alloc, value)?),
+            _ => return Ok(None),
+        };
+        let text = String::from_str(alloc, line)?;
+        Ok(Some(Heading { text, calls }))
+    }
 }
 
 /// What a line asks for.
@@ -25,6 +61,10 @@ enum Call {
     Now(u64),
     /// One more refusal of the store's plan.
     Refuse(PlannedRefusal),
+    /// The refusal of a call by its number.
+    RefuseCall(NumberedRefusal),
+    /// Another store from now on.
+    Anew(NewStore),
     /// The outline of this tree.
     Tree(Element),
 }
@@ -39,12 +79,20 @@ impl CallLine {
         })
     }
 
-    /// The line that shows a tree.
-    pub fn of_tree(alloc: Global, tree: Element) -> Result<CallLine, AllocError> {
-        Ok(CallLine {
-            text: String::from_str(alloc, "xml")?,
-            call: Call::Tree(tree),
-        })
+    /// The line of this heading, with the tree of the outline that follows it.
+    pub fn of_outline(
+        alloc: Global,
+        heading: Heading,
+        tree: Element,
+    ) -> Result<CallLine, LineError> {
+        let Heading { text, calls } = heading;
+        let call = match calls {
+            Outlined::Tree => Call::Tree(tree),
+            Outlined::Patch(path) => {
+                Call::Store(StoreCall::PatchProps(path, read_changes(alloc, tree)?))
+            }
+        };
+        Ok(CallLine { text, call })
     }
 
     /// Makes the call, and prints the line, what is answered, and the records that the call left. Calls on an open
@@ -63,6 +111,11 @@ impl CallLine {
             Call::Locks(call) => call.make(alloc, session, output)?,
             Call::Now(now) => session.set_now(now),
             Call::Refuse(refusal) => session.plan(refusal)?,
+            Call::RefuseCall(refusal) => refusal.plan(&mut session.store),
+            Call::Anew(store) => {
+                session.set_store(alloc, store.make(alloc)?);
+                *file = None;
+            }
             Call::Tree(tree) => output.write_all(outline(alloc, &tree)?.as_bytes())?,
         }
         print_records(alloc, output, &mut session.store)
@@ -74,12 +127,16 @@ fn read_call(alloc: Global, name: &str, value: &str) -> Result<Call, LineError> 
     match name {
         "now" => Ok(Call::Now(read_number(value).ok_or(Fault::BadValue)?)),
         "refuse" => Ok(Call::Refuse(read_refusal(alloc, value)?)),
+        "refuse_call" => Ok(Call::RefuseCall(NumberedRefusal::read(value)?)),
         _ => read_other(alloc, name, value),
     }
 }
 
-/// The call of this name of the store, or of the lock system.
+/// The new store of this name, or the call of the store or of the lock system.
 fn read_other(alloc: Global, name: &str, value: &str) -> Result<Call, LineError> {
+    if let Some(store) = NewStore::read(name, value)? {
+        return Ok(Call::Anew(store));
+    }
     if let Some(call) = StoreCall::read(alloc, name, value)? {
         return Ok(Call::Store(call));
     }

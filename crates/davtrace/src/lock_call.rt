@@ -1,5 +1,5 @@
 //! Calls of the lock system.
-use crate::store_call::print_word;
+use crate::answers::print_word;
 use dav_headers::read_number;
 use dav_resource::{DavPath, Text};
 use dav_script::{Fault, LineError, Session, Stopped, lock_text, read_path};

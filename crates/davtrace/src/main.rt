@@ -2,8 +2,13 @@
 //! left in the store's log; its scripts may also call the store and the lock system themselves. It serves the tests.
 #![tactic(auto)]
 
+mod answers;
 mod call;
+mod change;
 mod lock_call;
+mod new_store;
+mod numbered;
+mod property;
 mod records;
 mod store_call;
 mod trace;

@@ -1,9 +1,15 @@
 //! Calls of the store.
+use crate::answers::{
+    print_done, print_element, print_listing, print_meta, print_properties, print_quota,
+    print_statuses, print_word,
+};
+use crate::change::{Change, patches_of};
+use crate::property::read_property;
 use dav_headers::read_number;
-use dav_resource::{DavFile, DavPath, DirEntry, FsError, FsResult, Meta, OpenOptions};
-use dav_script::{Fault, LineError, Stopped, error_name, read_path, unescape};
+use dav_resource::{DavFile, DavPath, DavProp, FsError, FsResult, OpenOptions};
+use dav_script::{Fault, LineError, Stopped, read_path, unescape};
 use dav_store::{GuardedFileSystem, MemFs, Refusing};
-use std::alloc::{AllocError, Global};
+use std::alloc::Global;
 use std::io::Write;
 
 type Store = Refusing<MemFs>;
@@ -16,16 +22,22 @@ pub enum StoreCall {
     CreateDir(DavPath),
     RemoveFile(DavPath),
     RemoveDir(DavPath),
+    Copy(DavPath, DavPath),
+    Rename(DavPath, DavPath),
     Open(DavPath, OpenOptions),
     Seek(u64),
     WriteBytes(Vec<u8>),
     Flush,
     FileMetadata,
+    GetProp(DavPath, DavProp),
+    GetProps(DavPath),
+    PatchProps(DavPath, Vec<Change>),
+    GetQuota,
     HaveProps,
 }
 
 impl StoreCall {
-    /// Reads the call of this name; none where the store has no such call.
+    /// Reads the call of this name; none where the store has no such call, or one that an outline follows.
     pub fn read(alloc: Global, name: &str, value: &str) -> Result<Option<StoreCall>, LineError> {
         let call = match name {
             "metadata" => StoreCall::Metadata(read_path(alloc, value)?),
@@ -33,11 +45,22 @@ impl StoreCall {
             "create_dir" => StoreCall::CreateDir(read_path(alloc, value)?),
             "remove_file" => StoreCall::RemoveFile(read_path(alloc, value)?),
             "remove_dir" => StoreCall::RemoveDir(read_path(alloc, value)?),
+            "copy" => {
+                let (from, to) = read_two_paths(alloc, value)?;
+                StoreCall::Copy(from, to)
+            }
+            "rename" => {
+                let (from, to) = read_two_paths(alloc, value)?;
+                StoreCall::Rename(from, to)
+            }
             "open" => read_open(alloc, value)?,
             "seek" => StoreCall::Seek(read_number(value).ok_or(Fault::BadValue)?),
             "write_bytes" => StoreCall::WriteBytes(unescape(alloc, value.as_bytes())?),
             "flush" if value.is_empty() => StoreCall::Flush,
             "file_metadata" if value.is_empty() => StoreCall::FileMetadata,
+            "get_prop" => read_get_prop(alloc, value)?,
+            "get_props" => StoreCall::GetProps(read_path(alloc, value)?),
+            "get_quota" if value.is_empty() => StoreCall::GetQuota,
             "have_props" if value.is_empty() => StoreCall::HaveProps,
             _ => return Ok(None),
         };
@@ -58,9 +81,19 @@ impl StoreCall {
             StoreCall::CreateDir(path) => print_done(output, store.create_dir(&path, &())),
             StoreCall::RemoveFile(path) => print_done(output, store.remove_file(&path, &())),
             StoreCall::RemoveDir(path) => print_done(output, store.remove_dir(&path, &())),
+            StoreCall::Copy(from, to) => print_done(output, store.copy(&from, &to, &())),
+            StoreCall::Rename(from, to) => print_done(output, store.rename(&from, &to, &())),
             StoreCall::Open(path, options) => {
                 print_done(output, open(store, &path, &options, file))
             }
+            StoreCall::GetProp(path, property) => {
+                print_element(alloc, output, store.get_prop(&path, &property, &()))
+            }
+            StoreCall::GetProps(path) => {
+                print_properties(alloc, output, store.get_props(&path, &()))
+            }
+            StoreCall::PatchProps(path, changes) => patch(alloc, store, &path, changes, output),
+            StoreCall::GetQuota => print_quota(output, store.get_quota(&())),
             StoreCall::HaveProps => print_word(output, GuardedFileSystem::<()>::have_props(store)),
             on_file => match file {
                 Some(file) => on_file.make_on(alloc, store, file, output),
@@ -86,6 +119,22 @@ impl StoreCall {
         let place = file.pos;
         Ok(writeln!(output, "place {place}")?)
     }
+}
+
+/// Reads `FROM TO`.
+fn read_two_paths(alloc: Global, value: &str) -> Result<(DavPath, DavPath), LineError> {
+    let words: Vec<&str> = value.split(' ').collect(alloc)?;
+    let [from, to] = words.as_slice() else {
+        return Err(Fault::BadValue.into());
+    };
+    Ok((read_path(alloc, from)?, read_path(alloc, to)?))
+}
+
+/// Reads `PATH NAME`.
+fn read_get_prop(alloc: Global, value: &str) -> Result<StoreCall, LineError> {
+    let (path, name) = value.split_once(' ').ok_or(Fault::BadValue)?;
+    let path = read_path(alloc, path)?;
+    Ok(StoreCall::GetProp(path, read_property(alloc, name)?))
 }
 
 /// Reads `PATH OPTION ..`.
@@ -131,95 +180,17 @@ fn write(store: &mut Store, file: &mut DavFile, bytes: &[u8]) -> FsResult<()> {
     store.write_bytes(file, bytes, &())
 }
 
-/// Prints `ok`, or the error's name.
-fn print_done<O: Write>(output: &mut O, answer: FsResult<()>) -> Result<(), Stopped> {
-    let word = match answer {
-        Ok(()) => "ok",
-        Err(error) => error_name(error),
-    };
-    Ok(writeln!(output, "{word}")?)
-}
-
-/// Prints `yes` or `no`.
-pub fn print_word<O: Write>(output: &mut O, holds: bool) -> Result<(), Stopped> {
-    let word = if holds { "yes" } else { "no" };
-    Ok(writeln!(output, "{word}")?)
-}
-
-/// Prints what is known of a resource, or the error's name.
-fn print_meta<O: Write>(
+/// Changes properties, and prints what is answered. Without a change no store is asked.
+fn patch<O: Write>(
     alloc: Global,
+    store: &mut Store,
+    path: &DavPath,
+    changes: Vec<Change>,
     output: &mut O,
-    answer: FsResult<Meta>,
 ) -> Result<(), Stopped> {
-    match answer {
-        Ok(meta) => {
-            let text = meta_text(alloc, &meta)?;
-            Ok(writeln!(output, "{text}")?)
-        }
-        Err(error) => print_done(output, Err(error)),
+    let patches = patches_of(alloc, changes)?;
+    if patches.is_empty() {
+        return Ok(output.write_all(b"no change\n")?);
     }
-}
-
-/// Prints a line for each member, or the error's name.
-fn print_listing<O: Write>(
-    alloc: Global,
-    output: &mut O,
-    answer: FsResult<Vec<FsResult<DirEntry>>>,
-) -> Result<(), Stopped> {
-    match answer {
-        Ok(members) => {
-            for member in members {
-                print_member(alloc, output, member)?;
-            }
-            print_done(output, Ok(()))
-        }
-        Err(error) => print_done(output, Err(error)),
-    }
-}
-
-/// Prints a member's name and what is known of it, or `refused` and the error's name.
-fn print_member<O: Write>(
-    alloc: Global,
-    output: &mut O,
-    member: FsResult<DirEntry>,
-) -> Result<(), Stopped> {
-    match member {
-        Ok(entry) => {
-            let name = entry.name.as_str();
-            let meta = meta_text(alloc, &entry.meta)?;
-            Ok(writeln!(output, "{name} {meta}")?)
-        }
-        Err(error) => {
-            let name = error_name(error);
-            Ok(writeln!(output, "refused {name}")?)
-        }
-    }
-}
-
-/// What is known of a resource: its kind, its length, its tag in quotes, and its moments.
-fn meta_text(alloc: Global, meta: &Meta) -> Result<String, AllocError> {
-    let kind = if meta.dir { "directory" } else { "file" };
-    let len = meta.len;
-    let mut text = format!(in alloc; "{kind} {len}")?;
-    if let Some(tag) = &meta.etag {
-        let tag = tag.as_str();
-        write!(text, " \"{tag}\"")?;
-    }
-    push_moment(&mut text, "created", meta.created)?;
-    push_moment(&mut text, "modified", meta.modified)?;
-    push_moment(&mut text, "accessed", meta.accessed)?;
-    push_moment(&mut text, "status changed", meta.status_changed)?;
-    if let Some(executable) = meta.executable {
-        write!(text, " executable {executable}")?;
-    }
-    Ok(text)
-}
-
-/// Adds a moment, where it is known.
-fn push_moment(text: &mut String, name: &str, moment: Option<u64>) -> Result<(), AllocError> {
-    if let Some(moment) = moment {
-        write!(text, " {name} {moment}")?;
-    }
-    Ok(())
+    print_statuses(output, store.patch_props(path, &patches, &()))
 }

@@ -1,5 +1,5 @@
 //! A script of requests and of calls, in order.
-use crate::call::CallLine;
+use crate::call::{CallLine, Heading};
 use crate::records::print_records;
 use dav_script::{
     Block, BlockReader, Fault, LineError, OutlineReader, Script, ScriptError, Session, Stopped,
@@ -84,7 +84,7 @@ impl TraceReader {
             None if !self.blocks.is_in_block() && line.starts_with(b"! ") => {
                 let mut calls = OpenCalls {
                     lines: Vec::new(*self.steps.allocator()),
-                    outline: None,
+                    outlined: None,
                 };
                 calls.read_line(number, line)?;
                 self.calls = Some(calls);
@@ -118,12 +118,20 @@ impl TraceReader {
 #[derive(Drop)]
 struct OpenCalls {
     lines: Vec<CallLine>,
-    /// The outline that further lines belong to.
-    outline: Option<OutlineReader>,
+    /// The line that an outline follows to which further lines belong.
+    outlined: Option<OutlinedLine>,
+}
+
+/// A line of which the outline is being read.
+#[derive(Drop)]
+struct OutlinedLine {
+    number: u64,
+    heading: Heading,
+    outline: OutlineReader,
 }
 
 impl OpenCalls {
-    /// Reads the line of this number: a call, or a line of the outline that follows `! xml`.
+    /// Reads the line of this number: a call, or a line of the outline that follows one.
     fn read_line(&mut self, number: u64, line: &[u8]) -> Result<(), ScriptError> {
         let Ok(text) = str::from_utf8(line) else {
             return Err(ScriptError::Fault(number, Fault::NotUtf8));
@@ -135,26 +143,45 @@ impl OpenCalls {
     }
 
     fn read_text(&mut self, number: u64, text: &str) -> Result<(), LineError> {
-        if let Some(outline) = &mut self.outline {
-            return outline.read_line(text);
+        if let Some(line) = &mut self.outlined {
+            return line.outline.read_line(text);
         }
         let alloc = *self.lines.allocator();
         let text = text.strip_prefix("! ").ok_or(Fault::UnknownDirective)?;
-        if text == "xml" {
-            self.outline = Some(OutlineReader::new(alloc, number));
-            return Ok(());
+        match Heading::read(alloc, text)? {
+            Some(heading) => {
+                self.outlined = Some(OutlinedLine {
+                    number,
+                    heading,
+                    outline: OutlineReader::new(alloc, number),
+                });
+            }
+            None => self.lines.push(CallLine::read(alloc, text)?)?,
         }
-        self.lines.push(CallLine::read(alloc, text)?)?;
         Ok(())
     }
 
     /// The whole block.
     fn end(mut self) -> Result<Vec<CallLine>, ScriptError> {
-        if let Some(outline) = self.outline.take() {
-            let alloc = *self.lines.allocator();
-            self.lines
-                .push(CallLine::of_tree(alloc, outline.finish()?)?)?;
+        if let Some(line) = self.outlined.take() {
+            let call = line.end(*self.lines.allocator())?;
+            self.lines.push(call)?;
         }
         Ok(self.lines)
+    }
+}
+
+impl OutlinedLine {
+    /// The whole line. A tree that it can't have is its fault.
+    fn end(self, alloc: Global) -> Result<CallLine, ScriptError> {
+        let OutlinedLine {
+            number,
+            heading,
+            outline,
+        } = self;
+        match CallLine::of_outline(alloc, heading, outline.finish()?) {
+            Ok(line) => Ok(line),
+            Err(error) => Err(error.at(number)),
+        }
     }
 }

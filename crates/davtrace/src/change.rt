@@ -1,0 +1,101 @@
+//! Changes of properties, as an outline shows them.
+ghost use Rattle.std.specs.Prelude.{All, IfOk};
+ghost use Rattle.dav_store.specs.PropertyCalls.{IsWhole};
+
+use crate::property::text_of;
+use dav_resource::{DavProp, Element, Text, XMLNode};
+use dav_script::{Fault, LineError};
+use std::alloc::{AllocError, Global};
+
+/// A change of a property, by the property's element.
+#[derive(Drop)]
+pub enum Change {
+    Set(Element),
+    /// Of the element its name counts alone.
+    Remove(Element),
+}
+
+/// The changes that a tree shows, in order: its root holds elements `set` and `remove`, and these hold the elements
+/// of the properties. The only fault is `BadOutline`.
+pub fn read_changes(alloc: Global, tree: Element) -> Result<Vec<Change>, LineError> {
+    let mut changes = Vec::new(alloc);
+    for part in tree.children {
+        let part = element_of(part)?;
+        match part.name.as_str() {
+            "set" => add_changes(&mut changes, part.children, true)?,
+            "remove" => add_changes(&mut changes, part.children, false)?,
+            _ => return Err(Fault::BadOutline.into()),
+        }
+    }
+    Ok(changes)
+}
+
+/// Adds a change for each of these elements.
+fn add_changes(
+    changes: &mut Vec<Change>,
+    properties: Vec<XMLNode>,
+    set: bool,
+) -> Result<(), LineError> {
+    for property in properties {
+        let element = element_of(property)?;
+        changes.push(if set {
+            Change::Set(element)
+        } else {
+            Change::Remove(element)
+        })?;
+    }
+    Ok(())
+}
+
+/// The element that a node is. A text is a fault.
+fn element_of(node: XMLNode) -> Result<Element, LineError> {
+    match node {
+        XMLNode::Element(element) => Ok(element),
+        XMLNode::Text(_) => Err(Fault::BadOutline.into()),
+    }
+}
+
+/// The changes as the store takes them.
+pub fn patches_of(alloc: Global, changes: Vec<Change>) -> Result<Vec<(bool, DavProp)>, AllocError>
+    ensures { IfOk result (λ patches. All IsWhole patches.items) }
+{
+    let mut patches = Vec::new(alloc);
+    for change in changes {
+        patches.push(change.into_patch(alloc)?)?;
+    }
+    Ok(patches)
+}
+
+impl Change {
+    /// The change as the store takes it.
+    fn into_patch(self, alloc: Global) -> Result<(bool, DavProp), AllocError>
+        ensures { IfOk result IsWhole }
+    {
+        match self {
+            Change::Set(element) => {
+                let mut property = property_of(alloc, &element)?;
+                property.element = Some(element);
+                Ok((true, property))
+            }
+            Change::Remove(element) => Ok((false, property_of(alloc, &element)?)),
+        }
+    }
+}
+
+/// The property whose name is an element's, without the element.
+fn property_of(alloc: Global, element: &Element) -> Result<DavProp, AllocError> {
+    Ok(DavProp {
+        name: text_of(alloc, element.name.as_str())?,
+        prefix: copy_of(alloc, element.prefix.as_ref())?,
+        namespace: copy_of(alloc, element.namespace.as_ref())?,
+        element: None,
+    })
+}
+
+/// The text with memory of its own, where there is one.
+fn copy_of(alloc: Global, text: Option<&String>) -> Result<Option<Text>, AllocError> {
+    match text {
+        Some(text) => Ok(Some(text_of(alloc, text.as_str())?)),
+        None => Ok(None),
+    }
+}

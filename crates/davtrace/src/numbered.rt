@@ -1,0 +1,39 @@
+//! A refusal by the call's number.
+ghost use Rattle.std.specs.Prelude.{◌≤◌};
+ghost use Rattle.dav_store.specs.Calls.{IsOwn};
+
+use dav_headers::read_number;
+use dav_resource::FsError;
+use dav_script::{Fault, LineError, refusal_error};
+use dav_store::{MemFs, Refusing};
+
+/// A call that is to be refused by its number.
+#[derive(Drop)]
+pub struct NumberedRefusal {
+    /// Which call it is from then on, counted from 1.
+    number: u64,
+    /// What it is refused with.
+    error: FsError,
+    ghost counted: { 1 ≤ number },
+    ghost own: { IsOwn error },
+}
+
+impl NumberedRefusal {
+    /// Reads `N ERROR`, with a number from 1.
+    pub fn read(value: &str) -> Result<NumberedRefusal, LineError> {
+        let (number, error) = value.split_once(' ').ok_or(Fault::BadValue)?;
+        let number = read_number(number).ok_or(Fault::BadValue)?;
+        if number == 0 {
+            return Err(Fault::BadValue.into());
+        }
+        let Some(error) = refusal_error(error) else {
+            return Err(Fault::BadValue.into());
+        };
+        Ok(NumberedRefusal { number, error })
+    }
+
+    /// Lets a store refuse that call.
+    pub fn plan(self, store: &mut Refusing<MemFs>) {
+        store.refuse_call(self.number, self.error);
+    }
+}

@@ -1,0 +1,41 @@
+//! The names of properties: `{namespace}name`, or `name` where there is no namespace.
+use dav_resource::{DavProp, Text};
+use dav_script::{Fault, LineError, is_name};
+use std::alloc::{AllocError, Global};
+
+/// The property of this name, without prefix and element. The namespace ends at its first `}`.
+pub fn read_property(alloc: Global, text: &str) -> Result<DavProp, LineError> {
+    let (namespace, name) = match text.strip_prefix('{') {
+        Some(text) => {
+            let (namespace, name) = text.split_once('}').ok_or(Fault::BadValue)?;
+            (Some(text_of(alloc, namespace)?), name)
+        }
+        None => (None, text),
+    };
+    if !is_name(name) {
+        return Err(Fault::BadValue.into());
+    }
+    Ok(DavProp {
+        name: text_of(alloc, name)?,
+        prefix: None,
+        namespace,
+        element: None,
+    })
+}
+
+/// The text with memory of its own.
+pub fn text_of(alloc: Global, text: &str) -> Result<Text, AllocError> {
+    Ok(Text::from_string(String::from_str(alloc, text)?))
+}
+
+/// A property's name, as it is read.
+pub fn property_text(alloc: Global, property: &DavProp) -> Result<String, AllocError> {
+    let name = property.name.as_str();
+    match &property.namespace {
+        Some(namespace) => {
+            let namespace = namespace.as_str();
+            format!(in alloc; "{{{namespace}}}{name}")
+        }
+        None => String::from_str(alloc, name),
+    }
+}
