@@ -1,7 +1,7 @@
 //! The loads: what each needs beforehand, and which requests it is.
 ghost use Rattle.std.specs.Prelude.{◌≤◌, ◌+◌};
 
-use crate::requests::{delete, lock, make_collection, patch, put, put_content, put_locked, unlock};
+use crate::requests::{delete, make_collection, patch, put, put_content, put_locked, unlock};
 use crate::server::Server;
 use anyhow::{Context, Result};
 use http::StatusCode;
@@ -111,7 +111,7 @@ fn put_among_locks(server: &mut Server, count: u64) -> Result<()> {
     for i in 0..count {
         let path = format!(in server.alloc; "/other{i}")?;
         let token = format!(in server.alloc; "urn:other:{i}")?;
-        lock(server, path.as_str(), token.as_str(), StatusCode::CREATED)?;
+        server.serve_lock(path.as_str(), token.as_str(), StatusCode::CREATED)?;
     }
     Ok(())
 }
@@ -159,7 +159,7 @@ fn lock_all(server: &mut Server, count: u64) -> Result<()> {
     for i in 0..count {
         let path = format!(in server.alloc; "/f{i}")?;
         let token = format!(in server.alloc; "urn:lock:{i}")?;
-        lock(server, path.as_str(), token.as_str(), StatusCode::OK)?;
+        server.serve_lock(path.as_str(), token.as_str(), StatusCode::OK)?;
     }
     for i in 0..count {
         let path = format!(in server.alloc; "/f{i}")?;
@@ -181,7 +181,7 @@ fn put_over(server: &mut Server, directory: &str, count: u64) -> Result<()> {
 fn lock_again(server: &mut Server, count: u64) -> Result<()> {
     for i in 0..count {
         let token = format!(in server.alloc; "urn:lock:{i}")?;
-        lock(server, "/f0", token.as_str(), StatusCode::OK)?;
+        server.serve_lock("/f0", token.as_str(), StatusCode::OK)?;
         unlock(server, "/f0", token.as_str())?;
     }
     Ok(())
@@ -190,7 +190,7 @@ fn lock_again(server: &mut Server, count: u64) -> Result<()> {
 fn cycle(server: &mut Server, count: u64) -> Result<()> {
     for i in 0..count {
         let token = format!(in server.alloc; "urn:lock:{i}")?;
-        lock(server, "/f0", token.as_str(), StatusCode::OK)?;
+        server.serve_lock("/f0", token.as_str(), StatusCode::OK)?;
         put_locked(server, "/f0", token.as_str())?;
         unlock(server, "/f0", token.as_str())?;
     }

@@ -7,6 +7,7 @@
 //! runs differ by the load alone. Without arguments each load is served once, at a small count and without a clock.
 #![tactic(auto)]
 
+mod build;
 mod load;
 mod requests;
 mod server;
@@ -56,9 +57,12 @@ fn time(rt: &HostRuntime, name: &str, count: u64) -> Result<()> {
     Ok(())
 }
 
-/// Requests a second, rounded down.
+/// Requests a second, rounded down; 0 where no time passed.
 fn rate(requests: u64, micros: u128) -> u128 {
-    u128::from(requests) * 1_000_000 / micros.max(1)
+    u128::from(requests)
+        .saturating_mul(1_000_000)
+        .checked_div(micros)
+        .unwrap_or(0)
 }
 
 /// Serves each load at a small count.

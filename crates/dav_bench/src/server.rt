@@ -1,19 +1,23 @@
 //! A store and a lock system in memory, over which requests are served one after another.
+use crate::build::{lock_info, request};
 use anyhow::{Result, ensure};
 use dav_engine::{
-    Body, DavError, DavInner, DavRequest, DavResult, Element, GuardedFileSystem, MemFs, MemLs,
+    Body, DavInner, DavRequest, DavResult, Element, GuardedFileSystem, MemFs, MemLs, ReqBody,
 };
 use http::{Response, StatusCode};
-use std::alloc::{AllocError, Global};
+use std::alloc::Global;
+
+/// The token of a request that makes no lock, for which nobody asks.
+const NO_TOKEN: &str = "none";
 
 /// What serves the requests of a load, and counts them.
 #[derive(Drop)]
 pub struct Server {
     pub alloc: Global,
-    /// The body of each LOCK: an exclusive write lock.
-    pub lock_info: Element,
     store: MemFs,
     locks: MemLs,
+    /// The body of each LOCK.
+    lock_info: Element,
     served: u64,
 }
 
@@ -22,9 +26,9 @@ impl Server {
     pub fn new(alloc: Global) -> Result<Server> {
         Ok(Server {
             alloc,
-            lock_info: lock_info(alloc)?,
             store: MemFs::new(alloc)?,
             locks: MemLs::new(alloc),
+            lock_info: lock_info(alloc)?,
             served: 0,
         })
     }
@@ -39,20 +43,40 @@ impl Server {
         self.served = 0;
     }
 
-    /// Counts what one request did in the place of so many.
+    /// Counts so many requests more.
     pub fn count(&mut self, requests: u64) {
         self.served = self.served.saturating_add(requests);
     }
 
-    /// Serves a request, empties the store's log, and counts it. An answer of another status than this is an error.
-    pub fn serve(&mut self, request: &DavRequest, wanted: StatusCode) -> Result<()> {
+    /// Builds a request and serves it. An answer of another status than the one that is due is an error.
+    pub fn serve(
+        &mut self,
+        method: &str,
+        path: &str,
+        headers: &[(&str, &str)],
+        body: ReqBody,
+        due: StatusCode,
+    ) -> Result<()> {
+        let request = request(self.alloc, method, path, headers, body, NO_TOKEN)?;
+        self.serve_built(&request, due)
+    }
+
+    /// The same of a LOCK that asks for an exclusive lock, which gets this token.
+    pub fn serve_lock(&mut self, path: &str, token: &str, due: StatusCode) -> Result<()> {
+        let body = ReqBody::Tree(self.lock_info.clone()?);
+        let request = request(self.alloc, "LOCK", path, &[], body, token)?;
+        self.serve_built(&request, due)
+    }
+
+    /// Serves a request, empties the store's log, and counts it.
+    fn serve_built(&mut self, request: &DavRequest, due: StatusCode) -> Result<()> {
         let status = status_of(&self.answer(request));
         GuardedFileSystem::<()>::clear_log(&mut self.store);
         self.count(1);
         let method = request.method.as_str();
         ensure!(
-            status == wanted,
-            "{method} {}: {status}, not {wanted}",
+            status == due,
+            "{method} {}: {status}, not {due}",
             request.path.as_url_string()?
         );
         Ok(())
@@ -65,25 +89,9 @@ impl Server {
     }
 }
 
-fn status_of(reply: &Result<Response<Body>, DavError>) -> StatusCode {
+fn status_of(reply: &DavResult<Response<Body>>) -> StatusCode {
     match reply {
         Ok(reply) => reply.status(),
         Err(error) => error.statuscode(),
     }
-}
-
-fn lock_info(alloc: Global) -> Result<Element, AllocError> {
-    let mut info = dav_element(alloc, "D:lockinfo")?;
-    for (name, choice) in [("D:lockscope", "D:exclusive"), ("D:locktype", "D:write")] {
-        let mut part = dav_element(alloc, name)?;
-        part.push_element(dav_element(alloc, choice)?)?;
-        info.push_element(part)?;
-    }
-    Ok(info)
-}
-
-fn dav_element(alloc: Global, name: &str) -> Result<Element, AllocError> {
-    let mut element = Element::new2(alloc, name)?;
-    element.namespace = Some(String::from_str(alloc, "DAV:")?);
-    Ok(element)
 }

@@ -1,0 +1,61 @@
+//! Requests, built from texts as a server reads them off a connection.
+use anyhow::{Context, Result};
+use dav_engine::{DavPath, DavRequest, Element, Items, LockToken, ReqBody};
+use http::Method;
+use http_header::{HeaderMap, HeaderName, HeaderValue};
+use std::alloc::{AllocError, Global};
+
+/// A request with these headers, each a name and a value, and with the token that a lock gets which it makes.
+pub fn request(
+    alloc: Global,
+    method: &str,
+    path: &str,
+    headers: &[(&str, &str)],
+    body: ReqBody,
+    token: &str,
+) -> Result<DavRequest> {
+    Ok(DavRequest {
+        method: Method::from_bytes(alloc, method.as_bytes())?,
+        path: DavPath::from_str_and_prefix(alloc, path, "")?,
+        headers: header_map(alloc, headers)?,
+        body,
+        principal: None,
+        token: lock_token(alloc, token)?,
+        now: 0,
+    })
+}
+
+fn header_map(alloc: Global, headers: &[(&str, &str)]) -> Result<HeaderMap<HeaderValue>> {
+    let mut map = HeaderMap::new(alloc);
+    for (name, value) in headers {
+        let name = HeaderName::from_bytes(alloc, name.as_bytes())?;
+        map.append(name, HeaderValue::from_str(alloc, value)?)?;
+    }
+    Ok(map)
+}
+
+fn lock_token(alloc: Global, text: &str) -> Result<LockToken> {
+    LockToken::from_string(String::from_str(alloc, text)?).context("no lock token")
+}
+
+/// A body of these bytes.
+pub fn bytes(alloc: Global, bytes: &[u8]) -> Result<ReqBody, AllocError> {
+    Ok(ReqBody::Bytes(Items::from_vec(bytes.to_vec(alloc)?)))
+}
+
+/// The tree in the body of a LOCK that asks for an exclusive write lock.
+pub fn lock_info(alloc: Global) -> Result<Element, AllocError> {
+    let mut info = dav_element(alloc, "D:lockinfo")?;
+    for (name, choice) in [("D:lockscope", "D:exclusive"), ("D:locktype", "D:write")] {
+        let mut part = dav_element(alloc, name)?;
+        part.push_element(dav_element(alloc, choice)?)?;
+        info.push_element(part)?;
+    }
+    Ok(info)
+}
+
+fn dav_element(alloc: Global, name: &str) -> Result<Element, AllocError> {
+    let mut element = Element::new2(alloc, name)?;
+    element.namespace = Some(String::from_str(alloc, "DAV:")?);
+    Ok(element)
+}
