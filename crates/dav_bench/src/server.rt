@@ -1,9 +1,9 @@
 //! A store and a lock system in memory, over which requests are served one after another.
 use crate::build::{lock_info, request};
 use anyhow::{Result, ensure};
-use dav_engine::{
-    Body, DavInner, DavRequest, DavResult, Element, GuardedFileSystem, MemFs, MemLs, ReqBody,
-};
+use dav_engine::{Body, DavInner, DavRequest, DavResult, Element, GuardedFileSystem, ReqBody};
+use dav_memfs::MemFs;
+use dav_memls::MemLs;
 use http::{Response, StatusCode};
 use std::alloc::Global;
 

@@ -33,8 +33,6 @@ pub use dav_resource::{
     DavResult, Depth, DirEntry, ETag, ETagList, Element, FsError, FsResult, IfRange, Items,
     LockToken, Meta, Op, OpenOptions, Outcome, Record, ReqBody, Text, XMLNode,
 };
-pub use dav_store::{
-    DavLock, DavLockSystem, GuardedFileSystem, LockError, MemFs, MemLs, Refusal, Refusing,
-};
+pub use dav_store::{DavLock, DavLockSystem, GuardedFileSystem, LockError};
 pub use inner::DavInner;
 pub use lock::get_timeout;

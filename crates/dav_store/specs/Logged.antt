@@ -1,6 +1,7 @@
 -- What contracts see of a store's log: this project's own choice.
 use Rattle.std.specs.Prelude.{ℕ, List, [], map}
 use Rattle.dav_resource.specs.Key.{Key}
+use Rattle.dav_resource.specs.PathText.{PathValue}
 use Rattle.dav_resource.specs.declared.record.Op.{Op}
 use Rattle.dav_resource.specs.declared.record.Outcome.{Outcome}
 use Rattle.dav_resource.specs.declared.record.Record.{Record}
@@ -18,3 +19,11 @@ logged_of r = record { op = r.op; keys = map (λ p. p.key) r.paths; outcome = r.
 -- the record of a call that answers no statuses
 abbrev pub logged : Op → List Key → Outcome → Logged
 logged op keys outcome = record { op = op; keys = keys; outcome = outcome; statuses = [] }
+
+-- the record of a call that was given these paths, and answered these statuses
+abbrev pub record_with : Op → List PathValue → Outcome → List ℕ → Record
+record_with op paths outcome statuses = record { op = op; paths = paths; outcome = outcome; statuses = statuses }
+
+-- the same of a call that answers none
+abbrev pub record_on : Op → List PathValue → Outcome → Record
+record_on op paths outcome = record_with op paths outcome []

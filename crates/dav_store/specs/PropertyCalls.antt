@@ -2,7 +2,7 @@
 use Rattle.std.specs.Prelude.{◌≡◌, ◌≢◌, ℕ, ◌==◌, Bool, true, false, if◌then◌else◌, List, [], ◌∷◌, ◌++◌, map, length, replicate, Option, Some, None, IsSome, Result, Vec, ◌⊎◌, IfOk, IfErr, IsPermutation}
 use Rattle.std.specs.declared.alloc.Global.{Global}
 use Rattle.std.specs.List.{fold}
-use Rattle.std.specs.Option.{unwrap_or}
+use Rattle.std.specs.Option.{unwrap_or, option_map}
 use Rattle.std.specs.FinMap.{empty, get, remove, entries, len}
 use Rattle.dav_resource.specs.Key.{Key}
 use Rattle.dav_resource.specs.Tree as elements
@@ -58,9 +58,14 @@ get_props_call old key = record { op = GetProps; keys = key ∷ []; bar = proper
 abbrev pub named_element : DavProp → Key × Option elements.Tree
 named_element prop = (name_of prop, prop.element)
 
--- each property once with its element, in some order, and nothing changes
+-- each has its element's prefix
+abbrev pub HavePrefixes : List DavProp → Type 0
+HavePrefixes props = map (λ (p : DavProp). Some p.prefix) props ≡ map (λ (p : DavProp). option_map (λ (e : elements.Tree). e.tag.prefix) p.element) props
+
+-- each property once with its element and that one's prefix, in some order, and nothing changes
 pub record ArePropertiesAt (key : Key) (props : List DavProp) (old new : Contents) : Type 0 where
   pub each_once : IsPermutation (map (λ e. (e.0, Some e.1)) (entries (properties_at old key))) (map named_element props)
+  pub prefixes : HavePrefixes props
   pub same : new ≡ old
 
 abbrev pub GetsProps : Store → Key → Result (Vec DavProp Global) FsError → Store → Type 0

@@ -4,10 +4,10 @@ use Rattle.std.specs.FinMap.{FinMap, get, insert}
 use Rattle.dav_resource.specs.Key.{Key, key_cmp, parent}
 use Rattle.dav_resource.specs.declared.record.Op.TheVariants.{Copy, Rename}
 use Rattle.dav_resource.specs.declared.error.FsError.{FsError}
-use Rattle.dav_resource.specs.declared.error.FsError.TheVariants.{NotFound, Exists, Forbidden}
+use Rattle.dav_resource.specs.declared.error.FsError.TheVariants.{NotFound, Forbidden}
 use Rattle.dav_store.specs.Below.{is_at_or_below, is_below, put_at}
 use Rattle.dav_store.specs.Store.{Store, Contents, Node, File, Directory}
-use Rattle.dav_store.specs.Calls.{Call, Answers, limit_of, bytes_at}
+use Rattle.dav_store.specs.Calls.{Call, Answers, limit_of, bytes_at, create_dir_bar}
 
 -- ---- copy
 
@@ -35,18 +35,11 @@ Copies old from to = Answers (copy_call old.contents from to) (λ _. IsCopiedTo 
 
 -- ---- rename
 
--- nothing may stand there, and above it a directory has to
-abbrev pub place_bar : Option Node → Option Node → Option FsError
-place_bar (Some node) above = Some Exists
-place_bar None None = Some NotFound
-place_bar None (Some (File bytes)) = Some NotFound
-place_bar None (Some Directory) = None
-
--- what is there and isn't the root goes to such a place, but not to one below itself
+-- what is there and isn't the root goes to where a directory may be made, but not to a place below itself
 abbrev pub rename_bar : Key → Key → Option Node → Option Node → Option Node → Option FsError
 rename_bar from to None there above = Some NotFound
 rename_bar [] to (Some node) there above = Some Forbidden
-rename_bar (segment ∷ from) to (Some node) there above = if is_below to (segment ∷ from) then Some Forbidden else place_bar there above
+rename_bar (segment ∷ from) to (Some node) there above = if is_below to (segment ∷ from) then Some Forbidden else create_dir_bar there above
 
 abbrev pub rename_call : Contents → Key → Key → Call
 rename_call old from to = record { op = Rename; keys = from ∷ to ∷ []; bar = rename_bar from to (get old.tree from) (get old.tree to) (get old.tree (parent to)) }

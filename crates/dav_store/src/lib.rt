@@ -1,17 +1,12 @@
-//! The store and the lock system behind the engine: their contracts, and one of each in memory.
+//! What a store and a lock system promise the engine.
 #![tactic(auto)]
 
 mod lock;
 mod lock_system;
-mod memory;
-mod memory_locks;
 mod paths;
-mod refusing;
 mod store;
 
-pub use lock::{DavLock, LockError};
+pub use lock::{DavLock, LockError, clone_owner, timeout_end};
 pub use lock_system::DavLockSystem;
-pub use memory::MemFs;
-pub use memory_locks::MemLs;
-pub use refusing::{Refusal, Refusing};
+pub use paths::{one_path, two_paths};
 pub use store::GuardedFileSystem;

@@ -48,7 +48,7 @@ impl DavLock {
     }
 
     /// Whether it covers what stands at the path.
-    pub(crate) fn covers(&self, path: &DavPath) -> bool
+    pub fn covers(&self, path: &DavPath) -> bool
         ensures { result ≡ covers self.now path.now.key }
     {
         if self.deep {
@@ -59,14 +59,14 @@ impl DavLock {
     }
 
     /// Whether its own path is at this one or below it.
-    pub(crate) fn is_at_or_below(&self, path: &DavPath) -> bool
+    pub fn is_at_or_below(&self, path: &DavPath) -> bool
         ensures { result ≡ is_at_or_below self.now.path.key path.now.key }
     {
         self.path.is_at_or_below(path)
     }
 
     /// Whether its token is among these and, unless that is ignored, its principal is this one.
-    pub(crate) fn is_submitted(
+    pub fn is_submitted(
         &self,
         principal: Option<&str>,
         ignore_principal: bool,
@@ -87,28 +87,28 @@ impl DavLock {
     }
 
     /// Whether it can't stand beside the other.
-    pub(crate) fn conflicts(&self, other: &DavLock) -> bool
+    pub fn conflicts(&self, other: &DavLock) -> bool
         ensures { result ≡ conflicts self.now other.now }
     {
         !(self.shared && other.shared)
     }
 
     /// Whether it has this token.
-    pub(crate) fn has_token(&self, token: &str) -> bool
+    pub fn has_token(&self, token: &str) -> bool
         ensures { result ≡ has_token token.now self.now }
     {
         token == self.token.as_str()
     }
 
     /// Whether it has this token and stands at the path or above it.
-    pub(crate) fn is_named(&self, path: &DavPath, token: &str) -> bool
+    pub fn is_named(&self, path: &DavPath, token: &str) -> bool
         ensures { result ≡ is_named path.now.key token.now self.now }
     {
         self.has_token(token) && path.is_at_or_below(&self.path)
     }
 
     /// Gives it a timeout that begins now.
-    pub(crate) fn refresh(&mut self, timeout: Option<u64>, now: u64)
+    pub fn refresh(&mut self, timeout: Option<u64>, now: u64)
         ensures { self.new ≡ refreshed timeout now self.old }
     {
         self.timeout = timeout;
@@ -117,7 +117,7 @@ impl DavLock {
 }
 
 /// When a timeout that begins now has passed.
-pub(crate) fn timeout_end(now: u64, timeout: Option<u64>) -> Option<u64>
+pub fn timeout_end(now: u64, timeout: Option<u64>) -> Option<u64>
     ensures { result ≡ timeout_end now timeout }
 {
     timeout.map(|seconds| now.saturating_add(seconds))
@@ -145,7 +145,7 @@ fn clone_principal(principal: Option<&Text>) -> Result<Option<Text>, AllocError>
 }
 
 /// The same owner again, where there is one.
-pub(crate) fn clone_owner(owner: Option<&Element>) -> Result<Option<Element>, AllocError>
+pub fn clone_owner(owner: Option<&Element>) -> Result<Option<Element>, AllocError>
     ensures { IfOk result (λ copy. copy ≡ option_copied owner.entry) }
 {
     match owner {

@@ -5,7 +5,7 @@ use dav_resource::{DavPath, Items};
 use std::alloc::{AllocError, Global};
 
 /// A copy of the path of a call that has one. Only memory can be lacking.
-pub(crate) fn one_path(alloc: Global, path: &DavPath) -> Result<Items<DavPath>, AllocError>
+pub fn one_path(alloc: Global, path: &DavPath) -> Result<Items<DavPath>, AllocError>
     ensures { IfOk result (λ paths. paths ≡ path.now ∷ []) }
 {
     let mut paths = Vec::with_capacity(alloc, 1)?;
@@ -14,11 +14,7 @@ pub(crate) fn one_path(alloc: Global, path: &DavPath) -> Result<Items<DavPath>, 
 }
 
 /// Copies of both paths of a call that has two, in order. Only memory can be lacking.
-pub(crate) fn two_paths(
-    alloc: Global,
-    from: &DavPath,
-    to: &DavPath,
-) -> Result<Items<DavPath>, AllocError>
+pub fn two_paths(alloc: Global, from: &DavPath, to: &DavPath) -> Result<Items<DavPath>, AllocError>
     ensures { IfOk result (λ paths. paths ≡ from.now ∷ to.now ∷ []) }
 {
     let mut paths = Vec::with_capacity(alloc, 2)?;

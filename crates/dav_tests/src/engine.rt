@@ -2,7 +2,9 @@
 //! closed, several requests in one run, and blanks at the ends of a header's value.
 use crate::fixture::{Field, request, share, status};
 use crate::serve_over;
-use dav_engine::{Body, DavInner, DavRequest, DavResult, GuardedFileSystem, MemFs, MemLs};
+use dav_engine::{Body, DavInner, DavRequest, DavResult, GuardedFileSystem};
+use dav_memfs::MemFs;
+use dav_memls::MemLs;
 use http::Response;
 use std::alloc::Global;
 use std::process::Abort;

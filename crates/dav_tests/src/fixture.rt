@@ -1,8 +1,8 @@
 //! What the tests share: paths, texts, locks and requests as a test writes them, and the status of a reply.
 use dav_engine::{
-    Body, DavLock, DavLockSystem, DavPath, DavRequest, DavResult, Items, LockToken, MemLs, ReqBody,
-    Text,
+    Body, DavLock, DavLockSystem, DavPath, DavRequest, DavResult, Items, LockToken, ReqBody, Text,
 };
+use dav_memls::MemLs;
 use http::{Method, Response};
 use http_header::{HeaderMap, HeaderName, HeaderValue};
 use std::alloc::{AllocError, Global};

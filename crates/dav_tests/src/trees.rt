@@ -1,9 +1,9 @@
 //! The trees that no request is answered with, and the reply on several resources by its own call.
 use crate::fixture::{path_of, share, status};
 use crate::outline::{show, tree};
+use dav_memls::MemLs;
 use dav_parts::{build_lock_prop, list_lockdiscovery, list_supportedlock, multi_error};
 use dav_resource::{Body, DavResult, Element};
-use dav_store::MemLs;
 use http::{Response, StatusCode};
 use std::alloc::Global;
 use std::test::Fail;

@@ -1,9 +1,10 @@
 //! Calls of the lock system.
 use crate::answers::print_word;
 use dav_headers::read_number;
+use dav_memls::MemLs;
 use dav_resource::{DavPath, Text};
 use dav_script::{Fault, LineError, Session, Stopped, lock_text, read_path};
-use dav_store::{DavLock, DavLockSystem, LockError, MemLs};
+use dav_store::{DavLock, DavLockSystem, LockError};
 use std::alloc::{AllocError, Global};
 use std::io::Write;
 

@@ -1,8 +1,8 @@
 //! A store that a script begins anew with.
 use dav_headers::read_number;
+use dav_memfs::MemFs;
 use dav_resource::FsResult;
 use dav_script::{Fault, LineError};
-use dav_store::MemFs;
 use std::alloc::Global;
 
 /// A store with the root alone.

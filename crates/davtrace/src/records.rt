@@ -1,7 +1,9 @@
 //! The records of a store's log, printed.
+use dav_memfs::MemFs;
+use dav_refusing::Refusing;
 use dav_resource::{Outcome, Record};
 use dav_script::{Stopped, error_name, op_name};
-use dav_store::{GuardedFileSystem, MemFs, Refusing};
+use dav_store::GuardedFileSystem;
 use std::alloc::{AllocError, Global};
 use std::io::Write;
 

@@ -6,9 +6,11 @@ use crate::answers::{
 use crate::change::{Change, patches_of};
 use crate::property::read_property;
 use dav_headers::read_number;
+use dav_memfs::MemFs;
+use dav_refusing::Refusing;
 use dav_resource::{DavFile, DavPath, DavProp, FsError, FsResult, OpenOptions};
 use dav_script::{Fault, LineError, Stopped, read_path, unescape};
-use dav_store::{GuardedFileSystem, MemFs, Refusing};
+use dav_store::GuardedFileSystem;
 use std::alloc::Global;
 use std::io::Write;
 

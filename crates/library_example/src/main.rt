@@ -2,9 +2,9 @@
 #![tactic(auto)]
 
 use anyhow::{Context, Result};
-use dav_engine::{
-    Body, DavInner, DavPath, DavRequest, Element, Items, LockToken, MemFs, MemLs, ReqBody,
-};
+use dav_engine::{Body, DavInner, DavPath, DavRequest, Element, Items, LockToken, ReqBody};
+use dav_memfs::MemFs;
+use dav_memls::MemLs;
 use http::{Method, Response};
 use http_header::HeaderMap;
 use std::alloc::Global;

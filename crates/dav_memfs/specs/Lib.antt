@@ -1,0 +1,14 @@
+pub mod Memory
+pub mod EachLaws
+pub mod MemoryCalls
+pub mod OrderedMaps
+pub mod PropertyNames
+pub mod Codes
+pub mod Entries
+pub mod Hop
+pub mod Moves
+pub mod Entry
+pub mod Dump
+pub mod MemFs
+pub mod KeyProps
+pub mod Lawful

@@ -1,0 +1,151 @@
+-- What each call of a store in memory answers, exactly: this project's own choice.
+use Rattle.std.specs.Prelude.{map, ◌≡◌, ◌≢◌, true, ℕ, ◌-◌, ◌^◌, ◌==◌, if◌then◌else◌, List, [], ◌∷◌, ◌++◌, Option, Some, None, Result, Ok, Err, ◌⊎◌, IfOk, IfErr}
+use Rattle.std.specs.Option.{option_map}
+use Rattle.std.specs.List.{AllZip}
+use Rattle.std.specs.FinMap.{get, entries}
+use Rattle.dav_resource.specs.Key.{Key, parent}
+use Rattle.dav_resource.specs.PathText.{PathValue}
+use Rattle.dav_resource.specs.declared.property.DavProp.{DavProp}
+use Rattle.dav_resource.specs.declared.meta.OpenOptions.{OpenOptions}
+use Rattle.dav_resource.specs.declared.meta.DavFile.{DavFile}
+use Rattle.dav_resource.specs.declared.meta.DirEntry.{DirEntry}
+use Rattle.dav_resource.specs.declared.error.FsError.{FsError}
+use Rattle.dav_resource.specs.declared.error.FsError.TheVariants as errors
+use Rattle.dav_resource.specs.declared.record.Op.{Op}
+use Rattle.dav_resource.specs.declared.record.Record.{Record}
+use Rattle.dav_resource.specs.declared.record.Outcome.{Outcome}
+use Rattle.dav_resource.specs.declared.record.Outcome.TheVariants.{Granted, Barred, Refused}
+use Rattle.dav_store.specs.Logged.{record_with, record_on}
+use Rattle.dav_store.specs.Store.{File, PropertyMap}
+use Rattle.dav_store.specs.Calls.{metadata_bar, create_dir_bar, open_bar, file_bar, bytes_at, written_at, place_of}
+use Rattle.dav_store.specs.Transfers.{copy_bar, rename_bar}
+use Rattle.dav_store.specs.PropertyCalls.{properties_at, get_prop_bar, properties_bar, get_quota_bar, named_element, HavePrefixes}
+use Rattle.dav_store.specs.Members.{members, member, remove_file_bar, remove_dir_bar, read_dir_bar}
+use Rattle.dav_memfs.specs.Memory.{Stored, Resources, Memory, tree_of, contents_of, quota_of, meta_of, made, filled}
+
+-- a call has no memory, and nothing happens; or it answers this error, where there is one, and nothing
+-- changes; or there is none, and what is held becomes such
+pub record Yields {A : Type 0} (error : Option FsError) (Becomes : Memory → Memory → Type 0) (old : Memory) (answer : Result A FsError) (new : Memory) : Type 0 where
+  pub granted : IfOk answer (λ a. (error ≡ None) × Becomes old new)
+  pub declined : IfErr answer (λ e. (new ≡ old) × ((e ≡ errors.Memory) ⊎ (error ≡ Some e)))
+
+-- or exactly this
+abbrev pub Gives : {A : Type 0} → Option FsError → (Memory → Memory) → Memory → Result A FsError → Memory → Type 0
+Gives error change = Yields error (λ old new. new ≡ change old)
+
+-- how a call is recorded that answers an error: no row gives GeneralFailure
+abbrev pub outcome_of : FsError → Outcome
+outcome_of errors.GeneralFailure = Refused errors.GeneralFailure
+outcome_of errors.NotImplemented = Barred errors.NotImplemented
+outcome_of errors.Exists = Barred errors.Exists
+outcome_of errors.NotFound = Barred errors.NotFound
+outcome_of errors.Forbidden = Barred errors.Forbidden
+outcome_of errors.InsufficientStorage = Barred errors.InsufficientStorage
+outcome_of errors.LoopDetected = Barred errors.LoopDetected
+outcome_of errors.PathTooLong = Barred errors.PathTooLong
+outcome_of errors.TooLarge = Barred errors.TooLarge
+outcome_of errors.IsRemote = Barred errors.IsRemote
+outcome_of errors.Memory = Barred errors.Memory
+
+-- what an answer with these statuses adds to the records, with its paths whole, as they were given; a want of memory adds nothing
+abbrev pub TellsWith : {A : Type 0} → (A → List ℕ) → Op → List PathValue → Result A FsError → List Record → List Record → Type 0
+TellsWith statuses op paths (Ok answer) old new = new ≡ old ++ record_with op paths Granted (statuses answer) ∷ []
+TellsWith statuses op paths (Err e) old new = ((e ≡ errors.Memory) × (new ≡ old)) ⊎ ((e ≢ errors.Memory) × (new ≡ old ++ record_on op paths (outcome_of e) ∷ []))
+
+-- the same of an answer without statuses
+abbrev pub Tells : {A : Type 0} → Op → List PathValue → Result A FsError → List Record → List Record → Type 0
+Tells = TellsWith (λ _. [])
+
+-- nothing changes
+abbrev pub kept : Memory → Memory
+kept old = old
+
+-- a change is barred by its row, or else refused where no number is left for it
+abbrev pub change_error : Option FsError → Memory → Option FsError
+change_error (Some e) old = Some e
+change_error None old = if old.version == 2 ^ 64 - 1 then Some errors.GeneralFailure else None
+
+-- ---- metadata
+
+abbrev pub look_error : Key → Memory → Option FsError
+look_error key old = metadata_bar (get (tree_of old.resources) key)
+
+-- ---- create_dir
+
+abbrev pub create_dir_error : Key → Memory → Option FsError
+create_dir_error key old = change_error (create_dir_bar (get (tree_of old.resources) key) (get (tree_of old.resources) (parent key))) old
+
+-- ---- read_dir
+
+abbrev pub read_dir_error : Key → Memory → Option FsError
+read_dir_error key old = read_dir_bar (get (tree_of old.resources) key)
+
+-- a member is shown by its name, and with what is known of it
+abbrev pub IsShown : Key → Resources → List ℕ → Result DirEntry FsError → Type 0
+IsShown directory resources name (Ok entry) = (entry.name ≡ name) × (option_map meta_of (get resources (member directory name)) ≡ Some entry.meta)
+IsShown directory resources name (Err e) = ⊥
+
+-- each member is shown, in the order of their names
+abbrev pub IsListing : Key → Resources → List (Result DirEntry FsError) → Type 0
+IsListing directory resources listing = AllZip (IsShown directory resources) (members (tree_of resources) directory) listing
+
+-- ---- remove_file and remove_dir: no change is counted, so none is refused
+
+abbrev pub remove_file_error : Key → Memory → Option FsError
+remove_file_error key old = remove_file_bar (get (tree_of old.resources) key)
+
+abbrev pub remove_dir_error : Key → Memory → Option FsError
+remove_dir_error key old = remove_dir_bar key (get (tree_of old.resources) key) (members (tree_of old.resources) key)
+
+-- ---- open: a file that is there and isn't to be emptied stays as it is
+
+abbrev pub error_of_opening : OpenOptions → Option Stored → Option FsError → Memory → Option FsError
+error_of_opening options None bar old = change_error bar old
+error_of_opening options (Some s) bar old = if options.truncate then change_error bar old else bar
+
+abbrev pub open_error : OpenOptions → Key → Memory → Option FsError
+open_error options key old = error_of_opening options (get old.resources key) (open_bar options (get (tree_of old.resources) key) (get (tree_of old.resources) (parent key))) old
+
+abbrev pub opened_from : OpenOptions → Key → Option Stored → Memory → Memory
+opened_from options key None old = made key (File []) old
+opened_from options key (Some s) old = if options.truncate then filled key [] old else old
+
+abbrev pub opened : OpenOptions → Key → Memory → Memory
+opened options key old = opened_from options key (get old.resources key) old
+
+-- ---- the calls on an open file
+
+abbrev pub file_error : Key → Memory → Option FsError
+file_error key old = file_bar (get (tree_of old.resources) key)
+
+abbrev pub write_error : Key → Memory → Option FsError
+write_error key old = change_error (file_error key old) old
+
+abbrev pub written : DavFile → List ℕ → Memory → Memory
+written file more old = filled file.path.key (written_at (bytes_at (get (tree_of old.resources) file.path.key)) (place_of file (contents_of old)) more) old
+
+-- ---- copy and rename: only the copy counts as a change
+
+abbrev pub copy_error : Key → Key → Memory → Option FsError
+copy_error from to old = change_error (copy_bar (get (tree_of old.resources) from) (get (tree_of old.resources) to) (get (tree_of old.resources) (parent to))) old
+
+abbrev pub rename_error : Key → Key → Memory → Option FsError
+rename_error from to old = rename_bar from to (get (tree_of old.resources) from) (get (tree_of old.resources) to) (get (tree_of old.resources) (parent to))
+
+-- ---- properties: to change them counts as no change
+
+abbrev pub get_prop_error : Key → Key → Memory → Option FsError
+get_prop_error key name old = get_prop_bar (get (properties_at (contents_of old) key) name)
+
+abbrev pub properties_error : Key → Memory → Option FsError
+properties_error key old = properties_bar true (get (tree_of old.resources) key)
+
+-- each property once with its element, whose prefix is the property's, in ascending order of namespaces, none first, then of names
+pub record IsPropertyList (properties : PropertyMap) (props : List DavProp) : Type 0 where
+  pub named : map named_element props ≡ map (λ e. (e.0, Some e.1)) (entries properties)
+  pub prefixes : HavePrefixes props
+
+-- ---- get_quota
+
+abbrev pub quota_error : Memory → Option FsError
+quota_error old = get_quota_bar (quota_of old)

@@ -1,0 +1,6 @@
+//! A store in memory.
+#![tactic(auto)]
+
+mod memory;
+
+pub use memory::MemFs;

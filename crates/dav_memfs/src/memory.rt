@@ -1,0 +1,330 @@
+//! A store in memory.
+ghost use Rattle.std.specs.Prelude.{◌≡◌, ◌≢◌, ◌<◌, ◌+◌, ◌^◌, [], ◌∷◌, map, All, length, replicate, false, IfOk, IfErr, MatchResult, Some, None};
+ghost use Rattle.dav_resource.specs.PathText.{IsKey};
+ghost use Rattle.dav_store.specs.Logged.{logged_of};
+ghost use Rattle.dav_store.specs.Store.{Directory};
+ghost use Rattle.dav_store.specs.Calls.{Looks, MakesDirectory, Opens, Seeks, Writes, Flushes, LooksAtFile, place_of};
+ghost use Rattle.dav_store.specs.Members.{ReadsDir, RemovesFile, RemovesDir};
+ghost use Rattle.dav_store.specs.Transfers.{Copies, Renames};
+ghost use Rattle.dav_store.specs.PropertyCalls.{name_of, properties_at, IsWhole, GetsProp, GetsProps, PatchesProps, GetsQuota};
+ghost use Rattle.dav_memfs.specs.Memory.{IsSound, contents_of, made, without, copied, IsRenamed, with_patches};
+ghost use Rattle.dav_memfs.specs.Dump.{IsDump};
+ghost use Rattle.dav_memfs.specs.Lawful.{is_well_formed};
+ghost use Rattle.dav_memfs.specs.MemoryCalls.{Yields, Gives, Tells, TellsWith, kept, look_error, read_dir_error, IsListing, create_dir_error, remove_file_error, remove_dir_error, open_error, opened, file_error, write_error, written, copy_error, rename_error, get_prop_error, properties_error, IsPropertyList, quota_error};
+ghost use Rattle.std.proofs.Props.{props};
+ghost use Rattle.dav_memfs.specs.KeyProps.{IsKey-prop};
+
+mod entries;
+mod entry;
+mod files;
+mod patches;
+mod properties;
+mod records;
+mod tree;
+
+use dav_resource::{
+    DavFile, DavPath, DavProp, DirEntry, Element, FsError, FsResult, Items, Meta, Op, OpenOptions,
+    Record,
+};
+use dav_store::GuardedFileSystem;
+use entries::Entries;
+use entry::Entry;
+use http::StatusCode;
+use std::alloc::Global;
+
+/// A store in memory, which keeps dead properties. It refuses nothing of its own will, but for a change when its
+/// counter is at its end. The counter starts at 0, and each `create_dir`, `copy`, `write_bytes`, and `open` that
+/// makes or empties a file, adds one: the number is the entity tag of what was made or changed.
+///
+/// What it holds stands in one map, ordered by the whole keys. A lookup costs the logarithm of the number of
+/// resources; each call takes a few of them, and beside that what its comment says. A call answered `Memory` changes
+/// nothing.
+#[derive(Debug, Drop)]
+pub struct MemFs {
+    entries: Entries,
+    version: u64,
+    moment: u64,
+    limit: Option<Option<u64>>,
+    log: Vec<Record>,
+    ghost sound: { IsSound entries } by { Prim.hlevel (props, IsKey-prop) },
+}
+
+impl MemFs {
+    ghost use Rattle.dav_memfs.specs.MemFs.{memory_of, store_of, records_of};
+    ghost use Rattle.dav_memfs.specs.Memory.{first_memory};
+
+    /// A store with the root alone, made at the moment 0, and an empty log. It has no quota. Only memory can be
+    /// lacking.
+    pub fn new(alloc: Global) -> FsResult<MemFs>
+        ensures memory { IfOk result (λ store. memory_of store ≡ first_memory 0 None) }
+        ensures log { IfOk result (λ store. (store_of store).log ≡ []) }
+        ensures records { IfOk result (λ store. records_of store ≡ []) }
+        ensures err { IfErr result (λ e. e ≡ FsError.Memory) }
+    {
+        MemFs::first(alloc, 0, None)
+    }
+
+    /// The same with a quota of so many bytes, or with one that has no limit. A quota is told and not kept to: no
+    /// write is refused by it.
+    pub fn with_quota(alloc: Global, total: Option<u64>) -> FsResult<MemFs>
+        ensures memory { IfOk result (λ store. memory_of store ≡ first_memory 0 (Some total)) }
+        ensures log { IfOk result (λ store. (store_of store).log ≡ []) }
+        ensures records { IfOk result (λ store. records_of store ≡ []) }
+        ensures err { IfErr result (λ e. e ≡ FsError.Memory) }
+    {
+        MemFs::first(alloc, 0, Some(total))
+    }
+
+    /// The same as by `new`, with the counter at a number. At the greatest u64 no change is left that counts.
+    pub fn with_version(alloc: Global, version: u64) -> FsResult<MemFs>
+        ensures memory { IfOk result (λ store. memory_of store ≡ first_memory version None) }
+        ensures log { IfOk result (λ store. (store_of store).log ≡ []) }
+        ensures records { IfOk result (λ store. records_of store ≡ []) }
+        ensures err { IfErr result (λ e. e ≡ FsError.Memory) }
+    {
+        MemFs::first(alloc, version, None)
+    }
+
+    /// The root alone, with the counter at a number.
+    fn first(alloc: Global, version: u64, limit: Option<Option<u64>>) -> FsResult<MemFs>
+        ensures memory { IfOk result (λ store. memory_of store ≡ first_memory version limit) }
+        ensures log { IfOk result (λ store. (store_of store).log ≡ []) }
+        ensures records { IfOk result (λ store. records_of store ≡ []) }
+        ensures err { IfErr result (λ e. e ≡ FsError.Memory) }
+    {
+        let mut entries = Entries::new(alloc);
+        entries.insert(&[], Entry::directory(alloc, 0, 0))?;
+        Ok(MemFs {
+            entries,
+            version,
+            moment: 0,
+            limit,
+            log: Vec::new(alloc),
+        })
+    }
+
+    /// Sets the moment, in whole seconds since 1970. Nothing that is seen changes.
+    pub fn set_now(&mut self, now: u64)
+        ensures memory { memory_of self.new ≡ record (memory_of self.old) { moment = now } }
+        ensures seen { store_of self.new ≡ store_of self.old }
+        ensures records { records_of self.new ≡ records_of self.old }
+    {
+        self.moment = now;
+    }
+
+    /// A copy of all that is kept, in the order of the keys: each path without prefix and with a slash exactly for a
+    /// directory, a file's bytes, and the properties with their elements. It leaves no record. Only memory can be
+    /// lacking.
+    pub fn dump(&self) -> FsResult<Vec<(DavPath, Option<Vec<u8>>, Vec<DavProp>)>>
+        ensures dump { IfOk result (λ dumped. IsDump (memory_of self.now).resources dumped.items) }
+        ensures err { IfErr result (λ e. e ≡ FsError.Memory) }
+    {
+        Ok(self.entries.dump(*self.log.allocator())?)
+    }
+}
+
+impl<C> GuardedFileSystem<C> for MemFs {
+    ghost use Rattle.dav_memfs.specs.MemFs.{memory_of, store_of, records_of};
+
+    ghost seen = { store_of };
+
+    ghost well_formed = { λ store. is_well_formed (memory_of store) store.sound };
+
+    fn metadata(&mut self, path: &DavPath, _credentials: &C) -> FsResult<Meta>
+        ensures seen { Looks (store_of self.old) path.now.key result (store_of self.new) }
+        ensures memory { Gives (look_error path.now.key (memory_of self.old)) kept (memory_of self.old) result (memory_of self.new) }
+        ensures record { Tells Op.Metadata (path.now ∷ []) result (records_of self.old) (records_of self.new) }
+    {
+        let paths = self.begin_record(path)?;
+        let answer = self.look(path);
+        self.end_record(Op::Metadata, paths, answer)
+    }
+
+    fn create_dir(&mut self, path: &DavPath, _credentials: &C) -> FsResult<()>
+        ensures seen { MakesDirectory (store_of self.old) path.now.key result (store_of self.new) }
+        ensures memory { Gives (create_dir_error path.now.key (memory_of self.old)) (made path.now.key Directory) (memory_of self.old) result (memory_of self.new) }
+        ensures record { Tells Op.CreateDir (path.now ∷ []) result (records_of self.old) (records_of self.new) }
+    {
+        let paths = self.begin_record(path)?;
+        let answer = self.make_directory(path);
+        self.end_record(Op::CreateDir, paths, answer)
+    }
+
+    fn read_dir(&mut self, path: &DavPath, _credentials: &C) -> FsResult<Vec<FsResult<DirEntry>>>
+        ensures seen { ReadsDir (store_of self.old) path.now.key result (store_of self.new) }
+        ensures listing { IfOk result (λ listing. IsListing path.now.key (memory_of self.old).resources listing.items) }
+        ensures memory { Gives (read_dir_error path.now.key (memory_of self.old)) kept (memory_of self.old) result (memory_of self.new) }
+        ensures record { Tells Op.ReadDir (path.now ∷ []) result (records_of self.old) (records_of self.new) }
+    {
+        let paths = self.begin_record(path)?;
+        let answer = self.list(path);
+        self.end_record(Op::ReadDir, paths, answer)
+    }
+
+    fn remove_file(&mut self, path: &DavPath, _credentials: &C) -> FsResult<()>
+        ensures seen { RemovesFile (store_of self.old) path.now.key result (store_of self.new) }
+        ensures memory { Gives (remove_file_error path.now.key (memory_of self.old)) (without path.now.key) (memory_of self.old) result (memory_of self.new) }
+        ensures record { Tells Op.RemoveFile (path.now ∷ []) result (records_of self.old) (records_of self.new) }
+    {
+        let paths = self.begin_record(path)?;
+        let answer = self.take_file(path);
+        self.end_record(Op::RemoveFile, paths, answer)
+    }
+
+    fn remove_dir(&mut self, path: &DavPath, _credentials: &C) -> FsResult<()>
+        ensures seen { RemovesDir (store_of self.old) path.now.key result (store_of self.new) }
+        ensures memory { Gives (remove_dir_error path.now.key (memory_of self.old)) (without path.now.key) (memory_of self.old) result (memory_of self.new) }
+        ensures record { Tells Op.RemoveDir (path.now ∷ []) result (records_of self.old) (records_of self.new) }
+    {
+        let paths = self.begin_record(path)?;
+        let answer = self.take_directory(path);
+        self.end_record(Op::RemoveDir, paths, answer)
+    }
+
+    fn open(&mut self, path: &DavPath, options: &OpenOptions, _credentials: &C) -> FsResult<DavFile>
+        ensures seen { Opens (store_of self.old) path.now options.now result (store_of self.new) }
+        ensures memory { Gives (open_error options.now path.now.key (memory_of self.old)) (opened options.now path.now.key) (memory_of self.old) result (memory_of self.new) }
+        ensures record { Tells Op.OpenFile (path.now ∷ []) result (records_of self.old) (records_of self.new) }
+    {
+        let paths = self.begin_record(path)?;
+        let answer = self.open_file(path, options);
+        self.end_record(Op::OpenFile, paths, answer)
+    }
+
+    fn seek(&mut self, file: &mut DavFile, pos: u64, _credentials: &C) -> FsResult<()>
+        ensures sought { Seeks (store_of self.old) file.old.path.key result (store_of self.new) }
+        ensures place { MatchResult result (λ _. file.new ≡ record file.old { pos = pos }) (λ _. file.new ≡ file.old) }
+        ensures memory { Gives (file_error file.old.path.key (memory_of self.old)) kept (memory_of self.old) result (memory_of self.new) }
+        ensures record { Tells Op.Seek (file.old.path ∷ []) result (records_of self.old) (records_of self.new) }
+    {
+        let paths = self.begin_record(&file.path)?;
+        let answer = self.move_place(file, pos);
+        self.end_record(Op::Seek, paths, answer)
+    }
+
+    fn write_bytes(&mut self, file: &mut DavFile, bytes: &[u8], _credentials: &C) -> FsResult<()>
+        requires { file.old.append ≡ false → file.old.pos + length bytes.now < 2 ^ 64 }
+        ensures written { Writes (store_of self.old) file.old bytes.now result (store_of self.new) }
+        ensures place { MatchResult result (λ _. file.new ≡ record file.old { pos = place_of file.old (store_of self.old).contents + length bytes.now }) (λ _. file.new ≡ file.old) }
+        ensures memory { Gives (write_error file.old.path.key (memory_of self.old)) (written file.old bytes.now) (memory_of self.old) result (memory_of self.new) }
+        ensures record { Tells Op.WriteBytes (file.old.path ∷ []) result (records_of self.old) (records_of self.new) }
+    {
+        let paths = self.begin_record(&file.path)?;
+        let answer = self.write_file(file, bytes);
+        self.end_record(Op::WriteBytes, paths, answer)
+    }
+
+    fn flush(&mut self, file: &DavFile, _credentials: &C) -> FsResult<()>
+        ensures seen { Flushes (store_of self.old) file.now.path.key result (store_of self.new) }
+        ensures memory { Gives (file_error file.now.path.key (memory_of self.old)) kept (memory_of self.old) result (memory_of self.new) }
+        ensures record { Tells Op.Flush (file.now.path ∷ []) result (records_of self.old) (records_of self.new) }
+    {
+        let paths = self.begin_record(&file.path)?;
+        let answer = self.check_file(file);
+        self.end_record(Op::Flush, paths, answer)
+    }
+
+    fn file_metadata(&mut self, file: &DavFile, _credentials: &C) -> FsResult<Meta>
+        ensures seen { LooksAtFile (store_of self.old) file.now.path.key result (store_of self.new) }
+        ensures memory { Gives (file_error file.now.path.key (memory_of self.old)) kept (memory_of self.old) result (memory_of self.new) }
+        ensures record { Tells Op.FileMetadata (file.now.path ∷ []) result (records_of self.old) (records_of self.new) }
+    {
+        let paths = self.begin_record(&file.path)?;
+        let answer = self.look_at_file(file);
+        self.end_record(Op::FileMetadata, paths, answer)
+    }
+
+    /// Costs the bytes and the properties of the file.
+    fn copy(&mut self, from: &DavPath, to: &DavPath, _credentials: &C) -> FsResult<()>
+        ensures seen { Copies (store_of self.old) from.now.key to.now.key result (store_of self.new) }
+        ensures memory { Gives (copy_error from.now.key to.now.key (memory_of self.old)) (copied from.now.key to.now.key) (memory_of self.old) result (memory_of self.new) }
+        ensures record { Tells Op.Copy (from.now ∷ to.now ∷ []) result (records_of self.old) (records_of self.new) }
+    {
+        let paths = self.begin_record_of_two(from, to)?;
+        let answer = self.copy_file(from, to);
+        self.end_record(Op::Copy, paths, answer)
+    }
+
+    /// Costs what stands at the path and below it, of which no bytes are copied.
+    fn rename(&mut self, from: &DavPath, to: &DavPath, _credentials: &C) -> FsResult<()>
+        ensures seen { Renames (store_of self.old) from.now.key to.now.key result (store_of self.new) }
+        ensures memory { Yields (rename_error from.now.key to.now.key (memory_of self.old)) (IsRenamed from.now.key to.now.key) (memory_of self.old) result (memory_of self.new) }
+        ensures record { Tells Op.Rename (from.now ∷ to.now ∷ []) result (records_of self.old) (records_of self.new) }
+    {
+        let paths = self.begin_record_of_two(from, to)?;
+        let answer = self.move_all(from, to);
+        self.end_record(Op::Rename, paths, answer)
+    }
+
+    /// Costs the element.
+    fn get_prop(&mut self, path: &DavPath, prop: &DavProp, _credentials: &C) -> FsResult<Element>
+        ensures seen { GetsProp (store_of self.old) path.now.key (name_of prop.now) result (store_of self.new) }
+        ensures memory { Gives (get_prop_error path.now.key (name_of prop.now) (memory_of self.old)) kept (memory_of self.old) result (memory_of self.new) }
+        ensures record { Tells Op.GetProp (path.now ∷ []) result (records_of self.old) (records_of self.new) }
+    {
+        let paths = self.begin_record(path)?;
+        let answer = self.find_prop(path, prop);
+        self.end_record(Op::GetProp, paths, answer)
+    }
+
+    /// Costs the properties of the path.
+    fn get_props(&mut self, path: &DavPath, _credentials: &C) -> FsResult<Vec<DavProp>>
+        ensures seen { GetsProps (store_of self.old) path.now.key result (store_of self.new) }
+        ensures props { IfOk result (λ props. IsPropertyList (properties_at (contents_of (memory_of self.old)) path.now.key) props.items) }
+        ensures memory { Gives (properties_error path.now.key (memory_of self.old)) kept (memory_of self.old) result (memory_of self.new) }
+        ensures record { Tells Op.GetProps (path.now ∷ []) result (records_of self.old) (records_of self.new) }
+    {
+        let paths = self.begin_record(path)?;
+        let answer = self.list_props(path);
+        self.end_record(Op::GetProps, paths, answer)
+    }
+
+    /// Costs the properties of the path, before and after.
+    fn patch_props(
+        &mut self,
+        path: &DavPath,
+        patches: &[(bool, DavProp)],
+        _credentials: &C,
+    ) -> FsResult<Vec<StatusCode>>
+        requires some { patches.now ≢ [] }
+        requires whole { All IsWhole patches.now }
+        ensures seen { PatchesProps (store_of self.old) path.now.key patches.now result (store_of self.new) }
+        ensures statuses { IfOk result (λ statuses. statuses.items ≡ replicate (length patches.now) 200) }
+        ensures memory { Gives (properties_error path.now.key (memory_of self.old)) (with_patches path.now.key patches.now) (memory_of self.old) result (memory_of self.new) }
+        ensures record { TellsWith (λ statuses. statuses.items) Op.PatchProps (path.now ∷ []) result (records_of self.old) (records_of self.new) }
+    {
+        let paths = self.begin_record(path)?;
+        let statuses = Items::from_vec(patches::all_ok(*self.log.allocator(), patches.len())?);
+        let answer = self.patch(path, patches);
+        self.end_record_with(Op::PatchProps, paths, statuses, answer)
+    }
+
+    fn get_quota(&mut self, _credentials: &C) -> FsResult<(u64, Option<u64>)>
+        ensures seen { GetsQuota (store_of self.old) result (store_of self.new) }
+        ensures memory { Gives (quota_error (memory_of self.old)) kept (memory_of self.old) result (memory_of self.new) }
+        ensures record { Tells Op.GetQuota [] result (records_of self.old) (records_of self.new) }
+    {
+        let paths = self.begin_record_of_none()?;
+        let answer = self.tell_quota();
+        self.end_record(Op::GetQuota, paths, answer)
+    }
+
+    fn have_props(&self) -> bool {
+        true
+    }
+
+    fn records(&self) -> &[Record]
+        ensures seen { map logged_of result.now ≡ (store_of self.now).log }
+        ensures records { result.now ≡ records_of self.now }
+    {
+        &self.log
+    }
+
+    fn clear_log(&mut self)
+        ensures seen { store_of self.new ≡ record (store_of self.old) { log = [] } }
+        ensures memory { memory_of self.new ≡ memory_of self.old }
+        ensures records { records_of self.new ≡ [] }
+    {
+        self.log.clear();
+    }
+}

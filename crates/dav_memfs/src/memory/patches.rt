@@ -1,0 +1,67 @@
+//! What a store in memory does of dead properties.
+ghost use Rattle.std.specs.Prelude.{◌≡◌, length, replicate, IfOk, Some};
+ghost use Rattle.std.specs.FinMap.{get};
+ghost use Rattle.dav_memfs.specs.MemFs.{memory_of};
+ghost use Rattle.dav_memfs.specs.Memory.{contents_of, with_patches};
+ghost use Rattle.dav_memfs.specs.MemoryCalls.{Gives, kept, get_prop_error, properties_error, IsPropertyList};
+ghost use Rattle.dav_store.specs.PropertyCalls.{name_of, properties_at};
+
+use super::MemFs;
+use dav_resource::{DavPath, DavProp, Element, FsError, FsResult};
+use http::StatusCode;
+use std::alloc::{AllocError, Global};
+
+impl MemFs {
+    /// The element of a property.
+    pub(super) fn find_prop(&self, path: &DavPath, prop: &DavProp) -> FsResult<Element>
+        ensures element { IfOk result (λ element. get (properties_at (contents_of (memory_of self.now)) path.now.key) (name_of prop.now) ≡ Some element) }
+        ensures answer { Gives (get_prop_error path.now.key (name_of prop.now) (memory_of self.now)) kept (memory_of self.now) result (memory_of self.now) }
+    {
+        let Some(entry) = self.entries.get(path.segments()) else {
+            return Err(FsError::NotFound);
+        };
+        let found = entry.properties().get(prop)?;
+        match found {
+            Some(element) => Ok(element.clone()?),
+            None => Err(FsError::NotFound),
+        }
+    }
+
+    /// All properties of a path.
+    pub(super) fn list_props(&self, path: &DavPath) -> FsResult<Vec<DavProp>>
+        ensures props { IfOk result (λ props. IsPropertyList (properties_at (contents_of (memory_of self.now)) path.now.key) props.items) }
+        ensures answer { Gives (properties_error path.now.key (memory_of self.now)) kept (memory_of self.now) result (memory_of self.now) }
+    {
+        match self.entries.get(path.segments()) {
+            Some(entry) => Ok(entry.properties().list(*self.log.allocator())?),
+            None => Err(FsError::NotFound),
+        }
+    }
+
+    /// Sets and removes properties, in order. The changed properties are made apart, and put in the place of
+    /// the others once nothing can fail.
+    pub(super) fn patch(
+        &mut self,
+        path: &DavPath,
+        patches: &[(bool, DavProp)],
+    ) -> FsResult<Vec<StatusCode>>
+        ensures log { self.new.log ≡ self.old.log }
+        ensures statuses { IfOk result (λ statuses. statuses.items ≡ replicate (length patches.now) 200) }
+        ensures patched { Gives (properties_error path.now.key (memory_of self.old)) (with_patches path.now.key patches.now) (memory_of self.old) result (memory_of self.new) }
+    {
+        let Some(entry) = self.entries.get(path.segments()) else {
+            return Err(FsError::NotFound);
+        };
+        let properties = entry.properties().patched(patches)?;
+        let statuses = all_ok(*self.log.allocator(), patches.len())?;
+        self.entries.set_properties(path.segments(), properties);
+        Ok(statuses)
+    }
+}
+
+/// So many times 200.
+pub(super) fn all_ok(alloc: Global, count: usize) -> Result<Vec<StatusCode>, AllocError>
+    ensures { IfOk result (λ statuses. statuses.items ≡ replicate count 200) }
+{
+    vec![in alloc; StatusCode::OK; count]
+}

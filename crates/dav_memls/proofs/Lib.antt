@@ -1,0 +1,9 @@
+pub mod Ascending
+pub mod Reached
+pub mod ByKeys
+pub mod LockRows
+pub mod LockFound
+pub mod Indexing
+pub mod CoveringNumbers
+pub mod LockLooks
+pub mod LockLists

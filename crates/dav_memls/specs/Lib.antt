@@ -1,0 +1,4 @@
+pub mod Numbers
+pub mod ByKey
+pub mod LockIndex
+pub mod MemLs

@@ -1,0 +1,89 @@
+-- The index of the locks in memory: each lock has a number, later ones greater ones, and these are found by the lock's token and by keys. This project's own choice.
+use Rattle.std.specs.Prelude.{◌≡◌, ◌==◌, ◌<◌, ◌||◌, ◌++◌, ℕ, Bool, true, false, List, [], length, map, Option, if◌then◌else◌}
+use Rattle.std.specs.BTreeSet.{BTreeSet, contains}
+use Rattle.std.specs.List.{filter, filter_map, list_any, slice_index_or, zip}
+use Rattle.std.specs.Map.{lookup}
+use Rattle.std.specs.HashMap.{get_by_text}
+use Rattle.std.specs.Option.{option_map_or, option_to_list}
+use Rattle.std.specs.Ordering.{nat_cmp}
+use denote.Ref.{Bor}
+use Rattle.dav_resource.specs.Key.{Key, is_same_key}
+use Rattle.dav_store.specs.declared.lock.DavLock.{DavLock}
+use Rattle.dav_memls.specs.declared.memory_locks.index.LockIndex.{LockIndex}
+use Rattle.dav_store.specs.Locks.{is_at_or_below, has_token}
+use Rattle.dav_memls.specs.ByKey.{numbers_at, only_if, without_if}
+
+-- a lock's number, and the lock
+abbrev pub Row : Type 0
+Row = ℕ × DavLock
+
+-- the numbers of the locks that pass the test, in order
+abbrev pub numbers_of : (DavLock → Bool) → List Row → List ℕ
+numbers_of test rows = map (λ (row : Row). row.0) (filter (λ (row : Row). test row.1) rows)
+
+-- the lock of a number, and the locks of these
+abbrev pub lock_of : ℕ → List Row → Option DavLock
+lock_of n rows = lookup (λ m. m == n) rows
+
+abbrev pub locks_of_numbers : List ℕ → List Row → List DavLock
+locks_of_numbers numbers rows = filter_map (λ n. lock_of n rows) numbers
+
+-- whether there is a lock of the number, and it passes the test
+abbrev pub number_passes : (DavLock → Bool) → List Row → ℕ → Bool
+number_passes test rows n = option_map_or test (lock_of n rows) false
+
+-- whether the lock's own key is this one, is it or one below it, and is it or one above it
+abbrev pub is_of_key : Key → DavLock → Bool
+is_of_key key lock = is_same_key key lock.path.key
+
+abbrev pub is_within : Key → DavLock → Bool
+is_within key lock = is_at_or_below lock.path.key key
+
+abbrev pub is_above : Key → DavLock → Bool
+is_above key lock = is_at_or_below key lock.path.key
+
+-- the number found by a token, if there is one
+abbrev pub by_token : LockIndex → List ℕ → List ℕ
+by_token index token = option_to_list (get_by_text index.tokens token)
+
+-- the index finds the numbers of the locks
+pub record IsIndexed (numbers : List ℕ) (index : LockIndex) (locks : List DavLock) : Type 0 where
+  pub one_each : length numbers ≡ length locks
+  pub tokens : (token : List ℕ) → by_token index token ≡ numbers_of (has_token token) (zip numbers locks)
+  pub at : (key : Key) → numbers_at index.at key ≡ numbers_of (is_of_key key) (zip numbers locks)
+  pub below : (key : Key) → numbers_at index.below key ≡ numbers_of (is_within key) (zip numbers locks)
+
+-- the index finds what it found
+pub record KeepsIndex (old new : LockIndex) : Type 0 where
+  pub tokens : (token : List ℕ) → by_token new token ≡ by_token old token
+  pub at : (key : Key) → numbers_at new.at key ≡ numbers_at old.at key
+  pub below : (key : Key) → numbers_at new.below key ≡ numbers_at old.below key
+
+-- it finds the number of a lock too
+pub record EntersIndex (lock : DavLock) (n : ℕ) (old new : LockIndex) : Type 0 where
+  pub tokens : (token : List ℕ) → by_token new token ≡ by_token old token ++ only_if (has_token token lock) n
+  pub at : (key : Key) → numbers_at new.at key ≡ numbers_at old.at key ++ only_if (is_of_key key lock) n
+  pub below : (key : Key) → numbers_at new.below key ≡ numbers_at old.below key ++ only_if (is_within key lock) n
+
+-- it finds the number of the lock no more
+pub record LeavesIndex (lock : DavLock) (n : ℕ) (old new : LockIndex) : Type 0 where
+  pub tokens : (token : List ℕ) → by_token new token ≡ (if has_token token lock then [] else by_token old token)
+  pub at : (key : Key) → numbers_at new.at key ≡ without_if (is_of_key key lock) n (numbers_at old.at key)
+  pub below : (key : Key) → numbers_at new.below key ≡ without_if (is_within key lock) n (numbers_at old.below key)
+
+-- the lock at this place stands at the key or below it
+pub record StandsBelow (locks : List DavLock) (key : Key) (place : ℕ) : Type 0 where
+  pub inside : place < length locks
+  pub below : (d : DavLock) → is_within key (slice_index_or locks place d) ≡ true
+
+-- each call, at a lock, answers what the test does
+abbrev pub Computes : (Bor DavLock → Bool → Type 0) → (DavLock → Bool) → Type 0
+Computes answers test = (lock : Bor DavLock) (answer : Bool) → answers lock answer → answer ≡ test lock.now
+
+-- the set has these numbers
+abbrev pub HasNumbers : BTreeSet ℕ → List ℕ → Type 0
+HasNumbers found numbers = (n : ℕ) → contains nat_cmp found n ≡ list_any (λ m. n == m) numbers
+
+-- the set has those of these numbers too that pass the test
+abbrev pub AddsNumbers : (ℕ → Bool) → List ℕ → BTreeSet ℕ → BTreeSet ℕ → Type 0
+AddsNumbers test numbers old new = (n : ℕ) → contains nat_cmp new n ≡ (contains nat_cmp old n || list_any (λ m. n == m) (filter test numbers))

@@ -1,0 +1,13 @@
+-- What contracts see of a lock system in memory.
+use Rattle.std.specs.Prelude.{List, true}
+use Rattle.dav_store.specs.Locks.{Locks}
+use Rattle.dav_store.specs.declared.lock.DavLock.{DavLock}
+use Rattle.dav_memls.specs.declared.memory_locks.MemLs.{MemLs}
+
+-- its locks, the oldest first
+abbrev pub list_of : MemLs → List DavLock
+list_of system = system.locks.locks.items
+
+-- as the engine sees it
+abbrev pub locks_of : MemLs → Locks
+locks_of system = record { list = list_of system; dependable = true }

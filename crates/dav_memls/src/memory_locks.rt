@@ -1,0 +1,160 @@
+//! A lock system in memory.
+ghost use Rattle.std.specs.Prelude.{◌≡◌, false, [], IfOk, IfErr, OnOk, OnErr};
+ghost use Rattle.std.specs.Option.{option_copied};
+ghost use Rattle.dav_store.specs.Locks.{AreCompatible};
+ghost use Rattle.dav_store.specs.LockCalls.{HasDistinctTokens, RemovesLock, has_named, RemovesLocks};
+ghost use Rattle.std.proofs.Props.{props};
+ghost use Rattle.std.specs.List.{IsDistinct-prop};
+
+mod by_key;
+mod index;
+mod indexed;
+mod list;
+mod numbers;
+
+use dav_resource::{DavPath, Element, Items, Text};
+use dav_store::{DavLock, DavLockSystem, LockError, clone_owner, timeout_end};
+use indexed::IndexedLocks;
+use std::alloc::{AllocError, Global};
+
+/// A lock system in memory. It is dependable, and `unlock` and `delete` take no memory.
+///
+/// A call looks at the locks at its path, above it or below it alone, however many are held elsewhere: hash
+/// maps lead from a token and from keys to the locks. `check`, `lock` and `discover` take a look for the path and
+/// for each above it, down to the first without a lock at or below it, and then the time to judge the locks
+/// found; `unlock` and `refresh` a look for the token. `unlock`, and `delete` for each lock, newest first, move
+/// those newer than the lock by a place. `lock` takes memory for the lock, for its token and a number once more,
+/// and for the key of its path and of each above it, where no lock stands there or below. Where the newest lock
+/// has the greatest `u64` as its number (each is one above that of the newest held), `lock` answers `Memory`.
+#[derive(Debug, Drop)]
+pub struct MemLs {
+    locks: IndexedLocks,
+    ghost distinct_tokens: { HasDistinctTokens locks.locks.items } by { Prim.hlevel (props, IsDistinct-prop) },
+    ghost compatible: { AreCompatible locks.locks.items } by { Prim.hlevel props },
+}
+
+impl MemLs {
+    ghost use Rattle.dav_memls.specs.MemLs.{list_of};
+
+    /// A lock system without a lock.
+    pub fn new(alloc: Global) -> MemLs
+        ensures { list_of result ≡ [] }
+    {
+        MemLs {
+            locks: IndexedLocks::new(alloc),
+        }
+    }
+
+    /// The locks, the oldest first. Of any two, one of which covers the other's path, both are shared
+    /// (RFC 4918, section 6.2).
+    pub fn locks(&self) -> &[DavLock]
+        ensures value { result.now ≡ list_of self.now }
+        ensures compatible { AreCompatible (list_of self.now) }
+    {
+        self.locks.as_slice()
+    }
+}
+
+impl DavLockSystem for MemLs {
+    ghost use Rattle.dav_memls.specs.MemLs.{list_of, locks_of};
+
+    ghost seen = { locks_of };
+
+    ghost distinct = { λ system. system.distinct_tokens };
+
+    fn check(
+        &self,
+        path: &DavPath,
+        principal: Option<&str>,
+        ignore_principal: bool,
+        deep: bool,
+        tokens: &[Text],
+    ) -> bool {
+        list::permits_at(&self.locks, path, principal, ignore_principal, tokens)
+            && (!deep
+                || list::permits_below(&self.locks, path, principal, ignore_principal, tokens))
+    }
+
+    fn lock(
+        &mut self,
+        path: &DavPath,
+        principal: Option<&str>,
+        owner: Option<&Element>,
+        timeout: Option<u64>,
+        shared: bool,
+        deep: bool,
+        token: &str,
+        now: u64,
+    ) -> Result<DavLock, LockError> {
+        let alloc = self.locks.allocator();
+        let lock = DavLock {
+            token: Text::from_string(String::from_str(alloc, token)?),
+            path: path.clone()?,
+            principal: copy_principal(alloc, principal)?,
+            owner: clone_owner(owner)?,
+            timeout,
+            timeout_at: timeout_end(now, timeout),
+            shared,
+            deep,
+        };
+        if !list::grants(&self.locks, &lock) {
+            return Err(LockError::Conflict);
+        }
+        let copy = lock.clone()?;
+        self.locks.push(lock)?;
+        Ok(copy)
+    }
+
+    fn unlock(&mut self, path: &DavPath, token: &str) -> Result<(), LockError>
+        ensures removed { OnOk result (RemovesLock path.now.key token.now (locks_of self.old) (locks_of self.new)) }
+        ensures err { OnErr result (locks_of self.new ≡ locks_of self.old) }
+        ensures cause { IfErr result (λ e. (e ≡ LockError.NotFound) × (has_named path.now.key token.now (list_of self.old) ≡ false)) }
+    {
+        let Some(place) = self.locks.named(path, token) else {
+            return Err(LockError::NotFound);
+        };
+        self.locks.remove(place);
+        Ok(())
+    }
+
+    fn refresh(
+        &mut self,
+        path: &DavPath,
+        token: &str,
+        timeout: Option<u64>,
+        now: u64,
+    ) -> Result<DavLock, LockError> {
+        let Some(place) = self.locks.named(path, token) else {
+            return Err(LockError::NotFound);
+        };
+        let mut copy = self.locks.as_slice()[place].clone()?;
+        copy.refresh(timeout, now);
+        self.locks.refresh(place, timeout, now);
+        Ok(copy)
+    }
+
+    fn discover(&self, path: &DavPath) -> Result<Items<DavLock>, LockError> {
+        let found = self.locks.covering(path)?;
+        Ok(Items::from_vec(found))
+    }
+
+    fn delete(&mut self, path: &DavPath) -> Result<(), LockError>
+        ensures removed { RemovesLocks path.now.key (locks_of self.old) (locks_of self.new) }
+        ensures ok { result ≡ Ok tt }
+    {
+        while let Some(last) = self.locks.last_below(path) {
+            self.locks.remove(last);
+        }
+        Ok(())
+    }
+}
+
+/// The principal of a lock, where there is one.
+fn copy_principal(alloc: Global, principal: Option<&str>) -> Result<Option<Text>, AllocError>
+    ensures { IfOk result (λ copy. copy ≡ option_copied principal.entry) }
+{
+    match principal {
+        Some(principal) => Ok(Some(Text::from_string(String::from_str(alloc, principal)?))),
+        None => Ok(None),
+    }
+}

@@ -1,0 +1,288 @@
+-- Calls of a store that refuses by plan or by number.
+use Rattle.std.proofs.Common.{◌≡◌, ◌≢◌, ◌∙◌, ℕ, true, false, cond, Option, Some, None, Result, Ok, Err, refl, sym, ap, subst, ◌⊎◌, inl, inr, List, [], ◌∷◌, ◌++◌, ◌+◌, ◌-◌, ◌==◌, All, slice_get, map, length, suc, zero, arith}
+use Rattle.std.specs.Option.{option_map, option_or}
+use Rattle.std.proofs.lemmas.List.{map-append, append_cancel_left}
+use Rattle.std.specs.Prelude.{Bool, Vec}
+use Rattle.std.specs.declared.alloc.Global.{Global}
+use Rattle.dav_resource.specs.Key.{Key}
+use Rattle.dav_resource.specs.PathText.{PathValue}
+use Rattle.dav_resource.specs.declared.record.Op.{Op}
+use Rattle.dav_resource.specs.declared.record.Op.TheVariants.{PatchProps}
+use Rattle.dav_resource.specs.declared.record.Outcome.{Outcome}
+use Rattle.dav_resource.specs.declared.record.Outcome.TheVariants.{Granted, Refused}
+use Rattle.dav_resource.specs.declared.record.Record.{Record}
+use Rattle.dav_resource.specs.declared.error.FsError.{FsError}
+use Rattle.dav_resource.specs.declared.error.FsError.TheVariants.{Memory, GeneralFailure}
+use Rattle.dav_store.specs.Logged.{Logged, logged, logged_of}
+use Rattle.dav_store.specs.Store.{Store, Contents}
+use Rattle.dav_store.specs.Calls.{Answers, Declines, IsOwn}
+use Rattle.dav_store.specs.PropertyCalls.{Patch, Patches, DropsPatches, PatchesProps, patch_props_call}
+use Rattle.dav_store.specs.Logged.{record_with, record_on}
+use Rattle.dav_refusing.specs.Plans as plans
+use Rattle.dav_refusing.specs.Plans.{Planned, first_key, is_for, refusal_for, without_first}
+use Rattle.dav_refusing.specs.Pending as pendings
+use Rattle.dav_refusing.specs.Pending.{Pending, numbered_of, error_now, one_later, due, plan_after, after_call, passed_by}
+use Rattle.dav_refusing.specs.Refusing.{last_outcome, inner_of, pending_of, records_of, seen_behind, IsWhollyKept, Refuses, Passes, GoesByPlan, Follows}
+use Rattle.dav_refusing.specs.declared.refusing.Refusing.{Refusing}
+use Rattle.dav_refusing.specs.declared.refusing.pending.NumberedRefusal.{NumberedRefusal}
+use Rattle.dav_refusing.specs.declared.refusing.pending.Pending as code
+use Rattle.dav_refusing.specs.declared.refusing.plan.Refusal.{Refusal}
+use Rattle.dav_refusing.proofs.Planning.{without-none}
+
+-- ---- logs
+
+pub last_outcome-push : (log : List Logged) (r : Logged) → last_outcome (log ++ r ∷ []) ≡ r.outcome
+last_outcome-push [] r = refl
+last_outcome-push (l ∷ []) r = refl
+last_outcome-push (l ∷ next ∷ log) r = last_outcome-push (next ∷ log) r
+
+last-at : (records : List Record) (i : ℕ) (r : Record) → length records ≡ i + 1 → Some r ≡ slice_get records i → r.outcome ≡ last_outcome (map logged_of records)
+last-at [] i r n e = absurd cc
+last-at (x ∷ []) zero r n e = let same : r ≡ x = cc in ap (λ r. r.outcome) same
+last-at (x ∷ []) (suc i) r n e = absurd cc
+last-at (x ∷ y ∷ records) zero r n e = absurd (omega arith)
+last-at (x ∷ y ∷ records) (suc i) r n e = last-at (y ∷ records) i r (omega arith) e
+
+pub last_outcome-at : (records : List Record) (r : Record) → Some r ≡ slice_get records (length records - 1) → r.outcome ≡ last_outcome (map logged_of records)
+last_outcome-at [] r e = absurd cc
+last_outcome-at (x ∷ records) r e = let back : suc (length records) - 1 ≡ length records = omega arith in last-at (x ∷ records) (length records) r (omega arith) (e ∙ ap (slice_get (x ∷ records)) back)
+
+pub logged-push : (r : Record) (old new : List Record) → new ≡ old ++ r ∷ [] → map logged_of new ≡ map logged_of old ++ logged_of r ∷ []
+logged-push r old new is = ap (map logged_of) is ∙ map-append logged_of old (r ∷ [])
+
+-- of two records that were added to one log each is the other
+same_last : (log : List Logged) (r s : Logged) → log ++ r ∷ [] ≡ log ++ s ∷ [] → r ≡ s
+same_last log r s is = let last : r ∷ [] ≡ s ∷ [] = append_cancel_left log (r ∷ []) (s ∷ []) is in cc
+
+-- ---- errors
+
+-- each refusal of the plan is with an error of the store's own
+abbrev pub AllOwn : List Planned → Type 0
+AllOwn [] = Unit {0}
+AllOwn (p ∷ plan) = IsOwn p.error × AllOwn plan
+
+pub own_plan : (refusals : List Refusal) → All (λ r. IsOwn r.error) refusals → AllOwn (plans.plan_of refusals)
+own_plan [] own = tt
+own_plan (r ∷ refusals) own = (own zero r (omega arith), own_plan refusals (λ k d less. own (suc k) d (omega arith)))
+
+pub own_first : (op : Op) (key : Option Key) (plan : List Planned) (e : FsError) → AllOwn plan → refusal_for op key plan ≡ Some e → IsOwn e
+own_first op key [] e own is = absurd cc
+own_first op key (p ∷ plan) e own is =
+    elim (is_for op key p) as (λ b. cond b (Some p.error) (refusal_for op key plan) ≡ Some e → IsOwn e) [
+      | true ↦ λ h. (let same : p.error ≡ e = cc in subst IsOwn same own.0)
+      | false ↦ λ h. own_first op key plan e own.1 h
+    ] is
+
+pub own_without : (op : Op) (key : Option Key) (plan : List Planned) → AllOwn plan → AllOwn (without_first op key plan)
+own_without op key [] own = tt
+own_without op key (p ∷ plan) own =
+    elim (is_for op key p) as (λ b. AllOwn (cond b plan (p ∷ without_first op key plan))) [ true ↦ own.1 | false ↦ (own.0, own_without op key plan own.1) ]
+
+-- and so is the call by its number
+pub own_due : (op : Op) (key : Option Key) (pending : code.Pending) (e : FsError) → due op key (pendings.pending_of pending) ≡ Some e → IsOwn e
+own_due op key pending e is = by_number pending.numbered is
+  where
+    by_plan : refusal_for op key (plans.plan_of pending.plan.refusals.items) ≡ Some e → IsOwn e
+    by_plan is = own_first op key (plans.plan_of pending.plan.refusals.items) e (own_plan pending.plan.refusals.items pending.plan.own) is
+
+    by_number : (n : Option NumberedRefusal) → option_or (error_now (option_map numbered_of n)) (refusal_for op key (plans.plan_of pending.plan.refusals.items)) ≡ Some e → IsOwn e
+    by_number None is = by_plan is
+    by_number (Some n) is =
+        elim (n.before == 0) as (λ b. option_or (cond b (Some n.error) None) (refusal_for op key (plans.plan_of pending.plan.refusals.items)) ≡ Some e → IsOwn e) [
+          | true ↦ λ h. (let same : n.error ≡ e = cc in subst IsOwn same n.own)
+          | false ↦ λ h. by_plan h
+        ] is
+
+-- ---- what is left to be refused
+
+neither : (o p : Option FsError) → option_or o p ≡ None → (o ≡ None) × (p ≡ None)
+neither None p is = (refl, is)
+neither (Some e) p is = absurd cc
+
+-- a call for which no error is due is only counted
+pub after-passed : (op : Op) (key : Option Key) (pending : Pending) → due op key pending ≡ None → after_call op key pending ≡ passed_by pending
+after-passed op key pending free =
+    let none = neither (error_now pending.numbered) (refusal_for op key pending.plan) free in
+    let plan : plan_after (error_now pending.numbered) op key pending.plan ≡ pending.plan = ap (λ o. plan_after o op key pending.plan) none.0 ∙ without-none op key pending.plan none.1 in
+    λ i. record { numbered = one_later pending.numbered; plan = plan i }
+
+-- where nothing behind changes, and no record is added, nothing changes that is seen
+pub looks_kept : {F : Type 0} (see : F → Store) (old new : Refusing F) → see (inner_of new) ≡ see (inner_of old) → records_of new ≡ records_of old → seen_behind see new ≡ seen_behind see old
+looks_kept see old new inner records = λ i. record (inner i) { log = map logged_of (records i) }
+
+-- ---- the calls of a store behind
+
+-- the call wasn't without memory, and writes one record: so it does over any other log
+pub record WritesOne {A : Type 0} (op : Op) (keys : List Key) (statuses : List ℕ) (Behind : Store → Result A FsError → Store → Type 0) (old : Store) (answer : Result A FsError) (new : Store) : Type 0 where
+  pub not_memory : answer ≢ Err Memory
+  pub outcome : Outcome
+  pub told : new.log ≡ old.log ++ record { op = op; keys = keys; outcome = outcome; statuses = statuses } ∷ []
+  pub over : (log : List Logged) → Behind (record old { log = log }) answer (record new { log = log ++ record { op = op; keys = keys; outcome = outcome; statuses = statuses } ∷ [] })
+
+-- what is known of each call but a listing that is granted
+pub record IsCall {A : Type 0} (op : Op) (keys : List Key) (statuses : Result A FsError → List ℕ) (Behind : Store → Result A FsError → Store → Type 0) : Type 0 where
+  pub unmet : (s : Store) → Behind s (Err Memory) s
+  pub refused : (s : Store) (e : FsError) → IsOwn e → Behind s (Err e) (record s { log = s.log ++ logged op keys (Refused e) ∷ [] })
+  pub tells : (old new : Store) (answer : Result A FsError) → Behind old answer new → ((answer ≡ Err Memory) × (new ≡ old)) ⊎ WritesOne op keys (statuses answer) Behind old answer new
+
+abbrev pub no_statuses : {A : Type 0} → Result A FsError → List ℕ
+no_statuses answer = []
+
+abbrev pub CallBehind : {A : Type 0} → Op → List Key → (Bool → Contents → Option FsError) → (A → Contents → Contents → Type 0) → Store → Result A FsError → Store → Type 0
+CallBehind op keys bar Effect old = Answers (record { op = op; keys = keys; bar = bar old.keeps_properties old.contents }) Effect old
+
+module _ {A : Type 0} (op : Op) (keys : List Key) (bar : Bool → Contents → Option FsError) (Effect : A → Contents → Contents → Type 0) where
+  abbrev Behind : Store → Result A FsError → Store → Type 0
+  Behind = CallBehind op keys bar Effect
+
+  told_by : (old new : Store) (answer : Result A FsError) → Behind old answer new → ((answer ≡ Err Memory) × (new ≡ old)) ⊎ WritesOne op keys [] Behind old answer new
+  told_by old new (Ok a) h = inr (record {
+    not_memory = λ e. absurd cc;
+    outcome = Granted;
+    told = h.granted.told;
+    over = λ log. record { granted = record { allowed = h.granted.allowed; effect = h.granted.effect; told = refl; fixed = h.granted.fixed }; declined = tt };
+  })
+  told_by old new (Err e) h = by_cause h.declined
+    where
+      by_cause : ((e ≡ Memory) × (new ≡ old)) ⊎ Declines (record { op = op; keys = keys; bar = bar old.keeps_properties old.contents }) e old new → (◌≡◌ {A = Result A FsError} (Err e) (Err Memory) × (new ≡ old)) ⊎ WritesOne op keys [] Behind old (Err e) new
+      by_cause (inl p) = inl (ap Err p.0, p.1)
+      by_cause (inr d) = inr (record {
+        not_memory = λ m. d.not_memory (let same : e ≡ Memory = cc in same);
+        outcome = d.outcome;
+        told = d.told;
+        over = λ log. record { granted = tt; declined = inr (record { outcome = d.outcome; cause = d.cause; lawful = d.lawful; not_memory = d.not_memory; same = d.same; told = refl; fixed = d.fixed }) };
+      })
+
+  pub answers_call : IsCall op keys no_statuses Behind
+  answers_call = record {
+    unmet = λ s. record { granted = tt; declined = inl (refl, refl) };
+    refused = λ s e own. record { granted = tt; declined = inr (record { outcome = Refused e; cause = refl; lawful = own; not_memory = own.not_memory; same = refl; told = refl; fixed = refl }) };
+    tells = told_by;
+  }
+
+-- the statuses that a change of properties answers
+abbrev pub answered_statuses : Result (Vec ℕ Global) FsError → List ℕ
+answered_statuses (Ok statuses) = statuses.items
+answered_statuses (Err e) = []
+
+-- what is added to an empty list is all that it holds then
+pub all_added : (added : Bool) (before more answered after : List ℕ) → added ≡ true → before ≡ [] → more ≡ answered → after ≡ cond added (before ++ more) before → after ≡ answered
+all_added added before more answered after done empty same is = is ∙ ap (λ b. cond b (before ++ more) before) done ∙ (λ i. empty i ++ same i)
+
+module _ (key : Key) (patches : List Patch) where
+  abbrev PatchesBehind : Store → Result (Vec ℕ Global) FsError → Store → Type 0
+  PatchesBehind old = PatchesProps old key patches
+
+  patches_told_by : (old new : Store) (answer : Result (Vec ℕ Global) FsError) → PatchesBehind old answer new → ((answer ≡ Err Memory) × (new ≡ old)) ⊎ WritesOne PatchProps (key ∷ []) (answered_statuses answer) PatchesBehind old answer new
+  patches_told_by old new (Ok statuses) h = by_form h.granted
+    where
+      by_form : Patches key patches statuses.items old new ⊎ DropsPatches key patches statuses.items old new → (◌≡◌ {A = Result (Vec ℕ Global) FsError} (Ok statuses) (Err Memory) × (new ≡ old)) ⊎ WritesOne PatchProps (key ∷ []) statuses.items PatchesBehind old (Ok statuses) new
+      by_form (inl g) = inr (record {
+        not_memory = λ e. absurd cc;
+        outcome = Granted;
+        told = g.told;
+        over = λ log. record { granted = inl (record { allowed = g.allowed; answered = g.answered; effect = g.effect; told = refl; fixed = g.fixed }); declined = tt };
+      })
+      by_form (inr d) = inr (record {
+        not_memory = λ e. absurd cc;
+        outcome = Refused GeneralFailure;
+        told = d.told;
+        over = λ log. record { granted = inr (record { answered = d.answered; not_all = d.not_all; same = d.same; told = refl; fixed = d.fixed }); declined = tt };
+      })
+  patches_told_by old new (Err e) h = by_cause h.declined
+    where
+      by_cause : ((e ≡ Memory) × (new ≡ old)) ⊎ Declines (patch_props_call old key) e old new → (◌≡◌ {A = Result (Vec ℕ Global) FsError} (Err e) (Err Memory) × (new ≡ old)) ⊎ WritesOne PatchProps (key ∷ []) [] PatchesBehind old (Err e) new
+      by_cause (inl p) = inl (ap Err p.0, p.1)
+      by_cause (inr d) = inr (record {
+        not_memory = λ m. d.not_memory (let same : e ≡ Memory = cc in same);
+        outcome = d.outcome;
+        told = d.told;
+        over = λ log. record { granted = tt; declined = inr (record { outcome = d.outcome; cause = d.cause; lawful = d.lawful; not_memory = d.not_memory; same = d.same; told = refl; fixed = d.fixed }) };
+      })
+
+  pub patches_call : IsCall PatchProps (key ∷ []) answered_statuses PatchesBehind
+  patches_call = record {
+    unmet = λ s. record { granted = tt; declined = inl (refl, refl) };
+    refused = λ s e own. record { granted = tt; declined = inr (record { outcome = Refused e; cause = refl; lawful = own; not_memory = own.not_memory; same = refl; told = refl; fixed = refl }) };
+    tells = patches_told_by;
+  }
+
+-- ---- such a call of a store that refuses
+
+module _ {F : Type 0} (see : F → Store) (op : Op) (paths : List PathValue) {A : Type 0} {statuses : Result A FsError → List ℕ} {Behind : Store → Result A FsError → Store → Type 0} (call : IsCall op (map (λ (p : PathValue). p.key) paths) statuses Behind) where
+  goes : (old new : Refusing F) (answer : Result A FsError) → due op (first_key paths) (pending_of old) ≡ None → Behind (see (inner_of old)) answer (see (inner_of new))
+      → (answer ≡ Err Memory → (pending_of new ≡ pending_of old) × (records_of new ≡ records_of old))
+      → (answer ≢ Err Memory → pending_of new ≡ passed_by (pending_of old))
+      → (answer ≢ Err Memory → records_of new ≡ records_of old ++ record_with op paths (last_outcome (see (inner_of new)).log) (statuses answer) ∷ [])
+      → Follows see op paths Behind old answer new
+  goes old new answer free behind memory left records = by_telling (call.tells (see (inner_of old)) (see (inner_of new)) answer behind)
+    where
+      by_telling : ((answer ≡ Err Memory) × (see (inner_of new) ≡ see (inner_of old))) ⊎ WritesOne op (map (λ (p : PathValue). p.key) paths) (statuses answer) Behind (see (inner_of old)) answer (see (inner_of new)) → Follows see op paths Behind old answer new
+      by_telling (inl (m, same)) = inl (m, record { inner = same; pending = (memory m).0; records = (memory m).1 })
+      by_telling (inr w) = inr (
+        w.not_memory,
+        subst (λ r. GoesByPlan op paths (Passes see op paths Behind) r old answer new) (sym free) (record {
+          behind = behind;
+          left = left w.not_memory ∙ sym (after-passed op (first_key paths) (pending_of old) free);
+          outcome = w.outcome;
+          statuses = statuses answer;
+          told = w.told;
+          records = records w.not_memory
+              ∙ ap (λ o. records_of old ++ record_with op paths o (statuses answer) ∷ [])
+              (ap last_outcome w.told ∙ last_outcome-push (see (inner_of old)).log (record { op = op; keys = map (λ (p : PathValue). p.key) paths; outcome = w.outcome; statuses = statuses answer }));
+        }),
+      )
+
+  -- a call between the room for its record and the record
+  pub passes : (old begun ended : Refusing F) (called : F) (taken : List PathValue) (told : Record) (outcome : Outcome) (log : List Record) (answer result : Result A FsError)
+      → taken ≡ paths → due op (first_key taken) (pending_of old) ≡ None → IsWhollyKept old begun → Behind (see (inner_of begun)) answer (see called)
+      → told ≡ record_with op taken outcome (statuses answer) → map logged_of log ≡ (see called).log → outcome ≡ last_outcome (map logged_of log)
+      → result ≡ answer → inner_of ended ≡ called
+      → (answer ≡ Err Memory → (pending_of ended ≡ pending_of begun) × (records_of ended ≡ records_of begun))
+      → (answer ≢ Err Memory → pending_of ended ≡ passed_by (pending_of begun))
+      → (answer ≢ Err Memory → records_of ended ≡ records_of begun ++ told ∷ [])
+      → Follows see op paths Behind old result ended
+  passes old begun ended called taken told outcome log answer result ps free kept behind told_is logs is same inner memory left records =
+      let last : outcome ≡ last_outcome (see (inner_of ended)).log = is ∙ ap last_outcome (logs ∙ ap (λ x. (see x).log) (sym inner)) in
+      subst (λ r. Follows see op paths Behind old r ended) (sym same) (goes old ended answer
+      (subst (λ p. due op (first_key p) (pending_of old) ≡ None) ps free)
+      (subst (λ x. Behind (see (inner_of old)) answer (see x)) (sym inner) (subst (λ x. Behind (see x) answer (see called)) kept.inner behind))
+      (λ m. ((memory m).0 ∙ kept.pending, (memory m).1 ∙ kept.records))
+      (λ m. left m ∙ ap passed_by kept.pending)
+      (λ m. records m ∙ (λ i. kept.records i ++ told_is i ∷ []) ∙ (λ i. records_of old ++ record_with op (ps i) (last i) (statuses answer) ∷ [])))
+
+  -- ---- and that is lawful
+
+  pub lawful : (old new : Refusing F) (answer : Result A FsError) → Follows see op paths Behind old answer new → Behind (seen_behind see old) answer (seen_behind see new)
+  lawful old new answer (inl (m, kept)) =
+      subst (λ r. Behind (seen_behind see old) r (seen_behind see new)) (sym m)
+      (subst (Behind (seen_behind see old) (Err Memory)) (sym (looks_kept see old new kept.inner kept.records)) (call.unmet (seen_behind see old)))
+  lawful old new answer (inr (not_memory, goes)) = by_due (due op (first_key paths) (pending_of old)) refl goes
+    where
+      refused : (e : FsError) → IsOwn e → Refuses op paths e old new → Behind (seen_behind see old) (Err e) (seen_behind see new)
+      refused e own h =
+          let log = logged-push (record_on op paths (Refused e)) (records_of old) (records_of new) h.records in
+          let after : seen_behind see new ≡ record (seen_behind see old) { log = map logged_of (records_of old) ++ logged op (map (λ (p : PathValue). p.key) paths) (Refused e) ∷ [] } = λ i. record (see (h.inner i)) { log = log i } in
+          subst (Behind (seen_behind see old) (Err e)) (sym after) (call.refused (seen_behind see old) e own)
+
+      passed : Passes see op paths Behind old answer new → Behind (seen_behind see old) answer (seen_behind see new)
+      passed h = by_telling (call.tells (see (inner_of old)) (see (inner_of new)) answer h.behind)
+        where
+          by_telling : ((answer ≡ Err Memory) × (see (inner_of new) ≡ see (inner_of old))) ⊎ WritesOne op (map (λ (p : PathValue). p.key) paths) (statuses answer) Behind (see (inner_of old)) answer (see (inner_of new)) → Behind (seen_behind see old) answer (seen_behind see new)
+          by_telling (inl (m, same)) = absurd (not_memory m)
+          by_telling (inr w) =
+              let one = same_last (see (inner_of old)).log (logged_of (record_with op paths h.outcome h.statuses)) (record { op = op; keys = map (λ (p : PathValue). p.key) paths; outcome = w.outcome; statuses = statuses answer }) (sym h.told ∙ w.told) in
+              let log = logged-push (record_with op paths h.outcome h.statuses) (records_of old) (records_of new) h.records ∙ ap (λ r. map logged_of (records_of old) ++ r ∷ []) one in
+              subst (λ l. Behind (seen_behind see old) answer (record (see (inner_of new)) { log = l })) (sym log) (w.over (map logged_of (records_of old)))
+
+      by_due : (r : Option FsError) → due op (first_key paths) (pending_of old) ≡ r → GoesByPlan op paths (Passes see op paths Behind) r old answer new → Behind (seen_behind see old) answer (seen_behind see new)
+      by_due (Some e) is h = subst (λ a. Behind (seen_behind see old) a (seen_behind see new)) (sym h.0) (refused e (own_due op (first_key paths) old.pending e is) h.1)
+      by_due None is h = passed h
+
+  -- a call that is refused, or has no memory, before it is passed on
+  pub turned_away : (old new : Refusing F) (taken : List PathValue) (e : FsError) → taken ≡ paths → ((e ≡ Memory) × IsWhollyKept old new) ⊎ (IsOwn e × Refuses op taken e old new) → Behind (seen_behind see old) (Err e) (seen_behind see new)
+  turned_away old new taken e ps why = lawful old new (Err e) (by_cause (subst (λ p. ((e ≡ Memory) × IsWhollyKept old new) ⊎ (IsOwn e × Refuses op p e old new)) ps why))
+    where
+      by_cause : ((e ≡ Memory) × IsWhollyKept old new) ⊎ (IsOwn e × Refuses op paths e old new) → Follows see op paths Behind old (Err e) new
+      by_cause (inl p) = inl (ap Err p.0, record { inner = ap see p.1.inner; pending = p.1.pending; records = p.1.records })
+      by_cause (inr p) = inr ((λ m. p.0.not_memory (let same : e ≡ Memory = cc in same)), subst (λ r. GoesByPlan op paths (Passes see op paths Behind) r old (Err e) new) (sym p.1.is_due) (refl, p.1))

@@ -1,0 +1,4 @@
+pub mod Plans
+pub mod Pending
+pub mod Refusing
+pub mod InnerLends

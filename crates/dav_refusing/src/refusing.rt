@@ -1,0 +1,405 @@
+//! A store that refuses by plan, or by number.
+ghost use Rattle.std.specs.Prelude.{◌≡◌, ◌≢◌, ◌⊎◌, ◌<◌, ◌≤◌, ◌+◌, ◌-◌, ◌^◌, [], ◌∷◌, ◌++◌, All, false, map, length, vec_len, vec_capacity, IfOk, IfErr, OnOk, OnErr, MatchResult, Some, None};
+ghost use Rattle.std.specs.Borrow.{sem};
+ghost use Rattle.dav_store.specs.Logged.{logged_of};
+ghost use Rattle.dav_store.specs.Calls.{IsOwn, Looks, MakesDirectory, Opens, Seeks, Writes, Flushes, LooksAtFile, place_of};
+ghost use Rattle.dav_store.specs.Members.{ReadsDir, RemovesFile, RemovesDir};
+ghost use Rattle.dav_store.specs.Transfers.{Copies, Renames};
+ghost use Rattle.dav_store.specs.PropertyCalls.{GetsProp, GetsProps, PatchesProps, GetsQuota, IsWhole, name_of};
+ghost use Rattle.dav_store.specs.Logged.{record_on};
+ghost use Rattle.dav_refusing.specs.Plans as plans;
+ghost use Rattle.dav_refusing.specs.Plans.{first_key};
+ghost use Rattle.dav_refusing.specs.Refusing.{last_outcome as outcome_of_last};
+
+mod listing;
+mod pending;
+mod plan;
+
+use dav_resource::{
+    DavFile, DavPath, DavProp, DirEntry, Element, FsError, FsResult, Items, Meta, Op, OpenOptions,
+    Outcome, Record,
+};
+use dav_store::{GuardedFileSystem, one_path, two_paths};
+use http::StatusCode;
+use listing::refuse_members;
+use pending::Pending;
+use plan::Plan;
+pub use plan::Refusal;
+use std::alloc::Global;
+
+/// A store that refuses by plan, or by number: it stands before another store, and passes on each call for which no
+/// error is due. What refuses a call is used once. The call is recorded in a log of its own, and so is each call that was
+/// passed on; a call that had no memory uses up nothing and leaves no record.
+///
+/// A listing that was passed on shows no member for which the plan has a refusal of `Op::Entry`. The record of such a
+/// member has the listing's path with the member's name, and no slash at its end.
+///
+/// Where memory is lacking the store behind is as it was, but that its log may tell of a listing.
+#[derive(Debug, Drop)]
+pub struct Refusing<F> {
+    inner: F,
+    pending: Pending,
+    log: Vec<Record>,
+}
+
+impl<F> Refusing<F> {
+    ghost use Rattle.dav_refusing.specs.Pending.{due, passed_by};
+    ghost use Rattle.dav_refusing.specs.Refusing.{inner_of, pending_of, plan_of, records_of, IsWhollyKept, Refuses};
+    ghost use Rattle.dav_refusing.specs.InnerLends.{LendsInner};
+
+    /// A store that stands before another one and refuses these calls, with an empty log. No call is to be refused by
+    /// its number.
+    pub fn new(alloc: Global, inner: F, plan: Vec<Refusal>) -> Refusing<F>
+        requires { All (λ r. IsOwn r.error) plan.items }
+        ensures inner { inner_of result ≡ inner }
+        ensures plan { pending_of result ≡ record { numbered = None; plan = plans.plan_of plan.items } }
+        ensures records { records_of result ≡ [] }
+    {
+        Refusing {
+            inner,
+            pending: Pending::new(Plan::new(plan)),
+            log: Vec::new(alloc),
+        }
+    }
+
+    /// Puts a refusal at the end of the plan. Only memory can be lacking, and then nothing changes.
+    pub fn add(&mut self, op: Op, path: DavPath, error: FsError) -> FsResult<()>
+        requires { IsOwn error }
+        ensures inner { inner_of self.new ≡ inner_of self.old }
+        ensures records { records_of self.new ≡ records_of self.old }
+        ensures ok { OnOk result (pending_of self.new ≡ record (pending_of self.old) { plan = plan_of self.old ++ record { op = op; key = path.key; error = error } ∷ [] }) }
+        ensures err { IfErr result (λ e. (e ≡ FsError.Memory) × (pending_of self.new ≡ pending_of self.old)) }
+    {
+        self.pending.add(Refusal { op, path, error })?;
+        Ok(())
+    }
+
+    /// Refuses the nth call from now, counted from 1, with this error. The calls on open files are counted, and so are
+    /// refused calls; `have_props`, `records`, `clear_log`, the members of a listing and calls that had no memory aren't.
+    /// It comes before the plan, of which it uses up nothing, and it takes the place of an earlier number.
+    pub fn refuse_call(&mut self, n: u64, error: FsError)
+        requires counted { 1 ≤ n }
+        requires own { IsOwn error }
+        ensures inner { inner_of self.new ≡ inner_of self.old }
+        ensures records { records_of self.new ≡ records_of self.old }
+        ensures numbered { pending_of self.new ≡ record (pending_of self.old) { numbered = Some (record { before = n - 1; error = error }) } }
+    {
+        self.pending.refuse_call(n, error);
+    }
+
+    /// The store behind, lent.
+    pub fn inner_mut(&mut self) -> &mut F
+        ensures* writes_back { sem 𝓛 (LendsInner F.row self.entry result) }
+        ensures inner { result.now ≡ inner_of self.old }
+    {
+        &mut self.inner
+    }
+
+    /// The allocator that the log is kept by.
+    fn allocator(&self) -> Global {
+        *self.log.allocator()
+    }
+
+    /// Refuses a call on these paths for which an error is due; else makes room for its record, and gives that of a call
+    /// which is granted and answers no statuses.
+    fn begin(&mut self, op: Op, paths: Items<DavPath>) -> FsResult<Record>
+        ensures call { IfOk result (λ call. call ≡ record_on op paths Outcome.Granted) }
+        ensures room { OnOk result (vec_len self.new.log < vec_capacity self.new.log) }
+        ensures free { OnOk result (due op (first_key paths) (pending_of self.old) ≡ None) }
+        ensures kept { OnOk result (IsWhollyKept self.old self.new) }
+        ensures refused { IfErr result (λ e. ((e ≡ FsError.Memory) × IsWhollyKept self.old self.new) ⊎ (IsOwn e × Refuses op paths e self.old self.new)) }
+    {
+        self.log.reserve(1)?;
+        let mut call = Record {
+            op,
+            paths,
+            outcome: Outcome::Granted,
+            statuses: Items::from_vec(Vec::new(self.allocator())),
+        };
+        match self.pending.take(op, call.paths.as_slice()) {
+            Some(error) => {
+                call.outcome = Outcome::Refused(error);
+                self.log.push(call).unwrap();
+                Err(error)
+            }
+            None => Ok(call),
+        }
+    }
+
+    /// Writes the records of a listing and of the members that it doesn't show, counts the call and keeps what is left of
+    /// the plan. Only memory can be lacking, and then nothing changes.
+    fn keep_listing(&mut self, call: Record, mut unseen: Vec<Record>, plan: Plan) -> FsResult<()>
+        ensures inner { inner_of self.new ≡ inner_of self.old }
+        ensures plan { OnOk result (pending_of self.new ≡ record (passed_by (pending_of self.old)) { plan = plans.plan_of plan.refusals.items }) }
+        ensures records { OnOk result (records_of self.new ≡ records_of self.old ++ call ∷ unseen.items) }
+        ensures err { IfErr result (λ e. (e ≡ FsError.Memory) × IsWhollyKept self.old self.new) }
+    {
+        self.log.reserve(1 + unseen.len())?;
+        self.log.push(call).unwrap();
+        self.log.append(&mut unseen).unwrap();
+        self.pending.count();
+        self.pending.keep_plan(plan);
+        Ok(())
+    }
+
+    /// Writes the record of a call that the store behind has answered, and counts it; but not where memory was lacking.
+    fn finish<T>(&mut self, call: Record, answer: FsResult<T>) -> FsResult<T>
+        requires { vec_len self.old.log < vec_capacity self.old.log }
+        ensures answer { result ≡ answer }
+        ensures inner { inner_of self.new ≡ inner_of self.old }
+        ensures memory { answer ≡ Err FsError.Memory → (pending_of self.new ≡ pending_of self.old) × (records_of self.new ≡ records_of self.old) }
+        ensures counted { answer ≢ Err FsError.Memory → pending_of self.new ≡ passed_by (pending_of self.old) }
+        ensures told { answer ≢ Err FsError.Memory → records_of self.new ≡ records_of self.old ++ call ∷ [] }
+    {
+        match answer {
+            Err(FsError::Memory) => {}
+            _ => {
+                self.pending.count();
+                self.log.push(call).unwrap();
+            }
+        }
+        answer
+    }
+}
+
+impl<C, F: GuardedFileSystem<C>> GuardedFileSystem<C> for Refusing<F> {
+    ghost use Rattle.dav_refusing.specs.Refusing.{seen_behind, inner_of, pending_of, records_of, Follows, FollowsReading};
+
+    ghost seen = { seen_behind F.seen };
+
+    ghost well_formed = { λ store. F.well_formed store.inner };
+
+    fn metadata(&mut self, path: &DavPath, credentials: &C) -> FsResult<Meta>
+        ensures seen { Looks (seen_behind F.seen self.old) path.now.key result (seen_behind F.seen self.new) }
+        ensures plan { Follows F.seen Op.Metadata (path.now ∷ []) (λ s. Looks s path.now.key) self.old result self.new }
+    {
+        let paths = one_path(self.allocator(), path)?;
+        let mut call = self.begin(Op::Metadata, paths)?;
+        let answer = self.inner.metadata(path, credentials);
+        call.outcome = last_outcome(self.inner.records());
+        self.finish(call, answer)
+    }
+
+    fn read_dir(&mut self, path: &DavPath, credentials: &C) -> FsResult<Vec<FsResult<DirEntry>>>
+        ensures seen { ReadsDir (seen_behind F.seen self.old) path.now.key result (seen_behind F.seen self.new) }
+        ensures plan { FollowsReading F.seen path.now self.old result self.new }
+    {
+        let paths = one_path(self.allocator(), path)?;
+        let mut call = self.begin(Op::ReadDir, paths)?;
+        let told = self.inner.records().len();
+        match self.inner.read_dir(path, credentials) {
+            Ok(mut listing) => {
+                let mut plan = self.pending.clone_plan()?;
+                let hidden = &self.inner.records()[told + 1..];
+                let unseen = refuse_members(path, &mut plan, &mut listing, hidden)?;
+                self.keep_listing(call, unseen, plan)?;
+                Ok(listing)
+            }
+            Err(error) => {
+                call.outcome = last_outcome(self.inner.records());
+                self.finish(call, Err(error))
+            }
+        }
+    }
+
+    fn create_dir(&mut self, path: &DavPath, credentials: &C) -> FsResult<()>
+        ensures seen { MakesDirectory (seen_behind F.seen self.old) path.now.key result (seen_behind F.seen self.new) }
+        ensures plan { Follows F.seen Op.CreateDir (path.now ∷ []) (λ s. MakesDirectory s path.now.key) self.old result self.new }
+    {
+        let paths = one_path(self.allocator(), path)?;
+        let mut call = self.begin(Op::CreateDir, paths)?;
+        let answer = self.inner.create_dir(path, credentials);
+        call.outcome = last_outcome(self.inner.records());
+        self.finish(call, answer)
+    }
+
+    fn remove_file(&mut self, path: &DavPath, credentials: &C) -> FsResult<()>
+        ensures seen { RemovesFile (seen_behind F.seen self.old) path.now.key result (seen_behind F.seen self.new) }
+        ensures plan { Follows F.seen Op.RemoveFile (path.now ∷ []) (λ s. RemovesFile s path.now.key) self.old result self.new }
+    {
+        let paths = one_path(self.allocator(), path)?;
+        let mut call = self.begin(Op::RemoveFile, paths)?;
+        let answer = self.inner.remove_file(path, credentials);
+        call.outcome = last_outcome(self.inner.records());
+        self.finish(call, answer)
+    }
+
+    fn remove_dir(&mut self, path: &DavPath, credentials: &C) -> FsResult<()>
+        ensures seen { RemovesDir (seen_behind F.seen self.old) path.now.key result (seen_behind F.seen self.new) }
+        ensures plan { Follows F.seen Op.RemoveDir (path.now ∷ []) (λ s. RemovesDir s path.now.key) self.old result self.new }
+    {
+        let paths = one_path(self.allocator(), path)?;
+        let mut call = self.begin(Op::RemoveDir, paths)?;
+        let answer = self.inner.remove_dir(path, credentials);
+        call.outcome = last_outcome(self.inner.records());
+        self.finish(call, answer)
+    }
+
+    fn copy(&mut self, from: &DavPath, to: &DavPath, credentials: &C) -> FsResult<()>
+        ensures seen { Copies (seen_behind F.seen self.old) from.now.key to.now.key result (seen_behind F.seen self.new) }
+        ensures plan { Follows F.seen Op.Copy (from.now ∷ to.now ∷ []) (λ s. Copies s from.now.key to.now.key) self.old result self.new }
+    {
+        let paths = two_paths(self.allocator(), from, to)?;
+        let mut call = self.begin(Op::Copy, paths)?;
+        let answer = self.inner.copy(from, to, credentials);
+        call.outcome = last_outcome(self.inner.records());
+        self.finish(call, answer)
+    }
+
+    fn rename(&mut self, from: &DavPath, to: &DavPath, credentials: &C) -> FsResult<()>
+        ensures seen { Renames (seen_behind F.seen self.old) from.now.key to.now.key result (seen_behind F.seen self.new) }
+        ensures plan { Follows F.seen Op.Rename (from.now ∷ to.now ∷ []) (λ s. Renames s from.now.key to.now.key) self.old result self.new }
+    {
+        let paths = two_paths(self.allocator(), from, to)?;
+        let mut call = self.begin(Op::Rename, paths)?;
+        let answer = self.inner.rename(from, to, credentials);
+        call.outcome = last_outcome(self.inner.records());
+        self.finish(call, answer)
+    }
+
+    fn open(&mut self, path: &DavPath, options: &OpenOptions, credentials: &C) -> FsResult<DavFile>
+        ensures seen { Opens (seen_behind F.seen self.old) path.now options.now result (seen_behind F.seen self.new) }
+        ensures plan { Follows F.seen Op.OpenFile (path.now ∷ []) (λ s. Opens s path.now options.now) self.old result self.new }
+    {
+        let paths = one_path(self.allocator(), path)?;
+        let mut call = self.begin(Op::OpenFile, paths)?;
+        let answer = self.inner.open(path, options, credentials);
+        call.outcome = last_outcome(self.inner.records());
+        self.finish(call, answer)
+    }
+
+    fn seek(&mut self, file: &mut DavFile, pos: u64, credentials: &C) -> FsResult<()>
+        ensures sought { Seeks (seen_behind F.seen self.old) file.old.path.key result (seen_behind F.seen self.new) }
+        ensures place { MatchResult result (λ _. file.new ≡ record file.old { pos = pos }) (λ _. file.new ≡ file.old) }
+        ensures plan { Follows F.seen Op.Seek (file.old.path ∷ []) (λ s. Seeks s file.old.path.key) self.old result self.new }
+    {
+        let paths = one_path(self.allocator(), &file.path)?;
+        let mut call = self.begin(Op::Seek, paths)?;
+        let answer = self.inner.seek(file, pos, credentials);
+        call.outcome = last_outcome(self.inner.records());
+        self.finish(call, answer)
+    }
+
+    fn write_bytes(&mut self, file: &mut DavFile, bytes: &[u8], credentials: &C) -> FsResult<()>
+        requires { file.old.append ≡ false → file.old.pos + length bytes.now < 2 ^ 64 }
+        ensures written { Writes (seen_behind F.seen self.old) file.old bytes.now result (seen_behind F.seen self.new) }
+        ensures place { MatchResult result (λ _. file.new ≡ record file.old { pos = place_of file.old (seen_behind F.seen self.old).contents + length bytes.now }) (λ _. file.new ≡ file.old) }
+        ensures plan { Follows F.seen Op.WriteBytes (file.old.path ∷ []) (λ s. Writes s file.old bytes.now) self.old result self.new }
+    {
+        let paths = one_path(self.allocator(), &file.path)?;
+        let mut call = self.begin(Op::WriteBytes, paths)?;
+        let answer = self.inner.write_bytes(file, bytes, credentials);
+        call.outcome = last_outcome(self.inner.records());
+        self.finish(call, answer)
+    }
+
+    fn flush(&mut self, file: &DavFile, credentials: &C) -> FsResult<()>
+        ensures seen { Flushes (seen_behind F.seen self.old) file.now.path.key result (seen_behind F.seen self.new) }
+        ensures plan { Follows F.seen Op.Flush (file.now.path ∷ []) (λ s. Flushes s file.now.path.key) self.old result self.new }
+    {
+        let paths = one_path(self.allocator(), &file.path)?;
+        let mut call = self.begin(Op::Flush, paths)?;
+        let answer = self.inner.flush(file, credentials);
+        call.outcome = last_outcome(self.inner.records());
+        self.finish(call, answer)
+    }
+
+    fn file_metadata(&mut self, file: &DavFile, credentials: &C) -> FsResult<Meta>
+        ensures seen { LooksAtFile (seen_behind F.seen self.old) file.now.path.key result (seen_behind F.seen self.new) }
+        ensures plan { Follows F.seen Op.FileMetadata (file.now.path ∷ []) (λ s. LooksAtFile s file.now.path.key) self.old result self.new }
+    {
+        let paths = one_path(self.allocator(), &file.path)?;
+        let mut call = self.begin(Op::FileMetadata, paths)?;
+        let answer = self.inner.file_metadata(file, credentials);
+        call.outcome = last_outcome(self.inner.records());
+        self.finish(call, answer)
+    }
+
+    fn get_prop(&mut self, path: &DavPath, prop: &DavProp, credentials: &C) -> FsResult<Element>
+        ensures seen { GetsProp (seen_behind F.seen self.old) path.now.key (name_of prop.now) result (seen_behind F.seen self.new) }
+        ensures plan { Follows F.seen Op.GetProp (path.now ∷ []) (λ s. GetsProp s path.now.key (name_of prop.now)) self.old result self.new }
+    {
+        let paths = one_path(self.allocator(), path)?;
+        let mut call = self.begin(Op::GetProp, paths)?;
+        let answer = self.inner.get_prop(path, prop, credentials);
+        call.outcome = last_outcome(self.inner.records());
+        self.finish(call, answer)
+    }
+
+    fn get_props(&mut self, path: &DavPath, credentials: &C) -> FsResult<Vec<DavProp>>
+        ensures seen { GetsProps (seen_behind F.seen self.old) path.now.key result (seen_behind F.seen self.new) }
+        ensures plan { Follows F.seen Op.GetProps (path.now ∷ []) (λ s. GetsProps s path.now.key) self.old result self.new }
+    {
+        let paths = one_path(self.allocator(), path)?;
+        let mut call = self.begin(Op::GetProps, paths)?;
+        let answer = self.inner.get_props(path, credentials);
+        call.outcome = last_outcome(self.inner.records());
+        self.finish(call, answer)
+    }
+
+    fn patch_props(
+        &mut self,
+        path: &DavPath,
+        patches: &[(bool, DavProp)],
+        credentials: &C,
+    ) -> FsResult<Vec<StatusCode>>
+        requires some { patches.now ≢ [] }
+        requires whole { All IsWhole patches.now }
+        ensures seen { PatchesProps (seen_behind F.seen self.old) path.now.key patches.now result (seen_behind F.seen self.new) }
+        ensures plan { Follows F.seen Op.PatchProps (path.now ∷ []) (λ s. PatchesProps s path.now.key patches.now) self.old result self.new }
+    {
+        let paths = one_path(self.allocator(), path)?;
+        let mut call = self.begin(Op::PatchProps, paths)?;
+        let mut statuses = Vec::with_capacity(self.allocator(), patches.len())?;
+        let answer = self.inner.patch_props(path, patches, credentials);
+        call.outcome = last_outcome(self.inner.records());
+        if let Ok(answered) = &answer {
+            statuses.extend_from_slice(answered).unwrap();
+            call.statuses = Items::from_vec(statuses);
+        }
+        self.finish(call, answer)
+    }
+
+    fn get_quota(&mut self, credentials: &C) -> FsResult<(u64, Option<u64>)>
+        ensures seen { GetsQuota (seen_behind F.seen self.old) result (seen_behind F.seen self.new) }
+        ensures plan { Follows F.seen Op.GetQuota [] GetsQuota self.old result self.new }
+    {
+        let paths = Items::from_vec(Vec::new(self.allocator()));
+        let mut call = self.begin(Op::GetQuota, paths)?;
+        let answer = self.inner.get_quota(credentials);
+        call.outcome = last_outcome(self.inner.records());
+        self.finish(call, answer)
+    }
+
+    fn have_props(&self) -> bool {
+        self.inner.have_props()
+    }
+
+    fn records(&self) -> &[Record]
+        ensures seen { map logged_of result.now ≡ (seen_behind F.seen self.now).log }
+        ensures records { result.now ≡ records_of self.now }
+    {
+        &self.log
+    }
+
+    /// Empties the log of the store behind too.
+    fn clear_log(&mut self)
+        ensures seen { seen_behind F.seen self.new ≡ record (seen_behind F.seen self.old) { log = [] } }
+        ensures inner { F.seen (inner_of self.new) ≡ record (F.seen (inner_of self.old)) { log = [] } }
+        ensures plan { pending_of self.new ≡ pending_of self.old }
+        ensures records { records_of self.new ≡ [] }
+    {
+        self.inner.clear_log();
+        self.log.clear();
+    }
+}
+
+/// How the last call ended that these records tell of.
+fn last_outcome(records: &[Record]) -> Outcome
+    ensures { result ≡ outcome_of_last (map logged_of records.now) }
+{
+    match records.last() {
+        Some(record) => record.outcome,
+        None => Outcome::Granted,
+    }
+}

@@ -1,6 +1,0 @@
-use Rattle.std.proofs.Common.{refl}
-use Rattle.dav_store.proofs.LockLists.{distinct-none}
-use Rattle.dav_store.proofs.memory_locks.MemLs.new.Goals as goal
-
-pub invariant_of-result : goal.invariant_of-result
-invariant_of-result c = record { distinct_tokens = rw c.new.ensures distinct-none; compatible = rw c.new.ensures refl }
