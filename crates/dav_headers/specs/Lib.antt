@@ -4,9 +4,11 @@ pub mod Number
 pub mod Range
 pub mod Body
 pub mod Depth
+pub mod Overwrite
 pub mod Timeout
 pub mod LockToken
 pub mod Place
+pub mod Destination
 pub mod Repeated
 pub mod Tag
 pub mod TagList

@@ -6,10 +6,12 @@
 
 mod body;
 mod depth;
+mod destination;
 mod if_header;
 mod if_token;
 mod lock_token;
 mod number;
+mod overwrite;
 mod place;
 mod range;
 mod tag;
@@ -22,9 +24,11 @@ pub use body::{
     read_checksum, read_content_length, read_content_type, read_expected_entity_length,
 };
 pub use depth::read_depth;
+pub use destination::read_destination;
 pub use if_header::{IfCondition, IfItem, IfList, read_if};
 pub use lock_token::read_lock_token;
 pub use number::read_number;
+pub use overwrite::read_overwrite;
 pub use place::{read_place, read_tagged_path};
 pub use range::{ContentRange, UpdateRange, read_content_range, read_update_range};
 pub use tag_list::{read_if_match, read_if_none_match};

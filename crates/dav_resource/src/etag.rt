@@ -55,7 +55,7 @@ pub enum ETagList {
     Tags(Items<ETag>),
 }
 
-/// The value of If-Range (RFC 7233, section 3.2), of which only the form with a tag is read.
+/// The value of If-Range (RFC 7233, section 3.2) in its form with a tag. No header is read as one here.
 #[derive(Drop, Debug)]
 pub struct IfRange {
     /// The one tag.

@@ -1,0 +1,18 @@
+-- The header Destination (RFC 4918, section 10.3): where a resource is to be copied or moved to.
+use Rattle.std.specs.Prelude.{ℕ, List, codes, Option, Some, None, option_and_then, Result, Err}
+use Rattle.http_header.specs.HeaderMap.{Entries}
+use Rattle.http_header.specs.FieldValue.{FieldValue}
+use Rattle.dav_resource.specs.PathText.{PathValue, read_path}
+use Rattle.dav_resource.specs.declared.error.DavError.{DavError}
+use Rattle.dav_resource.specs.declared.error.DavError.TheVariants.{Status}
+use Rattle.dav_headers.specs.Values.{first_text}
+use Rattle.dav_headers.specs.Place.{place_path}
+
+-- the path of this text below this prefix; without a text a bad request
+abbrev pub path_at : Option (List ℕ) → List ℕ → Result PathValue DavError
+path_at None prefix = Err (Status 400)
+path_at (Some text) prefix = read_path text prefix
+
+-- the path of the place that the header names, below this prefix
+abbrev pub destination_of : Entries FieldValue → List ℕ → Result PathValue DavError
+destination_of headers prefix = path_at (option_and_then place_path (first_text headers (codes "destination"))) prefix
