@@ -3,16 +3,10 @@ use Rattle.std.proofs.Common.{not, ◌≡◌, ◌≢◌, ◌∙◌, ◌==◌, le
 use Rattle.std.specs.Prelude.{String}
 use Rattle.std.specs.declared.alloc.Global.{Global}
 use Rattle.std.specs.Bool.{Decides}
-use Rattle.std.proofs.lemmas.Bool.Decides.{nat_tests}
+use Rattle.std.proofs.lemmas.Bool.Decides.{nat_tests, same_from_decides}
 use Rattle.dav_resource.specs.Key.{Key, is_same_key, same_key_decides}
 use Rattle.dav_store.specs.Below.{is_at_or_below, is_below}
 use Rattle.dav_resource.specs.Texts.{texts}
-
--- two tests of one fact
-same_test : (a b : Bool) (P : Type 0) → Decides a P → Decides b P → a ≡ b
-same_test true b P d e = sym (e.1 (d.0 refl))
-same_test false true P d e = d.1 (e.0 refl)
-same_test false false P d e = refl
 
 -- ---- the root
 
@@ -28,4 +22,4 @@ not_root (segment ∷ segments) key is e = λ root. (let both : texts (segment �
 
 pub below_test : (above same : Bool) (key other : Key) → above ≡ true → above ≡ is_at_or_below key other → Decides same (key ≡ other) → not same ≡ is_below key other
 below_test above same key other t is d =
-    ap not (same_test same (is_same_key key other) (key ≡ other) d (same_key_decides key other)) ∙ ap (λ b. b && not (is_same_key key other)) (sym t ∙ is)
+    ap not (same_from_decides same (is_same_key key other) d (same_key_decides key other)) ∙ ap (λ b. b && not (is_same_key key other)) (sym t ∙ is)
