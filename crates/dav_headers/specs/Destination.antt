@@ -13,6 +13,10 @@ abbrev pub path_at : Option (List ℕ) → List ℕ → Result PathValue DavErro
 path_at None prefix = Err (Status 400)
 path_at (Some text) prefix = read_path text prefix
 
+-- the path of the place that the header names, as a text
+abbrev pub destination_place : Entries FieldValue → Option (List ℕ)
+destination_place headers = option_and_then place_path (first_text headers (codes "destination"))
+
 -- the path of the place that the header names, below this prefix
 abbrev pub destination_of : Entries FieldValue → List ℕ → Result PathValue DavError
-destination_of headers prefix = path_at (option_and_then place_path (first_text headers (codes "destination"))) prefix
+destination_of headers prefix = path_at (destination_place headers) prefix

@@ -1,9 +1,7 @@
 //! The header Destination.
-ghost use Rattle.std.specs.Prelude.{Ok, codes, option_and_then};
+ghost use Rattle.std.specs.Prelude.{Ok};
 ghost use Rattle.dav_resource.specs.Gives.{GivesBy};
-ghost use Rattle.dav_headers.specs.Place.{place_path};
-ghost use Rattle.dav_headers.specs.Values.{first_text};
-ghost use Rattle.dav_headers.specs.Destination.{destination_of};
+ghost use Rattle.dav_headers.specs.Destination.{destination_of, destination_place};
 
 use crate::place::read_place;
 use crate::values::first_text;
@@ -31,7 +29,7 @@ pub fn read_destination(
 
 /// The path of the place that the header names, as a text. The only error is `Memory`, as in `read_place`.
 fn place_named(alloc: Global, headers: &HeaderMap<HeaderValue>) -> DavResult<Option<Text>>
-    ensures { GivesBy (λ place. place) result (Ok (option_and_then place_path (first_text headers.now (codes "destination")))) }
+    ensures { GivesBy (λ place. place) result (Ok (destination_place headers.now)) }
 {
     match first_text(headers, "destination") {
         Some(text) => read_place(alloc, text),
