@@ -1,5 +1,5 @@
 -- Locks that stand together do so after each work.
-use Rattle.std.proofs.Common.{◌≡◌, Bool, true, false, List, ◌∷◌, [], ◌++◌, Option, Some, None, Err, ◌⊎◌, inl, inr, sym, subst, option_map, refl, ℕ, Ok}
+use Rattle.std.proofs.Common.{◌≡◌, Bool, true, false, List, ◌∷◌, [], ◌++◌, Option, Some, None, is_some, Err, ◌⊎◌, inl, inr, sym, subst, option_map, refl, ℕ, Ok}
 use Rattle.std.specs.Option.{ForSome, option_map_or}
 use Rattle.dav_resource.specs.declared.error.DavError.TheVariants.{Memory}
 use Rattle.dav_resource.specs.declared.meta.Meta.{Meta}
@@ -13,13 +13,16 @@ use Rattle.dav_parts.specs.Multistatus.{Item}
 use Rattle.dav_parts.specs.Reply.{Answer}
 use Rattle.dav_engine.specs.State.{State, LocksStay, DropsLocks, IsCompatible}
 use Rattle.dav_engine.specs.Delete.{LeavesLocks}
+use Rattle.dav_engine.specs.Transferring.{ClearsIf, ClearsInPart, UnlessNamed}
+use Rattle.dav_engine.specs.Move.{MovesSource, MovesInPart, Moves, MovesSoFar}
+use Rattle.dav_engine.specs.declared.transfer.Transfer.{Transfer}
 use Rattle.dav_engine.specs.Locking.{is_refresh, lock_asked, AddsToLocks, TakesBack, LeavesLock, GrantsLock, DeniesLock, RefreshesAlone, RefreshesTold, FindsNoLock, LockWorkBy, LockCutBy}
 use Rattle.dav_engine.specs.Unlocking.{Unlocks, UnlocksNothing}
 use Rattle.dav_engine.specs.Rules.{depth_or_all, fixed_path}
 use Rattle.dav_walks.specs.Deletion.{Removes}
 use Rattle.dav_engine.specs.Settings.{Settings}
 use Rattle.dav_engine.specs.Method.{Method}
-use Rattle.dav_engine.specs.Methods.{mkcol_method, write_method, delete_method, lock_method, unlock_method}
+use Rattle.dav_engine.specs.Methods.{mkcol_method, write_method, delete_method, move_method, lock_method, unlock_method}
 
 -- ---- by what becomes of the locks
 
@@ -109,6 +112,34 @@ keeps_delete settings request found old new records answer (inr cut) h = by_end 
     by_end : LocksStay old new ⊎ (Removes (depth_or_all request) (fixed_path request.path (Some found)) old.contents new.contents records [] × DropsLocks request.path.key old new) → IsCompatible new
     by_end (inl same) = stay old new same h
     by_end (inr gone) = dropped request.path old new gone.1 h
+
+cleared : (there : Bool) (destination : PathValue) (old new : State) (records : List Logged) (names : List Item) → ClearsIf there destination old records names new → IsCompatible old → IsCompatible new
+cleared true destination old new records names clears h = by_names names destination old new clears.locks h
+cleared false destination old new records names none h = compatible_same old new none.2 h
+
+cleared_in_part : (there : Bool) (destination : PathValue) (old new : State) (records : List Logged) → ClearsInPart there destination old records new → IsCompatible old → IsCompatible new
+cleared_in_part true destination old new records part h = stay old new part.1 h
+cleared_in_part false destination old new records none h = compatible_same old new none.1 h
+
+module _ (source : PathValue) (found : Transfer) (old new : State) (records : List Logged) where
+  moved : (names : List Item) → Moves source found old records names new → IsCompatible old → IsCompatible new
+  moved names w h = by_kept w.kept w.follows (cleared (is_some found.there) found.destination old w.mid w.head w.kept w.cleared h)
+    where
+      by_kept : (kept : List Item) → UnlessNamed (MovesSource source found.destination) kept w.mid w.rest names new → IsCompatible w.mid → IsCompatible new
+      by_kept [] follows mid = by_names names source w.mid new follows.locks mid
+      by_kept (item ∷ kept) follows mid = compatible_same w.mid new follows.2 mid
+
+  moved_so_far : MovesSoFar source found old records new → IsCompatible old → IsCompatible new
+  moved_so_far (inl part) h = cleared_in_part (is_some found.there) found.destination old new records part h
+  moved_so_far (inr more) h = by_part more.part (cleared (is_some found.there) found.destination old more.mid more.head [] more.cleared h)
+    where
+      by_part : MovesInPart source found.destination more.mid more.rest new → IsCompatible more.mid → IsCompatible new
+      by_part (inl none) mid = compatible_same more.mid new none.1 mid
+      by_part (inr (names, moves)) mid = by_names names source more.mid new moves.locks mid
+
+pub keeps_move : Keeps move_method
+keeps_move settings request found old new records answer (inl work) h = moved (fixed_path request.path (Some found.meta)) found old new records work.names work.moved h
+keeps_move settings request found old new records answer (inr cut) h = moved_so_far (fixed_path request.path (Some found.meta)) found old new records cut.1 h
 
 pub keeps_lock : Keeps lock_method
 keeps_lock settings request found old new records answer (inl work) h = locked request found old new records answer (is_refresh request.body) work h

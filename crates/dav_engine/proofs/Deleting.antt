@@ -89,35 +89,35 @@ module _ (request : DavRequest) (state : State) (old mid new : Store) (meta : Me
 -- ---- the work
 
 -- what is given is answered, unless memory ran out
-answered : (result : Result (Response Body) DavError) (expected : Answer) → GivesBy reply_of result expected → (answer_of result ≡ expected) ⊎ (answer_of result ≡ Err Memory)
+pub answered : (result : Result (Response Body) DavError) (expected : Answer) → GivesBy reply_of result expected → (answer_of result ≡ expected) ⊎ (answer_of result ≡ Err Memory)
 answered (Ok reply) expected given = inl (sym given)
 answered (Err e) expected (inl given) = inl (sym given)
 answered (Err e) expected (inr memory) = inr (ap Err memory)
 
 -- an answer says whether something is named
-none_named : (names : List Item) → Ok tt ≡ removal_answer names → names ≡ []
+pub none_named : (names : List Item) → Ok tt ≡ removal_answer names → names ≡ []
 none_named [] is = refl
 none_named (item ∷ names) is = absurd cc
 
-no_memory : (names : List Item) → Err Memory ≡ removal_answer names → ⊥
+pub no_memory : (names : List Item) → Err Memory ≡ removal_answer names → ⊥
 no_memory [] is = cc
 no_memory (item ∷ names) is = cc
 
-some_named : (e : DavError) (names : List Item) → Err e ≡ removal_answer names → names ≢ []
+pub some_named : (e : DavError) (names : List Item) → Err e ≡ removal_answer names → names ≢ []
 some_named e [] is = absurd cc
 some_named e (item ∷ names) is = λ none. cc
 
-same_facts : (old new : Seen) → new.store.keeps_properties ≡ old.store.keeps_properties → new.locks ≡ old.locks → facts_of new ≡ facts_of old
+pub same_facts : (old new : Seen) → new.store.keeps_properties ≡ old.store.keeps_properties → new.locks ≡ old.locks → facts_of new ≡ facts_of old
 same_facts old new fixed locks = λ i. (fixed i, option_map (λ (l : Locks). l.dependable) (locks i))
 
-same_locks : (old new : Seen) → new.locks ≡ old.locks → LocksStay (state_of old) (state_of new)
+pub same_locks : (old new : Seen) → new.locks ≡ old.locks → LocksStay (state_of old) (state_of new)
 same_locks old new locks = ap (option_map (λ (l : Locks). l.list)) locks
 
-drops : (key : Key) (old mid new : Seen) → mid.locks ≡ old.locks → DropsLocks key (state_of mid) (state_of new) → DropsLocks key (state_of old) (state_of new)
+pub drops : (key : Key) (old mid new : Seen) → mid.locks ≡ old.locks → DropsLocks key (state_of mid) (state_of new) → DropsLocks key (state_of old) (state_of new)
 drops key old mid new locks dropped =
     subst (λ (l : Option Locks). DropsLocks key (record { contents = mid.store.contents; locks = option_map (λ (k : Locks). k.list) l; dependable = option_map_or (λ (k : Locks). k.dependable) l true }) (state_of new)) locks dropped
 
-named_locks : (names : List Item) (path : PathValue) (old new : State) → names ≢ [] → LocksStay old new → LeavesLocks names path old new
+pub named_locks : (names : List Item) (path : PathValue) (old new : State) → names ≢ [] → LocksStay old new → LeavesLocks names path old new
 named_locks [] path old new some same = absurd (some refl)
 named_locks (item ∷ names) path old new some same = same
 

@@ -8,7 +8,7 @@ use Rattle.dav_resource.specs.Key.{Key, key_cmp, key_cmp_total, tied_decides}
 use Rattle.dav_resource.specs.declared.error.DavError.TheVariants.{Memory}
 use Rattle.dav_resource.specs.declared.meta.Meta.{Meta}
 use Rattle.dav_resource.specs.declared.method.DavMethod.{DavMethod}
-use Rattle.dav_resource.specs.declared.method.DavMethod.TheVariants.{MkCol, Delete, Lock, Unlock}
+use Rattle.dav_resource.specs.declared.method.DavMethod.TheVariants.{MkCol, Move, Delete, Lock, Unlock}
 use Rattle.dav_resource.specs.declared.request.DavRequest.{DavRequest}
 use Rattle.dav_store.specs.Logged.{Logged}
 use Rattle.dav_store.specs.Store.{Contents, Node, Tree, File}
@@ -24,16 +24,19 @@ use Rattle.dav_engine.specs.Rules.{is_permitted, where_permitted, path_rules, sh
 use Rattle.dav_engine.specs.Target.{target_of}
 use Rattle.dav_engine.specs.declared.target.Target.{Target}
 use Rattle.dav_engine.specs.Delete.{delete_rules}
+use Rattle.dav_engine.specs.Move.{MoveWork, MoveCut}
 use Rattle.dav_engine.specs.Guarded.{IsChanged, IsPermitted, IsLockedFile, IsGuarded}
 use Rattle.dav_engine.specs.Locking.{is_refresh, lock_asked, HasFile, FileLeaves, GrantsLock, DeniesLock, LockWorkBy, LockCutBy}
 use Rattle.dav_store.specs.declared.lock.DavLock.{DavLock}
+use Rattle.dav_engine.proofs.Passing.{permitted_passed, MovePassed, move_passed}
+use Rattle.dav_engine.proofs.Moving.{moved_outside, so_far_outside}
 use Rattle.dav_engine.proofs.Trees.{get-inserted}
 use Rattle.dav_engine.specs.Mkcol.{MkcolLeaves}
 use Rattle.dav_engine.specs.Opening.{IsFileAt}
 use Rattle.dav_engine.specs.Put.{PutLeaves, put_rules}
 use Rattle.dav_engine.specs.Settings.{Settings}
 use Rattle.dav_engine.specs.Method.{Method}
-use Rattle.dav_engine.specs.Methods.{mkcol_method, write_method, delete_method, lock_method, unlock_method}
+use Rattle.dav_engine.specs.Methods.{mkcol_method, write_method, delete_method, move_method, lock_method, unlock_method}
 
 -- nothing is changed where nothing changes
 unchanged : (key : Key) (old new : Contents) → new ≡ old → IsChanged key old new → ⊥
@@ -47,11 +50,6 @@ guarded_contents : (method : Option DavMethod) (request : DavRequest) (old new :
 guarded_contents method request old new same key changed = absurd (unchanged key old.contents new.contents same changed)
 
 -- ---- what the rules have asked
-
-permitted_passed : {A : Type 0} (status : ℕ) (permitted : Bool) (a b : A) (records : List Logged) → LeadsTo (where_permitted status permitted a) records (Passed b) → permitted ≡ true
-permitted_passed status true a b records h = refl
-permitted_passed status false a b [] h = absurd cc
-permitted_passed status false a b (r ∷ records) h = absurd h
 
 path_passed : (request : DavRequest) (state : State) (looked : Option Meta) (head : List Logged) (found : Option Meta) → LeadsTo (path_rules request state looked) head (Passed found) → is_permitted request state request.path.key false ≡ true
 path_passed request state looked head found h =
@@ -129,6 +127,20 @@ guarded_below method request old new permitted elsewhere key changed = inl (at (
         unmoved (inl other) = other (ap (λ s. s.0) (sym same))
         unmoved (inr other) = other (ap (λ s. s.1) (sym same))
 
+-- the rules of a method that works at two keys and below them permit it there, and the work changes nothing else
+guarded_both : (method : Option DavMethod) (request : DavRequest) (old new : State) (one other : Key) → is_permitted request old one true ≡ true → is_permitted request old other true ≡ true
+    → ((key : Key) → (is_at_or_below key one ≡ false) × (is_at_or_below key other ≡ false) → standing new.contents key ≡ standing old.contents key) → IsGuarded method request old new
+guarded_both method request old new one other at_one at_other elsewhere key changed = inl (at (is_at_or_below key one) refl (is_at_or_below key other) refl)
+  where
+    unmoved : standing new.contents key ≡ standing old.contents key → IsChanged key old.contents new.contents → ⊥
+    unmoved same (inl other) = other (ap (λ s. s.0) (sym same))
+    unmoved same (inr other) = other (ap (λ s. s.1) (sym same))
+
+    at : (b : Bool) → is_at_or_below key one ≡ b → (d : Bool) → is_at_or_below key other ≡ d → IsPermitted request old key
+    at true below d is = inr (one, below, at_one)
+    at false apart true below = inr (other, below, at_other)
+    at false apart false apart' = absurd (unmoved (elsewhere key (apart, apart')) changed)
+
 -- the file that a LOCK makes where nothing was
 guarded_file : (request : DavRequest) (old new : State) (records : List Logged) → FileLeaves request records old.contents new.contents → IsGuarded (Some Lock) request old new
 guarded_file request old new records (inr none) key changed = absurd (unchanged key old.contents new.contents none.1 changed)
@@ -174,6 +186,19 @@ guards_delete settings request found old new head records answer passed (inl wor
 guards_delete settings request found old new head records answer passed (inr cut) =
     guarded_below (Some Delete) request old new (delete_passed request old head found passed)
     (removes_within (depth_or_all request) (fixed_path request.path (Some found)) old.contents new.contents records cut.1.removed)
+
+pub guards_move : Guards (Some Move) move_method
+guards_move settings request found old new head records answer passed done = by_end done
+  where
+    rules : MovePassed settings request old found
+    rules = move_passed settings request old head found passed
+
+    both : ((key : Key) → (is_at_or_below key request.path.key ≡ false) × (is_at_or_below key found.destination.key ≡ false) → standing new.contents key ≡ standing old.contents key) → IsGuarded (Some Move) request old new
+    both = guarded_both (Some Move) request old new request.path.key found.destination.key rules.permitted.source rules.permitted.destination
+
+    by_end : MoveWork request found old records answer new ⊎ ((answer ≡ Err Memory) × MoveCut request found old records new) → IsGuarded (Some Move) request old new
+    by_end (inl work) = both (λ key outside. moved_outside (fixed_path request.path (Some found.meta)) found old new records key outside work.names work.moved)
+    by_end (inr cut) = both (λ key outside. so_far_outside (fixed_path request.path (Some found.meta)) found old new records key outside cut.1)
 
 pub guards_lock : Guards (Some Lock) lock_method
 guards_lock settings request found old new head records answer passed (inl work) = locked (is_refresh request.body) work

@@ -9,7 +9,12 @@ pub mod Judging
 pub mod Making
 pub mod PutHeaders
 pub mod Putting
+pub mod Refusals
+pub mod MoveLaws
 pub mod Running
+pub mod Transferring
+pub mod Moving
+pub mod Passing
 pub mod Serving
 pub mod Trees
 pub mod Compatible

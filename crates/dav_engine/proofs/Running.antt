@@ -36,7 +36,7 @@ system_dependable seen = by_locks seen.locks
     by_locks None = refl
     by_locks (Some l) = refl
 
-same_system : (old new : Seen) → facts_of new ≡ facts_of old → HasSameSystem (state_of old) (state_of new)
+pub same_system : (old new : Seen) → facts_of new ≡ facts_of old → HasSameSystem (state_of old) (state_of new)
 same_system old new fixed = record {
   there = system_there new ∙ ap (λ (f : Bool × Option Bool). is_some f.1) fixed ∙ sym (system_there old);
   dependable = system_dependable new ∙ ap (λ (f : Bool × Option Bool). option_map_or (λ (b : Bool). b) f.1 true) fixed ∙ sym (system_dependable old);

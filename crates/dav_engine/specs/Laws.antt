@@ -1,17 +1,25 @@
--- What a request changes at the most, and what its answer says, in a user's words: each law follows from the method's definition (RFC 4918, sections 9.6, 9.7 and 9.10).
+-- What a request changes at the most, and what its answer says, in a user's words: each law follows from the method's definition (RFC 4918, sections 9.6, 9.7, 9.9, 9.10 and 13).
 use Rattle.std.specs.Prelude.{◌≡◌, ◌≢◌, ◌⊎◌, ◌||◌, nat_eq, Bool, true, false, List, [], map, Option, None, option_map, Ok, Err}
 use Rattle.std.specs.FinMap.{get}
 use Rattle.std.specs.Option.{ForSome}
 use Rattle.dav_resource.specs.Key.{Key}
-use Rattle.dav_resource.specs.Errors.{dav_status}
+use Rattle.dav_resource.specs.PathText.{PathValue}
+use Rattle.dav_resource.specs.Errors.{dav_status, fs_status}
 use Rattle.dav_resource.specs.declared.error.DavError.TheVariants.{Memory}
+use Rattle.dav_resource.specs.declared.error.FsError.{FsError}
 use Rattle.dav_resource.specs.declared.request.Depth.TheVariants.{Zero}
 use Rattle.dav_resource.specs.declared.request.DavRequest.{DavRequest}
+use Rattle.dav_headers.specs.Destination.{destination_of}
 use Rattle.dav_store.specs.Locks.{is_at_or_below, at_or_below}
+use Rattle.dav_store.specs.Members.{IsIn}
+use Rattle.dav_store.specs.Transfers.{IsRenamedTo}
 use Rattle.dav_store.specs.declared.lock.DavLock.{DavLock}
-use Rattle.dav_parts.specs.Reply.{Answer}
+use Rattle.dav_parts.specs.Multistatus.{Item, multistatus_reply}
+use Rattle.dav_parts.specs.Reply.{Reply, Answer}
+use Rattle.dav_walks.specs.KeyCall.{standing}
 use Rattle.dav_engine.specs.Locking.{is_refresh}
 use Rattle.dav_engine.specs.Rules.{depth_or_all}
+use Rattle.dav_engine.specs.Settings.{Settings}
 use Rattle.dav_engine.specs.State.{State, LocksStay, DropsLocks}
 
 -- ---- DELETE
@@ -50,6 +58,38 @@ KeepsLocksUnlessGone request old answer new = LocksStay old new ⊎ IsGoneWithLo
 pub record ChangesPathAlone (request : DavRequest) (old new : State) : Type 0 where
   pub elsewhere : (key : Key) → key ≢ request.path.key → get new.contents.tree key ≡ get old.contents.tree key
   pub properties : new.contents.properties ≡ old.contents.properties
+
+-- ---- MOVE
+
+-- the answer of a MOVE that moved: 201, or 204 where it replaced something
+abbrev pub tells_moved : Answer → Bool
+tells_moved (Ok reply) = nat_eq reply.status 201 || nat_eq reply.status 204
+tells_moved (Err e) = false
+
+-- What stood at the path and below it stands where Destination says, with its properties and in the place of all that was there.
+-- Nothing is left at the path or below it nor, of a dependable lock system, a lock there, and what stood elsewhere is as it was.
+pub record IsMovedWhole (settings : Settings) (request : DavRequest) (old new : State) : Type 0 where
+  pub destination : PathValue
+  pub named : destination_of request.headers settings.prefix ≡ Ok destination
+  pub renamed : IsRenamedTo request.path.key destination.key old.contents new.contents
+  pub unlocked : old.dependable ≡ true → IsUnlocked request new
+
+-- a 201 or a 204 tells that
+abbrev pub MovesWhole : Settings → DavRequest → State → Answer → State → Type 0
+MovesWhole settings request old answer new = tells_moved answer ≡ true → IsMovedWhole settings request old new
+
+-- unless the answer tells that, or memory ran out, all at the path and below it is as it was
+abbrev pub KeepsSource : DavRequest → State → Answer → State → Type 0
+KeepsSource request old answer new =
+    tells_moved answer ≡ false → answer ≢ Err Memory → (key : Key) → is_at_or_below key request.path.key ≡ true → standing new.contents key ≡ standing old.contents key
+
+-- each has the status of a refusal by the store
+abbrev pub AreRefusals : List Item → Type 0
+AreRefusals names = (item : Item) → IsIn item names → (e : FsError) × (fs_status e ≡ item.1)
+
+-- a 207 names refusals alone
+abbrev pub NamesRefusals : Answer → Type 0
+NamesRefusals answer = (reply : Reply) → answer ≡ Ok reply → reply.status ≡ 207 → (names : List Item) × (reply ≡ multistatus_reply names) × AreRefusals names
 
 -- ---- LOCK
 

@@ -4,6 +4,8 @@ pub mod PutReply
 pub mod Mkcol
 pub mod Put
 pub mod Delete
+pub mod Transferring
+pub mod Move
 pub mod Settings
 pub mod Method
 pub mod Methods

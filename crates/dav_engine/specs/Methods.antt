@@ -2,7 +2,7 @@
 use Rattle.std.specs.Prelude.{◌≡◌, true, false, Bool, List, [], Option, Some, Err}
 use Rattle.dav_resource.specs.declared.meta.Meta.{Meta}
 use Rattle.dav_resource.specs.declared.method.DavMethod.{DavMethod}
-use Rattle.dav_resource.specs.declared.method.DavMethod.TheVariants.{Put, Patch, MkCol, Delete, Lock, Unlock}
+use Rattle.dav_resource.specs.declared.method.DavMethod.TheVariants.{Put, Patch, MkCol, Move, Delete, Lock, Unlock}
 use Rattle.dav_resource.specs.declared.error.DavError.TheVariants.{Status}
 use Rattle.dav_resource.specs.declared.request.DavRequest.{DavRequest}
 use Rattle.dav_store.specs.Logged.{Logged}
@@ -16,6 +16,9 @@ use Rattle.dav_engine.specs.Locking.{lock_rules, LockWork, LockCut}
 use Rattle.dav_engine.specs.Mkcol.{MkcolWork}
 use Rattle.dav_engine.specs.Put.{put_rules, PutWork, PutCut}
 use Rattle.dav_engine.specs.Delete.{delete_rules, DeleteWork, DeleteCut}
+use Rattle.dav_engine.specs.Transferring.{transfer_rules}
+use Rattle.dav_engine.specs.Move.{MoveWork, MoveCut}
+use Rattle.dav_engine.specs.declared.transfer.Transfer.{Transfer}
 use Rattle.dav_engine.specs.Unlocking.{unlock_rules, UnlockWork}
 
 abbrev pub mkcol_method : Method
@@ -40,6 +43,9 @@ write_method partial =
 abbrev pub delete_method : Method
 delete_method = record { Found = Meta; rules = λ settings. delete_rules; Work = λ settings. DeleteWork; Cut = λ settings. DeleteCut }
 
+abbrev pub move_method : Method
+move_method = record { Found = Transfer; rules = transfer_rules true; Work = λ settings. MoveWork; Cut = λ settings. MoveCut }
+
 abbrev pub lock_method : Method
 lock_method = record { Found = Option Meta; rules = λ settings. lock_rules; Work = λ settings. LockWork; Cut = λ settings. LockCut }
 
@@ -58,6 +64,7 @@ Step (Some MkCol) settings request old records answer new = StepBy mkcol_method 
 Step (Some Put) settings request old records answer new = StepBy (write_method false) settings request old records answer new
 Step (Some Patch) settings request old records answer new = StepBy (write_method true) settings request old records answer new
 Step (Some Delete) settings request old records answer new = StepBy delete_method settings request old records answer new
+Step (Some Move) settings request old records answer new = StepBy move_method settings request old records answer new
 Step (Some Lock) settings request old records answer new = StepBy lock_method settings request old records answer new
 Step (Some Unlock) settings request old records answer new = StepBy unlock_method settings request old records answer new
 Step _ settings request old records answer new = IsUnserved old records answer new

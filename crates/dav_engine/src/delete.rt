@@ -97,7 +97,7 @@ impl<'a, C: Drop, F: GuardedFileSystem<C>, L: DavLockSystem> DavInner<'a, C, F, 
     }
 
     /// Drops the locks at a path and below it. A refusal is passed over.
-    fn drop_locks(&mut self, path: &DavPath)
+    pub(crate) fn drop_locks(&mut self, path: &DavPath)
         ensures same_engine { frame self.new ≡ frame self.old }
         ensures same_store { lent self.new ≡ lent self.old }
         ensures dropped { DropsSeen path.now.key (seen_by F.seen L.seen self.old) (seen_by F.seen L.seen self.new) }

@@ -1,6 +1,7 @@
 //! The engine: WebDAV requests over any store and lock system that keep their contracts.
 #![tactic(auto)]
 
+mod copymove;
 mod delete;
 mod http_date;
 mod inner;
@@ -16,13 +17,14 @@ mod put;
 mod put_reply;
 mod refresh;
 mod target;
+mod transfer;
 mod unlock;
 
 pub use dav_headers::{
     ContentRange, IfCondition, IfItem, IfList, UpdateRange, read_checksum, read_content_length,
-    read_content_range, read_content_type, read_depth, read_expected_entity_length, read_if,
-    read_if_match, read_if_none_match, read_lock_token, read_place, read_tagged_path,
-    read_update_range,
+    read_content_range, read_content_type, read_depth, read_destination,
+    read_expected_entity_length, read_if, read_if_match, read_if_none_match, read_lock_token,
+    read_overwrite, read_place, read_tagged_path, read_update_range,
 };
 pub use dav_parts::{
     MultiError, build_lock_prop, dav_if_match, etaglist_match, http_if_match, if_match,

@@ -1,0 +1,290 @@
+-- What follows for its caller from each step of a MOVE.
+use Rattle.std.proofs.Common.{◌≡◌, ◌≢◌, ◌⊎◌, ◌∙◌, ◌&&◌, ◌||◌, ℕ, Bool, true, false, List, [], ◌∷◌, ◌++◌, Option, Some, None, is_some, Result, Ok, Err, inl, inr, refl, sym, ap, subst, nat_eq, if◌then◌else◌, arith}
+use Rattle.std.specs.FinMap.{get}
+use Rattle.std.proofs.lemmas.Slice.Eq.{bytes_eq-Decides}
+use Rattle.dav_resource.specs.Errors.{fs_status}
+use Rattle.dav_resource.specs.Key.{Key, is_same_key, same_key_decides}
+use Rattle.dav_resource.specs.PathText.{PathValue}
+use Rattle.dav_resource.specs.declared.error.DavError.{DavError}
+use Rattle.dav_resource.specs.declared.error.DavError.TheVariants.{Memory, Status}
+use Rattle.dav_resource.specs.declared.error.FsError.{FsError}
+use Rattle.dav_resource.specs.declared.meta.Meta.{Meta}
+use Rattle.dav_resource.specs.declared.method.DavMethod.TheVariants.{Move}
+use Rattle.dav_resource.specs.declared.record.Outcome.{Outcome}
+use Rattle.dav_resource.specs.declared.record.Outcome.TheVariants.{Granted, Barred, Refused}
+use Rattle.dav_resource.specs.declared.request.DavRequest.{DavRequest}
+use Rattle.dav_resource.specs.declared.request.Depth.{Depth}
+use Rattle.dav_resource.specs.declared.request.Depth.TheVariants.{Infinity}
+use Rattle.dav_headers.specs.Destination.{destination_of}
+use Rattle.dav_store.specs.Below.{is_at_or_below, AreApart}
+use Rattle.dav_store.specs.BelowLaws.{at_or_below-tail}
+use Rattle.dav_store.specs.Calls.{error_of, limit_of}
+use Rattle.dav_store.specs.Logged.{Logged}
+use Rattle.dav_store.specs.Members.{IsIn}
+use Rattle.dav_store.specs.Store.{Contents, IsWellFormed}
+use Rattle.dav_store.specs.Transfers.{IsRenamedTo}
+use Rattle.dav_parts.specs.Conditions.{conditions, submitted_tokens}
+use Rattle.dav_parts.specs.Dialogue.{look}
+use Rattle.dav_parts.specs.Multistatus.{Item, multi_answer, multistatus_reply}
+use Rattle.dav_parts.specs.Reply.{Reply, Answer, bare_reply}
+use Rattle.dav_walks.specs.ClearedLaws.{names_refused}
+use Rattle.dav_walks.specs.KeyCall.{standing}
+use Rattle.dav_engine.specs.State.{State, Seen, state_of, DropsLocks, HasSameSystem}
+use Rattle.dav_engine.specs.Settings.{Settings}
+use Rattle.dav_engine.specs.Rules.{judged, told_by_look, must_find, look_closely, depth_or_all, fixed_path}
+use Rattle.dav_engine.specs.Transferring.{where_reached, asked_destination, reach_verdict, parent_verdict, must_have_parent, found_or_absent, look_there, see_destination, place_verdict, permits_transfer, transfer_rules, ClearsIf, UnlessNamed, transferred_items}
+use Rattle.dav_engine.specs.Move.{RenamesAlone, MovesSource, Moves, MoveWork}
+use Rattle.dav_engine.specs.Laws.{tells_moved, IsMovedWhole, MovesWhole, KeepsSource, AreRefusals, NamesRefusals}
+use Rattle.dav_engine.specs.Method.{StepBy, Refused as ByRules, Done, CutShort, CutInWork}
+use Rattle.dav_engine.specs.Methods.{move_method}
+use Rattle.dav_engine.specs.Step.{Serves}
+use Rattle.dav_engine.specs.declared.transfer.Transfer.{Transfer}
+use Rattle.dav_engine.proofs.DeleteLaws.{unlocked}
+use Rattle.dav_engine.proofs.Moving.{clear_outside, apart_below}
+use Rattle.dav_engine.proofs.Passing.{MovePassed, move_passed}
+use Rattle.dav_engine.proofs.Refusals.{refusal_from_300, RefusesBy, errs_then, errs_led, errs_told, errs_conditions, errs_permitted}
+
+-- ---- the rules refuse by errors
+
+abbrev AnyError : DavError → Type 0
+AnyError e = Unit {0}
+
+errs_judged : {A : Type 0} (verdict : Result A DavError) → RefusesBy AnyError (judged verdict)
+errs_judged (Ok a) = tt
+errs_judged (Err e) = tt
+
+errs_move : (settings : Settings) (request : DavRequest) (state : State) → RefusesBy AnyError (transfer_rules true settings request state)
+errs_move settings request state =
+    errs_then AnyError (judged (asked_destination true settings request)) _ (errs_judged (asked_destination true settings request))
+    (λ destination. errs_then AnyError (must_find state.contents request.path.key) _ (λ outcome. errs_told AnyError (λ e. tt) (told_by_look outcome (state.contents.metas request.path.key)))
+    (λ meta. errs_then AnyError (see_destination state.contents destination.key) _
+        (errs_then AnyError (must_have_parent state.contents destination.key) _ (λ outcome. errs_judged (parent_verdict _))
+        (λ above. λ outcome. errs_judged (found_or_absent (told_by_look outcome (state.contents.metas destination.key)))))
+    (λ there. errs_then AnyError (judged (place_verdict true request destination.key there)) _ (errs_judged (place_verdict true request destination.key there))
+    (λ placed. errs_then AnyError (conditions state.contents state.locks request (Some meta) request.path) _ (errs_conditions AnyError (λ s least. tt) state.contents state.locks request (Some meta) request.path)
+    (λ tokens. errs_permitted AnyError (λ s least. tt) 423 (omega arith) (permits_transfer true state.locks request (submitted_tokens request) destination.key) (record { meta = meta; destination = destination; there = there }))))))
+
+-- ---- keys apart
+
+apart_keys : (one other x : Key) → AreApart one other → is_at_or_below (one ++ x) other ≡ false
+apart_keys [] other x apart = let no : true ≡ false = apart.other_one in absurd cc
+apart_keys (segment ∷ one) [] x apart = let no : true ≡ false = apart.one_other in absurd cc
+apart_keys (segment ∷ one) (first ∷ other) x apart = by_first (bytes_eq first segment) refl
+  where
+    parts : (b c : Bool) → b ≡ true → (b && c) ≡ false → c ≡ false
+    parts true c e is = is
+    parts false c e is = absurd cc
+
+    by_first : (b : Bool) → bytes_eq first segment ≡ b → is_at_or_below ((segment ∷ one) ++ x) (first ∷ other) ≡ false
+    by_first false is = ap (λ b. b && is_at_or_below (one ++ x) other) is
+    by_first true is =
+        let back : bytes_eq segment first ≡ true = (bytes_eq-Decides segment first).1 (sym ((bytes_eq-Decides first segment).0 is)) in
+        ap (λ b. b && is_at_or_below (one ++ x) other) is ∙ apart_keys one other x (record { one_other = parts (bytes_eq first segment) (is_at_or_below one other) is apart.one_other; other_one = parts (bytes_eq segment first) (is_at_or_below other one) back apart.other_one })
+
+-- ---- what the work makes
+
+clear_system : (there : Bool) (destination : PathValue) (old mid : State) (head : List Logged) (names : List Item) → ClearsIf there destination old head names mid → HasSameSystem old mid
+clear_system true destination old mid head names cleared = cleared.system
+clear_system false destination old mid head names cleared = record { there = ap (λ (s : State). is_some s.locks) cleared.2; dependable = ap (λ (s : State). s.dependable) cleared.2 }
+
+clear_limit : (there : Bool) (destination : PathValue) (old mid : State) (head : List Logged) (names : List Item) → ClearsIf there destination old head names mid → limit_of mid.contents ≡ limit_of old.contents
+clear_limit true destination old mid head names cleared = cleared.removed.2.lawful.limit
+clear_limit false destination old mid head names cleared = ap (λ (s : State). limit_of s.contents) cleared.2
+
+clear_refused : (there : Bool) (destination : PathValue) (old mid : State) (head : List Logged) (names : List Item) → ClearsIf there destination old head names mid → AreRefusals names
+clear_refused true destination old mid head names cleared = names_refused Infinity destination old.contents mid.contents head names cleared.removed
+clear_refused false destination old mid head names cleared item inside = absurd (let none : IsIn item [] = subst (IsIn item) cleared.1 inside in none)
+
+-- a source that wasn't named was renamed
+abbrev IsEndOf : Outcome → PathValue → PathValue → State → State → List Item → Type 0
+IsEndOf outcome source destination mid new names =
+    (outcome ≡ Granted → IsRenamedTo source.key destination.key mid.contents new.contents × (names ≡ []))
+    × ((e : FsError) → error_of outcome ≡ Some e → (new.contents ≡ mid.contents) × (names ≡ (source, fs_status e) ∷ []))
+
+unnamed_renamed : (outcome : Outcome) (source destination : PathValue) (mid new : State) → IsEndOf outcome source destination mid new [] → IsRenamedTo source.key destination.key mid.contents new.contents
+unnamed_renamed Granted source destination mid new end = (end.0 refl).0
+unnamed_renamed (Barred e) source destination mid new end = absurd (let none : [] ≡ (source, fs_status e) ∷ [] = (end.1 e refl).1 in cc)
+unnamed_renamed (Refused e) source destination mid new end = absurd (let none : [] ≡ (source, fs_status e) ∷ [] = (end.1 e refl).1 in cc)
+
+-- one that was named stays
+named_stays : (outcome : Outcome) (source destination : PathValue) (mid new : State) (item : Item) (names : List Item) → IsEndOf outcome source destination mid new (item ∷ names) → new.contents ≡ mid.contents
+named_stays Granted source destination mid new item names end = absurd (let none : item ∷ names ≡ [] = (end.0 refl).1 in cc)
+named_stays (Barred e) source destination mid new item names end = (end.1 e refl).0
+named_stays (Refused e) source destination mid new item names end = (end.1 e refl).0
+
+named_refusal : (outcome : Outcome) (source destination : PathValue) (mid new : State) (names : List Item) → IsEndOf outcome source destination mid new names → AreRefusals names
+named_refusal Granted source destination mid new names end item inside = absurd (let none : IsIn item [] = subst (IsIn item) (end.0 refl).1 inside in none)
+named_refusal (Barred e) source destination mid new names end item inside = (e, first (subst (IsIn item) (end.1 e refl).1 inside))
+  where
+    first : IsIn item ((source, fs_status e) ∷ []) → fs_status e ≡ item.1
+    first (inl same) = ap (λ (i : Item). i.1) same
+    first (inr none) = absurd none
+named_refusal (Refused e) source destination mid new names end item inside = (e, first (subst (IsIn item) (end.1 e refl).1 inside))
+  where
+    first : IsIn item ((source, fs_status e) ∷ []) → fs_status e ≡ item.1
+    first (inl same) = ap (λ (i : Item). i.1) same
+    first (inr none) = absurd none
+
+module _ (source : PathValue) (found : Transfer) (old new : State) (records : List Logged) where
+  -- each name is a refusal's
+  moves_refused : (names : List Item) → Moves source found old records names new → AreRefusals names
+  moves_refused names w = by_kept w.kept w.cleared w.follows
+    where
+      by_kept : (kept : List Item) → ClearsIf (is_some found.there) found.destination old w.head kept w.mid → UnlessNamed (MovesSource source found.destination) kept w.mid w.rest names new → AreRefusals names
+      by_kept [] cleared follows = named_refusal follows.renamed.outcome source found.destination w.mid new names (follows.renamed.granted, follows.renamed.refused)
+      by_kept (item ∷ kept) cleared follows = subst AreRefusals (sym follows.1) (clear_refused (is_some found.there) found.destination old w.mid w.head (item ∷ kept) cleared)
+
+  module _ (apart : AreApart source.key found.destination.key) where
+    -- at the source nothing has changed by the removal
+    kept_source : (mid : State) (head : List Logged) (kept : List Item) → ClearsIf (is_some found.there) found.destination old head kept mid → (x : Key) → standing mid.contents (source.key ++ x) ≡ standing old.contents (source.key ++ x)
+    kept_source mid head kept cleared x =
+        clear_outside (is_some found.there) found.destination old mid head kept cleared (source.key ++ x) (apart_below (source.key ++ x) found.destination.key (apart_keys source.key found.destination.key x apart))
+
+    -- where nothing is named all has gone
+    moves_whole : Moves source found old records [] new → IsRenamedTo source.key found.destination.key old.contents new.contents × ((mid : State) × HasSameSystem old mid × DropsLocks source.key mid new)
+    moves_whole w = by_kept w.kept w.cleared w.follows
+      where
+        by_kept : (kept : List Item) → ClearsIf (is_some found.there) found.destination old w.head kept w.mid → UnlessNamed (MovesSource source found.destination) kept w.mid w.rest [] new
+            → IsRenamedTo source.key found.destination.key old.contents new.contents × ((mid : State) × HasSameSystem old mid × DropsLocks source.key mid new)
+        by_kept [] cleared follows =
+            let renamed = unnamed_renamed follows.renamed.outcome source found.destination w.mid new (follows.renamed.granted, follows.renamed.refused) in
+            let at_source = kept_source w.mid w.head [] cleared in
+            let outside : (key : Key) → is_at_or_below key found.destination.key ≡ false → standing w.mid.contents key ≡ standing old.contents key =
+                λ key apart. clear_outside (is_some found.there) found.destination old w.mid w.head [] cleared key (apart_below key found.destination.key apart) in
+            (record {
+              tree = record { moved = λ x. renamed.tree.moved x ∙ ap (λ s. s.0) (at_source x); gone = renamed.tree.gone; rest = λ key a b. renamed.tree.rest key a b ∙ ap (λ s. s.0) (outside key b) };
+              properties = record { moved = λ x. renamed.properties.moved x ∙ ap (λ s. s.1) (at_source x); gone = renamed.properties.gone; rest = λ key a b. renamed.properties.rest key a b ∙ ap (λ s. s.1) (outside key b) };
+              limit = renamed.limit ∙ clear_limit (is_some found.there) found.destination old w.mid w.head [] cleared;
+            }, (w.mid, clear_system (is_some found.there) found.destination old w.mid w.head [] cleared, follows.locks))
+        by_kept (item ∷ kept) cleared follows = absurd (let none : [] ≡ item ∷ kept = follows.1 in cc)
+
+    -- where something is named all stays at the source
+    moves_none : (item : Item) (names : List Item) → Moves source found old records (item ∷ names) new → (x : Key) → standing new.contents (source.key ++ x) ≡ standing old.contents (source.key ++ x)
+    moves_none item names w x = by_kept w.kept w.cleared w.follows
+      where
+        by_kept : (kept : List Item) → ClearsIf (is_some found.there) found.destination old w.head kept w.mid → UnlessNamed (MovesSource source found.destination) kept w.mid w.rest (item ∷ names) new
+            → standing new.contents (source.key ++ x) ≡ standing old.contents (source.key ++ x)
+        by_kept [] cleared follows =
+            ap (λ c. standing c (source.key ++ x)) (named_stays follows.renamed.outcome source found.destination w.mid new item names (follows.renamed.granted, follows.renamed.refused)) ∙ kept_source w.mid w.head [] cleared x
+        by_kept (first ∷ kept) cleared follows = ap (λ (s : State). standing s.contents (source.key ++ x)) follows.2 ∙ kept_source w.mid w.head (first ∷ kept) cleared x
+
+-- ---- what is told
+
+refusal_untold : (e : FsError) (status : ℕ) → fs_status e ≡ status → (nat_eq status 201 || nat_eq status 204) ≡ false
+refusal_untold e status is = by_tests (nat_eq status 201) refl (nat_eq status 204) refl
+  where
+    by_tests : (b : Bool) → nat_eq status 201 ≡ b → (c : Bool) → nat_eq status 204 ≡ c → (nat_eq status 201 || nat_eq status 204) ≡ false
+    by_tests true at c other = absurd (let same : status ≡ 201 = grind arith in omega (arith, refusal_from_300 e, is, same))
+    by_tests false at true other = absurd (let same : status ≡ 204 = grind arith in omega (arith, refusal_from_300 e, is, same))
+    by_tests false at false other = rw (at, other) refl
+
+-- a reply that names refusals doesn't tell a move
+named_untold : (path : PathValue) (item : Item) (names : List Item) → AreRefusals (item ∷ names) → tells_moved (multi_answer path (item ∷ names)) ≡ false
+named_untold path item [] refusals = by_key (is_same_key path.key item.0.key)
+  where
+    by_key : (b : Bool) → tells_moved (if b then Ok (bare_reply item.1 []) else Ok (multistatus_reply (item ∷ []))) ≡ false
+    by_key true = let refusal = refusals item (inl refl) in refusal_untold refusal.0 item.1 refusal.1
+    by_key false = refl
+named_untold path item (next ∷ names) refusals = refl
+
+-- one that names nothing does
+clean_told : (path : PathValue) (there : Option Meta) → tells_moved (multi_answer path (transferred_items path there [])) ≡ true
+clean_told path there =
+    subst (λ b. tells_moved (if b then Ok (bare_reply (if is_some there then 204 else 201) []) else Ok (multistatus_reply ((path, if is_some there then 204 else 201) ∷ []))) ≡ true)
+    (sym ((same_key_decides path.key path.key).1 refl)) (by_there (is_some there))
+  where
+    by_there : (b : Bool) → (nat_eq (if b then 204 else 201) 201 || nat_eq (if b then 204 else 201) 204) ≡ true
+    by_there true = refl
+    by_there false = refl
+
+-- and is no 207
+clean_single : (path : PathValue) (there : Option Meta) (reply : Reply) → multi_answer path (transferred_items path there []) ≡ Ok reply → reply.status ≡ 207 → ⊥
+clean_single path there reply is several = by_there there (sym bare)
+  where
+    bare : Ok reply ≡ Ok (bare_reply (if is_some there then 204 else 201) [])
+    bare = sym is ∙ ap (λ b. if b then Ok (bare_reply (if is_some there then 204 else 201) []) else Ok (multistatus_reply ((path, if is_some there then 204 else 201) ∷ []))) ((same_key_decides path.key path.key).1 refl)
+
+    by_there : (found : Option Meta) → ◌≡◌ {A = Answer} (Ok (bare_reply (if is_some found then 204 else 201) [])) (Ok reply) → ⊥
+    by_there None same = let at : bare_reply 201 [] ≡ reply = cc in let no : 201 ≡ 207 = ap (λ (r : Reply). r.status) at ∙ several in omega (arith, no)
+    by_there (Some meta) same = let at : bare_reply 204 [] ≡ reply = cc in let no : 204 ≡ 207 = ap (λ (r : Reply). r.status) at ∙ several in omega (arith, no)
+
+-- a 207 shows the names
+named_shown : (path : PathValue) (item : Item) (names : List Item) → AreRefusals (item ∷ names) → (reply : Reply) → multi_answer path (item ∷ names) ≡ Ok reply → reply.status ≡ 207 → reply ≡ multistatus_reply (item ∷ names)
+named_shown path item [] refusals reply is several = by_key (is_same_key path.key item.0.key) is
+  where
+    by_key : (b : Bool) → ◌≡◌ {A = Answer} (if b then Ok (bare_reply item.1 []) else Ok (multistatus_reply (item ∷ []))) (Ok reply) → reply ≡ multistatus_reply (item ∷ [])
+    by_key true same =
+        let refusal = refusals item (inl refl) in
+        let at : bare_reply item.1 [] ≡ reply = cc in
+        let no : item.1 ≡ 207 = ap (λ (r : Reply). r.status) at ∙ several in
+        absurd (omega (arith, refusal_from_300 refusal.0, refusal.1, no))
+    by_key false same = let at : multistatus_reply (item ∷ []) ≡ reply = cc in sym at
+named_shown path item (next ∷ names) refusals reply is several = let at : multistatus_reply (item ∷ next ∷ names) ≡ reply = cc in sym at
+
+-- ---- the laws
+
+module _ (settings : Settings) (request : DavRequest) (old : State) (answer : Answer) (new : State) where
+  pub record MoveTells : Type 0 where
+    pub moved : MovesWhole settings request old answer new
+    pub kept : KeepsSource request old answer new
+    pub refusals : NamesRefusals answer
+
+  -- an error that isn't a want of memory has changed nothing
+  error_tells : (e : DavError) → answer ≡ Err e → (new ≡ old) ⊎ (e ≡ Memory) → MoveTells
+  error_tells e is same = record {
+    moved = λ told. absurd (let no : false ≡ true = sym (ap tells_moved is) ∙ told in cc);
+    kept = λ told other key below. by_end same other key;
+    refusals = λ reply replied several. absurd (let no : ◌≡◌ {A = Answer} (Err e) (Ok reply) = sym is ∙ replied in cc);
+  }
+    where
+      by_end : (new ≡ old) ⊎ (e ≡ Memory) → answer ≢ Err Memory → (key : Key) → standing new.contents key ≡ standing old.contents key
+      by_end (inl kept) other key = ap (λ (s : State). standing s.contents key) kept
+      by_end (inr memory) other key = absurd (other (is ∙ ap Err memory))
+
+  module _ (found : Transfer) (rules : MovePassed settings request old found) (apart : AreApart request.path.key found.destination.key) (records : List Logged) where
+    abbrev path : PathValue
+    path = fixed_path request.path (Some found.meta)
+
+    work_tells : MoveWork request found old records answer new → MoveTells
+    work_tells work = by_names work.names work.moved work.answered
+      where
+        asked_so : (verdict : Result (Unit {0}) DavError) → where_reached verdict settings request ≡ Ok found.destination → destination_of request.headers settings.prefix ≡ Ok found.destination
+        asked_so (Ok reached) is = is
+        asked_so (Err e) is = absurd cc
+
+        by_names : (names : List Item) → Moves path found old records names new → answer ≡ multi_answer path (transferred_items path found.there names) → MoveTells
+        by_names [] moved answered =
+            let whole = moves_whole path found old new records apart moved in
+            record {
+              moved = λ told. record {
+                destination = found.destination;
+                named = asked_so (reach_verdict true (depth_or_all request)) rules.asked;
+                renamed = whole.0;
+                unlocked = λ dependable. unlocked request whole.1.0 new whole.1.2 (whole.1.1.dependable ∙ dependable);
+              };
+              kept = λ told other key below. absurd (let no : true ≡ false = sym (ap tells_moved answered ∙ clean_told path found.there) ∙ told in cc);
+              refusals = λ reply replied several. absurd (clean_single path found.there reply (sym answered ∙ replied) several);
+            }
+        by_names (item ∷ names) moved answered =
+            let refusals : AreRefusals (item ∷ names) = moves_refused path found old new records (item ∷ names) moved in
+            record {
+              moved = λ told. absurd (let no : false ≡ true = sym (ap tells_moved answered ∙ named_untold path item names refusals) ∙ told in cc);
+              kept = λ told other key below.
+                  let tail = at_or_below-tail request.path.key key below in
+                  subst (λ k. standing new.contents k ≡ standing old.contents k) (sym tail.1) (moves_none path found old new records apart item names moved tail.0);
+              refusals = λ reply replied several. (item ∷ names, named_shown path item names refusals reply (sym answered ∙ replied) several, refusals);
+            }
+
+  step_tells : IsWellFormed old.contents → (records : List Logged) → StepBy move_method settings request old records answer new → MoveTells
+  step_tells formed records (ByRules h) =
+      let refused = errs_led AnyError (transfer_rules true settings request old) records answer (errs_move settings request old) h.head in
+      error_tells refused.0 refused.1 (inl h.same)
+  step_tells formed records (Done h) =
+      let rules = move_passed settings request old h.head h.found h.passed in
+      work_tells h.found rules (rules.may formed).apart h.rest h.work
+  step_tells formed records (CutShort h) = error_tells Memory h.told (inl h.same)
+  step_tells formed records (CutInWork h) = error_tells Memory h.told (inr refl)
+
+-- of what is seen
+pub move_tells : (settings : Settings) (old : Seen) (request : DavRequest) (answer : Answer) (new : Seen) → IsWellFormed old.store.contents → Serves (Some Move) settings old request answer new → MoveTells settings request (state_of old) answer (state_of new)
+move_tells settings old request answer new formed served = step_tells settings request (state_of old) answer (state_of new) formed served.records served.step

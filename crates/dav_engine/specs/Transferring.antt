@@ -1,0 +1,169 @@
+-- What COPY and MOVE share (RFC 4918, sections 9.8 and 9.9): what is asked before a resource goes to a destination,
+-- and how what stands there is removed.
+use Rattle.std.specs.Prelude.{◌≡◌, ◌⊎◌, ℕ, Bool, true, false, not, ◌&&◌, ◌||◌, if◌then◌else◌, List, [], ◌∷◌, ◌++◌, Option, Some, None, is_some, unwrap_or, Result, Ok, Err}
+use Rattle.dav_resource.specs.Errors.{from_fs}
+use Rattle.dav_resource.specs.Key.{Key, parent, is_same_key}
+use Rattle.dav_resource.specs.PathText.{PathValue}
+use Rattle.dav_resource.specs.declared.meta.Meta.{Meta}
+use Rattle.dav_resource.specs.declared.error.FsError.{FsError}
+use Rattle.dav_resource.specs.declared.error.FsError.TheVariants.{NotFound}
+use Rattle.dav_resource.specs.declared.error.DavError.{DavError}
+use Rattle.dav_resource.specs.declared.error.DavError.TheVariants.{Status, Memory}
+use Rattle.dav_resource.specs.declared.request.Depth.{Depth}
+use Rattle.dav_resource.specs.declared.request.Depth.TheVariants.{Zero, Infinity}
+use Rattle.dav_resource.specs.declared.request.DavRequest.{DavRequest}
+use Rattle.dav_headers.specs.Destination.{destination_of}
+use Rattle.dav_headers.specs.Overwrite.{overwrite_of}
+use Rattle.dav_store.specs.Below.{is_at_or_below}
+use Rattle.dav_store.specs.Logged.{Logged}
+use Rattle.dav_store.specs.Store.{Contents}
+use Rattle.dav_store.specs.declared.lock.DavLock.{DavLock}
+use Rattle.dav_parts.specs.Conditions.{submitted_tokens}
+use Rattle.dav_parts.specs.Dialogue.{Dialogue, look, ◌>>=◌}
+use Rattle.dav_parts.specs.Multistatus.{Item}
+use Rattle.dav_walks.specs.Deletion.{Removes, RemovesInPart, removal_answer}
+use Rattle.dav_engine.specs.State.{State, Seen, state_of, facts_of, LocksStay, HasSameSystem}
+use Rattle.dav_engine.specs.Settings.{Settings}
+use Rattle.dav_engine.specs.Delete.{LeavesLocks}
+use Rattle.dav_engine.specs.Rules.{judged, must_find, look_closely, own_conditions, permits_by, where_permitted, depth_or_all, depth_verdict, is_directory}
+use Rattle.dav_engine.specs.declared.transfer.Transfer.{Transfer}
+
+-- ---- the rules
+
+-- a move takes all below the resource along: no other depth can be meant, 400; a copy may leave that behind
+abbrev pub reach_verdict : Bool → Depth → Result (Unit {0}) DavError
+reach_verdict true Zero = Err (Status 400)
+reach_verdict moving depth = depth_verdict depth
+
+-- where the resource is to go, unless the depth was refused
+abbrev pub where_reached : Result (Unit {0}) DavError → Settings → DavRequest → Result PathValue DavError
+where_reached (Ok reached) settings request = destination_of request.headers settings.prefix
+where_reached (Err e) settings request = Err e
+
+-- the depth, and then the destination
+abbrev pub asked_destination : Bool → Settings → DavRequest → Result PathValue DavError
+asked_destination moving settings request = where_reached (reach_verdict moving (depth_or_all request)) settings request
+
+-- a directory has to be above the destination: else 409
+abbrev pub parent_verdict : Option Meta → Result (Unit {0}) DavError
+parent_verdict above = if is_directory above then Ok tt else Err (Status 409)
+
+-- a look there, whose refusal is passed over
+abbrev pub must_have_parent : Contents → Key → Dialogue (Unit {0})
+must_have_parent contents destination = look contents (parent destination) >>= λ above. judged (parent_verdict above)
+
+-- what a look found; that nothing is there is no refusal
+abbrev pub found_or_absent : Result Meta FsError → Result (Option Meta) DavError
+found_or_absent (Ok meta) = Ok (Some meta)
+found_or_absent (Err NotFound) = Ok None
+found_or_absent (Err e) = Err (from_fs e)
+
+-- what stands at the destination
+abbrev pub look_there : Contents → Key → Dialogue (Option Meta)
+look_there contents destination = look_closely contents destination >>= λ told. judged (found_or_absent told)
+
+-- the same, below a directory
+abbrev pub see_destination : Contents → Key → Dialogue (Option Meta)
+see_destination contents destination = must_have_parent contents destination >>= λ _. look_there contents destination
+
+-- what stands there may be replaced, unless Overwrite forbids it
+abbrev pub may_overwrite : DavRequest → Bool
+may_overwrite request = unwrap_or (overwrite_of request.headers) true
+
+-- all below the resource goes with it
+abbrev pub is_deep : Depth → Bool
+is_deep Zero = false
+is_deep depth = true
+
+-- a resource can't go to itself, nor be moved to below itself, nor with all below it to where it is below
+abbrev pub is_misplaced : Bool → Depth → Key → Key → Bool
+is_misplaced moving depth source destination =
+    is_same_key source destination || (moving && is_at_or_below destination source) || (is_deep depth && is_at_or_below source destination)
+
+-- something is there that may not be replaced: 412; the place is none for the resource: 403
+abbrev pub place_verdict : Bool → DavRequest → Key → Option Meta → Result (Unit {0}) DavError
+place_verdict moving request destination there =
+    if is_some there && not (may_overwrite request) then Err (Status 412)
+    else (if is_misplaced moving (depth_or_all request) request.path.key destination then Err (Status 403) else Ok tt)
+
+-- the locks let one who submits these tokens take all at the source away, in a move, and replace all at the destination
+abbrev pub permits_transfer : Bool → Option (List DavLock) → DavRequest → List (List ℕ) → Key → Bool
+permits_transfer moving locks request tokens destination =
+    (not moving || permits_by locks request.path.key request.principal true tokens) && permits_by locks destination request.principal true tokens
+
+-- the depth and the destination, a look at the source, at the destination's parent and at the destination, whether that is
+-- a place for the source, the conditions, and the locks
+abbrev pub transfer_rules : Bool → Settings → DavRequest → State → Dialogue Transfer
+transfer_rules moving settings request state =
+    judged (asked_destination moving settings request) >>= λ destination.
+    must_find state.contents request.path.key >>= λ meta.
+    see_destination state.contents destination.key >>= λ there.
+    judged (place_verdict moving request destination.key there) >>= λ _.
+    own_conditions request state (Some meta) >>= λ tokens.
+    where_permitted 423 (permits_transfer moving state.locks request (submitted_tokens request) destination.key) (record { meta = meta; destination = destination; there = there })
+
+-- ---- what stands at the destination is removed
+
+-- with all below it, as far as the store lets it; where nothing is named the locks there are dropped
+pub record Clears (destination : PathValue) (old : State) (records : List Logged) (names : List Item) (new : State) : Type 0 where
+  pub removed : Removes Infinity destination old.contents new.contents records names
+  pub locks : LeavesLocks names destination old new
+  pub system : HasSameSystem old new
+
+-- where something is to be replaced; else nothing is called
+abbrev pub ClearsIf : Bool → PathValue → State → List Logged → List Item → State → Type 0
+ClearsIf true destination old records names new = Clears destination old records names new
+ClearsIf false destination old records names new = (records ≡ []) × (names ≡ []) × (new ≡ old)
+
+-- memory ran out in it: what was removed stays so, and no lock is dropped
+abbrev pub ClearsInPart : Bool → PathValue → State → List Logged → State → Type 0
+ClearsInPart true destination old records new = RemovesInPart Infinity destination old.contents new.contents records × LocksStay old new
+ClearsInPart false destination old records new = (records ≡ []) × (new ≡ old)
+
+-- something else follows where nothing is named; else nothing more is called
+abbrev pub UnlessNamed : (State → List Logged → List Item → State → Type 0) → List Item → State → List Logged → List Item → State → Type 0
+UnlessNamed Follows [] old records names new = Follows old records names new
+UnlessNamed Follows (item ∷ kept) old records names new = (records ≡ []) × (names ≡ item ∷ kept) × (new ≡ old)
+
+-- what stands at the destination is removed, and this follows unless that named something
+pub record Replaces (Follows : State → List Logged → List Item → State → Type 0) (there : Bool) (destination : PathValue) (old : State) (records : List Logged) (names : List Item) (new : State) : Type 0 where
+  pub head : List Logged
+  pub rest : List Logged
+  pub cut : records ≡ head ++ rest
+  pub kept : List Item
+  pub mid : State
+  pub cleared : ClearsIf there destination old head kept mid
+  pub follows : UnlessNamed Follows kept mid rest names new
+
+-- it is removed, nothing is named, and memory ran out in what follows
+pub record ReplacesThen (Part : State → List Logged → State → Type 0) (there : Bool) (destination : PathValue) (old : State) (records : List Logged) (new : State) : Type 0 where
+  pub head : List Logged
+  pub rest : List Logged
+  pub cut : records ≡ head ++ rest
+  pub mid : State
+  pub cleared : ClearsIf there destination old head [] mid
+  pub part : Part mid rest new
+
+-- memory ran out in either
+abbrev pub ReplacesInPart : (State → List Logged → State → Type 0) → Bool → PathValue → State → List Logged → State → Type 0
+ReplacesInPart Part there destination old records new = ClearsInPart there destination old records new ⊎ ReplacesThen Part there destination old records new
+
+-- ---- what is told
+
+-- work ended and added these names, the first of which it tells, or memory ran out in it
+abbrev pub NamesBy : (State → List Logged → List Item → State → Type 0) → (State → List Logged → State → Type 0) → State → List Logged → List Item → List Item → Result (Unit {0}) DavError → State → Type 0
+NamesBy Done Cut old records had has answer new =
+    ((names : List Item) × (has ≡ had ++ names) × Done old records names new × (answer ≡ removal_answer names))
+    ⊎ ((answer ≡ Err Memory) × Cut old records new)
+
+-- the same of what is seen
+pub record Names (Done : State → List Logged → List Item → State → Type 0) (Cut : State → List Logged → State → Type 0) (old : Seen) (had has : List Item) (answer : Result (Unit {0}) DavError) (new : Seen) : Type 0 where
+  pub records : List Logged
+  pub told : new.store.log ≡ old.store.log ++ records
+  pub fixed : facts_of new ≡ facts_of old
+  pub done : NamesBy Done Cut (state_of old) records had has answer (state_of new)
+
+-- the names; or, where nothing is named, that something was replaced, or that something new is there
+abbrev pub transferred_items : PathValue → Option Meta → List Item → List Item
+transferred_items source there [] = (source, if is_some there then 204 else 201) ∷ []
+transferred_items source there (item ∷ names) = item ∷ names
