@@ -1,9 +1,9 @@
 -- What follows for its caller from each step of a MOVE.
-use Rattle.std.proofs.Common.{◌≡◌, ◌≢◌, ◌⊎◌, ◌∙◌, ◌&&◌, ◌||◌, ℕ, Bool, true, false, List, [], ◌∷◌, ◌++◌, Option, Some, None, is_some, Result, Ok, Err, inl, inr, refl, sym, ap, subst, nat_eq, if◌then◌else◌, arith}
+use Rattle.std.proofs.Common.{◌≡◌, ◌≢◌, ◌⊎◌, ◌∙◌, ◌&&◌, ◌||◌, ℕ, Bool, true, false, List, [], ◌∷◌, ◌++◌, Option, Some, None, is_some, Result, Ok, Err, inl, inr, refl, sym, ap, subst, nat_eq, bytes_eq, if◌then◌else◌, arith}
 use Rattle.std.specs.FinMap.{get}
 use Rattle.std.proofs.lemmas.Slice.Eq.{bytes_eq-Decides}
 use Rattle.dav_resource.specs.Errors.{fs_status}
-use Rattle.dav_resource.specs.Key.{Key, is_same_key, same_key_decides}
+use Rattle.dav_resource.specs.Key.{Key, parent, is_same_key, same_key_decides}
 use Rattle.dav_resource.specs.PathText.{PathValue}
 use Rattle.dav_resource.specs.declared.error.DavError.{DavError}
 use Rattle.dav_resource.specs.declared.error.DavError.TheVariants.{Memory, Status}
@@ -58,8 +58,9 @@ errs_move settings request state =
     errs_then AnyError (judged (asked_destination true settings request)) _ (errs_judged (asked_destination true settings request))
     (λ destination. errs_then AnyError (must_find state.contents request.path.key) _ (λ outcome. errs_told AnyError (λ e. tt) (told_by_look outcome (state.contents.metas request.path.key)))
     (λ meta. errs_then AnyError (see_destination state.contents destination.key) _
-        (errs_then AnyError (must_have_parent state.contents destination.key) _ (λ outcome. errs_judged (parent_verdict _))
-        (λ above. λ outcome. errs_judged (found_or_absent (told_by_look outcome (state.contents.metas destination.key)))))
+        (errs_then AnyError (must_have_parent state.contents destination.key) _
+            (errs_then AnyError (look state.contents (parent destination.key)) _ (λ outcome. tt) (λ above. errs_judged (parent_verdict above)))
+        (λ above. errs_then AnyError (look_closely state.contents destination.key) _ (λ outcome. tt) (λ told. errs_judged (found_or_absent told))))
     (λ there. errs_then AnyError (judged (place_verdict true request destination.key there)) _ (errs_judged (place_verdict true request destination.key there))
     (λ placed. errs_then AnyError (conditions state.contents state.locks request (Some meta) request.path) _ (errs_conditions AnyError (λ s least. tt) state.contents state.locks request (Some meta) request.path)
     (λ tokens. errs_permitted AnyError (λ s least. tt) 423 (omega arith) (permits_transfer true state.locks request (submitted_tokens request) destination.key) (record { meta = meta; destination = destination; there = there }))))))
@@ -69,17 +70,18 @@ errs_move settings request state =
 apart_keys : (one other x : Key) → AreApart one other → is_at_or_below (one ++ x) other ≡ false
 apart_keys [] other x apart = let no : true ≡ false = apart.other_one in absurd cc
 apart_keys (segment ∷ one) [] x apart = let no : true ≡ false = apart.one_other in absurd cc
-apart_keys (segment ∷ one) (first ∷ other) x apart = by_first (bytes_eq first segment) refl
+apart_keys (segment ∷ one) (first ∷ other) x apart = by_first (bytes_eq first segment) refl (λ inner. apart_keys one other x inner)
   where
     parts : (b c : Bool) → b ≡ true → (b && c) ≡ false → c ≡ false
     parts true c e is = is
     parts false c e is = absurd cc
 
-    by_first : (b : Bool) → bytes_eq first segment ≡ b → is_at_or_below ((segment ∷ one) ++ x) (first ∷ other) ≡ false
-    by_first false is = ap (λ b. b && is_at_or_below (one ++ x) other) is
-    by_first true is =
+    by_first : (b : Bool) → bytes_eq first segment ≡ b → (AreApart one other → is_at_or_below (one ++ x) other ≡ false) → is_at_or_below ((segment ∷ one) ++ x) (first ∷ other) ≡ false
+    by_first false is further = ap (λ b. b && is_at_or_below (one ++ x) other) is
+    by_first true is further =
         let back : bytes_eq segment first ≡ true = (bytes_eq-Decides segment first).1 (sym ((bytes_eq-Decides first segment).0 is)) in
-        ap (λ b. b && is_at_or_below (one ++ x) other) is ∙ apart_keys one other x (record { one_other = parts (bytes_eq first segment) (is_at_or_below one other) is apart.one_other; other_one = parts (bytes_eq segment first) (is_at_or_below other one) back apart.other_one })
+        ap (λ b. b && is_at_or_below (one ++ x) other) is
+        ∙ further (record { one_other = parts (bytes_eq first segment) (is_at_or_below one other) is apart.one_other; other_one = parts (bytes_eq segment first) (is_at_or_below other one) back apart.other_one })
 
 -- ---- what the work makes
 
@@ -92,7 +94,7 @@ clear_limit true destination old mid head names cleared = cleared.removed.2.lawf
 clear_limit false destination old mid head names cleared = ap (λ (s : State). limit_of s.contents) cleared.2
 
 clear_refused : (there : Bool) (destination : PathValue) (old mid : State) (head : List Logged) (names : List Item) → ClearsIf there destination old head names mid → AreRefusals names
-clear_refused true destination old mid head names cleared = names_refused Infinity destination old.contents mid.contents head names cleared.removed
+clear_refused true destination old mid head names cleared item inside = names_refused Infinity destination old.contents mid.contents head names cleared.removed item inside
 clear_refused false destination old mid head names cleared item inside = absurd (let none : IsIn item [] = subst (IsIn item) cleared.1 inside in none)
 
 -- a source that wasn't named was renamed
@@ -201,7 +203,7 @@ clean_told path there =
 clean_single : (path : PathValue) (there : Option Meta) (reply : Reply) → multi_answer path (transferred_items path there []) ≡ Ok reply → reply.status ≡ 207 → ⊥
 clean_single path there reply is several = by_there there (sym bare)
   where
-    bare : Ok reply ≡ Ok (bare_reply (if is_some there then 204 else 201) [])
+    bare : ◌≡◌ {A = Answer} (Ok reply) (Ok (bare_reply (if is_some there then 204 else 201) []))
     bare = sym is ∙ ap (λ b. if b then Ok (bare_reply (if is_some there then 204 else 201) []) else Ok (multistatus_reply ((path, if is_some there then 204 else 201) ∷ []))) ((same_key_decides path.key path.key).1 refl)
 
     by_there : (found : Option Meta) → ◌≡◌ {A = Answer} (Ok (bare_reply (if is_some found then 204 else 201) [])) (Ok reply) → ⊥
