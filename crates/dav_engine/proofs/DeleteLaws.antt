@@ -1,40 +1,26 @@
 -- What follows for its caller from each step of a DELETE.
-use Rattle.std.proofs.Common.{◌≡◌, ◌≢◌, ◌⊎◌, ◌∙◌, ◌≤◌, ℕ, Bool, true, false, cond, not, List, [], ◌∷◌, ◌++◌, Option, Some, None, is_some, Result, Ok, Err, inl, inr, refl, sym, ap, subst, length, drop, option_map, if◌then◌else◌, arith}
+use Rattle.std.proofs.Common.{◌≡◌, ◌≢◌, ◌⊎◌, ◌∙◌, ◌≤◌, ℕ, Bool, true, false, cond, not, List, [], ◌∷◌, ◌++◌, Option, Some, None, Ok, Err, inl, inr, refl, sym, ap, subst, length, drop, option_map, if◌then◌else◌, arith}
 use Rattle.std.specs.FinMap.{get}
 use Rattle.std.proofs.lemmas.Slice.Eq.{bytes_eq-Decides, starts_is}
 use Rattle.dav_resource.specs.Key.{Key, is_same_key, same_key_decides}
 use Rattle.dav_resource.specs.PathText.{PathValue}
-use Rattle.dav_resource.specs.Methods.{method_of}
 use Rattle.dav_resource.specs.Errors.{fs_status, dav_status, from_fs}
-use Rattle.dav_resource.specs.declared.request.Depth.{Depth}
-use Rattle.dav_resource.specs.declared.request.Depth.TheVariants.{Zero, One, Infinity, Default}
-use Rattle.dav_resource.specs.declared.method.DavMethod.{DavMethod}
 use Rattle.dav_resource.specs.declared.error.DavError.{DavError}
 use Rattle.dav_resource.specs.declared.error.DavError.TheVariants.{Memory, Status}
 use Rattle.dav_resource.specs.declared.error.FsError.{FsError}
-use Rattle.dav_resource.specs.declared.error.FsError.TheVariants as fs
 use Rattle.dav_resource.specs.declared.meta.Meta.{Meta}
-use Rattle.dav_resource.specs.declared.record.Outcome.{Outcome}
 use Rattle.dav_resource.specs.declared.request.DavRequest.{DavRequest}
-use Rattle.dav_resource.specs.declared.method.DavMethod.TheVariants.{Get, Head, Delete}
-use Rattle.dav_headers.specs.declared.if_header.IfList.{IfList}
-use Rattle.dav_headers.specs.declared.if_header.IfCondition.{IfCondition}
-use Rattle.dav_headers.specs.declared.if_header.IfItem.{IfItem}
-use Rattle.dav_headers.specs.declared.if_header.IfItem.TheVariants.{StateToken, ETag as EntityTag}
-use Rattle.dav_headers.specs.IfHeader.{if_of}
-use Rattle.dav_headers.specs.TagList.{if_match_of, if_none_match_of}
+use Rattle.dav_resource.specs.declared.method.DavMethod.TheVariants.{Delete}
 use Rattle.dav_store.specs.Logged.{Logged}
-use Rattle.dav_store.specs.Store.{Contents}
 use Rattle.dav_store.specs.Locks.{is_at_or_below, at_or_below, elsewhere}
 use Rattle.dav_store.specs.declared.lock.DavLock.{DavLock}
-use Rattle.dav_parts.specs.Conditions.{item_holds_at, condition_holds, all_hold, key_of_list, conditions_hold, list_holds, any_holds, lists_hold, if_holds, while_true, until_true, unless_refused, tokens_where, http_verdict, if_match_fails, if_none_match_fails, none_match_status, none_match_verdict, current_tag, dav_if_match, conditions}
-use Rattle.dav_parts.specs.Dialogue.{Dialogue, Asks, Refuses, Passed, LeadsTo, look, ◌>>=◌}
+use Rattle.dav_parts.specs.Conditions.{conditions}
 use Rattle.dav_parts.specs.Multistatus.{Item, multi_answer, multistatus_reply}
 use Rattle.dav_parts.specs.Reply.{Answer, bare_reply}
 use Rattle.dav_walks.specs.Deletion.{Removes}
 use Rattle.dav_walks.specs.ClearedLaws.{path_gone, all_gone, names_refused}
 use Rattle.dav_engine.specs.State.{State, Seen, state_of, LocksStay, DropsLocks}
-use Rattle.dav_engine.specs.Rules.{judged, told_by_look, or_refused, must_find, is_permitted, where_permitted, depth_or_all, depth_verdict, fixed_path}
+use Rattle.dav_engine.specs.Rules.{judged, told_by_look, must_find, is_permitted, depth_or_all, depth_verdict, fixed_path}
 use Rattle.dav_engine.specs.Delete.{delete_rules, told_items, LeavesLocks, DeleteWork, DeleteCut}
 use Rattle.dav_engine.specs.Laws.{IsNoContent, IsEmptied, IsUnlocked, EmptiesPath, IsGoneWithLocks, KeepsLocksUnlessGone}
 use Rattle.dav_engine.specs.Settings.{Settings}

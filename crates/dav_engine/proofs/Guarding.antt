@@ -20,7 +20,7 @@ use Rattle.dav_engine.specs.State.{State}
 use Rattle.dav_store.specs.Locks.{is_at_or_below}
 use Rattle.dav_walks.specs.KeyCall.{standing}
 use Rattle.dav_walks.specs.RemovalLaws.{removes_within, whole_in_part}
-use Rattle.dav_engine.specs.Rules.{is_permitted, where_permitted, path_rules, shallow_rules, closing, judged, must_find, look_closely, depth_or_all, depth_verdict, fixed_path}
+use Rattle.dav_engine.specs.Rules.{is_permitted, path_rules, shallow_rules, closing, judged, must_find, look_closely, depth_or_all, depth_verdict, fixed_path}
 use Rattle.dav_engine.specs.Target.{target_of}
 use Rattle.dav_engine.specs.declared.target.Target.{Target}
 use Rattle.dav_engine.specs.Delete.{delete_rules}

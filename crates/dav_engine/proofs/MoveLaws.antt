@@ -1,19 +1,17 @@
 -- What follows for its caller from each step of a MOVE.
 use Rattle.std.proofs.Common.{◌≡◌, ◌≢◌, ◌⊎◌, ◌∙◌, ◌&&◌, ◌||◌, ℕ, Bool, true, false, List, [], ◌∷◌, ◌++◌, Option, Some, None, is_some, Result, Ok, Err, inl, inr, refl, sym, ap, subst, nat_eq, bytes_eq, if◌then◌else◌, arith}
-use Rattle.std.specs.FinMap.{get}
 use Rattle.std.proofs.lemmas.Slice.Eq.{bytes_eq-Decides}
 use Rattle.dav_resource.specs.Errors.{fs_status}
 use Rattle.dav_resource.specs.Key.{Key, parent, is_same_key, same_key_decides}
 use Rattle.dav_resource.specs.PathText.{PathValue}
 use Rattle.dav_resource.specs.declared.error.DavError.{DavError}
-use Rattle.dav_resource.specs.declared.error.DavError.TheVariants.{Memory, Status}
+use Rattle.dav_resource.specs.declared.error.DavError.TheVariants.{Memory}
 use Rattle.dav_resource.specs.declared.error.FsError.{FsError}
 use Rattle.dav_resource.specs.declared.meta.Meta.{Meta}
 use Rattle.dav_resource.specs.declared.method.DavMethod.TheVariants.{Move}
 use Rattle.dav_resource.specs.declared.record.Outcome.{Outcome}
 use Rattle.dav_resource.specs.declared.record.Outcome.TheVariants.{Granted, Barred, Refused}
 use Rattle.dav_resource.specs.declared.request.DavRequest.{DavRequest}
-use Rattle.dav_resource.specs.declared.request.Depth.{Depth}
 use Rattle.dav_resource.specs.declared.request.Depth.TheVariants.{Infinity}
 use Rattle.dav_headers.specs.Destination.{destination_of}
 use Rattle.dav_store.specs.Below.{is_at_or_below, AreApart}
@@ -21,7 +19,7 @@ use Rattle.dav_store.specs.BelowLaws.{at_or_below-tail}
 use Rattle.dav_store.specs.Calls.{error_of, limit_of}
 use Rattle.dav_store.specs.Logged.{Logged}
 use Rattle.dav_store.specs.Members.{IsIn}
-use Rattle.dav_store.specs.Store.{Contents, IsWellFormed}
+use Rattle.dav_store.specs.Store.{IsWellFormed}
 use Rattle.dav_store.specs.Transfers.{IsRenamedTo}
 use Rattle.dav_parts.specs.Conditions.{conditions, submitted_tokens}
 use Rattle.dav_parts.specs.Dialogue.{look}
@@ -32,9 +30,9 @@ use Rattle.dav_walks.specs.KeyCall.{standing}
 use Rattle.dav_engine.specs.State.{State, Seen, state_of, DropsLocks, HasSameSystem}
 use Rattle.dav_engine.specs.Settings.{Settings}
 use Rattle.dav_engine.specs.Rules.{judged, told_by_look, must_find, look_closely, depth_or_all, fixed_path}
-use Rattle.dav_engine.specs.Transferring.{where_reached, asked_destination, reach_verdict, parent_verdict, must_have_parent, found_or_absent, look_there, see_destination, place_verdict, permits_transfer, transfer_rules, ClearsIf, UnlessNamed, transferred_items}
-use Rattle.dav_engine.specs.Move.{RenamesAlone, MovesSource, Moves, MoveWork}
-use Rattle.dav_engine.specs.Laws.{tells_moved, IsMovedWhole, MovesWhole, KeepsSource, AreRefusals, NamesRefusals}
+use Rattle.dav_engine.specs.Transferring.{where_reached, asked_destination, reach_verdict, parent_verdict, must_have_parent, found_or_absent, see_destination, place_verdict, permits_transfer, transfer_rules, ClearsIf, UnlessNamed, transferred_items}
+use Rattle.dav_engine.specs.Move.{MovesSource, Moves, MoveWork}
+use Rattle.dav_engine.specs.Laws.{tells_moved, MovesWhole, KeepsSource, AreRefusals, NamesRefusals}
 use Rattle.dav_engine.specs.Method.{StepBy, Refused as ByRules, Done, CutShort, CutInWork}
 use Rattle.dav_engine.specs.Methods.{move_method}
 use Rattle.dav_engine.specs.Step.{Serves}
@@ -58,9 +56,9 @@ errs_move settings request state =
     errs_then AnyError (judged (asked_destination true settings request)) _ (errs_judged (asked_destination true settings request))
     (λ destination. errs_then AnyError (must_find state.contents request.path.key) _ (λ outcome. errs_told AnyError (λ e. tt) (told_by_look outcome (state.contents.metas request.path.key)))
     (λ meta. errs_then AnyError (see_destination state.contents destination.key) _
-        (errs_then AnyError (must_have_parent state.contents destination.key) _
-            (errs_then AnyError (look state.contents (parent destination.key)) _ (λ outcome. tt) (λ above. errs_judged (parent_verdict above)))
-        (λ above. errs_then AnyError (look_closely state.contents destination.key) _ (λ outcome. tt) (λ told. errs_judged (found_or_absent told))))
+    (errs_then AnyError (must_have_parent state.contents destination.key) _
+    (errs_then AnyError (look state.contents (parent destination.key)) _ (λ outcome. tt) (λ above. errs_judged (parent_verdict above)))
+    (λ above. errs_then AnyError (look_closely state.contents destination.key) _ (λ outcome. tt) (λ told. errs_judged (found_or_absent told))))
     (λ there. errs_then AnyError (judged (place_verdict true request destination.key there)) _ (errs_judged (place_verdict true request destination.key there))
     (λ placed. errs_then AnyError (conditions state.contents state.locks request (Some meta) request.path) _ (errs_conditions AnyError (λ s least. tt) state.contents state.locks request (Some meta) request.path)
     (λ tokens. errs_permitted AnyError (λ s least. tt) 423 (omega arith) (permits_transfer true state.locks request (submitted_tokens request) destination.key) (record { meta = meta; destination = destination; there = there }))))))
@@ -152,12 +150,14 @@ module _ (source : PathValue) (found : Transfer) (old new : State) (records : Li
             let renamed = unnamed_renamed follows.renamed.outcome source found.destination w.mid new (follows.renamed.granted, follows.renamed.refused) in
             let at_source = kept_source w.mid w.head [] cleared in
             let outside : (key : Key) → is_at_or_below key found.destination.key ≡ false → standing w.mid.contents key ≡ standing old.contents key =
-                λ key apart. clear_outside (is_some found.there) found.destination old w.mid w.head [] cleared key (apart_below key found.destination.key apart) in
-            (record {
-              tree = record { moved = λ x. renamed.tree.moved x ∙ ap (λ s. s.0) (at_source x); gone = renamed.tree.gone; rest = λ key a b. renamed.tree.rest key a b ∙ ap (λ s. s.0) (outside key b) };
-              properties = record { moved = λ x. renamed.properties.moved x ∙ ap (λ s. s.1) (at_source x); gone = renamed.properties.gone; rest = λ key a b. renamed.properties.rest key a b ∙ ap (λ s. s.1) (outside key b) };
-              limit = renamed.limit ∙ clear_limit (is_some found.there) found.destination old w.mid w.head [] cleared;
-            }, (w.mid, clear_system (is_some found.there) found.destination old w.mid w.head [] cleared, follows.locks))
+            λ key apart. clear_outside (is_some found.there) found.destination old w.mid w.head [] cleared key (apart_below key found.destination.key apart) in (
+              record {
+                tree = record { moved = λ x. renamed.tree.moved x ∙ ap (λ s. s.0) (at_source x); gone = renamed.tree.gone; rest = λ key a b. renamed.tree.rest key a b ∙ ap (λ s. s.0) (outside key b) };
+                properties = record { moved = λ x. renamed.properties.moved x ∙ ap (λ s. s.1) (at_source x); gone = renamed.properties.gone; rest = λ key a b. renamed.properties.rest key a b ∙ ap (λ s. s.1) (outside key b) };
+                limit = renamed.limit ∙ clear_limit (is_some found.there) found.destination old w.mid w.head [] cleared;
+              },
+              (w.mid, clear_system (is_some found.there) found.destination old w.mid w.head [] cleared, follows.locks),
+            )
         by_kept (item ∷ kept) cleared follows = absurd (let none : [] ≡ item ∷ kept = follows.1 in cc)
 
     -- where something is named all stays at the source

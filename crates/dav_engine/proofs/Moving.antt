@@ -1,10 +1,10 @@
 -- MOVE: its work.
-use Rattle.std.proofs.Common.{◌≡◌, ◌≢◌, ◌⊎◌, ◌∙◌, ℕ, Bool, true, false, if◌then◌else◌, not, ◌&&◌, List, [], ◌∷◌, ◌++◌, length, take, ◌-◌, Option, Some, None, is_some, Result, Ok, Err, inl, inr, refl, sym, ap, subst, append-nil, append_assoc, option_map, length-append, arith}
+use Rattle.std.proofs.Common.{◌≡◌, ◌≢◌, ◌⊎◌, ◌∙◌, Bool, true, false, if◌then◌else◌, not, ◌&&◌, List, [], ◌∷◌, ◌++◌, length, ◌-◌, Option, Some, None, is_some, Result, Ok, Err, inl, inr, refl, sym, ap, subst, append-nil, append_assoc, option_map, length-append, arith}
 use Rattle.std.specs.FinMap.{get}
 use Rattle.std.specs.Option.{option_map_or}
 use Rattle.std.proofs.lemmas.List.{length-take}
 use Rattle.http.specs.declared.response.Response.{Response}
-use Rattle.dav_resource.specs.Errors.{fs_status, dav_status}
+use Rattle.dav_resource.specs.Errors.{fs_status}
 use Rattle.dav_resource.specs.Gives.{GivesBy}
 use Rattle.dav_resource.specs.Key.{Key, parent, is_same_key}
 use Rattle.dav_resource.specs.PathText.{PathValue}
@@ -23,7 +23,7 @@ use Rattle.dav_store.specs.BelowLaws.{at_or_below-append}
 use Rattle.dav_store.specs.Calls.{Call, Grants, Declines, record_of, error_of}
 use Rattle.dav_store.specs.Locks.{Locks}
 use Rattle.dav_store.specs.Logged.{Logged}
-use Rattle.dav_store.specs.Store.{Store, Contents, Node, Directory, File, MetaFits, IsWellFormed}
+use Rattle.dav_store.specs.Store.{Store, Node, Directory, MetaFits, IsWellFormed}
 use Rattle.dav_store.specs.Transfers.{rename_call, rename_bar, IsRenamedTo}
 use Rattle.dav_parts.specs.Dialogues.{unlike}
 use Rattle.dav_parts.specs.Multistatus.{Item, multi_answer}
@@ -33,8 +33,8 @@ use Rattle.dav_walks.specs.KeyCall.{standing}
 use Rattle.dav_walks.specs.RemovalLaws.{nothing_removed, whole_in_part, removes_within}
 use Rattle.dav_engine.specs.State.{State, Seen, state_of, DropsSeen}
 use Rattle.dav_engine.specs.Rules.{fixed_path}
-use Rattle.dav_engine.specs.Transferring.{ClearsIf, ClearsInPart, Names, NamesBy, Replaces, ReplacesThen, UnlessNamed, transferred_items}
-use Rattle.dav_engine.specs.Move.{RenamesAlone, RenamesInPart, RenamesOrStops, Renaming, MayMove, MovesSource, MovesInPart, Moves, MovesSoFar, MoveWork, MoveCut}
+use Rattle.dav_engine.specs.Transferring.{ClearsIf, ClearsInPart, Names, NamesBy, UnlessNamed, transferred_items}
+use Rattle.dav_engine.specs.Move.{RenamesAlone, RenamesOrStops, Renaming, MayMove, MovesSource, MovesInPart, Moves, MovesSoFar, MoveWork, MoveCut}
 use Rattle.dav_engine.specs.Step.{Performs}
 use Rattle.dav_engine.specs.declared.transfer.Transfer.{Transfer}
 use Rattle.dav_engine.proofs.Deleting.{none_named, some_named, no_memory, same_facts, same_locks, drops, named_locks, answered}
@@ -59,13 +59,18 @@ module _ (source destination : PathValue) (old new : Store) where
     records = record_of call Granted ∷ [];
     told = g.told;
     fixed = g.fixed;
-    done = inl ([], sym (append-nil had), record {
-      outcome = Granted;
-      called = refl;
-      lawful = g.allowed;
-      granted = λ is. (g.effect, refl);
-      refused = λ e cause. absurd (let none : None ≡ Some e = cause in cc);
-    }, refl);
+    done = inl (
+      [],
+      sym (append-nil had),
+      record {
+        outcome = Granted;
+        called = refl;
+        lawful = g.allowed;
+        granted = λ is. (g.effect, refl);
+        refused = λ e cause. absurd (let none : None ≡ Some e = cause in cc);
+      },
+      refl,
+    );
   }
 
   -- memory was lacking
@@ -137,11 +142,16 @@ module _ (source destination : PathValue) (old mid : Seen) (had has : List Item)
       by_end : RenamesOrStops source destination old.store.contents mid.store.contents h.records had has (Ok tt) → NamesBy (MovesSource source destination) (MovesInPart source destination) (state_of old) h.records had has (Ok tt) (state_of new)
       by_end (inl whole) =
           let none = none_named whole.0 whole.3 in
-          inl ([], whole.1 ∙ ap (λ names. had ++ names) none, record {
-            free = free;
-            renamed = subst (λ (s : Store). RenamesAlone source destination old.store.contents s.contents h.records []) (sym dropped.store) (subst (λ names. RenamesAlone source destination old.store.contents mid.store.contents h.records names) none whole.2);
-            locks = drops source.key old mid new locks dropped.dropped;
-          }, refl)
+          inl (
+            [],
+            whole.1 ∙ ap (λ names. had ++ names) none,
+            record {
+              free = free;
+              renamed = subst (λ (s : Store). RenamesAlone source destination old.store.contents s.contents h.records []) (sym dropped.store) (subst (λ names. RenamesAlone source destination old.store.contents mid.store.contents h.records names) none whole.2);
+              locks = drops source.key old mid new locks dropped.dropped;
+            },
+            refl,
+          )
       by_end (inr part) = absurd cc
 
 -- ---- nothing bars it, once the destination is cleared
@@ -317,7 +327,7 @@ module _ (request : DavRequest) (found : Transfer) where
         by_end (inl whole) =
             let none = none_named whole.0 whole.3 in
             let all : items ≡ transferred_items path found.there whole.0 =
-                added ∙ ap (λ l. l ++ (path, if is_some found.there then 204 else 201) ∷ []) (whole.1 ∙ none) ∙ sym (ap (transferred_items path found.there) none) in
+            added ∙ ap (λ l. l ++ (path, if is_some found.there then 204 else 201) ∷ []) (whole.1 ∙ none) ∙ sym (ap (transferred_items path found.there) none) in
             told old new h.records whole.0 result whole.2 (answered result _ (subst (λ l. GivesBy reply_of result (multi_answer path l)) all given))
         by_end (inr part) = absurd cc
 

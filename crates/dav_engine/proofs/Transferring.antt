@@ -1,5 +1,5 @@
 -- What COPY and MOVE share: their rules, and the removal at the destination.
-use Rattle.std.proofs.Common.{◌≡◌, ◌≢◌, ◌⊎◌, ◌∙◌, ℕ, Bool, true, false, if◌then◌else◌, List, [], ◌∷◌, ◌++◌, Option, Some, Result, Ok, Err, inl, inr, refl, sym, ap, subst, append-nil}
+use Rattle.std.proofs.Common.{◌≡◌, ◌∙◌, ℕ, Bool, true, if◌then◌else◌, List, [], ◌++◌, Option, Some, Result, Ok, Err, inl, inr, refl, sym, ap, subst}
 use Rattle.std.specs.Result.{IsErrAnd}
 use Rattle.std.proofs.lemmas.Result.{err_from_is_err_and}
 use Rattle.dav_resource.specs.Gives.{GivesBy}
@@ -16,13 +16,13 @@ use Rattle.dav_parts.specs.Conditions.{submitted_tokens}
 use Rattle.dav_parts.specs.Dialogue.{Dialogue, Judges, Reaches, ◌>>=◌}
 use Rattle.dav_parts.specs.Dialogues.{judges_exit, judges_left, judges_pure, judges_if, reaches_none, reaches_then}
 use Rattle.dav_parts.specs.Multistatus.{Item}
-use Rattle.dav_walks.specs.Deletion.{Removes, Removal, RemovesOrStops, removal_answer}
-use Rattle.dav_engine.specs.State.{State, Seen, state_of, facts_of, HasSameSystem, LocksStay, DropsSeen}
+use Rattle.dav_walks.specs.Deletion.{Removes, Removal, RemovesOrStops}
+use Rattle.dav_engine.specs.State.{State, Seen, state_of, facts_of, DropsSeen}
 use Rattle.dav_engine.specs.Settings.{Settings}
 use Rattle.dav_engine.specs.Rules.{judged, must_find, own_conditions, where_permitted}
 use Rattle.dav_engine.specs.Transferring.{asked_destination, look_there, see_destination, place_verdict, permits_transfer, transfer_rules, Clears, ClearsInPart, NamesBy, Names}
 use Rattle.dav_engine.specs.declared.transfer.Transfer.{Transfer}
-use Rattle.dav_engine.proofs.Deleting.{judges_known, none_named, some_named, no_memory, same_facts, same_locks, drops, named_locks}
+use Rattle.dav_engine.proofs.Deleting.{judges_known, none_named, some_named, same_facts, same_locks, drops, named_locks}
 use Rattle.dav_engine.proofs.Running.{same_system}
 
 -- ---- the rules
@@ -137,11 +137,16 @@ module _ (destination : PathValue) (old mid : Seen) (had has : List Item) where
   }
     where
       by_end : RemovesOrStops Infinity destination old.store.contents mid.store.contents h.records had has (Err e) → NamesBy (Clears destination) (ClearsInPart true destination) (state_of old) h.records had has (Err e) (state_of mid)
-      by_end (inl whole) = inl (whole.0, whole.1, record {
-        removed = whole.2;
-        locks = named_locks whole.0 destination _ _ (some_named e whole.0 whole.3) (same_locks old mid locks);
-        system = same_system old mid (same_facts old mid h.fixed locks);
-      }, whole.3)
+      by_end (inl whole) = inl (
+        whole.0,
+        whole.1,
+        record {
+          removed = whole.2;
+          locks = named_locks whole.0 destination _ _ (some_named e whole.0 whole.3) (same_locks old mid locks);
+          system = same_system old mid (same_facts old mid h.fixed locks);
+        },
+        whole.3,
+      )
       by_end (inr part) = inr (part.0, (part.1, same_locks old mid locks))
 
   -- nothing was named, and the locks there are dropped
@@ -159,9 +164,14 @@ module _ (destination : PathValue) (old mid : Seen) (had has : List Item) where
       by_end : RemovesOrStops Infinity destination old.store.contents mid.store.contents h.records had has (Ok tt) → NamesBy (Clears destination) (ClearsInPart true destination) (state_of old) h.records had has (Ok tt) (state_of new)
       by_end (inl whole) =
           let none = none_named whole.0 whole.3 in
-          inl ([], whole.1 ∙ ap (λ names. had ++ names) none, record {
-            removed = subst (λ (s : Store). Removes Infinity destination old.store.contents s.contents h.records []) (sym dropped.store) (subst (λ names. Removes Infinity destination old.store.contents mid.store.contents h.records names) none whole.2);
-            locks = drops destination.key old mid new locks dropped.dropped;
-            system = same_system old new fixed_so;
-          }, refl)
+          inl (
+            [],
+            whole.1 ∙ ap (λ names. had ++ names) none,
+            record {
+              removed = subst (λ (s : Store). Removes Infinity destination old.store.contents s.contents h.records []) (sym dropped.store) (subst (λ names. Removes Infinity destination old.store.contents mid.store.contents h.records names) none whole.2);
+              locks = drops destination.key old mid new locks dropped.dropped;
+              system = same_system old new fixed_so;
+            },
+            refl,
+          )
       by_end (inr part) = absurd cc

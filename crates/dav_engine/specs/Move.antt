@@ -1,5 +1,5 @@
 -- MOVE (RFC 4918, section 9.9): gives a resource, with all below it, another name.
-use Rattle.std.specs.Prelude.{◌≡◌, ◌⊎◌, List, [], ◌∷◌, ◌++◌, Option, Some, None, is_some, Result, Err}
+use Rattle.std.specs.Prelude.{◌≡◌, ◌⊎◌, List, [], ◌∷◌, ◌++◌, Some, None, is_some, Result, Err}
 use Rattle.std.specs.FinMap.{get}
 use Rattle.dav_resource.specs.Errors.{fs_status}
 use Rattle.dav_resource.specs.Key.{Key, parent}

@@ -1,4 +1,4 @@
-use Rattle.std.proofs.Common.{◌≢◌, ◌∙◌, rules}
+use Rattle.std.proofs.Common.{◌≢◌, rules}
 use Rattle.std.proofs.lemmas.Result.{err_from_is_err_and}
 use Rattle.dav_resource.specs.declared.error.FsError.TheVariants.{Memory}
 use Rattle.dav_engine.proofs.Refusals.{from_fs_status}
