@@ -14,7 +14,7 @@ use Rattle.dav_walks.proofs.Keys.{same_key_itself, calls_at-IsIn}
 use Rattle.dav_walks.proofs.Counting.{total, total-plus, total-same, total-most, total-at_least, one, path_below, path_is}
 use Rattle.dav_walks.proofs.Among.{stands_among}
 
-IsIn-filter : {X : Type 0} (p : X → Bool) (x : X) (xs : List X) → IsIn x xs → p x ≡ true → IsIn x (filter p xs)
+pub IsIn-filter : {X : Type 0} (p : X → Bool) (x : X) (xs : List X) → IsIn x xs → p x ≡ true → IsIn x (filter p xs)
 IsIn-filter p x [] i e = absurd i
 IsIn-filter {X} p x (y ∷ xs) (inl q) e = subst (λ b. IsIn x (cond b (y ∷ filter p xs) (filter p xs))) (sym (ap p q ∙ e)) (inl q)
 IsIn-filter {X} p x (y ∷ xs) (inr i) e = go (p y) (IsIn-filter p x xs i e)
@@ -23,7 +23,7 @@ IsIn-filter {X} p x (y ∷ xs) (inr i) e = go (p y) (IsIn-filter p x xs i e)
     go true j = inr j
     go false j = j
 
-filter-IsIn : {X : Type 0} (p : X → Bool) (x : X) (xs : List X) → IsIn x (filter p xs) → IsIn x xs × (p x ≡ true)
+pub filter-IsIn : {X : Type 0} (p : X → Bool) (x : X) (xs : List X) → IsIn x (filter p xs) → IsIn x xs × (p x ≡ true)
 filter-IsIn p x [] i = absurd i
 filter-IsIn {X} p x (y ∷ xs) i = go (p y) refl i (filter-IsIn p x xs)
   where

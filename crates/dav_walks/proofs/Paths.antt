@@ -15,7 +15,7 @@ pub record IsAt (path : PathValue) (slash : Bool) (value : PathValue) : Type 0 w
   pub key : value.key ≡ path.key ++ below
   pub is : value ≡ path_at path slash value.key
 
-path_at-itself : (path : PathValue) (slash : Bool) → path_at path slash path.key ≡ path
+pub path_at-itself : (path : PathValue) (slash : Bool) → path_at path slash path.key ≡ path
 path_at-itself path slash = ap (λ b. if b then path else record path { star = false; slash = slash; key = path.key }) (same_key_itself path.key)
 
 path_at-others : (path : PathValue) (slash : Bool) (key : Key) → key ≢ path.key → path_at path slash key ≡ record path { star = false; slash = slash; key = key }

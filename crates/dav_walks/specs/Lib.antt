@@ -2,5 +2,8 @@ pub mod KeyCall
 pub mod Deletion
 pub mod Trace
 pub mod Frames
+pub mod Copying
+pub mod Copied
+pub mod CopyFrames
 pub mod RemovalLaws
 pub mod ClearedLaws

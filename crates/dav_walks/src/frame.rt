@@ -152,7 +152,7 @@ pub(crate) fn close<C, F: GuardedFileSystem<C>>(
 }
 
 /// The path of a directory's member, with a slash for a directory. Only memory can be lacking.
-fn member_path(directory: &DavPath, entry: &DirEntry) -> Result<DavPath, AllocError>
+pub(crate) fn member_path(directory: &DavPath, entry: &DirEntry) -> Result<DavPath, AllocError>
     requires { IsSegment entry.now.name }
     ensures { IfOk result (λ path. path ≡ path_of_entry directory.now entry.now) }
 {

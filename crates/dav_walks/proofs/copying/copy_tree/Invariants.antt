@@ -1,0 +1,14 @@
+use Rattle.std.proofs.Common.{◌≡◌, ◌∷◌, reverse}
+use Rattle.dav_walks.proofs.CopyVisit.{Going, left}
+use Rattle.dav_walks.proofs.copying.copy_tree.Given as goal
+
+abbrev pub invariant-walk : goal.invariant-walk
+invariant-walk g l =
+    let seen = g.F.GuardedFileSystem.seen in
+    record {
+      going : Going l.source l.dest l.topdest.key (seen l.fn.fs) (seen l.fs) l.fn.res l.res (l.frame ∷ reverse l.parents.items);
+      fixed : (seen l.fs).keeps_properties ≡ (seen l.fn.fs).keeps_properties;
+    }
+
+abbrev pub decreases-walk : goal.decreases-walk
+decreases-walk g l = left l.topdest.key (g.F.GuardedFileSystem.seen l.fn.fs) (l.frame ∷ reverse l.parents.items)

@@ -1,0 +1,116 @@
+-- What the steps of a copy by a list of directories do: this project's own choice.
+use Rattle.std.specs.Prelude.{◌≡◌, ◌⊎◌, ◌<◌, ◌+◌, Bool, true, false, List, [], ◌∷◌, ◌++◌, length, get_or, Option, Some, None, Result, Ok, Err}
+use Rattle.dav_resource.specs.Key.{Key}
+use Rattle.dav_resource.specs.PathText.{PathValue}
+use Rattle.dav_resource.specs.Errors.{fs_status}
+use Rattle.dav_resource.specs.declared.meta.Meta.{Meta}
+use Rattle.dav_resource.specs.declared.meta.DirEntry.{DirEntry}
+use Rattle.dav_resource.specs.declared.error.FsError.{FsError}
+use Rattle.dav_resource.specs.declared.request.Depth.{Depth}
+use Rattle.dav_store.specs.Logged.{Logged}
+use Rattle.dav_store.specs.Store.{Store, Contents}
+use Rattle.dav_store.specs.Calls.{Call, Grants, metadata_call, IsMetaAt, create_dir_call, IsMadeAt}
+use Rattle.dav_store.specs.Members.{read_dir_call, Lists}
+use Rattle.dav_store.specs.Transfers.{copy_call, IsCopiedTo}
+use Rattle.dav_parts.specs.Multistatus.{Item}
+use Rattle.dav_walks.specs.declared.copy_frame.CopyFrame.{CopyFrame}
+use Rattle.dav_walks.specs.Frames.{NamesRefusal, IsCut, path_of_entry}
+use Rattle.dav_walks.specs.Copied.{CopiesAll, CopiesInPart, CopyNamesInPart}
+
+-- one call was made: granted with its effect, or declined, and then named
+abbrev pub Makes : Call → (Contents → Contents → Type 0) → PathValue → Store → Store → List Item → List Item → Bool → Type 0
+Makes call Effect path old new had has true = Grants call Effect old new × (has ≡ had)
+Makes call Effect path old new had has false = NamesRefusal call path old new had has
+
+-- ---- the begin of a key's copy
+
+-- a look at the source
+abbrev pub LooksAt : PathValue → Store → Store → List Item → List Item → Option Meta → Type 0
+LooksAt path old new had has (Some meta) = Grants (metadata_call old.contents path.key) (IsMetaAt path.key meta) old new × (has ≡ had)
+LooksAt path old new had has None = NamesRefusal (metadata_call old.contents path.key) path old new had has
+
+abbrev pub CopiesFile : PathValue → PathValue → Store → Store → List Item → List Item → Bool → Type 0
+CopiesFile source dest old = Makes (copy_call old.contents source.key dest.key) (IsCopiedTo source.key dest.key) source old
+
+abbrev pub MakesPlace : PathValue → Store → Store → List Item → List Item → Bool → Type 0
+MakesPlace dest old = Makes (create_dir_call old.contents dest.key) (IsMadeAt dest.key) dest old
+
+-- the directory is listed, and the copy of its members may begin
+pub record OpensCopy (source dest : PathValue) (old new : Store) (had has : List Item) (frame : CopyFrame) : Type 0 where
+  pub lists : Lists source.key old frame.listing.items new
+  pub unnamed : has ≡ had
+  pub at_source : frame.source ≡ source
+  pub at_dest : frame.dest ≡ dest
+  pub first : frame.next ≡ 0
+
+abbrev pub ListsSource : PathValue → PathValue → Store → Store → List Item → List Item → Option CopyFrame → Type 0
+ListsSource source dest old new had has (Some frame) = OpensCopy source dest old new had has frame
+ListsSource source dest old new had has None = NamesRefusal (read_dir_call old.contents source.key) source old new had has
+
+-- the source was found, and is a directory or none
+pub record Finds (dir : Bool) (source : PathValue) (old new : Store) : Type 0 where
+  pub meta : Meta
+  pub kind : meta.dir ≡ dir
+  pub looked : Grants (metadata_call old.contents source.key) (IsMetaAt source.key meta) old new
+
+-- it was a directory, and one was made at its place
+pub record MakesPlaceOf (source dest : PathValue) (old new : Store) : Type 0 where
+  pub mid : Store
+  pub found : Finds true source old mid
+  pub made : Grants (create_dir_call mid.contents dest.key) (IsMadeAt dest.key) mid new
+
+-- the source was looked at; a file was copied; a directory was made and listed; up to the first refusal, which is named
+pub data EntersCopy (source dest : PathValue) (old new : Store) (had has : List Item) : Option CopyFrame → Type 0 where
+  unlooked : LooksAt source old new had has None → EntersCopy source dest old new had has None
+  filed : (mid : Store) (done : Bool) → Finds false source old mid → CopiesFile source dest mid new had has done → EntersCopy source dest old new had has None
+  unmade : (mid : Store) → Finds true source old mid → MakesPlace dest mid new had has false → EntersCopy source dest old new had has None
+  after_made : (mid : Store) (opened : Option CopyFrame) → MakesPlaceOf source dest old mid → ListsSource source dest mid new had has opened → EntersCopy source dest old new had has opened
+
+-- memory was lacking in one of these calls
+pub data IsCutCopy (source dest : PathValue) (old new : Store) : Type 0 where
+  at_look : IsCut (metadata_call old.contents source.key) old new → IsCutCopy source dest old new
+  at_file : (mid : Store) → Finds false source old mid → IsCut (copy_call mid.contents source.key dest.key) mid new → IsCutCopy source dest old new
+  at_place : (mid : Store) → Finds true source old mid → IsCut (create_dir_call mid.contents dest.key) mid new → IsCutCopy source dest old new
+  at_listing : (mid : Store) → MakesPlaceOf source dest old mid → IsCut (read_dir_call mid.contents source.key) mid new → IsCutCopy source dest old new
+
+-- ---- a directory's next member
+
+-- what the listing shows next
+abbrev pub IsNextOf : CopyFrame → Result DirEntry FsError → Type 0
+IsNextOf frame shown = (frame.next < length frame.listing.items) × (get_or frame.listing.items frame.next shown ≡ shown)
+
+-- a member that isn't shown names the directory, and ends its copy; the top destination is passed over, another is entered
+pub data VisitsMember (frame : CopyFrame) (top : Key) (after : CopyFrame) (old new : Store) (had has : List Item) : Option CopyFrame → Type 0 where
+  unshown : (e : FsError) → IsNextOf frame (Err e) → new ≡ old → has ≡ had ++ (frame.source, fs_status e) ∷ [] → after ≡ record frame { next = length frame.listing.items }
+      → VisitsMember frame top after old new had has None
+  skipped : (entry : DirEntry) → IsNextOf frame (Ok entry) → (path_of_entry frame.source entry).key ≡ top → new ≡ old → has ≡ had → after ≡ record frame { next = frame.next + 1 }
+      → VisitsMember frame top after old new had has None
+  entered : (entry : DirEntry) (opened : Option CopyFrame) → IsNextOf frame (Ok entry) → ((path_of_entry frame.source entry).key ≡ top → ⊥)
+      → EntersCopy (path_of_entry frame.source entry) (path_of_entry frame.dest entry) old new had has opened → after ≡ record frame { next = frame.next + 1 }
+      → VisitsMember frame top after old new had has opened
+
+-- memory was lacking on the way to it
+abbrev pub IsCutMember : CopyFrame → Key → Store → Store → Type 0
+IsCutMember frame top old new =
+    (new ≡ old) ⊎ ((entry : DirEntry) × IsNextOf frame (Ok entry) × ((path_of_entry frame.source entry).key ≡ top → ⊥) × IsCutCopy (path_of_entry frame.source entry) (path_of_entry frame.dest entry) old new)
+
+-- ---- the whole
+
+-- the copy of this depth came to its end
+pub record CopiesWhole (depth : Depth) (source dest : PathValue) (top : Key) (old new : Store) (had has : List Item) : Type 0 where
+  pub records : List Logged
+  pub told : new.log ≡ old.log ++ records
+  pub fixed : new.keeps_properties ≡ old.keeps_properties
+  pub names : List Item
+  pub added : has ≡ had ++ names
+  pub copies : CopiesAll depth source dest top old.contents new.contents records names
+
+-- or was broken off for want of memory, and some names may be missing
+pub record BreaksOffCopy (depth : Depth) (source dest : PathValue) (top : Key) (old new : Store) (had has : List Item) : Type 0 where
+  pub records : List Logged
+  pub told : new.log ≡ old.log ++ records
+  pub fixed : new.keeps_properties ≡ old.keeps_properties
+  pub part : CopiesInPart depth source dest top old.contents new.contents records
+  pub names : List Item
+  pub added : has ≡ had ++ names
+  pub named : CopyNamesInPart depth source dest top old.contents records names

@@ -1,0 +1,169 @@
+-- COPY (RFC 4918, section 9.8): what a copy of Depth infinity calls, makes, names and misses. A key is said by the path x that
+-- leads down to it from the source s; its place is where the same path leads from the destination d.
+use Rattle.std.specs.Prelude.{◌≡◌, ◌≢◌, ◌⊎◌, ◌≤◌, ◌*◌, ◌&&◌, not, filter, ℕ, Bool, true, false, if◌then◌else◌, List, [], ◌∷◌, ◌++◌, Option, Some, None, length, map, option_map, IsPermutation}
+use Rattle.std.specs.FinMap.{get}
+use Rattle.std.specs.List.{cons_option}
+use Rattle.dav_resource.specs.Key.{Key, parent}
+use Rattle.dav_resource.specs.PathText.{PathValue}
+use Rattle.dav_resource.specs.Errors.{fs_status}
+use Rattle.dav_resource.specs.declared.record.Op.{Op}
+use Rattle.dav_resource.specs.declared.record.Op.TheVariants.{Metadata, Copy, CreateDir, ReadDir, Entry}
+use Rattle.dav_resource.specs.declared.record.Outcome.{Outcome}
+use Rattle.dav_resource.specs.declared.record.Outcome.TheVariants.{Granted}
+use Rattle.dav_store.specs.Below.{is_at_or_below}
+use Rattle.dav_store.specs.Logged.{Logged, logged}
+use Rattle.dav_store.specs.Store.{Contents, Node, File, Directory, Tree, PropertyMap}
+use Rattle.dav_store.specs.Calls.{IsLawful, error_of, limit_of}
+use Rattle.dav_store.specs.Members.{IsIn, AreDistinct, member}
+use Rattle.dav_parts.specs.Multistatus.{Item}
+use Rattle.dav_walks.specs.KeyCall.{standing, keys_below}
+use Rattle.dav_walks.specs.Deletion.{Look, WasRefused, path_at, is_call}
+use Rattle.dav_walks.specs.Trace.{HasKind}
+
+-- ---- what is to be copied
+
+-- what stood at the source and below it, without what is at the top destination or below that
+abbrev pub snapshot : Tree → Key → Key → Look
+snapshot tree s top = λ x. if is_at_or_below (s ++ x) top then None else get tree (s ++ x)
+
+-- its keys
+abbrev pub keys_of_snapshot : Tree → Key → Key → List Key
+keys_of_snapshot tree s top = filter (λ key. not (is_at_or_below key top)) (keys_below tree s)
+
+-- ---- the calls
+
+-- a call on a key or its place, and what came of it
+pub record CopyStep : Type 0 where
+  pub at : Key
+  pub op : Op
+  pub outcome : Outcome
+
+-- a directory is made at the place, a file is copied from its key to its place, all else is asked of the key itself
+abbrev pub keys_of_step : Op → Key → Key → List Key
+keys_of_step Copy from to = from ∷ to ∷ []
+keys_of_step CreateDir from to = to ∷ []
+keys_of_step _ from to = from ∷ []
+
+-- its record
+abbrev pub logged_step : Key → Key → CopyStep → Logged
+logged_step s d step = logged step.op (keys_of_step step.op (s ++ step.at) (d ++ step.at)) step.outcome
+
+-- such a call was made, was granted, or wasn't granted
+abbrev pub HasOutcome : Op → Outcome → Key → List CopyStep → Type 0
+HasOutcome op outcome x steps = IsIn (record { at = x; op = op; outcome = outcome }) steps
+
+abbrev pub IsAsked : Op → Key → List CopyStep → Type 0
+IsAsked op x steps = (outcome : Outcome) × HasOutcome op outcome x steps
+
+abbrev pub IsGranted : Op → Key → List CopyStep → Type 0
+IsGranted op x steps = HasOutcome op Granted x steps
+
+abbrev pub IsDenied : Op → Key → List CopyStep → Type 0
+IsDenied op x steps = (outcome : Outcome) × WasRefused outcome × HasOutcome op outcome x steps
+
+-- a member of the key wasn't shown
+abbrev pub HasUnseen : Key → List CopyStep → Type 0
+HasUnseen x steps = (name : List ℕ) × IsDenied Entry (member x name) steps
+
+-- the key's copy was made: a file was copied, or a directory made
+abbrev pub IsMade : Key → List CopyStep → Type 0
+IsMade x steps = IsGranted Copy x steps ⊎ IsGranted CreateDir x steps
+
+-- the key is a member of a directory whose listing was granted
+abbrev pub IsListed : Key → List CopyStep → Type 0
+IsListed x steps = (above : Key) × (name : List ℕ) × (x ≡ member above name) × IsGranted ReadDir above steps
+
+-- When a call is made: the source and the members of listed directories are looked at; then a file is copied,
+-- or a directory is made and, once it is made, listed.
+abbrev pub IsCalledFor : Look → Op → Key → List CopyStep → Type 0
+IsCalledFor snap Metadata x steps = (snap x ≢ None) × ((x ≡ []) ⊎ IsListed x steps)
+IsCalledFor snap Copy x steps = HasKind false (snap x) × IsGranted Metadata x steps
+IsCalledFor snap CreateDir x steps = HasKind true (snap x) × IsGranted Metadata x steps
+IsCalledFor snap ReadDir x steps = HasKind true (snap x) × IsGranted CreateDir x steps
+IsCalledFor snap Entry x steps = IsListed x steps
+IsCalledFor snap _ x steps = ⊥
+
+-- ---- what a copy may call and change at any moment
+
+-- what a copy is: a file has its bytes and its properties, a directory has no properties
+abbrev pub copied : Option Node × Option PropertyMap → Option Node × Option PropertyMap
+copied (Some (File bytes), properties) = (Some (File bytes), properties)
+copied (Some Directory, properties) = (Some Directory, None)
+copied (None, properties) = (None, None)
+
+pub record IsLawfulCopy (s top d : Key) (old new : Contents) (steps : List CopyStep) : Type 0 where
+  -- each call is called for, and none is made twice on a key; in all at most three are made for each key of the snapshot
+  pub called_for : (step : CopyStep) → IsIn step steps → IsCalledFor (snapshot old.tree s top) step.op step.at steps
+  pub once : AreDistinct {X = Key × Op} (map (λ step. (step.at, step.op)) steps)
+  pub bound : length (filter (λ step. is_call step.op) steps) ≤ 3 * length (keys_of_snapshot old.tree s top)
+  -- none is barred, and each refusal is the store's own
+  pub free : (step : CopyStep) → IsIn step steps → IsLawful None step.outcome
+  pub unseen : (x : Key) → IsGranted Entry x steps → ⊥
+  -- the made copies stand at their places, and nothing else changes
+  pub made : (x : Key) → IsMade x steps → standing new (d ++ x) ≡ copied (standing old (s ++ x))
+  pub others : (key : Key) → ((x : Key) → IsMade x steps → key ≢ d ++ x) → standing new key ≡ standing old key
+  pub limit : limit_of new ≡ limit_of old
+
+-- ---- what is named
+
+abbrev pub is_directory_node : Option Node → Bool
+is_directory_node (Some Directory) = true
+is_directory_node (Some (File bytes)) = false
+is_directory_node None = false
+
+-- A refused call names the key, but that which makes a directory names the place; a member that wasn't shown
+-- names the directory above it.
+abbrev pub path_of_step : PathValue → PathValue → Look → Op → Key → PathValue
+path_of_step source dest snap CreateDir x = path_at dest true (dest.key ++ x)
+path_of_step source dest snap Entry x = path_at source true (source.key ++ parent x)
+path_of_step source dest snap _ x = path_at source (is_directory_node (snap x)) (source.key ++ x)
+
+-- with the status of the refusal
+abbrev pub named_by_step : PathValue → PathValue → Look → CopyStep → Option Item
+named_by_step source dest snap step = option_map (λ e. (path_of_step source dest snap step.op step.at, fs_status e)) (error_of step.outcome)
+
+-- of members that weren't shown, one behind another, only the first gives a name
+abbrev pub named_once : PathValue → PathValue → Look → Bool → CopyStep → Option Item
+named_once source dest snap told step = if told && not (is_call step.op) then None else named_by_step source dest snap step
+
+-- the names of the calls in order, behind a member that wasn't shown, or not
+abbrev pub names_behind : PathValue → PathValue → Look → Bool → List CopyStep → List Item
+names_behind source dest snap told [] = []
+names_behind source dest snap told (step ∷ steps) = cons_option (named_once source dest snap told step) (names_behind source dest snap (not (is_call step.op)) steps)
+
+abbrev pub names_of_copy : PathValue → PathValue → Look → List CopyStep → List Item
+names_of_copy source dest snap steps = names_behind source dest snap false steps
+
+-- ---- a whole copy
+
+-- Nothing is left out: what was looked at is copied or made, what was made is listed, and each member of the snapshot is
+-- looked at, but for those of a directory of which some member wasn't shown.
+pub record IsWholeCopy (snap : Look) (steps : List CopyStep) : Type 0 where
+  pub source : IsAsked Metadata [] steps
+  pub files : (x : Key) → HasKind false (snap x) → IsGranted Metadata x steps → IsAsked Copy x steps
+  pub directories : (x : Key) → HasKind true (snap x) → IsGranted Metadata x steps → IsAsked CreateDir x steps
+  pub listings : (x : Key) → IsGranted CreateDir x steps → IsAsked ReadDir x steps
+  pub members : (x : Key) (name : List ℕ) → snap (member x name) ≢ None → IsGranted ReadDir x steps → IsAsked Metadata (member x name) steps ⊎ HasUnseen x steps
+
+-- one of the names is that of the key or its place, or of one above these, from the source and the destination on
+abbrev pub IsUnderName : Key → Key → Key → List Item → Type 0
+IsUnderName s d x names = (y : Key) × (z : Key) × (x ≡ y ++ z) × (item : Item) × IsIn item names × ((item.0.key ≡ s ++ y) ⊎ (item.0.key ≡ d ++ y))
+
+-- the copy of what stands at the source and of all below it, by these calls and with these names
+pub record CopiesTree (source dest : PathValue) (top : Key) (old new : Contents) (steps : List CopyStep) (names : List Item) : Type 0 where
+  pub lawful : IsLawfulCopy source.key top dest.key old new steps
+  pub whole : IsWholeCopy (snapshot old.tree source.key top) steps
+  -- the names are those of the refused calls, in some order; what isn't made lies under a name
+  pub named : IsPermutation (names_of_copy source dest (snapshot old.tree source.key top) steps) names
+  pub missed : (x : Key) → snapshot old.tree source.key top x ≢ None → IsMade x steps ⊎ IsUnderName source.key dest.key x names
+
+-- ---- where a copy may be made
+
+-- something is at the source; nothing is at the destination, but above it a directory; the destination is the top one or
+-- below it, and the source isn't
+pub record HasRoom (s top d : Key) (old : Contents) : Type 0 where
+  pub source : get old.tree s ≢ None
+  pub free : get old.tree d ≡ None
+  pub above : get old.tree (parent d) ≡ Some Directory
+  pub within : is_at_or_below d top ≡ true
+  pub apart : is_at_or_below s top ≡ false

@@ -1,0 +1,195 @@
+//! The steps of a copy by a list of directories.
+ghost use Rattle.std.specs.Prelude.{◌≡◌, ◌<◌, length, Ok, Some, IfOk, IfErr, OnErr};
+ghost use Rattle.dav_resource.specs.PathText.{IsSegment};
+ghost use Rattle.dav_store.specs.Calls.{metadata_call, create_dir_call};
+ghost use Rattle.dav_store.specs.Members.{read_dir_call};
+ghost use Rattle.dav_store.specs.Transfers.{copy_call};
+ghost use Rattle.dav_walks.specs.Frames.{IsCut};
+ghost use Rattle.dav_walks.specs.CopyFrames.{LooksAt, CopiesFile, MakesPlace, ListsSource, EntersCopy, IsCutCopy, IsNextOf, VisitsMember, IsCutMember};
+
+use crate::frame::member_path;
+use dav_parts::MultiError;
+use dav_resource::{DavError, DavPath, DavResult, DirEntry, FsError, FsResult, Meta};
+use dav_store::GuardedFileSystem;
+
+/// A directory whose members are being copied, and how far the copy has come.
+#[derive(Debug, Drop)]
+pub(crate) struct CopyFrame {
+    /// The directory's path.
+    pub(crate) source: DavPath,
+    /// The path of its copy.
+    pub(crate) dest: DavPath,
+    /// What its listing showed.
+    pub(crate) listing: Vec<FsResult<DirEntry>>,
+    /// The place in the listing that is next.
+    pub(crate) next: usize,
+}
+
+/// Looks at a path, and names it where that is refused: then there is no answer. The only error is `Memory`.
+pub(crate) fn look<C, F: GuardedFileSystem<C>>(
+    fs: &mut F,
+    credentials: &C,
+    res: &mut MultiError,
+    path: &DavPath,
+) -> DavResult<Option<Meta>>
+    ensures done { IfOk result (LooksAt path.now (F.seen fs.old) (F.seen fs.new) res.old res.new) }
+    ensures fixed { (F.seen fs.new).keeps_properties ≡ (F.seen fs.old).keeps_properties }
+    ensures err { IfErr result (λ e. e ≡ DavError.Memory) }
+    ensures unnamed { OnErr result (res.new ≡ res.old) }
+    ensures stopped { OnErr result (IsCut (metadata_call (F.seen fs.old).contents path.now.key) (F.seen fs.old) (F.seen fs.new)) }
+{
+    match fs.metadata(path, credentials) {
+        Ok(meta) => Ok(Some(meta)),
+        Err(FsError::Memory) => Err(DavError::Memory),
+        Err(error) => {
+            res.add_status(path, error)?;
+            Ok(None)
+        }
+    }
+}
+
+/// Copies a file to its place, and names the file where that is refused. Whether it was granted. The only error is
+/// `Memory`.
+pub(crate) fn copy_file<C, F: GuardedFileSystem<C>>(
+    fs: &mut F,
+    credentials: &C,
+    res: &mut MultiError,
+    source: &DavPath,
+    dest: &DavPath,
+) -> DavResult<bool>
+    ensures done { IfOk result (CopiesFile source.now dest.now (F.seen fs.old) (F.seen fs.new) res.old res.new) }
+    ensures fixed { (F.seen fs.new).keeps_properties ≡ (F.seen fs.old).keeps_properties }
+    ensures err { IfErr result (λ e. e ≡ DavError.Memory) }
+    ensures unnamed { OnErr result (res.new ≡ res.old) }
+    ensures stopped { OnErr result (IsCut (copy_call (F.seen fs.old).contents source.now.key dest.now.key) (F.seen fs.old) (F.seen fs.new)) }
+{
+    match fs.copy(source, dest, credentials) {
+        Ok(()) => Ok(true),
+        Err(FsError::Memory) => Err(DavError::Memory),
+        Err(error) => {
+            res.add_status(source, error)?;
+            Ok(false)
+        }
+    }
+}
+
+/// Makes the directory of a copy, and names it where that is refused. Whether it was granted. The only error is
+/// `Memory`.
+fn make_directory<C, F: GuardedFileSystem<C>>(
+    fs: &mut F,
+    credentials: &C,
+    res: &mut MultiError,
+    dest: &DavPath,
+) -> DavResult<bool>
+    ensures done { IfOk result (MakesPlace dest.now (F.seen fs.old) (F.seen fs.new) res.old res.new) }
+    ensures fixed { (F.seen fs.new).keeps_properties ≡ (F.seen fs.old).keeps_properties }
+    ensures err { IfErr result (λ e. e ≡ DavError.Memory) }
+    ensures unnamed { OnErr result (res.new ≡ res.old) }
+    ensures stopped { OnErr result (IsCut (create_dir_call (F.seen fs.old).contents dest.now.key) (F.seen fs.old) (F.seen fs.new)) }
+{
+    match fs.create_dir(dest, credentials) {
+        Ok(()) => Ok(true),
+        Err(FsError::Memory) => Err(DavError::Memory),
+        Err(error) => {
+            res.add_status(dest, error)?;
+            Ok(false)
+        }
+    }
+}
+
+/// Lists a directory whose copy was made, and names it where that is refused: then there is no answer. The only error
+/// is `Memory`.
+fn open_directory<C, F: GuardedFileSystem<C>>(
+    fs: &mut F,
+    credentials: &C,
+    res: &mut MultiError,
+    source: DavPath,
+    dest: DavPath,
+) -> DavResult<Option<CopyFrame>>
+    ensures done { IfOk result (ListsSource source dest (F.seen fs.old) (F.seen fs.new) res.old res.new) }
+    ensures fixed { (F.seen fs.new).keeps_properties ≡ (F.seen fs.old).keeps_properties }
+    ensures err { IfErr result (λ e. e ≡ DavError.Memory) }
+    ensures unnamed { OnErr result (res.new ≡ res.old) }
+    ensures stopped { OnErr result (IsCut (read_dir_call (F.seen fs.old).contents source.key) (F.seen fs.old) (F.seen fs.new)) }
+{
+    match fs.read_dir(&source, credentials) {
+        Ok(listing) => Ok(Some(CopyFrame {
+            source,
+            dest,
+            listing,
+            next: 0,
+        })),
+        Err(FsError::Memory) => Err(DavError::Memory),
+        Err(error) => {
+            res.add_status(&source, error)?;
+            Ok(None)
+        }
+    }
+}
+
+/// Begins the copy of a path: copies a file, or makes a directory and lists its source, or else names what was
+/// refused. A directory that was opened is the answer. The only error is `Memory`.
+pub(crate) fn enter_copy<C, F: GuardedFileSystem<C>>(
+    fs: &mut F,
+    credentials: &C,
+    res: &mut MultiError,
+    source: DavPath,
+    dest: DavPath,
+) -> DavResult<Option<CopyFrame>>
+    ensures done { IfOk result (EntersCopy source dest (F.seen fs.old) (F.seen fs.new) res.old res.new) }
+    ensures fixed { (F.seen fs.new).keeps_properties ≡ (F.seen fs.old).keeps_properties }
+    ensures err { IfErr result (λ e. e ≡ DavError.Memory) }
+    ensures unnamed { OnErr result (res.new ≡ res.old) }
+    ensures stopped { OnErr result (IsCutCopy source dest (F.seen fs.old) (F.seen fs.new)) }
+{
+    let meta = match look(fs, credentials, res, &source)? {
+        None => return Ok(None),
+        Some(meta) => meta,
+    };
+    if !meta.dir {
+        copy_file(fs, credentials, res, &source, &dest)?;
+        return Ok(None);
+    }
+    if !make_directory(fs, credentials, res, &dest)? {
+        return Ok(None);
+    }
+    open_directory(fs, credentials, res, source, dest)
+}
+
+/// Goes on with a directory's next member: one that isn't shown names the directory and ends its copy, the top
+/// destination is passed over, each other is entered. A directory that was opened is the answer. The only error is
+/// `Memory`.
+pub(crate) fn visit_member<C, F: GuardedFileSystem<C>>(
+    fs: &mut F,
+    credentials: &C,
+    res: &mut MultiError,
+    topdest: &DavPath,
+    frame: &mut CopyFrame,
+) -> DavResult<Option<CopyFrame>>
+    requires more { frame.old.next < length frame.old.listing.items }
+    requires names { (entry : DirEntry) → IsNextOf frame.old (Ok entry) → IsSegment entry.name }
+    ensures done { IfOk result (VisitsMember frame.old topdest.now.key frame.new (F.seen fs.old) (F.seen fs.new) res.old res.new) }
+    ensures fixed { (F.seen fs.new).keeps_properties ≡ (F.seen fs.old).keeps_properties }
+    ensures err { IfErr result (λ e. e ≡ DavError.Memory) }
+    ensures unnamed { OnErr result (res.new ≡ res.old) }
+    ensures stopped { OnErr result (IsCutMember frame.old topdest.now.key (F.seen fs.old) (F.seen fs.new)) }
+{
+    match &frame.listing[frame.next] {
+        Err(error) => {
+            res.add_status(&frame.source, *error)?;
+            frame.next = frame.listing.len();
+            Ok(None)
+        }
+        Ok(entry) => {
+            let source = member_path(&frame.source, entry)?;
+            if source.same_key(topdest) {
+                frame.next += 1;
+                return Ok(None);
+            }
+            let dest = member_path(&frame.dest, entry)?;
+            let opened = enter_copy(fs, credentials, res, source, dest)?;
+            frame.next += 1;
+            Ok(opened)
+        }
+    }
+}
