@@ -5,5 +5,6 @@ pub mod Frames
 pub mod Copying
 pub mod Copied
 pub mod CopyFrames
+pub mod CopyLaws
 pub mod RemovalLaws
 pub mod ClearedLaws

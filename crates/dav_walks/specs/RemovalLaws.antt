@@ -26,7 +26,7 @@ kept_elsewhere m k q apart = get-remove key_cmp_total m k q ∙ same (eq_by_cmp 
     same true e = absurd (apart ((tied_decides q k).0 e))
     same false e = refl
 
-append-nothing : (k : Key) → k ++ [] ≡ k
+pub append-nothing : (k : Key) → k ++ [] ≡ k
 append-nothing [] = refl
 append-nothing (n ∷ k) = ap (λ x. n ∷ x) (append-nothing k)
 
