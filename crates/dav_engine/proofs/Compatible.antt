@@ -14,6 +14,8 @@ use Rattle.dav_parts.specs.Reply.{Answer}
 use Rattle.dav_engine.specs.State.{State, LocksStay, DropsLocks, IsCompatible}
 use Rattle.dav_engine.specs.Delete.{LeavesLocks}
 use Rattle.dav_engine.specs.Transferring.{ClearsIf, ClearsInPart, UnlessNamed}
+use Rattle.dav_resource.specs.declared.request.Depth.{Depth}
+use Rattle.dav_engine.specs.Copy.{replaced, CopiesSource, Copies, CopiesSoFar}
 use Rattle.dav_engine.specs.Move.{MovesSource, MovesInPart, Moves, MovesSoFar}
 use Rattle.dav_engine.specs.declared.transfer.Transfer.{Transfer}
 use Rattle.dav_engine.specs.Locking.{is_refresh, lock_asked, AddsToLocks, TakesBack, LeavesLock, GrantsLock, DeniesLock, RefreshesAlone, RefreshesTold, FindsNoLock, LockWorkBy, LockCutBy}
@@ -22,7 +24,7 @@ use Rattle.dav_engine.specs.Rules.{depth_or_all, fixed_path}
 use Rattle.dav_walks.specs.Deletion.{Removes}
 use Rattle.dav_engine.specs.Settings.{Settings}
 use Rattle.dav_engine.specs.Method.{Method}
-use Rattle.dav_engine.specs.Methods.{mkcol_method, write_method, delete_method, move_method, lock_method, unlock_method}
+use Rattle.dav_engine.specs.Methods.{mkcol_method, write_method, delete_method, copy_method, move_method, lock_method, unlock_method}
 
 -- ---- by what becomes of the locks
 
@@ -136,6 +138,22 @@ module _ (source : PathValue) (found : Transfer) (old new : State) (records : Li
       by_part : MovesInPart source found.destination more.mid more.rest new → IsCompatible more.mid → IsCompatible new
       by_part (inl none) mid = compatible_same more.mid new none.1 mid
       by_part (inr (names, moves)) mid = by_names names source more.mid new moves.locks mid
+
+module _ (depth : Depth) (source : PathValue) (found : Transfer) (old new : State) (records : List Logged) where
+  copied : (names : List Item) → Copies depth source found old records names new → IsCompatible old → IsCompatible new
+  copied names w h = by_kept w.kept w.follows (cleared (is_some (replaced depth found.there)) found.destination old w.mid w.head w.kept w.cleared h)
+    where
+      by_kept : (kept : List Item) → UnlessNamed (CopiesSource depth source found.destination) kept w.mid w.rest names new → IsCompatible w.mid → IsCompatible new
+      by_kept [] follows mid = stay w.mid new follows.locks mid
+      by_kept (item ∷ kept) follows mid = compatible_same w.mid new follows.2 mid
+
+  copied_so_far : CopiesSoFar depth source found old records new → IsCompatible old → IsCompatible new
+  copied_so_far (inl part) h = cleared_in_part (is_some (replaced depth found.there)) found.destination old new records part h
+  copied_so_far (inr more) h = stay more.mid new more.part.locks (cleared (is_some (replaced depth found.there)) found.destination old more.mid more.head [] more.cleared h)
+
+pub keeps_copy : Keeps copy_method
+keeps_copy settings request found old new records answer (inl work) h = copied (depth_or_all request) (fixed_path request.path (Some found.meta)) found old new records work.names work.copied h
+keeps_copy settings request found old new records answer (inr cut) h = copied_so_far (depth_or_all request) (fixed_path request.path (Some found.meta)) found old new records cut.1 h
 
 pub keeps_move : Keeps move_method
 keeps_move settings request found old new records answer (inl work) h = moved (fixed_path request.path (Some found.meta)) found old new records work.names work.moved h

@@ -8,7 +8,7 @@ use Rattle.dav_resource.specs.Key.{Key, key_cmp, key_cmp_total, tied_decides}
 use Rattle.dav_resource.specs.declared.error.DavError.TheVariants.{Memory}
 use Rattle.dav_resource.specs.declared.meta.Meta.{Meta}
 use Rattle.dav_resource.specs.declared.method.DavMethod.{DavMethod}
-use Rattle.dav_resource.specs.declared.method.DavMethod.TheVariants.{MkCol, Move, Delete, Lock, Unlock}
+use Rattle.dav_resource.specs.declared.method.DavMethod.TheVariants.{MkCol, Copy, Move, Delete, Lock, Unlock}
 use Rattle.dav_resource.specs.declared.request.DavRequest.{DavRequest}
 use Rattle.dav_store.specs.Logged.{Logged}
 use Rattle.dav_store.specs.Store.{Contents, Node, Tree, File}
@@ -24,11 +24,13 @@ use Rattle.dav_engine.specs.Rules.{is_permitted, path_rules, shallow_rules, clos
 use Rattle.dav_engine.specs.Target.{target_of}
 use Rattle.dav_engine.specs.declared.target.Target.{Target}
 use Rattle.dav_engine.specs.Delete.{delete_rules}
+use Rattle.dav_engine.specs.Copy.{CopyWork, CopyCut}
 use Rattle.dav_engine.specs.Move.{MoveWork, MoveCut}
 use Rattle.dav_engine.specs.Guarded.{IsChanged, IsPermitted, IsLockedFile, IsGuarded}
 use Rattle.dav_engine.specs.Locking.{is_refresh, lock_asked, HasFile, FileLeaves, GrantsLock, DeniesLock, LockWorkBy, LockCutBy}
 use Rattle.dav_store.specs.declared.lock.DavLock.{DavLock}
-use Rattle.dav_engine.proofs.Passing.{permitted_passed, MovePassed, move_passed}
+use Rattle.dav_engine.proofs.Passing.{permitted_passed, MovePassed, move_passed, CopyPassed, copy_passed}
+use Rattle.dav_engine.proofs.Copying.{copied_outside, copied_part_outside}
 use Rattle.dav_engine.proofs.Moving.{moved_outside, so_far_outside}
 use Rattle.dav_engine.proofs.Trees.{get-inserted}
 use Rattle.dav_engine.specs.Mkcol.{MkcolLeaves}
@@ -36,7 +38,7 @@ use Rattle.dav_engine.specs.Opening.{IsFileAt}
 use Rattle.dav_engine.specs.Put.{PutLeaves, put_rules}
 use Rattle.dav_engine.specs.Settings.{Settings}
 use Rattle.dav_engine.specs.Method.{Method}
-use Rattle.dav_engine.specs.Methods.{mkcol_method, write_method, delete_method, move_method, lock_method, unlock_method}
+use Rattle.dav_engine.specs.Methods.{mkcol_method, write_method, delete_method, copy_method, move_method, lock_method, unlock_method}
 
 -- nothing is changed where nothing changes
 unchanged : (key : Key) (old new : Contents) → new ≡ old → IsChanged key old new → ⊥
@@ -222,3 +224,16 @@ guards_lock settings request found old new head records answer passed (inr cut) 
 pub guards_unlock : Guards (Some Unlock) unlock_method
 guards_unlock settings request found old new head records answer passed (inl work) = guarded_contents (Some Unlock) request old new work.same
 guards_unlock settings request found old new head records answer passed (inr cut) = guarded_same (Some Unlock) request old new cut.1.same
+
+pub guards_copy : Guards (Some Copy) copy_method
+guards_copy settings request found old new head records answer passed done = by_end done
+  where
+    rules : CopyPassed settings request old found
+    rules = copy_passed settings request old head found passed
+
+    within : ((key : Key) → is_at_or_below key found.destination.key ≡ false → standing new.contents key ≡ standing old.contents key) → IsGuarded (Some Copy) request old new
+    within elsewhere = guarded_both (Some Copy) request old new found.destination.key found.destination.key rules.permitted rules.permitted (λ key outside. elsewhere key outside.0)
+
+    by_end : CopyWork request found old records answer new ⊎ ((answer ≡ Err Memory) × CopyCut request found old records new) → IsGuarded (Some Copy) request old new
+    by_end (inl work) = within (λ key outside. copied_outside (depth_or_all request) (fixed_path request.path (Some found.meta)) found old new records key outside work.names work.copied)
+    by_end (inr cut) = within (λ key outside. copied_part_outside (depth_or_all request) (fixed_path request.path (Some found.meta)) found old new records key outside cut.1)

@@ -11,9 +11,11 @@ pub mod PutHeaders
 pub mod Putting
 pub mod Refusals
 pub mod MoveLaws
+pub mod CopyTells
 pub mod Running
 pub mod Transferring
 pub mod Moving
+pub mod Copying
 pub mod Passing
 pub mod Serving
 pub mod Trees

@@ -32,7 +32,7 @@ use Rattle.dav_engine.specs.Settings.{Settings}
 use Rattle.dav_engine.specs.Rules.{judged, told_by_look, must_find, look_closely, depth_or_all, fixed_path}
 use Rattle.dav_engine.specs.Transferring.{where_reached, asked_destination, reach_verdict, parent_verdict, must_have_parent, found_or_absent, see_destination, place_verdict, permits_transfer, transfer_rules, ClearsIf, UnlessNamed, transferred_items}
 use Rattle.dav_engine.specs.Move.{MovesSource, Moves, MoveWork}
-use Rattle.dav_engine.specs.Laws.{tells_moved, MovesWhole, KeepsSource, AreRefusals, NamesRefusals}
+use Rattle.dav_engine.specs.Laws.{tells_transferred, MovesWhole, KeepsSource, AreRefusals, NamesRefusals}
 use Rattle.dav_engine.specs.Method.{StepBy, Refused as ByRules, Done, CutShort, CutInWork}
 use Rattle.dav_engine.specs.Methods.{move_method}
 use Rattle.dav_engine.specs.Step.{Serves}
@@ -44,24 +44,24 @@ use Rattle.dav_engine.proofs.Refusals.{refusal_from_300, RefusesBy, errs_then, e
 
 -- ---- the rules refuse by errors
 
-abbrev AnyError : DavError → Type 0
+abbrev pub AnyError : DavError → Type 0
 AnyError e = Unit {0}
 
 errs_judged : {A : Type 0} (verdict : Result A DavError) → RefusesBy AnyError (judged verdict)
 errs_judged (Ok a) = tt
 errs_judged (Err e) = tt
 
-errs_move : (settings : Settings) (request : DavRequest) (state : State) → RefusesBy AnyError (transfer_rules true settings request state)
-errs_move settings request state =
-    errs_then AnyError (judged (asked_destination true settings request)) _ (errs_judged (asked_destination true settings request))
+pub errs_transfer : (moving : Bool) (settings : Settings) (request : DavRequest) (state : State) → RefusesBy AnyError (transfer_rules moving settings request state)
+errs_transfer moving settings request state =
+    errs_then AnyError (judged (asked_destination moving settings request)) _ (errs_judged (asked_destination moving settings request))
     (λ destination. errs_then AnyError (must_find state.contents request.path.key) _ (λ outcome. errs_told AnyError (λ e. tt) (told_by_look outcome (state.contents.metas request.path.key)))
     (λ meta. errs_then AnyError (see_destination state.contents destination.key) _
     (errs_then AnyError (must_have_parent state.contents destination.key) _
     (errs_then AnyError (look state.contents (parent destination.key)) _ (λ outcome. tt) (λ above. errs_judged (parent_verdict above)))
     (λ above. errs_then AnyError (look_closely state.contents destination.key) _ (λ outcome. tt) (λ told. errs_judged (found_or_absent told))))
-    (λ there. errs_then AnyError (judged (place_verdict true request destination.key there)) _ (errs_judged (place_verdict true request destination.key there))
+    (λ there. errs_then AnyError (judged (place_verdict moving request destination.key there)) _ (errs_judged (place_verdict moving request destination.key there))
     (λ placed. errs_then AnyError (conditions state.contents state.locks request (Some meta) request.path) _ (errs_conditions AnyError (λ s least. tt) state.contents state.locks request (Some meta) request.path)
-    (λ tokens. errs_permitted AnyError (λ s least. tt) 423 (omega arith) (permits_transfer true state.locks request (submitted_tokens request) destination.key) (record { meta = meta; destination = destination; there = there }))))))
+    (λ tokens. errs_permitted AnyError (λ s least. tt) 423 (omega arith) (permits_transfer moving state.locks request (submitted_tokens request) destination.key) (record { meta = meta; destination = destination; there = there }))))))
 
 -- ---- keys apart
 
@@ -91,7 +91,7 @@ clear_limit : (there : Bool) (destination : PathValue) (old mid : State) (head :
 clear_limit true destination old mid head names cleared = cleared.removed.2.lawful.limit
 clear_limit false destination old mid head names cleared = ap (λ (s : State). limit_of s.contents) cleared.2
 
-clear_refused : (there : Bool) (destination : PathValue) (old mid : State) (head : List Logged) (names : List Item) → ClearsIf there destination old head names mid → AreRefusals names
+pub clear_refused : (there : Bool) (destination : PathValue) (old mid : State) (head : List Logged) (names : List Item) → ClearsIf there destination old head names mid → AreRefusals names
 clear_refused true destination old mid head names cleared item inside = names_refused Infinity destination old.contents mid.contents head names cleared.removed item inside
 clear_refused false destination old mid head names cleared item inside = absurd (let none : IsIn item [] = subst (IsIn item) cleared.1 inside in none)
 
@@ -181,18 +181,18 @@ refusal_untold e status is = by_tests (nat_eq status 201) refl (nat_eq status 20
     by_tests false at false other = rw (at, other) refl
 
 -- a reply that names refusals doesn't tell a move
-named_untold : (path : PathValue) (item : Item) (names : List Item) → AreRefusals (item ∷ names) → tells_moved (multi_answer path (item ∷ names)) ≡ false
+pub named_untold : (path : PathValue) (item : Item) (names : List Item) → AreRefusals (item ∷ names) → tells_transferred (multi_answer path (item ∷ names)) ≡ false
 named_untold path item [] refusals = by_key (is_same_key path.key item.0.key)
   where
-    by_key : (b : Bool) → tells_moved (if b then Ok (bare_reply item.1 []) else Ok (multistatus_reply (item ∷ []))) ≡ false
+    by_key : (b : Bool) → tells_transferred (if b then Ok (bare_reply item.1 []) else Ok (multistatus_reply (item ∷ []))) ≡ false
     by_key true = let refusal = refusals item (inl refl) in refusal_untold refusal.0 item.1 refusal.1
     by_key false = refl
 named_untold path item (next ∷ names) refusals = refl
 
 -- one that names nothing does
-clean_told : (path : PathValue) (there : Option Meta) → tells_moved (multi_answer path (transferred_items path there [])) ≡ true
+pub clean_told : (path : PathValue) (there : Option Meta) → tells_transferred (multi_answer path (transferred_items path there [])) ≡ true
 clean_told path there =
-    subst (λ b. tells_moved (if b then Ok (bare_reply (if is_some there then 204 else 201) []) else Ok (multistatus_reply ((path, if is_some there then 204 else 201) ∷ []))) ≡ true)
+    subst (λ b. tells_transferred (if b then Ok (bare_reply (if is_some there then 204 else 201) []) else Ok (multistatus_reply ((path, if is_some there then 204 else 201) ∷ []))) ≡ true)
     (sym ((same_key_decides path.key path.key).1 refl)) (by_there (is_some there))
   where
     by_there : (b : Bool) → (nat_eq (if b then 204 else 201) 201 || nat_eq (if b then 204 else 201) 204) ≡ true
@@ -200,7 +200,7 @@ clean_told path there =
     by_there false = refl
 
 -- and is no 207
-clean_single : (path : PathValue) (there : Option Meta) (reply : Reply) → multi_answer path (transferred_items path there []) ≡ Ok reply → reply.status ≡ 207 → ⊥
+pub clean_single : (path : PathValue) (there : Option Meta) (reply : Reply) → multi_answer path (transferred_items path there []) ≡ Ok reply → reply.status ≡ 207 → ⊥
 clean_single path there reply is several = by_there there (sym bare)
   where
     bare : ◌≡◌ {A = Answer} (Ok reply) (Ok (bare_reply (if is_some there then 204 else 201) []))
@@ -211,7 +211,7 @@ clean_single path there reply is several = by_there there (sym bare)
     by_there (Some meta) same = let at : bare_reply 204 [] ≡ reply = cc in let no : 204 ≡ 207 = ap (λ (r : Reply). r.status) at ∙ several in omega (arith, no)
 
 -- a 207 shows the names
-named_shown : (path : PathValue) (item : Item) (names : List Item) → AreRefusals (item ∷ names) → (reply : Reply) → multi_answer path (item ∷ names) ≡ Ok reply → reply.status ≡ 207 → reply ≡ multistatus_reply (item ∷ names)
+pub named_shown : (path : PathValue) (item : Item) (names : List Item) → AreRefusals (item ∷ names) → (reply : Reply) → multi_answer path (item ∷ names) ≡ Ok reply → reply.status ≡ 207 → reply ≡ multistatus_reply (item ∷ names)
 named_shown path item [] refusals reply is several = by_key (is_same_key path.key item.0.key) is
   where
     by_key : (b : Bool) → ◌≡◌ {A = Answer} (if b then Ok (bare_reply item.1 []) else Ok (multistatus_reply (item ∷ []))) (Ok reply) → reply ≡ multistatus_reply (item ∷ [])
@@ -234,7 +234,7 @@ module _ (settings : Settings) (request : DavRequest) (old : State) (answer : An
   -- an error that isn't a want of memory has changed nothing
   error_tells : (e : DavError) → answer ≡ Err e → (new ≡ old) ⊎ (e ≡ Memory) → MoveTells
   error_tells e is same = record {
-    moved = λ told. absurd (let no : false ≡ true = sym (ap tells_moved is) ∙ told in cc);
+    moved = λ told. absurd (let no : false ≡ true = sym (ap tells_transferred is) ∙ told in cc);
     kept = λ told other key below. by_end same other key;
     refusals = λ reply replied several. absurd (let no : ◌≡◌ {A = Answer} (Err e) (Ok reply) = sym is ∙ replied in cc);
   }
@@ -264,13 +264,13 @@ module _ (settings : Settings) (request : DavRequest) (old : State) (answer : An
                 renamed = whole.0;
                 unlocked = λ dependable. unlocked request whole.1.0 new whole.1.2 (whole.1.1.dependable ∙ dependable);
               };
-              kept = λ told other key below. absurd (let no : true ≡ false = sym (ap tells_moved answered ∙ clean_told path found.there) ∙ told in cc);
+              kept = λ told other key below. absurd (let no : true ≡ false = sym (ap tells_transferred answered ∙ clean_told path found.there) ∙ told in cc);
               refusals = λ reply replied several. absurd (clean_single path found.there reply (sym answered ∙ replied) several);
             }
         by_names (item ∷ names) moved answered =
             let refusals : AreRefusals (item ∷ names) = moves_refused path found old new records (item ∷ names) moved in
             record {
-              moved = λ told. absurd (let no : false ≡ true = sym (ap tells_moved answered ∙ named_untold path item names refusals) ∙ told in cc);
+              moved = λ told. absurd (let no : false ≡ true = sym (ap tells_transferred answered ∙ named_untold path item names refusals) ∙ told in cc);
               kept = λ told other key below.
                   let tail = at_or_below-tail request.path.key key below in
                   subst (λ k. standing new.contents k ≡ standing old.contents k) (sym tail.1) (moves_none path found old new records apart item names moved tail.0);
@@ -279,7 +279,7 @@ module _ (settings : Settings) (request : DavRequest) (old : State) (answer : An
 
   step_tells : IsWellFormed old.contents → (records : List Logged) → StepBy move_method settings request old records answer new → MoveTells
   step_tells formed records (ByRules h) =
-      let refused = errs_led AnyError (transfer_rules true settings request old) records answer (errs_move settings request old) h.head in
+      let refused = errs_led AnyError (transfer_rules true settings request old) records answer (errs_transfer true settings request old) h.head in
       error_tells refused.0 refused.1 (inl h.same)
   step_tells formed records (Done h) =
       let rules = move_passed settings request old h.head h.found h.passed in

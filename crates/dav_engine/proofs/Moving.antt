@@ -161,16 +161,16 @@ pub clear_outside : (there : Bool) (destination : PathValue) (old mid : State) (
 clear_outside true destination old mid head names cleared q apart = removes_within Infinity destination old.contents mid.contents head (whole_in_part Infinity destination old.contents mid.contents head names cleared.removed) q apart
 clear_outside false destination old mid head names cleared q apart = ap (λ (s : State). standing s.contents q) cleared.2
 
-fits_none : (it : Option Node) (known : Option Meta) → MetaFits it known → known ≡ None → it ≡ None
+pub fits_none : (it : Option Node) (known : Option Meta) → MetaFits it known → known ≡ None → it ≡ None
 fits_none None known fits is = refl
 fits_none (Some node) None fits is = absurd fits
 fits_none (Some node) (Some meta) fits is = absurd (let no : Some meta ≡ None = is in cc)
 
-fits_some : (it : Option Node) (known : Option Meta) (meta : Meta) → MetaFits it known → known ≡ Some meta → (node : Node) × (it ≡ Some node)
+pub fits_some : (it : Option Node) (known : Option Meta) (meta : Meta) → MetaFits it known → known ≡ Some meta → (node : Node) × (it ≡ Some node)
 fits_some None known meta fits is = absurd (let no : None ≡ Some meta = sym fits ∙ is in cc)
 fits_some (Some node) known meta fits is = (node, refl)
 
-clear_gone : (there : Option Meta) (destination : PathValue) (old mid : State) (head : List Logged) → IsWellFormed old.contents → old.contents.metas destination.key ≡ there → ClearsIf (is_some there) destination old head [] mid → get mid.contents.tree destination.key ≡ None
+pub clear_gone : (there : Option Meta) (destination : PathValue) (old mid : State) (head : List Logged) → IsWellFormed old.contents → old.contents.metas destination.key ≡ there → ClearsIf (is_some there) destination old head [] mid → get mid.contents.tree destination.key ≡ None
 clear_gone None destination old mid head formed known cleared =
     ap (λ (s : State). get s.contents.tree destination.key) cleared.2 ∙ fits_none (get old.contents.tree destination.key) (old.contents.metas destination.key) (formed.metas destination.key) known
 clear_gone (Some meta) destination old mid head formed known cleared = path_gone Infinity destination old.contents mid.contents head cleared.removed
@@ -179,7 +179,7 @@ clear_gone (Some meta) destination old mid head formed known cleared = path_gone
 pub apart_below : (one other : Key) → is_at_or_below one other ≡ false → (x : Key) → one ≢ other ++ x
 apart_below one other apart x is = let no : true ≡ false = sym (at_or_below-append other x) ∙ ap (λ k. is_at_or_below k other) (sym is) ∙ apart in cc
 
-parent_apart : (one other : Key) → is_at_or_below one other ≡ false → (x : Key) → parent other ≢ other ++ x
+pub parent_apart : (one other : Key) → is_at_or_below one other ≡ false → (x : Key) → parent other ≢ other ++ x
 parent_apart one [] apart x is = let no : true ≡ false = apart in absurd cc
 parent_apart one (segment ∷ rest) apart x is =
     let same : length (parent (segment ∷ rest)) ≡ length ((segment ∷ rest) ++ x) = ap length is in
@@ -265,11 +265,11 @@ whole_so_far source found old new records names w = by_kept w.kept w.cleared w.f
         let all : records ≡ w.head = w.cut ∙ ap (λ l. w.head ++ l) follows.0 ∙ append-nil w.head in
         inl (subst (λ l. ClearsInPart (is_some found.there) found.destination old l new) (sym all) (subst (λ s. ClearsInPart (is_some found.there) found.destination old w.head s) (sym follows.2) (stuck (is_some found.there) item kept cleared)))
 
-nothing_cleared : (there : Bool) (destination : PathValue) (state : State) → ClearsInPart there destination state [] state
+pub nothing_cleared : (there : Bool) (destination : PathValue) (state : State) → ClearsInPart there destination state [] state
 nothing_cleared true destination state = (nothing_removed Infinity destination state.contents, refl)
 nothing_cleared false destination state = (refl, refl)
 
-named_told : (names : List Item) (path : PathValue) (there : Option Meta) → names ≢ [] → transferred_items path there names ≡ names
+pub named_told : (names : List Item) (path : PathValue) (there : Option Meta) → names ≢ [] → transferred_items path there names ≡ names
 named_told [] path there some = absurd (some refl)
 named_told (item ∷ names) path there some = refl
 

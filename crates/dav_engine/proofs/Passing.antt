@@ -1,7 +1,7 @@
 -- What the rules have seen to, where they are passed.
 use Rattle.std.proofs.Common.{◌≡◌, ◌∙◌, ℕ, Bool, true, false, not, ◌&&◌, ◌||◌, if◌then◌else◌, List, [], ◌∷◌, Option, Some, None, is_some, Result, Ok, Err, refl, sym, ap, subst}
 use Rattle.std.specs.FinMap.{get}
-use Rattle.dav_resource.specs.Key.{Key, parent, is_same_key}
+use Rattle.dav_resource.specs.Key.{Key, parent, is_same_key, same_key_decides}
 use Rattle.dav_resource.specs.PathText.{PathValue}
 use Rattle.dav_resource.specs.declared.error.DavError.{DavError}
 use Rattle.dav_resource.specs.declared.error.DavError.TheVariants.{Status}
@@ -25,6 +25,7 @@ use Rattle.dav_engine.specs.Settings.{Settings}
 use Rattle.dav_engine.specs.Rules.{judged, told_by_look, or_refused, must_find, look_closely, own_conditions, is_permitted, where_permitted, depth_or_all, is_directory}
 use Rattle.dav_engine.specs.Transferring.{where_reached, asked_destination, reach_verdict, parent_verdict, must_have_parent, found_or_absent, look_there, see_destination, may_overwrite, is_deep, is_misplaced, place_verdict, permits_transfer, transfer_rules}
 use Rattle.dav_engine.specs.Move.{MayMove}
+use Rattle.dav_engine.specs.Copy.{MayCopy}
 use Rattle.dav_engine.specs.declared.transfer.Transfer.{Transfer}
 
 -- ---- one rule
@@ -191,6 +192,52 @@ move_passed settings request state head found h =
       may = λ formed. record {
         source_there = found_passed state.contents request.path.key found_source.0 found_source.1 found_source.3;
         apart = place_passed request to.key seen.0 (deep_asked (depth_or_all request) settings request to is_asked) well;
+        above = above_passed state.contents to.key above.1 formed above.3;
+        known = there_passed state.contents to.key seen.0 above.2 formed above.4;
+      };
+    })
+
+-- ---- all rules of a copy
+
+-- the locks let it write at and below the destination
+pub record CopyPassed (settings : Settings) (request : DavRequest) (state : State) (found : Transfer) : Type 0 where
+  pub asked : asked_destination false settings request ≡ Ok found.destination
+  pub permitted : is_permitted request state found.destination.key true ≡ true
+  pub may : IsWellFormed state.contents → MayCopy (depth_or_all request) request.path.key found state.contents
+
+one_permitted : (source destination : Bool) → ((not false || source) && destination) ≡ true → destination ≡ true
+one_permitted source true is = refl
+one_permitted source false is = absurd cc
+
+elsewhere_by : (same below deep above : Bool) → (same || (false && below) || (deep && above)) ≡ false → (same ≡ false) × (deep ≡ true → above ≡ false)
+elsewhere_by true below deep above is = absurd cc
+elsewhere_by false below true true is = absurd cc
+elsewhere_by false below true false is = (refl, λ reaches. refl)
+elsewhere_by false below false above is = (refl, λ reaches. absurd cc)
+
+pub copy_passed : (settings : Settings) (request : DavRequest) (state : State) (head : List Logged) (found : Transfer) → LeadsTo (transfer_rules false settings request state) head (Passed found) → CopyPassed settings request state found
+copy_passed settings request state head found h =
+    let asked = LeadsTo-last (judged (asked_destination false settings request)) _ head found h in
+    let to = asked.0 in
+    let found_source = LeadsTo-last (must_find state.contents request.path.key) _ asked.2 found asked.4 in
+    let seen = LeadsTo-last (see_destination state.contents to.key) _ found_source.2 found found_source.4 in
+    let placed = LeadsTo-last (judged (place_verdict false request to.key seen.0)) _ seen.2 found seen.4 in
+    let held = LeadsTo-last (own_conditions request state (Some found_source.0)) _ placed.2 found placed.4 in
+    let passed : Transfer = record { meta = found_source.0; destination = to; there = seen.0 } in
+    let permitted = permitted_passed 423 (permits_transfer false state.locks request (submitted_tokens request) to.key) passed found held.2 held.4 in
+    let is = permitted_value 423 (permits_transfer false state.locks request (submitted_tokens request) to.key) passed found held.2 held.4 in
+    let is_asked = judged_passed (asked_destination false settings request) to asked.1 asked.3 in
+    let well = judged_passed (place_verdict false request to.key seen.0) tt placed.1 placed.3 in
+    let well_placed = placed_well (is_some seen.0 && not (may_overwrite request)) (is_misplaced false (depth_or_all request) request.path.key to.key) well in
+    let elsewhere = elsewhere_by (is_same_key request.path.key to.key) (is_at_or_below to.key request.path.key) (is_deep (depth_or_all request)) (is_at_or_below request.path.key to.key) well_placed in
+    let above = LeadsTo-last (must_have_parent state.contents to.key) _ seen.1 seen.0 seen.3 in
+    subst (CopyPassed settings request state) (sym is) (record {
+      asked = is_asked;
+      permitted = one_permitted (is_permitted request state request.path.key true) (is_permitted request state to.key true) permitted;
+      may = λ formed. record {
+        source_there = found_passed state.contents request.path.key found_source.0 found_source.1 found_source.3;
+        other = λ same. let no : true ≡ false = sym ((same_key_decides request.path.key to.key).1 same) ∙ elsewhere.0 in cc;
+        apart = elsewhere.1;
         above = above_passed state.contents to.key above.1 formed above.3;
         known = there_passed state.contents to.key seen.0 above.2 formed above.4;
       };

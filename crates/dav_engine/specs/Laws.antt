@@ -1,5 +1,5 @@
 -- What a request changes at the most, and what its answer says, in a user's words: each law follows from the method's definition (RFC 4918, sections 9.6, 9.7, 9.9, 9.10 and 13).
-use Rattle.std.specs.Prelude.{◌≡◌, ◌≢◌, ◌⊎◌, ◌||◌, nat_eq, Bool, true, false, List, [], map, Option, None, option_map, Ok, Err}
+use Rattle.std.specs.Prelude.{◌≡◌, ◌≢◌, ◌⊎◌, ◌||◌, nat_eq, Bool, true, false, List, [], ◌++◌, map, Option, None, option_map, Ok, Err}
 use Rattle.std.specs.FinMap.{get}
 use Rattle.std.specs.Option.{ForSome}
 use Rattle.dav_resource.specs.Key.{Key}
@@ -16,9 +16,11 @@ use Rattle.dav_store.specs.Transfers.{IsRenamedTo}
 use Rattle.dav_store.specs.declared.lock.DavLock.{DavLock}
 use Rattle.dav_parts.specs.Multistatus.{Item, multistatus_reply}
 use Rattle.dav_parts.specs.Reply.{Reply, Answer}
+use Rattle.dav_walks.specs.Copying.{snapshot, copied}
 use Rattle.dav_walks.specs.KeyCall.{standing}
 use Rattle.dav_engine.specs.Locking.{is_refresh}
 use Rattle.dav_engine.specs.Rules.{depth_or_all}
+use Rattle.dav_engine.specs.Transferring.{is_deep}
 use Rattle.dav_engine.specs.Settings.{Settings}
 use Rattle.dav_engine.specs.State.{State, LocksStay, DropsLocks}
 
@@ -61,10 +63,10 @@ pub record ChangesPathAlone (request : DavRequest) (old new : State) : Type 0 wh
 
 -- ---- MOVE
 
--- the answer of a MOVE that moved: 201, or 204 where it replaced something
-abbrev pub tells_moved : Answer → Bool
-tells_moved (Ok reply) = nat_eq reply.status 201 || nat_eq reply.status 204
-tells_moved (Err e) = false
+-- the answer of a COPY or a MOVE that did all of it: 201, or 204 where something was at the destination
+abbrev pub tells_transferred : Answer → Bool
+tells_transferred (Ok reply) = nat_eq reply.status 201 || nat_eq reply.status 204
+tells_transferred (Err e) = false
 
 -- What stood at the path and below it stands where Destination says, with its properties and in the place of all that was there.
 -- Nothing is left at the path or below it nor, of a dependable lock system, a lock there, and what stood elsewhere is as it was.
@@ -76,12 +78,12 @@ pub record IsMovedWhole (settings : Settings) (request : DavRequest) (old new : 
 
 -- a 201 or a 204 tells that
 abbrev pub MovesWhole : Settings → DavRequest → State → Answer → State → Type 0
-MovesWhole settings request old answer new = tells_moved answer ≡ true → IsMovedWhole settings request old new
+MovesWhole settings request old answer new = tells_transferred answer ≡ true → IsMovedWhole settings request old new
 
 -- unless the answer tells that, or memory ran out, all at the path and below it is as it was
 abbrev pub KeepsSource : DavRequest → State → Answer → State → Type 0
 KeepsSource request old answer new =
-    tells_moved answer ≡ false → answer ≢ Err Memory → (key : Key) → is_at_or_below key request.path.key ≡ true → standing new.contents key ≡ standing old.contents key
+    tells_transferred answer ≡ false → answer ≢ Err Memory → (key : Key) → is_at_or_below key request.path.key ≡ true → standing new.contents key ≡ standing old.contents key
 
 -- each has the status of a refusal by the store
 abbrev pub AreRefusals : List Item → Type 0
@@ -120,3 +122,18 @@ pub record MakesNothing (request : DavRequest) (answer : Answer) (old new : Stat
 -- a LOCK that isn't answered by 200 or 201 leaves no file and no lock
 abbrev pub MakesNothingUnlessLocked : DavRequest → Answer → State → State → Type 0
 MakesNothingUnlessLocked request answer old new = tells_lock answer ≡ false → MakesNothing request answer old new
+
+-- ---- COPY
+
+-- What stood at the path and below it, but for what was at the destination or below that, stands where Destination says: files with
+-- their properties, directories without. Nothing else stands there or below it, and what stood elsewhere is as it was.
+pub record IsDuplicated (settings : Settings) (request : DavRequest) (old new : State) : Type 0 where
+  pub destination : PathValue
+  pub named : destination_of request.headers settings.prefix ≡ Ok destination
+  pub there : (x : Key) → snapshot old.contents.tree request.path.key destination.key x ≢ None → standing new.contents (destination.key ++ x) ≡ copied (standing old.contents (request.path.key ++ x))
+  pub nothing_else : (x : Key) → snapshot old.contents.tree request.path.key destination.key x ≡ None → get new.contents.tree (destination.key ++ x) ≡ None
+  pub outside : (key : Key) → is_at_or_below key destination.key ≡ false → standing new.contents key ≡ standing old.contents key
+
+-- a 201 or a 204 to a COPY of all below the path tells that
+abbrev pub DuplicatesWhole : Settings → DavRequest → State → Answer → State → Type 0
+DuplicatesWhole settings request old answer new = tells_transferred answer ≡ true → is_deep (depth_or_all request) ≡ true → IsDuplicated settings request old new

@@ -6,6 +6,7 @@ pub mod Put
 pub mod Delete
 pub mod Transferring
 pub mod Move
+pub mod Copy
 pub mod Settings
 pub mod Method
 pub mod Methods

@@ -2,7 +2,7 @@
 use Rattle.std.specs.Prelude.{◌≡◌, true, false, Bool, List, [], Option, Some, Err}
 use Rattle.dav_resource.specs.declared.meta.Meta.{Meta}
 use Rattle.dav_resource.specs.declared.method.DavMethod.{DavMethod}
-use Rattle.dav_resource.specs.declared.method.DavMethod.TheVariants.{Put, Patch, MkCol, Move, Delete, Lock, Unlock}
+use Rattle.dav_resource.specs.declared.method.DavMethod.TheVariants.{Put, Patch, MkCol, Copy, Move, Delete, Lock, Unlock}
 use Rattle.dav_resource.specs.declared.error.DavError.TheVariants.{Status}
 use Rattle.dav_resource.specs.declared.request.DavRequest.{DavRequest}
 use Rattle.dav_store.specs.Logged.{Logged}
@@ -17,6 +17,7 @@ use Rattle.dav_engine.specs.Mkcol.{MkcolWork}
 use Rattle.dav_engine.specs.Put.{put_rules, PutWork, PutCut}
 use Rattle.dav_engine.specs.Delete.{delete_rules, DeleteWork, DeleteCut}
 use Rattle.dav_engine.specs.Transferring.{transfer_rules}
+use Rattle.dav_engine.specs.Copy.{CopyWork, CopyCut}
 use Rattle.dav_engine.specs.Move.{MoveWork, MoveCut}
 use Rattle.dav_engine.specs.declared.transfer.Transfer.{Transfer}
 use Rattle.dav_engine.specs.Unlocking.{unlock_rules, UnlockWork}
@@ -43,6 +44,9 @@ write_method partial =
 abbrev pub delete_method : Method
 delete_method = record { Found = Meta; rules = λ settings. delete_rules; Work = λ settings. DeleteWork; Cut = λ settings. DeleteCut }
 
+abbrev pub copy_method : Method
+copy_method = record { Found = Transfer; rules = transfer_rules false; Work = λ settings. CopyWork; Cut = λ settings. CopyCut }
+
 abbrev pub move_method : Method
 move_method = record { Found = Transfer; rules = transfer_rules true; Work = λ settings. MoveWork; Cut = λ settings. MoveCut }
 
@@ -64,6 +68,7 @@ Step (Some MkCol) settings request old records answer new = StepBy mkcol_method 
 Step (Some Put) settings request old records answer new = StepBy (write_method false) settings request old records answer new
 Step (Some Patch) settings request old records answer new = StepBy (write_method true) settings request old records answer new
 Step (Some Delete) settings request old records answer new = StepBy delete_method settings request old records answer new
+Step (Some Copy) settings request old records answer new = StepBy copy_method settings request old records answer new
 Step (Some Move) settings request old records answer new = StepBy move_method settings request old records answer new
 Step (Some Lock) settings request old records answer new = StepBy lock_method settings request old records answer new
 Step (Some Unlock) settings request old records answer new = StepBy unlock_method settings request old records answer new

@@ -12,11 +12,11 @@ ghost use Rattle.dav_engine.specs.Step.{Performs};
 
 use crate::DavInner;
 use crate::inner::fixed_path;
-use crate::transfer::Transfer;
+use crate::transfer::{Transfer, transferred_status};
 use dav_parts::{MultiError, multi_error};
-use dav_resource::{Body, DavError, DavPath, DavRequest, DavResult, FsError, Meta};
+use dav_resource::{Body, DavError, DavPath, DavRequest, DavResult, FsError};
 use dav_store::{DavLockSystem, GuardedFileSystem};
-use http::{Response, StatusCode};
+use http::Response;
 
 impl<'a, C: Drop, F: GuardedFileSystem<C>, L: DavLockSystem> DavInner<'a, C, F, L> {
     /// Moves a resource, with all below it and all properties, to where its header Destination says, and
@@ -123,15 +123,5 @@ impl<'a, C: Drop, F: GuardedFileSystem<C>, L: DavLockSystem> DavInner<'a, C, F, 
                 Err(DavError::Status(error.statuscode()))
             }
         }
-    }
-}
-
-/// 204 where something was replaced, else 201.
-fn transferred_status(there: Option<&Meta>) -> StatusCode
-    ensures { result ≡ (if is_some there.entry then 204 else 201) }
-{
-    match there {
-        Some(_) => StatusCode::NO_CONTENT,
-        None => StatusCode::CREATED,
     }
 }

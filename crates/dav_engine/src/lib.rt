@@ -1,6 +1,7 @@
 //! The engine: WebDAV requests over any store and lock system that keep their contracts.
 #![tactic(auto)]
 
+mod copy;
 mod copymove;
 mod delete;
 mod http_date;

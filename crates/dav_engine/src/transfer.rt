@@ -1,6 +1,6 @@
 //! What COPY and MOVE share (RFC 4918, sections 9.8 and 9.9): what is asked before a resource goes to a
 //! destination, and the removal of what stands there.
-ghost use Rattle.std.specs.Prelude.{◌≡◌, true, Some, is_some, option_copied};
+ghost use Rattle.std.specs.Prelude.{◌≡◌, true, Some, is_some, if◌then◌else◌, option_copied};
 ghost use Rattle.std.specs.Option.{ForSome};
 ghost use Rattle.dav_resource.specs.Gives.{GivesBy};
 ghost use Rattle.dav_resource.specs.Key.{is_same_key};
@@ -237,8 +237,18 @@ fn is_same_place(source: &DavPath, destination: &DavPath) -> bool
 }
 
 /// Whether all below a resource goes with it.
-fn is_deep(depth: Depth) -> bool
+pub(crate) fn is_deep(depth: Depth) -> bool
     ensures { result ≡ is_deep_depth depth }
 {
     depth != Depth::Zero
+}
+
+/// 204 where something was replaced, else 201.
+pub(crate) fn transferred_status(there: Option<&Meta>) -> StatusCode
+    ensures { result ≡ (if is_some there.entry then 204 else 201) }
+{
+    match there {
+        Some(_) => StatusCode::NO_CONTENT,
+        None => StatusCode::CREATED,
+    }
 }

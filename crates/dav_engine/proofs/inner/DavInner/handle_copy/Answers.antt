@@ -1,0 +1,29 @@
+use Rattle.dav_engine.specs.DavInner.{lent, seen_by, settings_by}
+use Rattle.dav_engine.specs.Methods.{copy_method}
+use Rattle.dav_engine.specs.State.{state_of}
+use Rattle.dav_engine.proofs.CopyTells.{copy_tells}
+use Rattle.dav_engine.proofs.Passing.{copy_passed}
+use Rattle.dav_engine.proofs.Serving.{copy_sound, serves_exit, serves_work}
+use Rattle.dav_engine.proofs.inner.DavInner.handle_copy.Goals as goal
+
+pub returns-in_err-found-clause-step : goal.returns-in_err-found-clause-step
+returns-in_err-found-clause-step g c =
+    let judged = c.in_err-found.ensures in
+    rw judged.same_locks (serves_exit copy_method copy_sound (settings_by g.F.GuardedFileSystem.seen c.args.self.now) c.args.request.now _ _ _ _ _ c.from_residual.ensures.1 judged.rules)
+
+pub copy_found-requires : goal.copy_found-requires
+copy_found-requires g c =
+    let state = state_of (seen_by g.F.GuardedFileSystem.seen g.L.DavLockSystem.seen c.args.self.now) in
+    let judged = c.in_ok-found.ensures in
+    rw judged.rules.same ((copy_passed (settings_by g.F.GuardedFileSystem.seen c.args.self.now) c.args.request.now state judged.rules.records c.in_ok-found.found judged.rules.ends).may (g.met.F.GuardedFileSystem.well_formed (lent c.args.self.now)))
+
+pub returns-clause-step : goal.returns-clause-step
+returns-clause-step g c =
+    let judged = c.in_ok-found.ensures in
+    serves_work copy_method copy_sound (settings_by g.F.GuardedFileSystem.seen c.args.self.now) c.args.request.now _ c.in_ok-found.found _ _ _ _ judged.rules (rw judged.same_locks at c.copy_found.ensures.work)
+
+pub returns-clause-duplicated : goal.returns-clause-duplicated
+returns-clause-duplicated g c = (copy_tells _ _ _ _ _ (g.met.F.GuardedFileSystem.well_formed (lent c.args.self.now)) (returns-clause-step g c)).duplicated
+
+pub returns-clause-refusals : goal.returns-clause-refusals
+returns-clause-refusals g c = (copy_tells _ _ _ _ _ (g.met.F.GuardedFileSystem.well_formed (lent c.args.self.now)) (returns-clause-step g c)).refusals

@@ -1,0 +1,59 @@
+-- COPY (RFC 4918, section 9.8): makes a duplicate of a resource, of Depth infinity with all below it.
+use Rattle.std.specs.Prelude.{◌≡◌, ◌≢◌, true, false, not, ◌||◌, if◌then◌else◌, List, Option, Some, None, is_some}
+use Rattle.std.specs.FinMap.{get}
+use Rattle.dav_resource.specs.Key.{Key, parent}
+use Rattle.dav_resource.specs.PathText.{PathValue}
+use Rattle.dav_resource.specs.declared.meta.Meta.{Meta}
+use Rattle.dav_resource.specs.declared.request.Depth.{Depth}
+use Rattle.dav_resource.specs.declared.request.DavRequest.{DavRequest}
+use Rattle.dav_store.specs.Below.{is_at_or_below}
+use Rattle.dav_store.specs.Logged.{Logged}
+use Rattle.dav_store.specs.Store.{Contents, Directory}
+use Rattle.dav_parts.specs.Multistatus.{Item, multi_answer}
+use Rattle.dav_parts.specs.Reply.{Answer}
+use Rattle.dav_walks.specs.Copied.{CopiesAll, CopiesInPart}
+use Rattle.dav_engine.specs.State.{State, LocksStay}
+use Rattle.dav_engine.specs.Rules.{depth_or_all, fixed_path, is_directory}
+use Rattle.dav_engine.specs.Transferring.{is_deep, Replaces, ReplacesInPart, transferred_items}
+use Rattle.dav_engine.specs.declared.transfer.Transfer.{Transfer}
+
+-- what is removed first: all that is at the destination, but of Depth 0 no directory, as that may stay
+abbrev pub replaced : Depth → Option Meta → Option Meta
+replaced depth there = if is_deep depth || not (is_directory there) then there else None
+
+-- what the rules have seen to: the source is there and isn't the destination nor, with all below it, below that; a directory is
+-- above the destination, and what stands there is known
+pub record MayCopy (depth : Depth) (source : Key) (found : Transfer) (contents : Contents) : Type 0 where
+  pub source_there : contents.metas source ≡ Some found.meta
+  pub other : source ≢ found.destination.key
+  pub apart : is_deep depth ≡ true → is_at_or_below source found.destination.key ≡ false
+  pub above : get contents.tree (parent found.destination.key) ≡ Some Directory
+  pub known : contents.metas found.destination.key ≡ found.there
+
+-- the source is copied, as far as the store lets it; no lock changes
+pub record CopiesSource (depth : Depth) (source destination : PathValue) (old : State) (records : List Logged) (names : List Item) (new : State) : Type 0 where
+  pub copied : CopiesAll depth source destination destination.key old.contents new.contents records names
+  pub locks : LocksStay old new
+
+-- memory ran out in it: what was copied stays so
+pub record CopiesSourceInPart (depth : Depth) (source destination : PathValue) (old : State) (records : List Logged) (new : State) : Type 0 where
+  pub copied : CopiesInPart depth source destination destination.key old.contents new.contents records
+  pub locks : LocksStay old new
+
+-- what stands at the destination is removed, and the source is copied there
+abbrev pub Copies : Depth → PathValue → Transfer → State → List Logged → List Item → State → Type 0
+Copies depth source found = Replaces (CopiesSource depth source found.destination) (is_some (replaced depth found.there)) found.destination
+
+-- memory ran out on the way: in the removal at the destination, or in the copy
+abbrev pub CopiesSoFar : Depth → PathValue → Transfer → State → List Logged → State → Type 0
+CopiesSoFar depth source found = ReplacesInPart (CopiesSourceInPart depth source found.destination) (is_some (replaced depth found.there)) found.destination
+
+-- the source is copied, as far as the store lets it, and each refusal is named
+pub record CopyWork (request : DavRequest) (found : Transfer) (old : State) (records : List Logged) (answer : Answer) (new : State) : Type 0 where
+  pub names : List Item
+  pub copied : Copies (depth_or_all request) (fixed_path request.path (Some found.meta)) found old records names new
+  pub answered : answer ≡ multi_answer (fixed_path request.path (Some found.meta)) (transferred_items (fixed_path request.path (Some found.meta)) found.there names)
+
+-- memory ran out on the way, or behind it
+abbrev pub CopyCut : DavRequest → Transfer → State → List Logged → State → Type 0
+CopyCut request found = CopiesSoFar (depth_or_all request) (fixed_path request.path (Some found.meta)) found
