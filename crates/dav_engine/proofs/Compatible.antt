@@ -13,10 +13,10 @@ use Rattle.dav_parts.specs.Multistatus.{Item}
 use Rattle.dav_parts.specs.Reply.{Answer}
 use Rattle.dav_engine.specs.State.{State, LocksStay, DropsLocks, IsCompatible}
 use Rattle.dav_engine.specs.Delete.{LeavesLocks}
-use Rattle.dav_engine.specs.Transferring.{ClearsIf, ClearsInPart, UnlessNamed}
+use Rattle.dav_engine.specs.Transferring.{ClearsIf, ClearsInPart, UnlessNamed, Replaces, ReplacesInPart, source_path}
 use Rattle.dav_resource.specs.declared.request.Depth.{Depth}
-use Rattle.dav_engine.specs.Copy.{replaced, CopiesSource, Copies, CopiesSoFar}
-use Rattle.dav_engine.specs.Move.{MovesSource, MovesInPart, Moves, MovesSoFar}
+use Rattle.dav_engine.specs.Copy.{replaced, CopiesSource, CopiesSourceInPart, CopyWork, CopyCut}
+use Rattle.dav_engine.specs.Move.{MovesSource, MovesInPart, MoveWork, MoveCut}
 use Rattle.dav_engine.specs.declared.transfer.Transfer.{Transfer}
 use Rattle.dav_engine.specs.Locking.{is_refresh, lock_asked, AddsToLocks, TakesBack, LeavesLock, GrantsLock, DeniesLock, RefreshesAlone, RefreshesTold, FindsNoLock, LockWorkBy, LockCutBy}
 use Rattle.dav_engine.specs.Unlocking.{Unlocks, UnlocksNothing}
@@ -123,41 +123,44 @@ cleared_in_part : (there : Bool) (destination : PathValue) (old new : State) (re
 cleared_in_part true destination old new records part h = stay old new part.1 h
 cleared_in_part false destination old new records none h = compatible_same old new none.1 h
 
-module _ (source : PathValue) (found : Transfer) (old new : State) (records : List Logged) where
-  moved : (names : List Item) → Moves source found old records names new → IsCompatible old → IsCompatible new
-  moved names w h = by_kept w.kept w.follows (cleared (is_some found.there) found.destination old w.mid w.head w.kept w.cleared h)
+module _ (there : Bool) (destination : PathValue) (old new : State) (records : List Logged) where
+  replaces : (Follows : State → List Logged → List Item → State → Type 0) (names : List Item) → Replaces Follows there destination old records names new
+      → ((mid : State) (rest : List Logged) → Follows mid rest names new → IsCompatible mid → IsCompatible new) → IsCompatible old → IsCompatible new
+  replaces Follows names w further h = by_kept w.kept w.follows (cleared there destination old w.mid w.head w.kept w.cleared h)
     where
-      by_kept : (kept : List Item) → UnlessNamed (MovesSource source found.destination) kept w.mid w.rest names new → IsCompatible w.mid → IsCompatible new
-      by_kept [] follows mid = by_names names source w.mid new follows.locks mid
+      by_kept : (kept : List Item) → UnlessNamed Follows kept w.mid w.rest names new → IsCompatible w.mid → IsCompatible new
+      by_kept [] follows mid = further w.mid w.rest follows mid
       by_kept (item ∷ kept) follows mid = compatible_same w.mid new follows.2 mid
 
-  moved_so_far : MovesSoFar source found old records new → IsCompatible old → IsCompatible new
-  moved_so_far (inl part) h = cleared_in_part (is_some found.there) found.destination old new records part h
-  moved_so_far (inr more) h = by_part more.part (cleared (is_some found.there) found.destination old more.mid more.head [] more.cleared h)
-    where
-      by_part : MovesInPart source found.destination more.mid more.rest new → IsCompatible more.mid → IsCompatible new
-      by_part (inl none) mid = compatible_same more.mid new none.1 mid
-      by_part (inr (names, moves)) mid = by_names names source more.mid new moves.locks mid
+  replaces_in_part : (Part : State → List Logged → State → Type 0) → ReplacesInPart Part there destination old records new
+      → ((mid : State) (rest : List Logged) → Part mid rest new → IsCompatible mid → IsCompatible new) → IsCompatible old → IsCompatible new
+  replaces_in_part Part (inl part) further h = cleared_in_part there destination old new records part h
+  replaces_in_part Part (inr more) further h = further more.mid more.rest more.part (cleared there destination old more.mid more.head [] more.cleared h)
 
-module _ (depth : Depth) (source : PathValue) (found : Transfer) (old new : State) (records : List Logged) where
-  copied : (names : List Item) → Copies depth source found old records names new → IsCompatible old → IsCompatible new
-  copied names w h = by_kept w.kept w.follows (cleared (is_some (replaced depth found.there)) found.destination old w.mid w.head w.kept w.cleared h)
-    where
-      by_kept : (kept : List Item) → UnlessNamed (CopiesSource depth source found.destination) kept w.mid w.rest names new → IsCompatible w.mid → IsCompatible new
-      by_kept [] follows mid = stay w.mid new follows.locks mid
-      by_kept (item ∷ kept) follows mid = compatible_same w.mid new follows.2 mid
+module _ (request : DavRequest) (found : Transfer) (old new : State) (records : List Logged) where
+  abbrev source : PathValue
+  source = source_path request found
 
-  copied_so_far : CopiesSoFar depth source found old records new → IsCompatible old → IsCompatible new
-  copied_so_far (inl part) h = cleared_in_part (is_some (replaced depth found.there)) found.destination old new records part h
-  copied_so_far (inr more) h = stay more.mid new more.part.locks (cleared (is_some (replaced depth found.there)) found.destination old more.mid more.head [] more.cleared h)
+  abbrev depth : Depth
+  depth = depth_or_all request
+
+  copied : (answer : Answer) → CopyWork request found old records answer new ⊎ ((answer ≡ Err Memory) × CopyCut request found old records new) → IsCompatible old → IsCompatible new
+  copied answer (inl work) = replaces (is_some (replaced depth found.there)) found.destination old new records (CopiesSource depth source found.destination) work.names work.done (λ mid rest follows. stay mid new follows.locks)
+  copied answer (inr cut) = replaces_in_part (is_some (replaced depth found.there)) found.destination old new records (CopiesSourceInPart depth source found.destination) cut.1 (λ mid rest part. stay mid new part.locks)
+
+  moved : (answer : Answer) → MoveWork request found old records answer new ⊎ ((answer ≡ Err Memory) × MoveCut request found old records new) → IsCompatible old → IsCompatible new
+  moved answer (inl work) = replaces (is_some found.there) found.destination old new records (MovesSource source found.destination) work.names work.done (λ mid rest follows. by_names work.names source mid new follows.locks)
+  moved answer (inr cut) = replaces_in_part (is_some found.there) found.destination old new records (MovesInPart source found.destination) cut.1 by_part
+    where
+      by_part : (mid : State) (rest : List Logged) → MovesInPart source found.destination mid rest new → IsCompatible mid → IsCompatible new
+      by_part mid rest (inl none) = compatible_same mid new none.1
+      by_part mid rest (inr (names, moves)) = by_names names source mid new moves.locks
 
 pub keeps_copy : Keeps copy_method
-keeps_copy settings request found old new records answer (inl work) h = copied (depth_or_all request) (fixed_path request.path (Some found.meta)) found old new records work.names work.copied h
-keeps_copy settings request found old new records answer (inr cut) h = copied_so_far (depth_or_all request) (fixed_path request.path (Some found.meta)) found old new records cut.1 h
+keeps_copy settings request found old new records answer = copied request found old new records answer
 
 pub keeps_move : Keeps move_method
-keeps_move settings request found old new records answer (inl work) h = moved (fixed_path request.path (Some found.meta)) found old new records work.names work.moved h
-keeps_move settings request found old new records answer (inr cut) h = moved_so_far (fixed_path request.path (Some found.meta)) found old new records cut.1 h
+keeps_move settings request found old new records answer = moved request found old new records answer
 
 pub keeps_lock : Keeps lock_method
 keeps_lock settings request found old new records answer (inl work) h = locked request found old new records answer (is_refresh request.body) work h

@@ -1,5 +1,5 @@
 -- What follows for its caller from each step of a COPY.
-use Rattle.std.proofs.Common.{◌≡◌, ◌≢◌, ◌∙◌, Bool, true, false, List, [], ◌∷◌, ◌++◌, Option, Some, None, is_some, Result, Ok, Err, refl, sym, ap, subst, if◌then◌else◌, append-nil, append_assoc}
+use Rattle.std.proofs.Common.{◌≡◌, ◌≢◌, ◌∙◌, Bool, true, false, List, [], ◌∷◌, ◌++◌, Option, Some, None, is_some, Result, Ok, Err, refl, sym, ap, if◌then◌else◌, append-nil, append_assoc}
 use Rattle.std.specs.FinMap.{get}
 use Rattle.std.proofs.lemmas.List.{append_cancel_left}
 use Rattle.dav_resource.specs.Key.{Key}
@@ -34,9 +34,9 @@ use Rattle.dav_engine.specs.Method.{StepBy, Refused as ByRules, Done, CutShort, 
 use Rattle.dav_engine.specs.Methods.{copy_method}
 use Rattle.dav_engine.specs.Step.{Serves}
 use Rattle.dav_engine.specs.declared.transfer.Transfer.{Transfer}
-use Rattle.dav_engine.proofs.Moving.{clear_outside, apart_below, fits_none}
+use Rattle.dav_engine.proofs.Replacing.{apart_below, fits_none, clear_outside, replaced_refused}
 use Rattle.dav_engine.proofs.Copying.{replaced_deep, copied_outside}
-use Rattle.dav_engine.proofs.MoveLaws.{AnyError, errs_transfer, clear_refused, named_untold, clean_single, named_shown}
+use Rattle.dav_engine.proofs.MoveLaws.{AnyError, errs_transfer, named_untold, clean_single, named_shown}
 use Rattle.dav_engine.proofs.Passing.{CopyPassed, copy_passed}
 use Rattle.dav_engine.proofs.Refusals.{errs_led}
 
@@ -44,11 +44,9 @@ use Rattle.dav_engine.proofs.Refusals.{errs_led}
 
 module _ (depth : Depth) (source : PathValue) (found : Transfer) (old new : State) (records : List Logged) where
   copies_refused : (names : List Item) → Copies depth source found old records names new → AreRefusals names
-  copies_refused names w = by_kept w.kept w.cleared w.follows
-    where
-      by_kept : (kept : List Item) → ClearsIf (is_some (replaced depth found.there)) found.destination old w.head kept w.mid → UnlessNamed (CopiesSource depth source found.destination) kept w.mid w.rest names new → AreRefusals names
-      by_kept [] cleared follows = λ item inside. copy_names_refused depth source found.destination found.destination.key w.mid.contents new.contents w.rest names follows.copied item inside
-      by_kept (item ∷ kept) cleared follows = subst AreRefusals (sym follows.1) (clear_refused (is_some (replaced depth found.there)) found.destination old w.mid w.head (item ∷ kept) cleared)
+  copies_refused names w =
+      replaced_refused (CopiesSource depth source found.destination) (is_some (replaced depth found.there)) found.destination old new records names w
+      (λ mid rest follows item inside. copy_names_refused depth source found.destination found.destination.key mid.contents new.contents rest names follows.copied item inside)
 
 -- ---- where nothing is named, all is copied
 
@@ -140,7 +138,7 @@ module _ (settings : Settings) (request : DavRequest) (old : State) (answer : An
     depth = depth_or_all request
 
     work_tells : CopyWork request found old records answer new → CopyTells
-    work_tells work = by_names work.names work.copied work.answered
+    work_tells work = by_names work.names work.done work.answered
       where
         asked_so : (verdict : Result (Unit {0}) DavError) → where_reached verdict settings request ≡ Ok found.destination → destination_of request.headers settings.prefix ≡ Ok found.destination
         asked_so (Ok reached) is = is

@@ -25,7 +25,7 @@ use Rattle.dav_parts.specs.Conditions.{conditions}
 use Rattle.dav_parts.specs.Dialogues.{judges_exit, judges_then, judges_pure, judges_if}
 use Rattle.dav_parts.specs.Multistatus.{Item, multi_answer}
 use Rattle.dav_parts.specs.Reply.{reply_of, Answer, answer_of}
-use Rattle.dav_walks.specs.Deletion.{Removes, RemovesInPart, Removal, RemovesOrStops, removal_answer}
+use Rattle.dav_walks.specs.Deletion.{Removes, RemovesInPart, Removal, RemovesOrStops, told_by_names}
 use Rattle.dav_walks.specs.RemovalLaws.{nothing_removed, whole_in_part}
 use Rattle.dav_engine.specs.State.{State, Seen, state_of, facts_of, LocksStay, DropsLocks, DropsSeen}
 use Rattle.dav_engine.specs.Rules.{judged, told_by_look, or_refused, must_find, is_permitted, depth_or_all, depth_verdict, fixed_path}
@@ -95,15 +95,15 @@ answered (Err e) expected (inl given) = inl (sym given)
 answered (Err e) expected (inr memory) = inr (ap Err memory)
 
 -- an answer says whether something is named
-pub none_named : (names : List Item) → Ok tt ≡ removal_answer names → names ≡ []
+pub none_named : (names : List Item) → Ok tt ≡ told_by_names names → names ≡ []
 none_named [] is = refl
 none_named (item ∷ names) is = absurd cc
 
-pub no_memory : (names : List Item) → Err Memory ≡ removal_answer names → ⊥
+pub no_memory : (names : List Item) → Err Memory ≡ told_by_names names → ⊥
 no_memory [] is = cc
 no_memory (item ∷ names) is = cc
 
-pub some_named : (e : DavError) (names : List Item) → Err e ≡ removal_answer names → names ≢ []
+pub some_named : (e : DavError) (names : List Item) → Err e ≡ told_by_names names → names ≢ []
 some_named e [] is = absurd cc
 some_named e (item ∷ names) is = λ none. cc
 

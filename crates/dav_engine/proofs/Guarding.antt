@@ -31,7 +31,7 @@ use Rattle.dav_engine.specs.Locking.{is_refresh, lock_asked, HasFile, FileLeaves
 use Rattle.dav_store.specs.declared.lock.DavLock.{DavLock}
 use Rattle.dav_engine.proofs.Passing.{permitted_passed, MovePassed, move_passed, CopyPassed, copy_passed}
 use Rattle.dav_engine.proofs.Copying.{copied_outside, copied_part_outside}
-use Rattle.dav_engine.proofs.Moving.{moved_outside, so_far_outside}
+use Rattle.dav_engine.proofs.Moving.{moved_outside, moved_part_outside}
 use Rattle.dav_engine.proofs.Trees.{get-inserted}
 use Rattle.dav_engine.specs.Mkcol.{MkcolLeaves}
 use Rattle.dav_engine.specs.Opening.{IsFileAt}
@@ -199,8 +199,8 @@ guards_move settings request found old new head records answer passed done = by_
     both = guarded_both (Some Move) request old new request.path.key found.destination.key rules.permitted.source rules.permitted.destination
 
     by_end : MoveWork request found old records answer new ⊎ ((answer ≡ Err Memory) × MoveCut request found old records new) → IsGuarded (Some Move) request old new
-    by_end (inl work) = both (λ key outside. moved_outside (fixed_path request.path (Some found.meta)) found old new records key outside work.names work.moved)
-    by_end (inr cut) = both (λ key outside. so_far_outside (fixed_path request.path (Some found.meta)) found old new records key outside cut.1)
+    by_end (inl work) = both (λ key outside. moved_outside (fixed_path request.path (Some found.meta)) found old new records key outside work.names work.done)
+    by_end (inr cut) = both (λ key outside. moved_part_outside (fixed_path request.path (Some found.meta)) found old new records key outside cut.1)
 
 pub guards_lock : Guards (Some Lock) lock_method
 guards_lock settings request found old new head records answer passed (inl work) = locked (is_refresh request.body) work
@@ -235,5 +235,5 @@ guards_copy settings request found old new head records answer passed done = by_
     within elsewhere = guarded_both (Some Copy) request old new found.destination.key found.destination.key rules.permitted rules.permitted (λ key outside. elsewhere key outside.0)
 
     by_end : CopyWork request found old records answer new ⊎ ((answer ≡ Err Memory) × CopyCut request found old records new) → IsGuarded (Some Copy) request old new
-    by_end (inl work) = within (λ key outside. copied_outside (depth_or_all request) (fixed_path request.path (Some found.meta)) found old new records key outside work.names work.copied)
+    by_end (inl work) = within (λ key outside. copied_outside (depth_or_all request) (fixed_path request.path (Some found.meta)) found old new records key outside work.names work.done)
     by_end (inr cut) = within (λ key outside. copied_part_outside (depth_or_all request) (fixed_path request.path (Some found.meta)) found old new records key outside cut.1)

@@ -10,6 +10,7 @@ pub mod Making
 pub mod PutHeaders
 pub mod Putting
 pub mod Refusals
+pub mod Replacing
 pub mod MoveLaws
 pub mod CopyTells
 pub mod Running

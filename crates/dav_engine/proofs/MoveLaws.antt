@@ -12,7 +12,6 @@ use Rattle.dav_resource.specs.declared.method.DavMethod.TheVariants.{Move}
 use Rattle.dav_resource.specs.declared.record.Outcome.{Outcome}
 use Rattle.dav_resource.specs.declared.record.Outcome.TheVariants.{Granted, Barred, Refused}
 use Rattle.dav_resource.specs.declared.request.DavRequest.{DavRequest}
-use Rattle.dav_resource.specs.declared.request.Depth.TheVariants.{Infinity}
 use Rattle.dav_headers.specs.Destination.{destination_of}
 use Rattle.dav_store.specs.Below.{is_at_or_below, AreApart}
 use Rattle.dav_store.specs.BelowLaws.{at_or_below-tail}
@@ -25,7 +24,6 @@ use Rattle.dav_parts.specs.Conditions.{conditions, submitted_tokens}
 use Rattle.dav_parts.specs.Dialogue.{look}
 use Rattle.dav_parts.specs.Multistatus.{Item, multi_answer, multistatus_reply}
 use Rattle.dav_parts.specs.Reply.{Reply, Answer, bare_reply}
-use Rattle.dav_walks.specs.ClearedLaws.{names_refused}
 use Rattle.dav_walks.specs.KeyCall.{standing}
 use Rattle.dav_engine.specs.State.{State, Seen, state_of, DropsLocks, HasSameSystem}
 use Rattle.dav_engine.specs.Settings.{Settings}
@@ -38,8 +36,8 @@ use Rattle.dav_engine.specs.Methods.{move_method}
 use Rattle.dav_engine.specs.Step.{Serves}
 use Rattle.dav_engine.specs.declared.transfer.Transfer.{Transfer}
 use Rattle.dav_engine.proofs.DeleteLaws.{unlocked}
-use Rattle.dav_engine.proofs.Moving.{clear_outside, apart_below}
 use Rattle.dav_engine.proofs.Passing.{MovePassed, move_passed}
+use Rattle.dav_engine.proofs.Replacing.{apart_below, clear_outside, replaced_refused}
 use Rattle.dav_engine.proofs.Refusals.{refusal_from_300, RefusesBy, errs_then, errs_led, errs_told, errs_conditions, errs_permitted}
 
 -- ---- the rules refuse by errors
@@ -91,10 +89,6 @@ clear_limit : (there : Bool) (destination : PathValue) (old mid : State) (head :
 clear_limit true destination old mid head names cleared = cleared.removed.2.lawful.limit
 clear_limit false destination old mid head names cleared = ap (λ (s : State). limit_of s.contents) cleared.2
 
-pub clear_refused : (there : Bool) (destination : PathValue) (old mid : State) (head : List Logged) (names : List Item) → ClearsIf there destination old head names mid → AreRefusals names
-clear_refused true destination old mid head names cleared item inside = names_refused Infinity destination old.contents mid.contents head names cleared.removed item inside
-clear_refused false destination old mid head names cleared item inside = absurd (let none : IsIn item [] = subst (IsIn item) cleared.1 inside in none)
-
 -- a source that wasn't named was renamed
 abbrev IsEndOf : Outcome → PathValue → PathValue → State → State → List Item → Type 0
 IsEndOf outcome source destination mid new names =
@@ -128,11 +122,9 @@ named_refusal (Refused e) source destination mid new names end item inside = (e,
 module _ (source : PathValue) (found : Transfer) (old new : State) (records : List Logged) where
   -- each name is a refusal's
   moves_refused : (names : List Item) → Moves source found old records names new → AreRefusals names
-  moves_refused names w = by_kept w.kept w.cleared w.follows
-    where
-      by_kept : (kept : List Item) → ClearsIf (is_some found.there) found.destination old w.head kept w.mid → UnlessNamed (MovesSource source found.destination) kept w.mid w.rest names new → AreRefusals names
-      by_kept [] cleared follows = named_refusal follows.renamed.outcome source found.destination w.mid new names (follows.renamed.granted, follows.renamed.refused)
-      by_kept (item ∷ kept) cleared follows = subst AreRefusals (sym follows.1) (clear_refused (is_some found.there) found.destination old w.mid w.head (item ∷ kept) cleared)
+  moves_refused names w =
+      replaced_refused (MovesSource source found.destination) (is_some found.there) found.destination old new records names w
+      (λ mid rest follows. named_refusal follows.renamed.outcome source found.destination mid new names (follows.renamed.granted, follows.renamed.refused))
 
   module _ (apart : AreApart source.key found.destination.key) where
     -- at the source nothing has changed by the removal
@@ -248,7 +240,7 @@ module _ (settings : Settings) (request : DavRequest) (old : State) (answer : An
     path = fixed_path request.path (Some found.meta)
 
     work_tells : MoveWork request found old records answer new → MoveTells
-    work_tells work = by_names work.names work.moved work.answered
+    work_tells work = by_names work.names work.done work.answered
       where
         asked_so : (verdict : Result (Unit {0}) DavError) → where_reached verdict settings request ≡ Ok found.destination → destination_of request.headers settings.prefix ≡ Ok found.destination
         asked_so (Ok reached) is = is

@@ -9,12 +9,12 @@ use Rattle.dav_resource.specs.declared.request.DavRequest.{DavRequest}
 use Rattle.dav_store.specs.Below.{is_at_or_below}
 use Rattle.dav_store.specs.Logged.{Logged}
 use Rattle.dav_store.specs.Store.{Contents, Directory}
-use Rattle.dav_parts.specs.Multistatus.{Item, multi_answer}
+use Rattle.dav_parts.specs.Multistatus.{Item}
 use Rattle.dav_parts.specs.Reply.{Answer}
 use Rattle.dav_walks.specs.Copied.{CopiesAll, CopiesInPart}
 use Rattle.dav_engine.specs.State.{State, LocksStay}
-use Rattle.dav_engine.specs.Rules.{depth_or_all, fixed_path, is_directory}
-use Rattle.dav_engine.specs.Transferring.{is_deep, Replaces, ReplacesInPart, transferred_items}
+use Rattle.dav_engine.specs.Rules.{depth_or_all, is_directory}
+use Rattle.dav_engine.specs.Transferring.{is_deep, Replaces, ReplacesInPart, source_path, TransferWork}
 use Rattle.dav_engine.specs.declared.transfer.Transfer.{Transfer}
 
 -- what is removed first: all that is at the destination, but of Depth 0 no directory, as that may stay
@@ -49,11 +49,9 @@ abbrev pub CopiesSoFar : Depth → PathValue → Transfer → State → List Log
 CopiesSoFar depth source found = ReplacesInPart (CopiesSourceInPart depth source found.destination) (is_some (replaced depth found.there)) found.destination
 
 -- the source is copied, as far as the store lets it, and each refusal is named
-pub record CopyWork (request : DavRequest) (found : Transfer) (old : State) (records : List Logged) (answer : Answer) (new : State) : Type 0 where
-  pub names : List Item
-  pub copied : Copies (depth_or_all request) (fixed_path request.path (Some found.meta)) found old records names new
-  pub answered : answer ≡ multi_answer (fixed_path request.path (Some found.meta)) (transferred_items (fixed_path request.path (Some found.meta)) found.there names)
+abbrev pub CopyWork : DavRequest → Transfer → State → List Logged → Answer → State → Type 0
+CopyWork request found = TransferWork (Copies (depth_or_all request) (source_path request found) found) (source_path request found) found.there
 
 -- memory ran out on the way, or behind it
 abbrev pub CopyCut : DavRequest → Transfer → State → List Logged → State → Type 0
-CopyCut request found = CopiesSoFar (depth_or_all request) (fixed_path request.path (Some found.meta)) found
+CopyCut request found = CopiesSoFar (depth_or_all request) (source_path request found) found

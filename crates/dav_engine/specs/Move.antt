@@ -15,13 +15,12 @@ use Rattle.dav_store.specs.Calls.{IsLawful, error_of, record_of}
 use Rattle.dav_store.specs.Logged.{Logged}
 use Rattle.dav_store.specs.Store.{Store, Contents, Directory}
 use Rattle.dav_store.specs.Transfers.{rename_call, IsRenamedTo}
-use Rattle.dav_parts.specs.Multistatus.{Item, multi_answer}
+use Rattle.dav_parts.specs.Multistatus.{Item}
 use Rattle.dav_parts.specs.Reply.{Answer}
-use Rattle.dav_walks.specs.Deletion.{removal_answer}
+use Rattle.dav_walks.specs.Deletion.{told_by_names}
 use Rattle.dav_engine.specs.State.{State}
 use Rattle.dav_engine.specs.Delete.{LeavesLocks}
-use Rattle.dav_engine.specs.Rules.{fixed_path}
-use Rattle.dav_engine.specs.Transferring.{Replaces, ReplacesInPart, transferred_items}
+use Rattle.dav_engine.specs.Transferring.{Replaces, ReplacesInPart, source_path, TransferWork}
 use Rattle.dav_engine.specs.declared.transfer.Transfer.{Transfer}
 
 -- ---- the one call
@@ -42,7 +41,7 @@ RenamesInPart source destination old new records =
 -- it ended and added this name, which the answer tells, or memory ran out, and no name was added
 abbrev pub RenamesOrStops : PathValue → PathValue → Contents → Contents → List Logged → List Item → List Item → Result (Unit {0}) DavError → Type 0
 RenamesOrStops source destination old new records had has answer =
-    ((names : List Item) × (has ≡ had ++ names) × RenamesAlone source destination old new records names × (answer ≡ removal_answer names))
+    ((names : List Item) × (has ≡ had ++ names) × RenamesAlone source destination old new records names × (answer ≡ told_by_names names))
     ⊎ ((answer ≡ Err Memory) × RenamesInPart source destination old new records × (has ≡ had))
 
 -- the same from store to store, and from names to names
@@ -73,18 +72,16 @@ MovesInPart source destination old records new = ((records ≡ []) × (new ≡ o
 
 -- what stands at the destination is removed, and the source takes its place
 abbrev pub Moves : PathValue → Transfer → State → List Logged → List Item → State → Type 0
-Moves source found old records names new = Replaces (MovesSource source found.destination) (is_some found.there) found.destination old records names new
+Moves source found = Replaces (MovesSource source found.destination) (is_some found.there) found.destination
 
 -- memory ran out on the way: in the removal at the destination, or in the renaming
 abbrev pub MovesSoFar : PathValue → Transfer → State → List Logged → State → Type 0
-MovesSoFar source found old records new = ReplacesInPart (MovesInPart source found.destination) (is_some found.there) found.destination old records new
+MovesSoFar source found = ReplacesInPart (MovesInPart source found.destination) (is_some found.there) found.destination
 
 -- the source is moved, as far as the store lets it, and each refusal is named
-pub record MoveWork (request : DavRequest) (found : Transfer) (old : State) (records : List Logged) (answer : Answer) (new : State) : Type 0 where
-  pub names : List Item
-  pub moved : Moves (fixed_path request.path (Some found.meta)) found old records names new
-  pub answered : answer ≡ multi_answer (fixed_path request.path (Some found.meta)) (transferred_items (fixed_path request.path (Some found.meta)) found.there names)
+abbrev pub MoveWork : DavRequest → Transfer → State → List Logged → Answer → State → Type 0
+MoveWork request found = TransferWork (Moves (source_path request found) found) (source_path request found) found.there
 
 -- memory ran out on the way, or behind it
 abbrev pub MoveCut : DavRequest → Transfer → State → List Logged → State → Type 0
-MoveCut request found old records new = MovesSoFar (fixed_path request.path (Some found.meta)) found old records new
+MoveCut request found = MovesSoFar (source_path request found) found

@@ -20,12 +20,13 @@ use Rattle.dav_store.specs.Store.{Contents}
 use Rattle.dav_store.specs.declared.lock.DavLock.{DavLock}
 use Rattle.dav_parts.specs.Conditions.{submitted_tokens}
 use Rattle.dav_parts.specs.Dialogue.{Dialogue, look, ◌>>=◌}
-use Rattle.dav_parts.specs.Multistatus.{Item}
-use Rattle.dav_walks.specs.Deletion.{Removes, RemovesInPart, removal_answer}
+use Rattle.dav_parts.specs.Multistatus.{Item, multi_answer}
+use Rattle.dav_parts.specs.Reply.{Answer}
+use Rattle.dav_walks.specs.Deletion.{Removes, RemovesInPart, told_by_names}
 use Rattle.dav_engine.specs.State.{State, Seen, state_of, facts_of, LocksStay, HasSameSystem}
 use Rattle.dav_engine.specs.Settings.{Settings}
 use Rattle.dav_engine.specs.Delete.{LeavesLocks}
-use Rattle.dav_engine.specs.Rules.{judged, must_find, look_closely, own_conditions, permits_by, where_permitted, depth_or_all, depth_verdict, is_directory}
+use Rattle.dav_engine.specs.Rules.{judged, must_find, look_closely, own_conditions, permits_by, where_permitted, depth_or_all, depth_verdict, fixed_path, is_directory}
 use Rattle.dav_engine.specs.declared.transfer.Transfer.{Transfer}
 
 -- ---- the rules
@@ -153,7 +154,7 @@ ReplacesInPart Part there destination old records new = ClearsInPart there desti
 -- work ended and added these names, the first of which it tells, or memory ran out in it
 abbrev pub NamesBy : (State → List Logged → List Item → State → Type 0) → (State → List Logged → State → Type 0) → State → List Logged → List Item → List Item → Result (Unit {0}) DavError → State → Type 0
 NamesBy Done Cut old records had has answer new =
-    ((names : List Item) × (has ≡ had ++ names) × Done old records names new × (answer ≡ removal_answer names))
+    ((names : List Item) × (has ≡ had ++ names) × Done old records names new × (answer ≡ told_by_names names))
     ⊎ ((answer ≡ Err Memory) × Cut old records new)
 
 -- the same of what is seen
@@ -167,3 +168,15 @@ pub record Names (Done : State → List Logged → List Item → State → Type 
 abbrev pub transferred_items : PathValue → Option Meta → List Item → List Item
 transferred_items source there [] = (source, if is_some there then 204 else 201) ∷ []
 transferred_items source there (item ∷ names) = item ∷ names
+
+-- ---- the work
+
+-- the resource, as it is named
+abbrev pub source_path : DavRequest → Transfer → PathValue
+source_path request found = fixed_path request.path (Some found.meta)
+
+-- this is done, which names each refusal, and the names are told
+pub record TransferWork (Done : State → List Logged → List Item → State → Type 0) (source : PathValue) (there : Option Meta) (old : State) (records : List Logged) (answer : Answer) (new : State) : Type 0 where
+  pub names : List Item
+  pub done : Done old records names new
+  pub answered : answer ≡ multi_answer source (transferred_items source there names)

@@ -17,7 +17,7 @@ use Rattle.dav_store.specs.Store.{Store, Contents, Node, File, Directory}
 use Rattle.dav_store.specs.Calls.{Call, record_of, IsLawful, error_of, metadata_call, create_dir_call, IsMadeAt}
 use Rattle.dav_store.specs.Transfers.{copy_call, IsCopiedTo}
 use Rattle.dav_parts.specs.Multistatus.{Item}
-use Rattle.dav_walks.specs.Deletion.{AreSomeOf, removal_answer}
+use Rattle.dav_walks.specs.Deletion.{AreSomeOf, told_by_names}
 use Rattle.dav_walks.specs.Copying.{CopyStep, logged_step, snapshot, names_of_copy, IsLawfulCopy, CopiesTree}
 
 -- ---- what stands at the source alone
@@ -97,7 +97,7 @@ CopyNamesInPart depth source dest top old records names =
 -- it ended and added these names, or was broken off, and some of its names may be missing
 abbrev pub CopiesOrStops : Depth → PathValue → PathValue → Key → Contents → Contents → List Logged → List Item → List Item → Result (Unit {0}) DavError → Type 0
 CopiesOrStops depth source dest top old new records had has answer =
-    ((names : List Item) × (has ≡ had ++ names) × CopiesAll depth source dest top old new records names × (answer ≡ removal_answer names))
+    ((names : List Item) × (has ≡ had ++ names) × CopiesAll depth source dest top old new records names × (answer ≡ told_by_names names))
     ⊎ ((answer ≡ Err Memory) × CopiesInPart depth source dest top old new records × ((names : List Item) × (has ≡ had ++ names) × CopyNamesInPart depth source dest top old records names))
 
 -- the same from store to store, and from names to names

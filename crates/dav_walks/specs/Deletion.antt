@@ -201,14 +201,14 @@ NamesInPart Zero path records names = names ≡ []
 NamesInPart depth path records names = (calls : List KeyCall) × (records ≡ map logged_call calls) × AreSomeOf names (named_in path calls)
 
 -- the answer: whether something is named, and then the status of the first
-abbrev pub removal_answer : List Item → Result (Unit {0}) DavError
-removal_answer [] = Ok tt
-removal_answer (item ∷ names) = Err (Status item.1)
+abbrev pub told_by_names : List Item → Result (Unit {0}) DavError
+told_by_names [] = Ok tt
+told_by_names (item ∷ names) = Err (Status item.1)
 
 -- it ended and added these names, or was broken off, and some of its names may be missing
 abbrev pub RemovesOrStops : Depth → PathValue → Contents → Contents → List Logged → List Item → List Item → Result (Unit {0}) DavError → Type 0
 RemovesOrStops depth path old new records had has answer =
-    ((names : List Item) × (has ≡ had ++ names) × Removes depth path old new records names × (answer ≡ removal_answer names))
+    ((names : List Item) × (has ≡ had ++ names) × Removes depth path old new records names × (answer ≡ told_by_names names))
     ⊎ ((answer ≡ Err Memory) × RemovesInPart depth path old new records × ((names : List Item) × (has ≡ had ++ names) × NamesInPart depth path records names))
 
 -- the same from store to store, and from names to names

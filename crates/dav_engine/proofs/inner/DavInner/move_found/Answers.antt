@@ -2,7 +2,8 @@ use Rattle.std.proofs.Common.{◌≢◌, ◌∙◌, Err, ap, rules}
 use Rattle.std.proofs.lemmas.Result.{err_from_is_err_and}
 use Rattle.dav_resource.specs.declared.error.DavError.TheVariants.{Memory}
 use Rattle.dav_parts.specs.Reply.{answer_of}
-use Rattle.dav_engine.proofs.Moving.{move_unbegun, move_stopped, move_untold, move_done, move_named}
+use Rattle.dav_engine.proofs.Moving.{move_is_work}
+use Rattle.dav_engine.proofs.Replacing.{transfer_unbegun, transfer_stopped, transfer_untold, transfer_done, transfer_named}
 use Rattle.dav_engine.proofs.inner.DavInner.move_found.Goals.{in-Ok+in_ok-add_status-in-Ok, in-Err}
 use Rattle.dav_engine.proofs.inner.DavInner.move_found.Goals as goal
 
@@ -12,27 +13,27 @@ move_to_destination-requires g c = rw c.in_ok-path.ensures c.requires
 pub returns-in_err-path-clause-work : goal.returns-in_err-path-clause-work
 returns-in_err-path-clause-work g c =
     let p = err_from_is_err_and c.from_residual.result c.from_residual.ensures.1 in
-    move_unbegun c.args.request.now c.args.found.now _ c.from_residual.result (ap answer_of p.1 ∙ ap Err p.2)
+    transfer_unbegun (move_is_work c.args.request.now c.args.found.now) _ _ _ c.from_residual.result (ap answer_of p.1 ∙ ap Err p.2)
 
 pub returns-in_err-add_status-in-Ok-clause-work : goal.returns-in_err-add_status-in-Ok-clause-work
 returns-in_err-add_status-in-Ok-clause-work g c =
     let p = err_from_is_err_and c.from_residual-in_err-add_status-in-Ok.result c.from_residual-in_err-add_status-in-Ok.ensures.1 in
-    move_untold c.args.request.now c.args.found.now _ _ _ c.from_residual-in_err-add_status-in-Ok.result (rw (c.in_ok-path.ensures, c.new-res.ensures) at c.in-Ok.ensures.moved)
+    transfer_untold (move_is_work c.args.request.now c.args.found.now) _ _ _ _ _ c.from_residual-in_err-add_status-in-Ok.result (rw (c.in_ok-path.ensures, c.new-res.ensures) at c.in-Ok.ensures.moved)
     (ap answer_of p.1 ∙ ap Err (p.2 ∙ c.in_err-add_status-in-Ok.ensures.err))
 
 pub returns-in-Err-Memory-clause-work : goal.returns-in-Err-Memory-clause-work
-returns-in-Err-Memory-clause-work g c = move_stopped c.args.request.now c.args.found.now _ _ _ _ (rw (c.in_ok-path.ensures, c.in-Err-Memory.field-0-is) at c.in-Err-Memory.ensures.moved)
+returns-in-Err-Memory-clause-work g c = transfer_stopped (move_is_work c.args.request.now c.args.found.now) _ _ _ _ _ _ (rw (c.in_ok-path.ensures, c.in-Err-Memory.field-0-is) at c.in-Err-Memory.ensures.moved)
 
 pub returns-clause-work : goal.returns-clause-work
 returns-clause-work g c =
     elim c.match-move_to_destination.branch [
       | in-Ok+in_ok-add_status-in-Ok w ↦
           let added = w.in_ok-add_status-in-Ok.ensures.ok in
-          move_done c.args.request.now c.args.found.now _ _ _ c.multi_error.result (rw (c.in_ok-path.ensures, c.new-res.ensures) at w.in-Ok.ensures.moved) c.into_items.result.items
+          transfer_done (move_is_work c.args.request.now c.args.found.now) _ _ _ _ _ c.multi_error.result (rw (c.in_ok-path.ensures, c.new-res.ensures) at w.in-Ok.ensures.moved) c.into_items.result.items
           (c.into_items.ensures ∙ w.res-is ∙ rw (added.1, c.in_ok-path.ensures, w.transferred_status.ensures, w.as_ref.ensures.variant) at added.2)
           (rw c.in_ok-path.ensures at c.multi_error.ensures)
       | in-Err w ↦
           let not_memory : w.in-Err.field-0 ≢ Memory = search rules in
-          move_named c.args.request.now c.args.found.now _ _ _ c.multi_error.result w.in-Err.field-0 not_memory (rw (c.in_ok-path.ensures, c.new-res.ensures) at w.in-Err.ensures.moved)
+          transfer_named (move_is_work c.args.request.now c.args.found.now) _ _ _ _ _ c.multi_error.result w.in-Err.field-0 not_memory (rw (c.in_ok-path.ensures, c.new-res.ensures) at w.in-Err.ensures.moved)
           (rw (c.in_ok-path.ensures, c.into_items.ensures, w.res-is) at c.multi_error.ensures)
     ]
