@@ -9,6 +9,8 @@ use Rattle.dav_resource.specs.declared.error.FsError.{FsError}
 use Rattle.dav_resource.specs.declared.error.FsError.TheVariants.{NotFound}
 use Rattle.dav_resource.specs.declared.error.DavError.{DavError}
 use Rattle.dav_resource.specs.declared.error.DavError.TheVariants.{Status, Memory}
+use Rattle.dav_resource.specs.declared.method.DavMethod.{DavMethod}
+use Rattle.dav_resource.specs.declared.method.DavMethod.TheVariants.{Copy, Move}
 use Rattle.dav_resource.specs.declared.request.Depth.{Depth}
 use Rattle.dav_resource.specs.declared.request.Depth.TheVariants.{Zero, Infinity}
 use Rattle.dav_resource.specs.declared.request.DavRequest.{DavRequest}
@@ -28,6 +30,14 @@ use Rattle.dav_engine.specs.Settings.{Settings}
 use Rattle.dav_engine.specs.Delete.{LeavesLocks}
 use Rattle.dav_engine.specs.Rules.{judged, must_find, look_closely, own_conditions, permits_by, where_permitted, depth_or_all, depth_verdict, fixed_path, is_directory}
 use Rattle.dav_engine.specs.declared.transfer.Transfer.{Transfer}
+
+abbrev pub is_copy : Option DavMethod → Bool
+is_copy (Some Copy) = true
+is_copy _ = false
+
+-- the method that a request is served as, where it is taken for one of both
+abbrev pub transfer_method : Option DavMethod → DavMethod
+transfer_method method = if is_copy method then Copy else Move
 
 -- ---- the rules
 

@@ -17,6 +17,7 @@ mod opening;
 mod put;
 mod put_reply;
 mod refresh;
+mod rename;
 mod target;
 mod transfer;
 mod unlock;
