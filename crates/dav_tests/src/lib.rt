@@ -42,6 +42,8 @@ mod fixture;
 #[cfg(test)]
 mod outline;
 #[cfg(test)]
+mod transfers;
+#[cfg(test)]
 mod trees;
 #[cfg(test)]
 mod values;

@@ -1,0 +1,96 @@
+//! What no script shows of COPY and MOVE: the handler of both called by itself; and what no script of a fair length shows:
+//! trees of three hundred directories in each other.
+use crate::fixture::{path_of, request, status};
+use dav_engine::{DavInner, DavRequest, GuardedFileSystem};
+use dav_memfs::MemFs;
+use dav_memls::MemLs;
+use http_header::{HeaderName, HeaderValue};
+use std::alloc::Global;
+use std::process::Abort;
+use std::test::Fail;
+
+/// The status of a request that the handler of both is called with, or else `serve`.
+fn called<'a>(alloc: Global, store: &'a mut MemFs, both: bool, request: &DavRequest) -> u16 {
+    let mut engine = DavInner::new(store, None::<&mut MemLs>, String::new(alloc), None, ());
+    let reply = if both {
+        engine.handle_copymove(request)
+    } else {
+        engine.serve(request)
+    };
+    status(&reply)
+}
+
+#[test]
+fn each_method_but_copy_is_taken_as_move(rt: HostRuntime) -> Result<(), Fail> {
+    let alloc = rt.alloc();
+    let mut store = MemFs::new(alloc)?;
+    make_directory(alloc, &mut store, "/f")?;
+    for (method, want) in [("COPY", 201), ("COPY", 204), ("DELETE", 204), ("MOVE", 404)] {
+        let request = request(alloc, method, "/f", &[("Destination", "/g")], "")?;
+        let status = called(alloc, &mut store, true, &request);
+        assert!(rt; status == want, "{method}: {status}");
+    }
+    Ok(())
+}
+
+// ---- deep trees
+
+fn make_directory(alloc: Global, store: &mut MemFs, path: &str) -> Result<(), Fail> {
+    GuardedFileSystem::<()>::create_dir(store, &path_of(alloc, path)?, &())?;
+    Ok(())
+}
+
+/// A store of so many directories, one in the other, and the path of the deepest.
+fn nested(alloc: Global, count: usize) -> Result<(MemFs, String), Fail> {
+    let mut store = MemFs::new(alloc)?;
+    let mut path = String::new(alloc);
+    for _ in 0..count {
+        path.push_str("/a")?;
+        make_directory(alloc, &mut store, &path)?;
+    }
+    Ok((store, path))
+}
+
+/// The status of a request of `/a` by this method to this place, how many calls it asked of the store, and how many
+/// resources that holds then.
+fn served(
+    alloc: Global,
+    store: &mut MemFs,
+    method: &str,
+    destination: &str,
+) -> Result<(u16, usize, usize), Fail> {
+    let mut request = request(alloc, method, "/a", &[], "")?;
+    let name = HeaderName::from_bytes(alloc, b"Destination")?;
+    let place = HeaderValue::from_str(alloc, destination)?;
+    request.headers.append(name, place)?;
+    GuardedFileSystem::<()>::clear_log(store);
+    let status = called(alloc, store, false, &request);
+    let calls = GuardedFileSystem::<()>::records(store).len();
+    Ok((status, calls, store.dump()?.len()))
+}
+
+/// Three calls look at the source, at the destination's parent and at the destination; then there are three for each
+/// directory, which is looked at, made and listed.
+#[test]
+fn a_deep_tree_is_copied_into_its_deepest_directory(rt: HostRuntime) -> Result<(), Fail> {
+    let alloc = rt.alloc();
+    let (mut store, mut path) = nested(alloc, 300)?;
+    path.push_str("/b")?;
+    let (status, calls, resources) = served(alloc, &mut store, "COPY", &path)?;
+    assert!(rt; status == 201, "{status}");
+    assert!(rt; calls == 3 + 900, "{calls}");
+    assert!(rt; resources == 1 + 600, "{resources}");
+    Ok(())
+}
+
+/// One call looks at the path; then there are two for each directory, which is listed and removed.
+#[test]
+fn a_deep_tree_is_deleted(rt: HostRuntime) -> Result<(), Fail> {
+    let alloc = rt.alloc();
+    let (mut store, _) = nested(alloc, 300)?;
+    let (status, calls, resources) = served(alloc, &mut store, "DELETE", "/b")?;
+    assert!(rt; status == 204, "{status}");
+    assert!(rt; calls == 1 + 600, "{calls}");
+    assert!(rt; resources == 1, "{resources}");
+    Ok(())
+}
