@@ -4,7 +4,7 @@ use Rattle.std.proofs.lemmas.Bool.{cases_lt}
 use Rattle.std.proofs.lemmas.Bool.Decides.{nat_tests}
 use Rattle.std.proofs.lemmas.Iterator.Adapters.{position_from-zero}
 use Rattle.std.proofs.lemmas.List.Kept.{IsStrictlySortedBy-filter}
-use Rattle.std.proofs.lemmas.List.Elements.{recursion_from_All}
+use Rattle.std.proofs.lemmas.List.Elements.{recursion_from_All, All-from_recursion}
 use Rattle.std.proofs.lemmas.List.Quantifiers.{position-Some}
 use Rattle.std.proofs.lemmas.List.Sorted.{searched}
 use Rattle.std.proofs.lemmas.Map.Keys.{below_from_sorted, non_decreasing_from_sorted}
@@ -142,6 +142,15 @@ without_push n (x ∷ xs) a =
 pub next_above : (xs : List ℕ) (last : ℕ) (r : Option ℕ) (P : Type 0) → Rises xs → ((d : ℕ) → last ≡ get_or xs (length xs - 1) d) → SomeIff r P (last + 1) → IfSome r (λ n. IsAbove n xs)
 next_above xs last None P h is iff = tt
 next_above xs last (Some n) P h is iff = subst (λ m. IsAbove m xs) (sym iff.1) (above_last xs last h (λ d. sym (is d)))
+
+last_below : (n last : ℕ) (xs : List ℕ) → ((d : ℕ) → last ≡ get_or xs (length xs - 1) d) → IsAbove n xs → last < n
+last_below n last [] is above = let no : last ≡ suc last = is (suc last) in absurd (omega (arith, no))
+last_below n last (x ∷ xs) is above = subst (λ m. m < n) (sym (is 0)) (All-from_recursion (λ m. m < n) (x ∷ xs) above (length (x ∷ xs) - 1) 0 (omega arith))
+
+-- where none is given no number of so many bits is above them
+pub next_full : (xs : List ℕ) (last bound : ℕ) (r : Option ℕ) → ((d : ℕ) → last ≡ get_or xs (length xs - 1) d) → SomeIff r (last + 1 < bound) (last + 1) → r ≡ None → (n : ℕ) → IsAbove n xs → bound ≤ n
+next_full xs last bound None is iff none n above = let least : last < n = last_below n last xs is above in ⊎_elim (λ lt. absurd (iff (omega (arith, lt, least)))) (λ ge. ge) (cases_lt n bound)
+next_full xs last bound (Some m) is iff none n above = absurd (let no : Some m ≡ None = none in cc)
 
 pub rises-pushed : (pushed : Bool) (n : ℕ) (xs : List ℕ) → Rises xs → IsAbove n xs → Rises (cond pushed (xs ++ n ∷ []) xs)
 rises-pushed true n xs h a = rises-push n xs h a

@@ -1,5 +1,5 @@
 //! Ascending numbers.
-ghost use Rattle.std.specs.Prelude.{◌≡◌, ◌==◌, ◌<◌, [], ◌∷◌, ◌++◌, IfSome, OnOk, OnErr, length, slice_index};
+ghost use Rattle.std.specs.Prelude.{◌≡◌, ◌==◌, ◌<◌, ◌≤◌, ◌^◌, ℕ, [], ◌∷◌, ◌++◌, None, IfSome, OnOk, OnErr, length, slice_index};
 ghost use Rattle.std.specs.List.{position, remove};
 ghost use Rattle.std.specs.List.Sorted.{IsStrictlySortedBy, IsStrictlySortedBy-prop};
 ghost use Rattle.std.specs.Ordering.{nat_cmp};
@@ -32,9 +32,10 @@ impl Numbers {
         &self.items
     }
 
-    /// A number above all of them, unless they have the greatest `u64`.
+    /// A number above all of them; `None` where no `u64` is.
     pub fn next(&self) -> Option<u64>
-        ensures { IfSome result (λ n. IsAbove n self.now.items.items) }
+        ensures above { IfSome result (λ n. IsAbove n self.now.items.items) }
+        ensures full { result ≡ None → (n : ℕ) → IsAbove n self.now.items.items → 2 ^ 64 ≤ n }
     {
         match self.items.last() {
             Some(last) => last.checked_add(1),

@@ -8,15 +8,15 @@ pub enter-requires-clause-token : goal.enter-requires-clause-token
 enter-requires-clause-token c = let self = c.args.self.now in free_token self.numbers.items.items self.index self.locks.items c.args.lock.token self.indexed c.requires
 
 pub enter-requires-clause-above_at : goal.enter-requires-clause-above_at
-enter-requires-clause-above_at c = let self = c.args.self.now in above_at self.numbers.items.items self.index self.locks.items c.in-Some.number self.indexed c.in-Some.ensures
+enter-requires-clause-above_at c = let self = c.args.self.now in above_at self.numbers.items.items self.index self.locks.items c.in-Some.number self.indexed c.in-Some.ensures.above
 
 pub enter-requires-clause-above_below : goal.enter-requires-clause-above_below
-enter-requires-clause-above_below c = let self = c.args.self.now in above_below self.numbers.items.items self.index self.locks.items c.in-Some.number self.indexed c.in-Some.ensures
+enter-requires-clause-above_below c = let self = c.args.self.now in above_below self.numbers.items.items self.index self.locks.items c.in-Some.number self.indexed c.in-Some.ensures.above
 
 pub invariant_of-self-in-Err : goal.invariant_of-self-in-Err
 invariant_of-self-in-Err c =
     let self = c.args.self.now in
-    let back : c.remove.new.self.items.items ≡ self.numbers.items.items = c.remove.ensures ∙ ap (without c.in-Some.number) c.in_ok-push.ensures.ok ∙ without_push c.in-Some.number self.numbers.items.items c.in-Some.ensures in
+    let back : c.remove.new.self.items.items ≡ self.numbers.items.items = c.remove.ensures ∙ ap (without c.in-Some.number) c.in_ok-push.ensures.ok ∙ without_push c.in-Some.number self.numbers.items.items c.in-Some.ensures.above in
     record { indexed = rw (back, c.reserve.ensures.items) (indexed_kept self.numbers.items.items self.index c.enter.new.self self.locks.items self.indexed c.in-Err.ensures.err) }
 
 pub invariant_of-self-2 : goal.invariant_of-self-2
