@@ -99,7 +99,7 @@ impl IndexedLocks {
         self.any_of(self.index.below(path.segments()), &test)
     }
 
-    /// The place of the newest lock at the path or below it.
+    /// The place of a lock at the path or below it. It is the newest one, which no contract promises.
     pub fn last_below(&self, path: &DavPath) -> Option<usize>
         ensures { MatchOption result (at_or_below self.now.locks.items path.now.key ≡ []) (λ place. StandsBelow self.now.locks.items path.now.key place) }
     {
