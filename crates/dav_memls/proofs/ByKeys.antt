@@ -1,19 +1,20 @@
 -- Numbers by keys: what a change at one key leaves at each.
-use Rattle.std.proofs.Common.{◌≡◌, ◌∙◌, ℕ, suc, Bool, true, false, cond, ◌&&◌, ◌||◌, List, [], ◌∷◌, ◌++◌, Option, Some, None, String, refl, sym, ap, subst, length, take, ◌≤◌, ◌<◌, ◌+◌, ◌==◌, string_bytes, arith, add-one}
+use Rattle.std.proofs.Common.{◌≡◌, ◌≢◌, ◌∙◌, ℕ, suc, Bool, true, false, cond, ◌&&◌, ◌||◌, List, [], ◌∷◌, ◌++◌, Option, Some, None, Result, Ok, Err, OnOk, OnErr, String, refl, sym, ap, subst, length, take, ◌≤◌, ◌<◌, ◌+◌, ◌==◌, string_bytes, arith, add-one}
 use Rattle.std.proofs.lemmas.Bool.Decides.{nat_tests}
 use Rattle.std.proofs.lemmas.List.{append-nil, length-map}
 use Rattle.std.specs.declared.alloc.Global.{Global}
 use Rattle.std.specs.Cmp.Lexicographic.{pointwise}
 use Rattle.std.specs.String.{string_eq}
 use Rattle.std.specs.List.{take-map}
-use Rattle.std.specs.Option.{option_map_or}
+use Rattle.std.specs.Option.{option_map, option_map_or}
 use Rattle.std.specs.Map.{lookup, KeepsOthers}
 use Rattle.dav_resource.specs.Key.{Key, is_same_key, same_key_decides}
 use Rattle.dav_resource.specs.Texts.{texts}
 use Rattle.dav_memls.specs.declared.memory_locks.numbers.Numbers.{Numbers}
 use Rattle.dav_store.specs.Locks.{is_at_or_below}
 use Rattle.dav_memls.specs.Numbers.{IsAbove, without}
-use Rattle.dav_memls.specs.ByKey.{OwnKey, numbers_in, only_if, without_if}
+use Rattle.dav_memls.specs.KeyEntries.{OwnKey, entry_in, numbers_in, IsTidy}
+use Rattle.dav_memls.specs.ByKey.{only_if, without_if}
 use Rattle.dav_memls.proofs.Ascending.{without_push, without_below}
 use Rattle.dav_memls.proofs.Reached.{reached, same_key-sym, reached-more, reached-next, reached-below, reached-all}
 
@@ -87,6 +88,63 @@ left_none key es n none k = split (is_same_key k (texts key)) refl
         let is : numbers_in es k ≡ [] = ap (numbers_in es) ((same_key_decides k (texts key)).0 e) ∙ ap listed (sym (found-texts key es) ∙ sym none) in
         is ∙ sym (ap (without n) is)
     split false e = refl
+
+-- ---- entries
+
+abbrev pub itemized : Option Numbers → Option (List ℕ)
+itemized o = option_map (λ (numbers : Numbers). numbers.items.items) o
+
+-- what a map has at a key that was set, and at the others
+entry_here : (key : List (String Global)) (es : List (OwnKey × Numbers)) (w : Option Numbers) → lookup (λ (k : OwnKey). pointwise string_eq key k.items) es ≡ w → (k : Key) → is_same_key k (texts key) ≡ true → entry_in es k ≡ itemized w
+entry_here key es w here k e = ap (entry_in es) ((same_key_decides k (texts key)).0 e) ∙ ap itemized (sym (found-texts key es) ∙ here)
+
+entry_elsewhere : (key : List (String Global)) (old new : List (OwnKey × Numbers)) → KeepsOthers SegmentsEq (λ (k : OwnKey). pointwise string_eq key k.items) old new → (k : Key) → is_same_key k (texts key) ≡ false → entry_in new k ≡ entry_in old k
+unfolding KeepsOthers
+entry_elsewhere key old new others k e =
+    ap itemized (others (λ (o : OwnKey). is_same_key k (texts o.items)) (λ x y is. same_key-left k (texts x.items) (texts y.items) is ∙ sym (pointwise-texts x.items y.items)) (λ o is. ap (is_same_key k) (sym ((same_key_decides (texts key) (texts o.items)).0 (sym (pointwise-texts key o.items) ∙ is))) ∙ e))
+
+-- no other key has an entry without numbers
+abbrev pub IsTidyElsewhere : Key → List (OwnKey × Numbers) → Type 0
+IsTidyElsewhere key es = (k : Key) → is_same_key k key ≡ false → entry_in es k ≢ Some []
+
+pub tidy_elsewhere : (key : List (String Global)) (old new : List (OwnKey × Numbers)) → IsTidy old → KeepsOthers SegmentsEq (λ (k : OwnKey). pointwise string_eq key k.items) old new → IsTidyElsewhere (texts key) new
+tidy_elsewhere key old new tidy others k e none = tidy k (sym (entry_elsewhere key old new others k e) ∙ none)
+
+-- with no entry at the key, or one with numbers, there is none without
+pub tidy_set : (key : List (String Global)) (old new : List (OwnKey × Numbers)) (w : Option Numbers) → IsTidyElsewhere (texts key) old → itemized w ≢ Some [] → lookup (λ (k : OwnKey). pointwise string_eq key k.items) new ≡ w → KeepsOthers SegmentsEq (λ (k : OwnKey). pointwise string_eq key k.items) old new → IsTidy new
+tidy_set key old new w tidy has here others k none = split (is_same_key k (texts key)) refl
+  where
+    split : (b : Bool) → is_same_key k (texts key) ≡ b → ⊥
+    split true e = has (sym (entry_here key new w here k e) ∙ none)
+    split false e = tidy k e (sym (entry_elsewhere key old new others k e) ∙ none)
+
+pub none_tidy : itemized None ≢ Some []
+none_tidy e = cc
+
+pub some_tidy : (w : Numbers) → w.items.items ≢ [] → itemized (Some w) ≢ Some []
+some_tidy w has e = has cc
+
+-- the numbers of an entry, with or without one more behind them, are some
+pub pushed_some : (xs : List ℕ) (n : ℕ) → xs ++ n ∷ [] ≢ []
+pushed_some [] n e = cc
+pushed_some (x ∷ xs) n e = cc
+
+pub found_some : (key : List (String Global)) (es : List (OwnKey × Numbers)) (v : Numbers) → IsTidy es → Some v ≡ lookup (λ (k : OwnKey). pointwise string_eq key k.items) es → v.items.items ≢ []
+found_some key es v tidy is e = tidy (texts key) (sym (ap itemized (is ∙ found-texts key es)) ∙ ap Some e)
+
+-- so they are whether the number was put there or memory was lacking
+pub entered_some : {A E : Type 0} (r : Result A E) (xs ys : List ℕ) (n : ℕ) → xs ≢ [] → OnOk r (ys ≡ xs ++ n ∷ []) → OnErr r (ys ≡ xs) → ys ≢ []
+entered_some (Ok a) xs ys n has is _ e = pushed_some xs n (sym is ∙ e)
+entered_some (Err f) xs ys n has _ is e = has (sym is ∙ e)
+
+-- either way there is a way on
+pub from_either : {A E : Type 0} (r : Result A E) (P Q R : Type 0) → OnOk r P → OnErr r Q → (P → R) → (Q → R) → R
+from_either (Ok a) P Q R p q f g = f p
+from_either (Err e) P Q R p q f g = g q
+
+pub not_empty : (xs : List ℕ) → (length xs == 0) ≡ false → xs ≢ []
+not_empty [] e q = cc
+not_empty (x ∷ xs) e q = cc
 
 -- ---- a key and each above it
 

@@ -1,21 +1,11 @@
 -- Numbers by keys: this project's own choice.
-use Rattle.std.specs.Prelude.{◌≡◌, ℕ, Bool, List, [], ◌∷◌, ◌++◌, Vec, String, if◌then◌else◌}
-use Rattle.std.specs.declared.alloc.Global.{Global}
-use Rattle.std.specs.Map.{lookup}
-use Rattle.std.specs.Option.{option_map_or}
-use Rattle.dav_resource.specs.Key.{Key, is_same_key}
-use Rattle.dav_resource.specs.Texts.{texts}
+use Rattle.std.specs.Prelude.{◌≡◌, ℕ, Bool, List, [], ◌∷◌, ◌++◌, if◌then◌else◌}
+use Rattle.dav_resource.specs.Key.{Key}
 use Rattle.dav_memls.specs.Numbers.{without}
-use Rattle.dav_memls.specs.declared.memory_locks.numbers.Numbers.{Numbers}
+use Rattle.dav_memls.specs.KeyEntries.{numbers_in}
 use Rattle.dav_memls.specs.declared.memory_locks.by_key.ByKey.{ByKey}
 
-abbrev pub OwnKey : Type 0
-OwnKey = Vec (String Global) Global
-
--- the numbers at a key among these entries, none where it has no entry
-abbrev pub numbers_in : List (OwnKey × Numbers) → Key → List ℕ
-numbers_in entries key = option_map_or (λ (numbers : Numbers). numbers.items.items) (lookup (λ (k : OwnKey). is_same_key key (texts k.items)) entries) []
-
+-- the numbers at a key, none where the register has no entry of it
 abbrev pub numbers_at : ByKey → Key → List ℕ
 numbers_at register key = numbers_in register.map.entries key
 

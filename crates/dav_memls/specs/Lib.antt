@@ -1,4 +1,5 @@
 pub mod Numbers
+pub mod KeyEntries
 pub mod ByKey
 pub mod LockIndex
 pub mod MemLs

@@ -1,23 +1,28 @@
 //! Numbers by keys.
 ghost use Rattle.std.specs.Prelude.{◌≡◌, [], IfOk, OnOk, OnErr};
+ghost use Rattle.std.proofs.Props.{props};
 ghost use Rattle.dav_resource.specs.Key.{Key, is_same_key};
 ghost use Rattle.dav_resource.specs.Texts.{texts};
 ghost use Rattle.dav_store.specs.Locks.{is_at_or_below};
 ghost use Rattle.dav_memls.specs.Numbers.{IsAbove};
-ghost use Rattle.dav_memls.specs.ByKey.{numbers_at, KeepsNumbers, JoinsNumber, LeavesNumber};
+ghost use Rattle.dav_memls.specs.KeyEntries.{IsTidy};
 
 use super::numbers::Numbers;
 use std::alloc::{AllocError, Global};
 use std::collections::HashMap;
 
-/// Ascending numbers for each key. A look takes the key's hash, however many keys there are; its seed is fixed,
-/// so among keys that were picked for one hash a look goes through them all.
+/// Ascending numbers for each key, which has an entry only while it has numbers. A look takes the key's hash,
+/// however many keys there are; its seed is fixed, so among keys that were picked for one hash a look goes
+/// through them all.
 #[derive(Debug, Drop)]
 pub struct ByKey {
     map: HashMap<Vec<String>, Numbers>,
+    ghost tidy: { IsTidy map.entries } by { Prim.hlevel props },
 }
 
 impl ByKey {
+    ghost use Rattle.dav_memls.specs.ByKey.{numbers_at, KeepsNumbers, JoinsNumber, LeavesNumber};
+
     /// No numbers for any key.
     pub fn new(alloc: Global) -> ByKey
         ensures { (key : Key) → numbers_at result key ≡ [] }
@@ -79,18 +84,12 @@ impl ByKey {
     pub fn leave(&mut self, key: &[String], number: u64)
         ensures { LeavesNumber (λ k. is_same_key k (texts key.now)) number self.old self.new }
     {
-        self.take(key, number);
-        if self.get(key).is_empty() {
+        let Some(numbers) = self.map.get_mut(key) else {
+            return;
+        };
+        numbers.remove(number);
+        if numbers.as_slice().is_empty() {
             self.map.remove(key);
-        }
-    }
-
-    /// Takes a number from those of a key, which may be left with none.
-    fn take(&mut self, key: &[String], number: u64)
-        ensures { LeavesNumber (λ k. is_same_key k (texts key.now)) number self.old self.new }
-    {
-        if let Some(numbers) = self.map.get_mut(key) {
-            numbers.remove(number);
         }
     }
 

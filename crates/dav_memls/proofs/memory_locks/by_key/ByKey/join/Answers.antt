@@ -3,8 +3,9 @@ use Rattle.std.proofs.lemmas.Result.{err_from_is_err_and}
 use Rattle.dav_resource.specs.Key.{is_same_key}
 use Rattle.dav_resource.specs.Texts.{texts}
 use Rattle.dav_memls.specs.Numbers.{IsAbove}
-use Rattle.dav_memls.specs.ByKey.{numbers_in, only_if}
-use Rattle.dav_memls.proofs.ByKeys.{got, joined, kept}
+use Rattle.dav_memls.specs.KeyEntries.{numbers_in, IsTidy}
+use Rattle.dav_memls.specs.ByKey.{only_if}
+use Rattle.dav_memls.proofs.ByKeys.{got, joined, kept, found_some, pushed_some, entered_some, from_either, some_tidy, tidy_set}
 use Rattle.dav_memls.proofs.memory_locks.by_key.ByKey.join.Goals as goal
 
 pub push-requires : goal.push-requires
@@ -12,6 +13,25 @@ push-requires c = subst (IsAbove c.args.number) (sym (got c.args.key.now c.args.
 
 pub push-requires-2 : goal.push-requires-2
 push-requires-2 c = subst (IsAbove c.args.number) (sym c.new-numbers.ensures) tt
+
+pub invariant_of-self : goal.invariant_of-self
+invariant_of-self c =
+    let entries = c.args.self.now.map.entries in
+    let w = c.push.new.self in
+    let u = (c.get_mut.follows.holds w).3 (ap is_some (sym c.in-Some.ensures.value)) in
+    let had = found_some c.args.key.now entries c.in-Some.numbers.now c.args.self.now.tidy c.in-Some.ensures.value in
+    let has = entered_some c.push.result c.in-Some.numbers.now.items.items w.items.items c.args.number had c.push.ensures.ok c.push.ensures.err in
+    record { tidy = tidy_set c.args.key.now entries (c.get_mut.follows.lender w).entries (Some w) (λ k _. c.args.self.now.tidy k) (some_tidy w has) u.1 u.3 }
+
+pub invariant_of-self-2 : goal.invariant_of-self-2
+invariant_of-self-2 c =
+    let m = c.get_mut.follows.lender-at-none in
+    let w = c.push-2.new.self in
+    let was : IsTidy m.entries = subst IsTidy (sym (ap (λ n. n.entries) c.get_mut.follows.holds-at-none)) c.args.self.now.tidy in
+    let has = some_tidy w (λ e. pushed_some _ c.args.number (sym c.in_ok-push-2.ensures.ok ∙ e)) in
+    record {
+      tidy = from_either c.insert.result _ _ (IsTidy c.insert.new.self.entries) c.insert.ensures.updates c.insert.ensures.err (λ u. tidy_set c.in_ok-key.key.items m.entries c.insert.new.self.entries (Some w) (λ k _. was k) has u.1 u.3) (λ same. subst IsTidy (sym same) was);
+    }
 
 pub returns-in_err-push-clause-err : goal.returns-in_err-push-clause-err
 returns-in_err-push-clause-err c =

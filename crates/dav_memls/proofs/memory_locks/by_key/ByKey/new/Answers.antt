@@ -1,5 +1,5 @@
 use Rattle.std.proofs.Common.{ap}
-use Rattle.dav_memls.specs.ByKey.{numbers_in}
+use Rattle.dav_memls.specs.KeyEntries.{numbers_in}
 use Rattle.dav_memls.proofs.memory_locks.by_key.ByKey.new.Goals as goal
 
 pub returns : goal.returns

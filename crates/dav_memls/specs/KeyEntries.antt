@@ -1,0 +1,27 @@
+-- What a map from keys to numbers has: this project's own choice.
+use Rattle.std.specs.Prelude.{◌≢◌, ℕ, List, [], Option, Some, Vec, String}
+use Rattle.std.specs.declared.alloc.Global.{Global}
+use Rattle.std.specs.Map.{lookup}
+use Rattle.std.specs.Option.{option_map, option_map_or}
+use Rattle.dav_resource.specs.Key.{Key, is_same_key}
+use Rattle.dav_resource.specs.Texts.{texts}
+use Rattle.dav_memls.specs.declared.memory_locks.numbers.Numbers.{Numbers}
+
+abbrev pub OwnKey : Type 0
+OwnKey = Vec (String Global) Global
+
+-- what these entries have at a key, if there is one of it
+abbrev pub found_in : List (OwnKey × Numbers) → Key → Option Numbers
+found_in entries key = lookup (λ (k : OwnKey). is_same_key key (texts k.items)) entries
+
+-- the numbers of the entry at a key, if there is one
+abbrev pub entry_in : List (OwnKey × Numbers) → Key → Option (List ℕ)
+entry_in entries key = option_map (λ (numbers : Numbers). numbers.items.items) (found_in entries key)
+
+-- the numbers at a key among these entries, none where it has no entry
+abbrev pub numbers_in : List (OwnKey × Numbers) → Key → List ℕ
+numbers_in entries key = option_map_or (λ (numbers : Numbers). numbers.items.items) (found_in entries key) []
+
+-- no key has an entry without numbers
+abbrev pub IsTidy : List (OwnKey × Numbers) → Type 0
+IsTidy entries = (key : Key) → entry_in entries key ≢ Some []
