@@ -1,5 +1,5 @@
 -- A deletion of Depth 0, and the answer of each.
-use Rattle.std.proofs.Common.{◌≡◌, Bool, true, false, [], ◌∷◌, Option, Some, None, refl, sym, ap, ◌∙◌, subst, inl, inr, append-nil}
+use Rattle.std.proofs.Common.{◌≡◌, Bool, true, false, List, [], ◌∷◌, Option, Some, None, refl, sym, ap, ◌∙◌, subst, inl, inr, append-nil}
 use Rattle.std.specs.FinMap.{get}
 use Rattle.dav_resource.specs.Key.{Key}
 use Rattle.dav_resource.specs.PathText.{PathValue}
@@ -10,7 +10,8 @@ use Rattle.dav_resource.specs.declared.error.FsError.{FsError}
 use Rattle.dav_store.specs.Store.{Store, Contents}
 use Rattle.dav_store.specs.Calls.{Call, record_of, Grants, Declines, error_of}
 use Rattle.dav_store.specs.Members.{IsRemovedAt}
-use Rattle.dav_walks.specs.Deletion.{removal_call, RemovesAlone}
+use Rattle.dav_store.specs.Logged.{Logged}
+use Rattle.dav_walks.specs.Deletion.{removal_call, RemovesAlone, RemovesInPart, StopsRemoval}
 use Rattle.dav_walks.specs.Trace.{HasKind}
 use Rattle.dav_walks.specs.Frames.{IsCut, removal_by, RemovesOne, RemovesAll, BreaksOff}
 use Rattle.dav_walks.proofs.Single.{Names, has_error}
@@ -47,6 +48,10 @@ module _ (path : PathValue) (old new : Store) where
     refused = λ e p. (d.same, ap (λ f. (path, fs_status f) ∷ []) (same_error (error_of d.outcome) error e d.cause p));
   }
 
+  -- memory was lacking: nothing changed, and nothing is named
+  stopped : (had : Names) (records : List Logged) → RemovesInPart Zero path old.contents new.contents records → new.contents ≡ old.contents → StopsRemoval Zero path old.contents new.contents records had had
+  stopped had records part same = record { part = part; alone = λ _. same; names = []; added = sym (append-nil had); named = refl }
+
   module _ (dir : Bool) (is : HasKind dir (get old.contents.tree path.key)) where
     by_kind : removal_by dir old.contents path.key ≡ call
     unfolding call
@@ -65,11 +70,13 @@ module _ (path : PathValue) (old new : Store) where
       records = [];
       told = ap (λ (s : Store). s.log) same ∙ sym (append-nil old.log);
       fixed = ap (λ (s : Store). s.keeps_properties) same;
-      part = inl (refl, ap (λ (s : Store). s.contents) same);
-      names = [];
-      added = sym (append-nil had);
-      named = refl;
+      stops = stopped had [] (inl (refl, ap (λ (s : Store). s.contents) same)) (ap (λ (s : Store). s.contents) same);
     }
     alone_off had (inr d) =
         let declined : Declines call d.0 old new = subst (λ c. Declines c d.0 old new) by_kind d.1 in
-        record { records = record_of call declined.outcome ∷ []; told = declined.told; fixed = declined.fixed; part = inr ((path, fs_status d.0) ∷ [], alone_declined d.0 declined); names = []; added = sym (append-nil had); named = refl }
+        record {
+          records = record_of call declined.outcome ∷ [];
+          told = declined.told;
+          fixed = declined.fixed;
+          stops = stopped had (record_of call declined.outcome ∷ []) (inr ((path, fs_status d.0) ∷ [], alone_declined d.0 declined)) declined.same;
+        }

@@ -1,5 +1,5 @@
 -- A copy of Depth 0, and the answer of each.
-use Rattle.std.proofs.Common.{◌≡◌, ◌≢◌, ◌⊎◌, Bool, true, false, [], ◌∷◌, ◌++◌, Option, Some, None, refl, sym, ap, ◌∙◌, subst, inl, inr, append-nil, append_assoc}
+use Rattle.std.proofs.Common.{◌≡◌, ◌≢◌, ◌⊎◌, Bool, true, false, List, [], ◌∷◌, ◌++◌, Option, Some, None, refl, sym, ap, ◌∙◌, subst, inl, inr, append-nil, append_assoc}
 use Rattle.std.specs.Prelude.{not}
 use Rattle.std.specs.FinMap.{get}
 use Rattle.dav_resource.specs.Key.{Key}
@@ -10,12 +10,13 @@ use Rattle.dav_resource.specs.declared.record.Outcome.{Outcome}
 use Rattle.dav_resource.specs.declared.record.Outcome.TheVariants.{Granted, Barred, Refused}
 use Rattle.dav_resource.specs.declared.error.FsError.{FsError}
 use Rattle.dav_resource.specs.declared.error.FsError.TheVariants.{NotImplemented, GeneralFailure, Exists, NotFound, Forbidden, InsufficientStorage, LoopDetected, PathTooLong, TooLarge, IsRemote, Memory}
+use Rattle.dav_store.specs.Logged.{Logged}
 use Rattle.dav_store.specs.Store.{Store, Contents, Node, Directory, IsWellFormed}
 use Rattle.dav_store.specs.Calls.{Call, record_of, Grants, Declines, IsLawful, error_of, metadata_call, create_dir_call, IsMadeAt}
 use Rattle.dav_store.specs.Transfers.{copy_call, IsCopiedTo}
 use Rattle.dav_walks.specs.Trace.{HasKind}
 use Rattle.dav_walks.specs.Frames.{IsCut}
-use Rattle.dav_walks.specs.Copied.{placing_call, IsPlaced, refusal_names, EndsAlone, PlacesAlone, CopiesAlone}
+use Rattle.dav_walks.specs.Copied.{placing_call, IsPlaced, refusal_names, EndsAlone, PlacesAlone, CopiesAlone, CopiesInPart, StopsCopy}
 use Rattle.dav_walks.specs.CopyFrames.{LooksAt, CopiesFile, Finds, CopiesWhole, BreaksOffCopy}
 use Rattle.dav_walks.proofs.Listings.{kind_of_meta}
 use Rattle.dav_walks.proofs.Single.{Names}
@@ -43,6 +44,10 @@ directory_refusal source dest Memory other = refl
 file_refusal : (source dest : PathValue) (node_there : Option Node) (e : FsError) → HasKind false node_there → refusal_names source dest node_there e ≡ (source, fs_status e) ∷ []
 file_refusal source dest there e is = rw is.1 refl
 
+-- memory was lacking: nothing changed, and nothing is named
+stopped : (source dest : PathValue) (top : Key) (old new : Contents) (had : Names) (records : List Logged) → CopiesInPart Zero source dest top old new records → new ≡ old → StopsCopy Zero source dest top old new records had had
+stopped source dest top old new had records part same = record { part = part; alone = λ _. same; names = []; added = sym (append-nil had); named = refl }
+
 module _ (source dest : PathValue) (top : Key) {old : Store} (formed : IsWellFormed old.contents) where
   -- the look is refused
   unlooked_alone : {new : Store} {had has : Names} (refusal : LooksAt source old new had has None) → CopiesAlone source dest old.contents new.contents (record_of (metadata_call old.contents source.key) refusal.declined.outcome ∷ []) ((source, fs_status refusal.error) ∷ [])
@@ -60,19 +65,14 @@ module _ (source dest : PathValue) (top : Key) {old : Store} (formed : IsWellFor
     records = [];
     told = ap (λ (s : Store). s.log) same ∙ sym (append-nil old.log);
     fixed = ap (λ (s : Store). s.keeps_properties) same;
-    part = inl (inl refl, ap (λ (s : Store). s.contents) same);
-    names = [];
-    added = sym (append-nil had);
-    named = refl;
+    stops = stopped source dest top _ _ had [] (inl (inl refl, ap (λ (s : Store). s.contents) same)) (ap (λ (s : Store). s.contents) same);
   }
   look_off had (inr (e, dec)) = record {
     records = record_of (metadata_call old.contents source.key) dec.outcome ∷ [];
     told = dec.told;
     fixed = dec.fixed;
-    part = inr ((source, fs_status e) ∷ [], inl (record { outcome = dec.outcome; error = e; cause = dec.cause; called = refl; lawful = dec.lawful; same = dec.same; named = refl }));
-    names = [];
-    added = sym (append-nil had);
-    named = refl;
+    stops = stopped source dest top _ _ had (record_of (metadata_call old.contents source.key) dec.outcome ∷ [])
+        (inr ((source, fs_status e) ∷ [], inl (record { outcome = dec.outcome; error = e; cause = dec.cause; called = refl; lawful = dec.lawful; same = dec.same; named = refl }))) dec.same;
   }
 
   -- the look is granted
@@ -115,19 +115,14 @@ module _ (source dest : PathValue) (top : Key) {old : Store} (formed : IsWellFor
         records = record_of (metadata_call old.contents source.key) Granted ∷ [];
         told = ap (λ (s : Store). s.log) at_mid ∙ found.looked.told;
         fixed = ap (λ (s : Store). s.keeps_properties) at_mid ∙ found.looked.fixed;
-        part = inl (inr refl, ap (λ (s : Store). s.contents) at_mid ∙ same);
-        names = [];
-        added = sym (append-nil had);
-        named = refl;
+        stops = stopped source dest top _ _ had (record_of (metadata_call old.contents source.key) Granted ∷ []) (inl (inr refl, ap (λ (s : Store). s.contents) at_mid ∙ same)) (ap (λ (s : Store). s.contents) at_mid ∙ same);
       }
       placed_off had (inr (e, dec)) = record {
         records = record_of (metadata_call old.contents source.key) Granted ∷ record_of (placing_call old.contents source.key dest.key) dec.outcome ∷ [];
         told = log_of dec.outcome dec.told;
         fixed = dec.fixed ∙ found.looked.fixed;
-        part = inr (refusal_names source dest (get old.contents.tree source.key) e, inr (places dec.outcome _ dec.lawful (ends_refused source dest old.contents new.contents _ dec.outcome e dec.cause (dec.same ∙ same) refl)));
-        names = [];
-        added = sym (append-nil had);
-        named = refl;
+        stops = stopped source dest top _ _ had (record_of (metadata_call old.contents source.key) Granted ∷ record_of (placing_call old.contents source.key dest.key) dec.outcome ∷ [])
+            (inr (refusal_names source dest (get old.contents.tree source.key) e, inr (places dec.outcome _ dec.lawful (ends_refused source dest old.contents new.contents _ dec.outcome e dec.cause (dec.same ∙ same) refl)))) (dec.same ∙ same);
       }
 
   -- a file

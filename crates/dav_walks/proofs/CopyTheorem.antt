@@ -13,7 +13,7 @@ use Rattle.dav_resource.specs.declared.record.Op.{Op}
 use Rattle.dav_resource.specs.declared.record.Op.TheVariants.{Metadata, ReadDir, CreateDir, Copy}
 use Rattle.dav_resource.specs.declared.record.Outcome.{Outcome}
 use Rattle.dav_resource.specs.declared.record.Outcome.TheVariants.{Granted, Barred, Refused}
-use Rattle.dav_resource.specs.declared.request.Depth.TheVariants.{Infinity}
+use Rattle.dav_resource.specs.declared.request.Depth.TheVariants.{Zero, Infinity}
 use Rattle.dav_store.specs.Below.{is_at_or_below}
 use Rattle.dav_store.specs.BelowLaws.{at_or_below-append, at_or_below-tail}
 use Rattle.dav_store.specs.MemberLaws.{IsIn-permuted}
@@ -188,17 +188,20 @@ breaks_off {source} {dest} {top} {old} {mid} {had} {has} {steps} {frames} underw
   records = map (logged_step source.key dest.key) (steps ++ more);
   told = reached.log;
   fixed = fixed;
-  part = (steps ++ more, refl, lawful_all reached.sound);
-  names = underway.names;
-  added = underway.named;
-  named = (
-    steps ++ more,
-    refl,
-    (
-      owed_all frames ++ names_of_copy source dest (snapshot old.contents.tree source.key top) more,
-      subst (λ l. IsPermutation l (underway.names ++ (owed_all frames ++ names_of_copy source dest (snapshot old.contents.tree source.key top) more))) (sym (names_append source dest (snapshot old.contents.tree source.key top) steps more anew))
-          (subst (IsPermutation (names_of_copy source dest (snapshot old.contents.tree source.key top) steps ++ names_of_copy source dest (snapshot old.contents.tree source.key top) more)) (append_assoc underway.names (owed_all frames) (names_of_copy source dest (snapshot old.contents.tree source.key top) more))
-          (IsPermutation-append_left (names_of_copy source dest (snapshot old.contents.tree source.key top) more) _ _ underway.bag)),
-    ),
-  );
+  stops = record {
+    part = (steps ++ more, refl, lawful_all reached.sound);
+    alone = λ zero. absurd (let p : Infinity ≡ Zero = zero in cc);
+    names = underway.names;
+    added = underway.named;
+    named = (
+      steps ++ more,
+      refl,
+      (
+        owed_all frames ++ names_of_copy source dest (snapshot old.contents.tree source.key top) more,
+        subst (λ l. IsPermutation l (underway.names ++ (owed_all frames ++ names_of_copy source dest (snapshot old.contents.tree source.key top) more))) (sym (names_append source dest (snapshot old.contents.tree source.key top) steps more anew))
+            (subst (IsPermutation (names_of_copy source dest (snapshot old.contents.tree source.key top) steps ++ names_of_copy source dest (snapshot old.contents.tree source.key top) more)) (append_assoc underway.names (owed_all frames) (names_of_copy source dest (snapshot old.contents.tree source.key top) more))
+            (IsPermutation-append_left (names_of_copy source dest (snapshot old.contents.tree source.key top) more) _ _ underway.bag)),
+      ),
+    );
+  };
 }

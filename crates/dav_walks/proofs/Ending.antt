@@ -7,7 +7,7 @@ use Rattle.dav_resource.specs.Key.{Key}
 use Rattle.dav_resource.specs.PathText.{PathValue}
 use Rattle.dav_resource.specs.Errors.{fs_status}
 use Rattle.dav_resource.specs.declared.meta.DirEntry.{DirEntry}
-use Rattle.dav_resource.specs.declared.request.Depth.TheVariants.{Infinity}
+use Rattle.dav_resource.specs.declared.request.Depth.TheVariants.{Zero, Infinity}
 use Rattle.dav_store.specs.Store.{Store, Tree, IsWellFormed}
 use Rattle.dav_store.specs.Members.{member}
 use Rattle.dav_walks.specs.KeyCall.{logged_call}
@@ -132,8 +132,11 @@ halted_off path old new had has fixed halts = record {
   records = map logged_call halts.calls;
   told = halts.log;
   fixed = fixed;
-  part = (halts.calls, refl, halt_lawful path old.contents new.contents old.log new.log had has path.key halts);
-  names = halts.names;
-  added = halts.named;
-  named = (halts.calls, refl, halts.some);
+  stops = record {
+    part = (halts.calls, refl, halt_lawful path old.contents new.contents old.log new.log had has path.key halts);
+    alone = λ zero. absurd (let p : Infinity ≡ Zero = zero in cc);
+    names = halts.names;
+    added = halts.named;
+    named = (halts.calls, refl, halts.some);
+  };
 }

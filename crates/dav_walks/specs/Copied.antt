@@ -94,11 +94,19 @@ CopyNamesInPart Zero source dest top old records names = names ≡ []
 CopyNamesInPart depth source dest top old records names =
     (steps : List CopyStep) × (records ≡ map (logged_step source.key dest.key) steps) × AreSomeOf names (names_of_copy source dest (snapshot old.tree source.key top) steps)
 
--- it ended and added these names, or was broken off, and some of its names may be missing
+-- it was broken off: of the source alone nothing was copied, and some of its names may be missing
+pub record StopsCopy (depth : Depth) (source dest : PathValue) (top : Key) (old new : Contents) (records : List Logged) (had has : List Item) : Type 0 where
+  pub part : CopiesInPart depth source dest top old new records
+  pub alone : depth ≡ Zero → new ≡ old
+  pub names : List Item
+  pub added : has ≡ had ++ names
+  pub named : CopyNamesInPart depth source dest top old records names
+
+-- it ended and added these names, or was broken off for want of memory
 abbrev pub CopiesOrStops : Depth → PathValue → PathValue → Key → Contents → Contents → List Logged → List Item → List Item → Result (Unit {0}) DavError → Type 0
 CopiesOrStops depth source dest top old new records had has answer =
     ((names : List Item) × (has ≡ had ++ names) × CopiesAll depth source dest top old new records names × (answer ≡ told_by_names names))
-    ⊎ ((answer ≡ Err Memory) × CopiesInPart depth source dest top old new records × ((names : List Item) × (has ≡ had ++ names) × CopyNamesInPart depth source dest top old records names))
+    ⊎ ((answer ≡ Err Memory) × StopsCopy depth source dest top old new records had has)
 
 -- the same from store to store, and from names to names
 pub record Copying (depth : Depth) (source dest : PathValue) (top : Key) (old new : Store) (had has : List Item) (answer : Result (Unit {0}) DavError) : Type 0 where

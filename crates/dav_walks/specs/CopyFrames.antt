@@ -15,7 +15,7 @@ use Rattle.dav_store.specs.Transfers.{copy_call, IsCopiedTo}
 use Rattle.dav_parts.specs.Multistatus.{Item}
 use Rattle.dav_walks.specs.declared.copy_frame.CopyFrame.{CopyFrame}
 use Rattle.dav_walks.specs.Frames.{NamesRefusal, IsCut, path_of_entry}
-use Rattle.dav_walks.specs.Copied.{CopiesAll, CopiesInPart, CopyNamesInPart}
+use Rattle.dav_walks.specs.Copied.{CopiesAll, StopsCopy}
 
 -- one call was made: granted with its effect, or declined, and then named
 abbrev pub Makes : Call → (Contents → Contents → Type 0) → PathValue → Store → Store → List Item → List Item → Bool → Type 0
@@ -105,12 +105,9 @@ pub record CopiesWhole (depth : Depth) (source dest : PathValue) (top : Key) (ol
   pub added : has ≡ had ++ names
   pub copies : CopiesAll depth source dest top old.contents new.contents records names
 
--- or was broken off for want of memory, and some names may be missing
+-- or was broken off for want of memory
 pub record BreaksOffCopy (depth : Depth) (source dest : PathValue) (top : Key) (old new : Store) (had has : List Item) : Type 0 where
   pub records : List Logged
   pub told : new.log ≡ old.log ++ records
   pub fixed : new.keeps_properties ≡ old.keeps_properties
-  pub part : CopiesInPart depth source dest top old.contents new.contents records
-  pub names : List Item
-  pub added : has ≡ had ++ names
-  pub named : CopyNamesInPart depth source dest top old.contents records names
+  pub stops : StopsCopy depth source dest top old.contents new.contents records had has

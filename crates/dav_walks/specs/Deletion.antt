@@ -205,11 +205,19 @@ abbrev pub told_by_names : List Item → Result (Unit {0}) DavError
 told_by_names [] = Ok tt
 told_by_names (item ∷ names) = Err (Status item.1)
 
--- it ended and added these names, or was broken off, and some of its names may be missing
+-- it was broken off: with Depth 0 nothing was removed, and some of its names may be missing
+pub record StopsRemoval (depth : Depth) (path : PathValue) (old new : Contents) (records : List Logged) (had has : List Item) : Type 0 where
+  pub part : RemovesInPart depth path old new records
+  pub alone : depth ≡ Zero → new ≡ old
+  pub names : List Item
+  pub added : has ≡ had ++ names
+  pub named : NamesInPart depth path records names
+
+-- it ended and added these names, or was broken off for want of memory
 abbrev pub RemovesOrStops : Depth → PathValue → Contents → Contents → List Logged → List Item → List Item → Result (Unit {0}) DavError → Type 0
 RemovesOrStops depth path old new records had has answer =
     ((names : List Item) × (has ≡ had ++ names) × Removes depth path old new records names × (answer ≡ told_by_names names))
-    ⊎ ((answer ≡ Err Memory) × RemovesInPart depth path old new records × ((names : List Item) × (has ≡ had ++ names) × NamesInPart depth path records names))
+    ⊎ ((answer ≡ Err Memory) × StopsRemoval depth path old new records had has)
 
 -- the same from store to store, and from names to names
 pub record Removal (depth : Depth) (path : PathValue) (old new : Store) (had has : List Item) (answer : Result (Unit {0}) DavError) : Type 0 where

@@ -15,7 +15,7 @@ use Rattle.dav_parts.specs.Multistatus.{Item}
 use Rattle.dav_walks.specs.declared.frame.Frame.{Frame}
 use Rattle.dav_walks.specs.declared.frame.Entered.{Entered}
 use Rattle.dav_walks.specs.declared.frame.Entered.TheVariants.{Over, Opened}
-use Rattle.dav_walks.specs.Deletion.{Removes, RemovesInPart, NamesInPart}
+use Rattle.dav_walks.specs.Deletion.{Removes, StopsRemoval}
 
 -- a call was declined, and the path is named with the refusal
 pub record NamesRefusal (call : Call) (path : PathValue) (old new : Store) (had has : List Item) : Type 0 where
@@ -114,12 +114,9 @@ pub record RemovesAll (depth : Depth) (path : PathValue) (old new : Store) (had 
   pub added : has ≡ had ++ names
   pub removes : Removes depth path old.contents new.contents records names
 
--- or was broken off for want of memory, and some names may be missing
+-- or was broken off for want of memory
 pub record BreaksOff (depth : Depth) (path : PathValue) (old new : Store) (had has : List Item) : Type 0 where
   pub records : List Logged
   pub told : new.log ≡ old.log ++ records
   pub fixed : new.keeps_properties ≡ old.keeps_properties
-  pub part : RemovesInPart depth path old.contents new.contents records
-  pub names : List Item
-  pub added : has ≡ had ++ names
-  pub named : NamesInPart depth path records names
+  pub stops : StopsRemoval depth path old.contents new.contents records had has

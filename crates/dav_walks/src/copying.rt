@@ -18,7 +18,7 @@ use std::alloc::Global;
 ///
 /// Errors: `Status` of the first refusal, where one was added; `Memory`. After each of them a part of the copy stands,
 /// and nothing else has changed; after `Memory` statuses may be missing, but each that was added is a refusal's, and
-/// with Depth 0 none was.
+/// with Depth 0 none was added and nothing has changed.
 pub fn do_copy<C, F: GuardedFileSystem<C>>(
     alloc: Global,
     fs: &mut F,

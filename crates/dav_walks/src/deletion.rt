@@ -18,7 +18,8 @@ use std::alloc::Global;
 ///
 /// Errors: `Status` of the first refusal, where one was added; `Memory`. After each of them every resource
 /// at the path or below it stands as it did or is gone, and nothing else has changed; after `Memory`
-/// statuses may be missing, but each that was added is a refusal's, and with Depth 0 none was.
+/// statuses may be missing, but each that was added is a refusal's, and with Depth 0 none was added and
+/// nothing has changed.
 pub fn delete_items<C, F: GuardedFileSystem<C>>(
     alloc: Global,
     fs: &mut F,
