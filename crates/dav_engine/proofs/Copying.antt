@@ -35,7 +35,7 @@ module _ (depth : Depth) (source destination : PathValue) (old mid : Seen) (had 
       by_end : CopiesOrStops depth source destination destination.key old.store.contents mid.store.contents h.records had has answer
           → NamesBy (CopiesSource depth source destination) (CopiesSourceInPart depth source destination) (state_of old) h.records had has answer (state_of mid)
       by_end (inl whole) = inl (whole.0, whole.1, record { copied = whole.2; locks = same_locks old mid locks }, whole.3)
-      by_end (inr part) = inr (part.0, record { copied = part.1; locks = same_locks old mid locks })
+      by_end (inr part) = inr (part.0, record { copied = part.1.part; locks = same_locks old mid locks })
 
 -- what ended is more than what was broken off
 source_in_part : (depth : Depth) (source destination : PathValue) (old new : State) (records : List Logged) (names : List Item) → CopiesSource depth source destination old records names new → CopiesSourceInPart depth source destination old records new

@@ -164,7 +164,7 @@ module _ (request : DavRequest) (meta : Meta) where
 
       by_end : RemovesOrStops depth path old.store.contents new.store.contents h.records had has (Err Memory) → Ended
       by_end (inl whole) = absurd (no_memory whole.0 whole.3)
-      by_end (inr part) = inr (refl, cut part.1)
+      by_end (inr part) = inr (refl, cut part.1.part)
 
   -- all is gone, and so are the locks
   module _ (old mid new : Seen) (has : List Item) (h : Removal depth path old.store mid.store [] has (Ok tt)) (locks : mid.locks ≡ old.locks) (dropped : DropsSeen request.path.key mid new) where

@@ -22,7 +22,7 @@ use Rattle.dav_walks.specs.ClearedLaws.{path_gone, names_refused}
 use Rattle.dav_walks.specs.KeyCall.{standing}
 use Rattle.dav_walks.specs.RemovalLaws.{nothing_removed, whole_in_part, removes_within}
 use Rattle.dav_engine.specs.State.{State, Seen, state_of}
-use Rattle.dav_engine.specs.Transferring.{ClearsIf, ClearsInPart, Names, NamesBy, UnlessNamed, Replaces, ReplacesInPart, transferred_items, TransferWork}
+use Rattle.dav_engine.specs.Transferring.{ClearsIf, ClearsInPart, Clearing, Names, NamesBy, UnlessNamed, Replaces, ReplacesInPart, transferred_items, TransferWork}
 use Rattle.dav_engine.specs.Laws.{AreRefusals}
 use Rattle.dav_engine.specs.Step.{Performs}
 use Rattle.dav_engine.proofs.Deleting.{none_named, some_named, no_memory, answered}
@@ -152,7 +152,7 @@ module _ {Done : State → List Logged → List Item → State → Type 0} {Cut 
 -- ---- what follows where the destination is cleared
 
 -- where nothing is named
-pub cleared_so : (there : Bool) (destination : PathValue) (old mid : Seen) (had has : List Item) (h : Names (ClearsIf there destination) (ClearsInPart there destination) old had has (Ok tt) mid) → ClearsIf there destination (state_of old) h.records [] (state_of mid) × (has ≡ had)
+pub cleared_so : (there : Bool) (destination : PathValue) (old mid : Seen) (had has : List Item) (h : Clearing there destination old had has (Ok tt) mid) → ClearsIf there destination (state_of old) h.records [] (state_of mid) × (has ≡ had)
 cleared_so there destination old mid had has h = by_end h.done
   where
     by_end : NamesBy (ClearsIf there destination) (ClearsInPart there destination) (state_of old) h.records had has (Ok tt) (state_of mid) → ClearsIf there destination (state_of old) h.records [] (state_of mid) × (has ≡ had)
@@ -162,14 +162,11 @@ cleared_so there destination old mid had has h = by_end h.done
     by_end (inr part) = absurd cc
 
 module _ (Follows : State → List Logged → List Item → State → Type 0) (Part : State → List Logged → State → Type 0) (there : Bool) (destination : PathValue) where
-  abbrev Clearing : Seen → List Item → List Item → Result (Unit {0}) DavError → Seen → Type 0
-  Clearing = Names (ClearsIf there destination) (ClearsInPart there destination)
-
   abbrev Replacing : Seen → List Item → List Item → Result (Unit {0}) DavError → Seen → Type 0
   Replacing = Names (Replaces Follows there destination) (ReplacesInPart Part there destination)
 
   -- something at the destination is named, or memory ran out there
-  pub replaces_uncleared : (old new : Seen) (had has : List Item) (e : DavError) → Clearing old had has (Err e) new → Replacing old had has (Err e) new
+  pub replaces_uncleared : (old new : Seen) (had has : List Item) (e : DavError) → Clearing there destination old had has (Err e) new → Replacing old had has (Err e) new
   replaces_uncleared old new had has e h = record { records = h.records; told = h.told; fixed = h.fixed; done = by_end h.done }
     where
       stuck : (names : List Item) → ClearsIf there destination (state_of old) h.records names (state_of new) → names ≢ [] → Replaces Follows there destination (state_of old) h.records names (state_of new)
@@ -182,7 +179,7 @@ module _ (Follows : State → List Logged → List Item → State → Type 0) (P
       by_end (inr part) = inr (part.0, inl part.1)
 
   -- and the rest is done
-  pub replaces_on : (old mid : Seen) (had has : List Item) → Clearing old had has (Ok tt) mid → (new : Seen) (all : List Item) (answer : Result (Unit {0}) DavError) → Names Follows Part mid has all answer new → Replacing old had all answer new
+  pub replaces_on : (old mid : Seen) (had has : List Item) → Clearing there destination old had has (Ok tt) mid → (new : Seen) (all : List Item) (answer : Result (Unit {0}) DavError) → Names Follows Part mid has all answer new → Replacing old had all answer new
   replaces_on old mid had has h new all answer k = record { records = h.records ++ k.records; told = rw (k.told, h.told, append_assoc); fixed = k.fixed ∙ h.fixed; done = by_end k.done }
     where
       cleared : ClearsIf there destination (state_of old) h.records [] (state_of mid) × (has ≡ had)

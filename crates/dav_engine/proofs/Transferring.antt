@@ -147,7 +147,7 @@ module _ (destination : PathValue) (old mid : Seen) (had has : List Item) where
         },
         whole.3,
       )
-      by_end (inr part) = inr (part.0, (part.1, same_locks old mid locks))
+      by_end (inr part) = inr (part.0, (part.1.part, same_locks old mid locks))
 
   -- nothing was named, and the locks there are dropped
   pub clears_all : (new : Seen) → Removal Infinity destination old.store mid.store had has (Ok tt) → mid.locks ≡ old.locks → DropsSeen destination.key mid new → Cleared new (Ok tt)

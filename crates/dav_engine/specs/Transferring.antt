@@ -174,6 +174,10 @@ pub record Names (Done : State → List Logged → List Item → State → Type 
   pub fixed : facts_of new ≡ facts_of old
   pub done : NamesBy Done Cut (state_of old) records had has answer (state_of new)
 
+-- what stands at the destination is removed, where something does, and each refusal is named
+abbrev pub Clearing : Bool → PathValue → Seen → List Item → List Item → Result (Unit {0}) DavError → Seen → Type 0
+Clearing there destination = Names (ClearsIf there destination) (ClearsInPart there destination)
+
 -- the names; or, where nothing is named, that something was replaced, or that something new is there
 abbrev pub transferred_items : PathValue → Option Meta → List Item → List Item
 transferred_items source there [] = (source, if is_some there then 204 else 201) ∷ []

@@ -6,7 +6,7 @@ ghost use Rattle.dav_resource.specs.Gives.{GivesBy};
 ghost use Rattle.dav_resource.specs.Key.{is_same_key};
 ghost use Rattle.dav_parts.specs.Dialogue.{Judges};
 ghost use Rattle.dav_engine.specs.DavInner.{lent, lent_locks, frame, seen_by, state_by, settings_by};
-ghost use Rattle.dav_engine.specs.Transferring.{transfer_rules, asked_destination as asked_destination_of, reach_verdict, parent_verdict, must_have_parent as must_have_parent_of, look_there as look_there_of, see_destination as see_destination_of, found_or_absent as found_or_absent_of, place_verdict, is_misplaced as is_misplaced_by, is_deep as is_deep_depth, may_overwrite as may_overwrite_by, permits_transfer as permits_transfer_by, Clears, ClearsIf, ClearsInPart, Names};
+ghost use Rattle.dav_engine.specs.Transferring.{transfer_rules, asked_destination as asked_destination_of, reach_verdict, parent_verdict, must_have_parent as must_have_parent_of, look_there as look_there_of, see_destination as see_destination_of, found_or_absent as found_or_absent_of, place_verdict, is_misplaced as is_misplaced_by, is_deep as is_deep_depth, may_overwrite as may_overwrite_by, permits_transfer as permits_transfer_by, Clearing};
 
 use crate::DavInner;
 use crate::inner::is_directory;
@@ -129,7 +129,7 @@ impl<'a, C: Drop, F: GuardedFileSystem<C>, L: DavLockSystem> DavInner<'a, C, F, 
     ) -> DavResult<()>
         requires { ForSome (option_copied there) (λ meta. (F.seen (lent self.old)).contents.metas destination.now.key ≡ Some meta) }
         ensures same_engine { frame self.new ≡ frame self.old }
-        ensures cleared { Names (ClearsIf (is_some there.entry) destination.now) (ClearsInPart (is_some there.entry) destination.now) (seen_by F.seen L.seen self.old) res.old res.new result (seen_by F.seen L.seen self.new) }
+        ensures cleared { Clearing (is_some there.entry) destination.now (seen_by F.seen L.seen self.old) res.old res.new result (seen_by F.seen L.seen self.new) }
     {
         match there {
             Some(meta) => self.clear_found(destination, meta, res),
@@ -146,7 +146,7 @@ impl<'a, C: Drop, F: GuardedFileSystem<C>, L: DavLockSystem> DavInner<'a, C, F, 
     ) -> DavResult<()>
         requires { (F.seen (lent self.old)).contents.metas destination.now.key ≡ Some meta.now }
         ensures same_engine { frame self.new ≡ frame self.old }
-        ensures cleared { Names (Clears destination.now) (ClearsInPart true destination.now) (seen_by F.seen L.seen self.old) res.old res.new result (seen_by F.seen L.seen self.new) }
+        ensures cleared { Clearing true destination.now (seen_by F.seen L.seen self.old) res.old res.new result (seen_by F.seen L.seen self.new) }
     {
         self.delete_items(res, Depth::Infinity, meta, destination)?;
         self.drop_locks(destination);
