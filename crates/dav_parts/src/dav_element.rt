@@ -6,29 +6,29 @@ ghost use Rattle.dav_parts.specs.DavElement.{with_elements, declaring_element as
 use dav_resource::{DavPath, Element};
 use std::alloc::{AllocError, Global};
 
-/// An element of this name that declares the prefix.
-pub(crate) fn declaring_element(alloc: Global, name: &str) -> Result<Element, AllocError>
+/// An element of this name that declares the prefix. Only memory can be lacking.
+pub fn declaring_element(alloc: Global, name: &str) -> Result<Element, AllocError>
     ensures { IfOk result (λ element. element ≡ element_that_declares name.now) }
 {
     Element::new2(alloc, name)?.ns("D", "DAV:")
 }
 
-/// An element of this name that holds a text.
-pub(crate) fn text_element(alloc: Global, name: &str, text: &str) -> Result<Element, AllocError>
+/// An element of this name that holds a text. Only memory can be lacking.
+pub fn text_element(alloc: Global, name: &str, text: &str) -> Result<Element, AllocError>
     ensures { IfOk result (λ element. element ≡ element_of_text name.now text.now) }
 {
     Element::new2(alloc, name)?.text(text)
 }
 
-/// A path, with its prefix.
-pub(crate) fn href_element(alloc: Global, path: &DavPath) -> Result<Element, AllocError>
+/// The element `D:href` of a path, with its prefix (RFC 4918, section 14.7). Only memory can be lacking.
+pub fn href_element(alloc: Global, path: &DavPath) -> Result<Element, AllocError>
     ensures { IfOk result (λ element. element ≡ element_of_path path.now) }
 {
     let href = path.with_prefix()?.as_url_string()?;
     text_element(alloc, "D:href", href.as_str())
 }
 
-/// An element of this name that holds one element.
+/// An element of this name that holds one element. Only memory can be lacking.
 pub(crate) fn outer_element(
     alloc: Global,
     name: &str,

@@ -74,8 +74,9 @@ fn response_element(
     Ok(response)
 }
 
-/// The status as a reply's first line shows it, with its phrase where it has one.
-fn status_line(alloc: Global, status: StatusCode) -> Result<String, AllocError>
+/// The status as a reply's first line shows it, with its phrase where it has one (RFC 4918, section 14.28). Only memory
+/// can be lacking.
+pub fn status_line(alloc: Global, status: StatusCode) -> Result<String, AllocError>
     ensures { IfOk result (λ line. string_bytes line ≡ line_of_status status) }
 {
     let digits = status.as_str();
