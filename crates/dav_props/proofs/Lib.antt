@@ -1,0 +1,8 @@
+mod Texts
+mod Grouping
+mod ChangeLists
+mod BlankLemmas
+mod PartLemmas
+mod LanguageTagLemmas
+mod PlaceLemmas
+mod LanguageLemmas

@@ -1,0 +1,30 @@
+-- Properties by their statuses, as a map holds them: this project's own choice.
+use Rattle.std.specs.Prelude.{◌≡◌, ◌≢◌, ℕ, List, [], ◌∷◌, ◌++◌, All, Vec, map, Some, option_map}
+use Rattle.std.specs.declared.alloc.Global.{Global}
+use Rattle.std.specs.Option.{option_map_or}
+use Rattle.std.specs.Ordering.{nat_cmp}
+use Rattle.std.specs.BTreeMap.{BTreeMap, keys, get, IsOrdered}
+use Rattle.http.specs.StatusCode.{IsStatusCode}
+use Rattle.dav_resource.specs.Tree.{Tree}
+use Rattle.dav_props.specs.Propstat.{Group}
+
+abbrev pub StatusMap : Type 0
+StatusMap = BTreeMap ℕ (Vec Tree Global)
+
+-- each status with its properties, the least first
+abbrev pub groups_of : StatusMap → List Group
+groups_of map_of = map (λ e. (e.0, e.1.items)) map_of.entries
+
+-- each is a status of HTTP, of three digits
+abbrev pub AreStatuses : StatusMap → Type 0
+AreStatuses map_of = All IsStatusCode (keys map_of)
+
+-- the properties of a status, none where it has no entry
+abbrev pub properties_at : StatusMap → ℕ → List Tree
+properties_at map_of status = option_map_or (λ elements. elements.items) (get nat_cmp map_of status) []
+
+-- one more property of this status, behind those that have it; the other statuses have what they had
+pub record AddsProperty (old : StatusMap) (status : ℕ) (element : Tree) (new : StatusMap) : Type 0 where
+  pub here : option_map (λ (elements : Vec Tree Global). elements.items) (get nat_cmp new status) ≡ Some (properties_at old status ++ element ∷ [])
+  pub others : (other : ℕ) → other ≢ status → get nat_cmp new other ≡ get nat_cmp old other
+  pub ordered : IsOrdered nat_cmp new

@@ -1,0 +1,46 @@
+-- How the properties of a resource are told: grouped by their statuses (RFC 4918, sections 13, 14.16, 14.18, 14.22 and 14.24).
+use Rattle.std.specs.Prelude.{ℕ, nat_eq, List, [], ◌∷◌, map, filter, codes}
+use Rattle.std.specs.Ordering.{nat_cmp}
+use Rattle.std.specs.FinMap.{keys, from_entries}
+use Rattle.dav_resource.specs.PathText.{PathValue}
+use Rattle.dav_resource.specs.Tree.{Tree, prefixed_element}
+use Rattle.dav_parts.specs.DavElement.{with_elements, declaring_element, text_element, href_element}
+use Rattle.dav_parts.specs.Multistatus.{status_line}
+
+-- ---- properties by their statuses
+
+-- a property, as it is told, and its status
+abbrev pub Told : Type 0
+Told = ℕ × Tree
+
+-- some properties and the status that they have
+abbrev pub Group : Type 0
+Group = ℕ × List Tree
+
+-- those of this status, in order
+abbrev pub of_status : ℕ → List Told → List Tree
+of_status status told = map (λ (t : Told). t.1) (filter (λ (t : Told). nat_eq t.0 status) told)
+
+-- each status that a property has, once, the least first
+abbrev pub statuses : List Told → List ℕ
+statuses told = keys (from_entries {R = nat_cmp} told)
+
+-- the properties of each
+abbrev pub grouped : List Told → List Group
+grouped told = map (λ status. (status, of_status status told)) (statuses told)
+
+-- ---- the trees
+
+-- the properties of one status
+abbrev pub propstat : Group → Tree
+propstat group =
+    with_elements (prefixed_element (codes "D:propstat"))
+    (with_elements (prefixed_element (codes "D:prop")) group.1 ∷ text_element (codes "D:status") (status_line group.0) ∷ [])
+
+-- a resource's path, with its prefix, and its properties by their statuses
+abbrev pub property_response : PathValue → List Group → Tree
+property_response path groups = with_elements (prefixed_element (codes "D:response")) (href_element path ∷ map propstat groups)
+
+-- responses, in order
+abbrev pub property_multistatus : List Tree → Tree
+property_multistatus responses = with_elements (declaring_element (codes "D:multistatus")) responses

@@ -1,0 +1,102 @@
+-- What the body of a PROPPATCH asks for (RFC 4918, sections 9.2, 14.18, 14.19, 14.23 and 14.26). Elements are known by their local names alone.
+use Rattle.std.specs.Prelude.{ℕ, Bool, true, false, ◌&&◌, ◌||◌, not, nat_eq, if◌then◌else◌, List, [], ◌++◌, map, filter, bytes_eq, codes, Some, None, Result, Ok, Err}
+use Rattle.std.specs.List.{flat_map, list_any, zip}
+use Rattle.dav_resource.specs.Tree.{Tree, elements_of}
+use Rattle.dav_resource.specs.declared.error.DavError.{DavError}
+use Rattle.dav_resource.specs.declared.error.DavError.TheVariants.{XmlParseError}
+use Rattle.dav_resource.specs.declared.request.ReqBody.{ReqBody}
+use Rattle.dav_resource.specs.declared.request.ReqBody.TheVariants as bodies
+use Rattle.dav_store.specs.PropertyCalls.{Patch}
+use Rattle.dav_props.specs.Live.{set_status, remove_status}
+use Rattle.dav_props.specs.Property.{bare, prop_named}
+use Rattle.dav_props.specs.Propstat.{Told}
+use Rattle.dav_props.specs.declared.update.PropertyChange.{PropertyChange}
+
+-- a property that is to be set, or to be removed, and its status before the store is asked
+pub record Change : Type 0 where
+  pub set : Bool
+  pub element : Tree
+  pub status : ℕ
+
+abbrev pub change_of : PropertyChange → Change
+change_of change = record { set = change.set; element = change.element.now; status = change.status }
+
+-- ---- what the body asks for
+
+abbrev pub is_named : List ℕ → Tree → Bool
+is_named name tree = bytes_eq tree.tag.name name
+
+-- the status of setting a property (true), or of removing it, where the store keeps properties or doesn't
+abbrev pub judged : Bool → Bool → Tree → Change
+judged keeps true prop = record { set = true; element = prop; status = set_status prop keeps }
+judged keeps false prop = record { set = false; element = prop; status = remove_status prop keeps }
+
+-- the properties that a `prop` holds
+abbrev pub properties_of : Tree → List Tree
+properties_of prop = if is_named (codes "prop") prop then elements_of prop.children else []
+
+-- the properties that a `set` or a `remove` holds: those of each `prop` that stands in it
+abbrev pub properties_in : Tree → List Tree
+properties_in part = flat_map properties_of (elements_of part.children)
+
+-- the changes that a part of the body asks for
+abbrev pub changes_in : Bool → Tree → List Change
+changes_in keeps part =
+    if is_named (codes "set") part then map (judged keeps true) (properties_in part)
+    else (if is_named (codes "remove") part then map (judged keeps false) (properties_in part) else [])
+
+-- all of them, in order; a body that is no `propertyupdate` can't be read
+abbrev pub update_verdict : Bool → ReqBody → Result (List Change) DavError
+update_verdict keeps (bodies.Tree root) =
+    if is_named (codes "propertyupdate") root then Ok (flat_map (changes_in keeps) (elements_of root.children)) else Err XmlParseError
+update_verdict keeps _ = Err XmlParseError
+
+-- ---- which are made
+
+-- the store has to make it
+abbrev pub is_dead : Change → Bool
+is_dead change = nat_eq change.status 100
+
+-- it is refused before the store is asked
+abbrev pub is_refused : Change → Bool
+is_refused change = not (nat_eq change.status 100 || nat_eq change.status 200)
+
+-- some is: then none is made
+abbrev pub some_refused : List Change → Bool
+some_refused changes = list_any is_refused changes
+
+-- the live properties in order, and then the dead ones
+abbrev pub live_first : List Change → List Change
+live_first changes = filter (λ change. not (is_dead change)) changes ++ filter is_dead changes
+
+-- what the store is to make of them: a property that is set has its element as its value
+abbrev pub patch_of : Change → Patch
+patch_of change = (change.set, prop_named change.element (if change.set then Some change.element else None))
+
+abbrev pub patches_of : List Change → List Patch
+patches_of changes = map patch_of (filter is_dead changes)
+
+-- ---- how they are told
+
+-- where another is refused, what would have been made fails with it: 424, and a dead property that was to be set is told with its value
+abbrev pub failed : Change → Told
+failed change =
+    if is_refused change then (change.status, bare change.element)
+    else (424, if change.set && is_dead change then change.element else bare change.element)
+
+abbrev pub told_failed : List Change → List Told
+told_failed changes = map failed (live_first changes)
+
+-- where none is refused, each live one has its own status
+abbrev pub made : Change → Told
+made change = (change.status, bare change.element)
+
+abbrev pub live_made : List Change → List Told
+live_made changes = map made (filter (λ change. not (is_dead change)) changes)
+
+-- and each dead one has that which the store answered
+abbrev pub dead_made : List Change → List ℕ → List Told
+dead_made changes statuses = zip statuses (map (λ change. bare change.element) (filter is_dead changes))
+
+abbrev pub told_made : List Change → List ℕ → List Told
+told_made changes statuses = live_made changes ++ dead_made changes statuses

@@ -1,0 +1,17 @@
+//! The properties of a resource: which of them a request may set or remove, what it asks for, and how they are told.
+#![tactic(auto)]
+
+mod language;
+mod live;
+mod property;
+mod propstat;
+mod telling;
+mod update;
+mod writer;
+
+pub use live::{liveprop_remove, liveprop_set};
+pub use property::{bare_element, element_to_davprop, element_to_davprop_full};
+pub use propstat::group_by_status;
+pub use telling::{patches, some_refused, tell_failed, tell_made};
+pub use update::{PropertyChange, read_update};
+pub use writer::PropWriter;

@@ -1,0 +1,91 @@
+//! The properties of a resource by their statuses (RFC 4918, section 14.22).
+ghost use Rattle.std.specs.Prelude.{◌≡◌, ◌++◌, ◌∷◌, [], IfOk, codes};
+ghost use Rattle.http.specs.StatusCode.{IsStatusCode};
+ghost use Rattle.dav_resource.specs.Tree.{prefixed_element};
+ghost use Rattle.dav_parts.specs.DavElement.{with_elements};
+ghost use Rattle.dav_props.specs.Propstat.{grouped, propstat as tree_of_group, property_response as response_of_groups};
+ghost use Rattle.dav_props.specs.Groups.{groups_of, AddsProperty, AreStatuses};
+
+use dav_parts::{href_element, status_line, text_element};
+use dav_resource::{DavPath, Element};
+use http::StatusCode;
+use std::alloc::{AllocError, Global};
+use std::collections::BTreeMap;
+
+/// The properties by their statuses, those of one status in order. Only memory can be lacking.
+pub fn group_by_status(
+    alloc: Global,
+    told: Vec<(StatusCode, Element)>,
+) -> Result<BTreeMap<u16, Vec<Element>>, AllocError>
+    ensures groups { IfOk result (λ groups. groups_of groups ≡ grouped told.items) }
+    ensures statuses { IfOk result AreStatuses }
+{
+    let mut groups = BTreeMap::new(alloc);
+    for (status, element) in told {
+        groups = add_property(alloc, groups, status.as_u16(), element)?;
+    }
+    Ok(groups)
+}
+
+/// One more property of this status, behind those that have it.
+fn add_property(
+    alloc: Global,
+    mut groups: BTreeMap<u16, Vec<Element>>,
+    status: u16,
+    element: Element,
+) -> Result<BTreeMap<u16, Vec<Element>>, AllocError>
+    ensures added { IfOk result (AddsProperty groups status element) }
+    ensures statuses { IfOk result (λ more. AreStatuses groups → IsStatusCode status → AreStatuses more) }
+{
+    let mut elements = match groups.remove(&status) {
+        Some(elements) => elements,
+        None => Vec::new(alloc),
+    };
+    elements.push(element)?;
+    groups.insert(status, elements)?;
+    Ok(groups)
+}
+
+/// The response that tells a resource's properties by their statuses. Only memory can be lacking.
+pub(crate) fn property_response(
+    alloc: Global,
+    path: &DavPath,
+    groups: BTreeMap<u16, Vec<Element>>,
+) -> Result<Element, AllocError>
+    requires { AreStatuses groups }
+    ensures { IfOk result (λ response. response ≡ response_of_groups path.now (groups_of groups)) }
+{
+    let mut response = Element::new2(alloc, "D:response")?;
+    response.push_element(href_element(alloc, path)?)?;
+    for (status, elements) in groups {
+        let status = StatusCode::from_u16(status).unwrap();
+        response.push_element(propstat(alloc, status, elements)?)?;
+    }
+    Ok(response)
+}
+
+/// The properties of one status.
+fn propstat(
+    alloc: Global,
+    status: StatusCode,
+    elements: Vec<Element>,
+) -> Result<Element, AllocError>
+    ensures { IfOk result (λ tree. tree ≡ tree_of_group (status, elements.items)) }
+{
+    let line = status_line(alloc, status)?;
+    let mut propstat = Element::new2(alloc, "D:propstat")?;
+    propstat.push_element(prop(alloc, elements)?)?;
+    propstat.push_element(text_element(alloc, "D:status", line.as_str())?)?;
+    Ok(propstat)
+}
+
+/// Properties, in order.
+fn prop(alloc: Global, elements: Vec<Element>) -> Result<Element, AllocError>
+    ensures { IfOk result (λ tree. tree ≡ with_elements (prefixed_element (codes "D:prop")) elements.items) }
+{
+    let mut prop = Element::new2(alloc, "D:prop")?;
+    for element in elements {
+        prop.push_element(element)?;
+    }
+    Ok(prop)
+}

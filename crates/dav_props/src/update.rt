@@ -1,0 +1,127 @@
+//! What the body of a PROPPATCH asks for (RFC 4918, sections 9.2 and 14.19).
+ghost use Rattle.std.specs.Prelude.{◌≡◌, ◌++◌, map, IfOk};
+ghost use Rattle.std.specs.List.{flat_map};
+ghost use Rattle.dav_resource.specs.Gives.{GivesBy};
+ghost use Rattle.dav_resource.specs.Tree.{elements_of};
+ghost use Rattle.dav_props.specs.Update.{change_of, judged, changes_in, properties_of, properties_in, update_verdict, is_named as is_named_tree};
+
+use crate::live::{liveprop_remove, liveprop_set};
+use dav_resource::{DavError, DavResult, Element, ReqBody};
+use http::StatusCode;
+use std::alloc::{AllocError, Global};
+
+/// A property that a request sets or removes.
+#[derive(Clone, Copy, Debug)]
+pub struct PropertyChange<'r> {
+    /// Whether it is set; else it is removed.
+    pub set: bool,
+    /// The property, with its value where it is set.
+    pub element: &'r Element,
+    /// What `liveprop_set` or `liveprop_remove` answers: 100 for a dead property, which the store has to change.
+    pub status: StatusCode,
+}
+
+/// The changes that a body asks for, in order: each element in a `prop` of a `set` or a `remove`. Elements are known by
+/// their local names alone, and all others are passed over. `can_deadprop` says whether the store keeps properties.
+///
+/// Errors: `XmlParseError` where there is no body, or one that is no `propertyupdate`; `Memory`.
+pub fn read_update<'r>(
+    alloc: Global,
+    body: &'r ReqBody,
+    can_deadprop: bool,
+) -> DavResult<Vec<PropertyChange<'r>>>
+    ensures { GivesBy (λ changes. map change_of changes.items) result (update_verdict can_deadprop body.now) }
+{
+    match body {
+        ReqBody::Tree(root) if is_named(root, "propertyupdate") => {
+            Ok(read_parts(alloc, root, can_deadprop)?)
+        }
+        _ => Err(DavError::XmlParseError),
+    }
+}
+
+fn read_parts<'r>(
+    alloc: Global,
+    root: &'r Element,
+    can_deadprop: bool,
+) -> Result<Vec<PropertyChange<'r>>, AllocError>
+    ensures { IfOk result (λ changes. map change_of changes.items ≡ flat_map (changes_in can_deadprop) (elements_of root.now.children)) }
+{
+    let mut changes = Vec::new(alloc);
+    for part in root.child_elems_iter() {
+        changes = read_part(part, can_deadprop, changes)?;
+    }
+    Ok(changes)
+}
+
+/// Adds the changes that a part asks for.
+fn read_part<'r>(
+    part: &'r Element,
+    can_deadprop: bool,
+    changes: Vec<PropertyChange<'r>>,
+) -> Result<Vec<PropertyChange<'r>>, AllocError>
+    ensures { IfOk result (λ more. map change_of more.items ≡ map change_of changes.entry.items ++ changes_in can_deadprop part.now) }
+{
+    match part.name.as_str() {
+        "set" => read_properties(part, true, can_deadprop, changes),
+        "remove" => read_properties(part, false, can_deadprop, changes),
+        _ => Ok(changes),
+    }
+}
+
+/// Adds the changes of the properties that a part holds.
+fn read_properties<'r>(
+    part: &'r Element,
+    set: bool,
+    can_deadprop: bool,
+    mut changes: Vec<PropertyChange<'r>>,
+) -> Result<Vec<PropertyChange<'r>>, AllocError>
+    ensures { IfOk result (λ more. map change_of more.items ≡ map change_of changes.entry.items ++ map (judged can_deadprop set) (properties_in part.now)) }
+{
+    for prop in part.child_elems_iter() {
+        changes = read_prop(prop, set, can_deadprop, changes)?;
+    }
+    Ok(changes)
+}
+
+/// Adds the changes of the properties in an element, where that is a `prop`.
+fn read_prop<'r>(
+    prop: &'r Element,
+    set: bool,
+    can_deadprop: bool,
+    mut changes: Vec<PropertyChange<'r>>,
+) -> Result<Vec<PropertyChange<'r>>, AllocError>
+    ensures { IfOk result (λ more. map change_of more.items ≡ map change_of changes.entry.items ++ map (judged can_deadprop set) (properties_of prop.now)) }
+{
+    if !is_named(prop, "prop") {
+        return Ok(changes);
+    }
+    for element in prop.child_elems_iter() {
+        let change = judge(element, set, can_deadprop);
+        if changes.push(change).is_err() {
+            return Err(AllocError);
+        }
+    }
+    Ok(changes)
+}
+
+fn judge(element: &Element, set: bool, can_deadprop: bool) -> PropertyChange<'_>
+    ensures { change_of result ≡ judged can_deadprop set element.now }
+{
+    let status = if set {
+        liveprop_set(element, can_deadprop)
+    } else {
+        liveprop_remove(element, can_deadprop)
+    };
+    PropertyChange {
+        set,
+        element,
+        status,
+    }
+}
+
+fn is_named(element: &Element, name: &str) -> bool
+    ensures { result ≡ is_named_tree name.now element.now }
+{
+    element.name.as_str() == name
+}

@@ -1,0 +1,73 @@
+//! The body of a reply that tells the properties of resources.
+ghost use Rattle.std.specs.Prelude.{◌≡◌, ◌++◌, ◌∷◌, [], codes, Ok, IfOk, IfErr, OnOk, OnErr};
+ghost use Rattle.dav_resource.specs.declared.error.DavError.TheVariants.{Memory};
+ghost use Rattle.dav_parts.specs.DavElement.{with_elements};
+ghost use Rattle.dav_parts.specs.Multistatus.{xml_type};
+ghost use Rattle.dav_parts.specs.Reply.{reply_of, field};
+ghost use Rattle.dav_parts.specs.ReplyHeader.{HasRoomFor};
+ghost use Rattle.dav_props.specs.Groups.{groups_of, AreStatuses};
+ghost use Rattle.dav_props.specs.Propstat.{property_response as response_of_groups, property_multistatus};
+
+use crate::propstat::property_response;
+use dav_parts::{add_header, declaring_element};
+use dav_resource::{Body, DavPath, DavResult, Element};
+use http::{Response, StatusCode};
+use http_header::{CONTENT_TYPE, HeaderValue};
+use std::alloc::Global;
+use std::collections::BTreeMap;
+
+/// Writes the properties of resources, one response for each, into the tree of a 207 (RFC 4918, section 13).
+#[derive(Drop, Debug)]
+pub struct PropWriter {
+    tree: Element,
+}
+
+impl PropWriter {
+    /// A writer that has written no response. The reply gets the status 207, and as its last header field
+    /// `content-type`. The only error is `Memory`, where memory is lacking.
+    pub fn new(alloc: Global, res: &mut Response<Body>) -> DavResult<PropWriter>
+        requires { HasRoomFor (reply_of res.old).headers (codes "content-type") }
+        ensures empty { IfOk result (λ writer. writer.tree ≡ property_multistatus []) }
+        ensures reply { OnOk result (reply_of res.new ≡ record (reply_of res.old) { status = 207; headers = (reply_of res.old).headers ++ field (codes "content-type") xml_type ∷ [] }) }
+        ensures err { IfErr result (λ e. e ≡ Memory) }
+    {
+        let tree = declaring_element(alloc, "D:multistatus")?;
+        let xml = HeaderValue::from_static("application/xml; charset=utf-8");
+        add_header(res.headers_mut(), CONTENT_TYPE, Some(xml))?;
+        *res.status_mut() = StatusCode::MULTI_STATUS;
+        Ok(PropWriter { tree })
+    }
+
+    /// Writes one more response: a resource's path, and its properties by their statuses, the least first (RFC 4918,
+    /// section 14.24). The only error is `Memory`, where memory is lacking, and then nothing was written.
+    pub fn write_propresponse(
+        &mut self,
+        path: &DavPath,
+        props: BTreeMap<u16, Vec<Element>>,
+    ) -> DavResult<()>
+        requires { AreStatuses props }
+        ensures written { OnOk result (self.new.tree ≡ with_elements self.old.tree (response_of_groups path.now (groups_of props) ∷ [])) }
+        ensures unwritten { OnErr result (self.new.tree ≡ self.old.tree) }
+        ensures err { IfErr result (λ e. e ≡ Memory) }
+    {
+        let alloc = *self.tree.name.allocator();
+        let response = property_response(alloc, path, props)?;
+        self.tree.push_element(response)?;
+        Ok(())
+    }
+
+    /// Does nothing: the tree is handed over as a whole.
+    pub fn flush(&mut self) -> DavResult<()>
+        ensures ok { result ≡ Ok tt }
+        ensures same { self.new.tree ≡ self.old.tree }
+    {
+        Ok(())
+    }
+
+    /// The tree with all responses.
+    pub fn close(self) -> DavResult<Element>
+        ensures { result ≡ Ok self.tree }
+    {
+        Ok(self.tree)
+    }
+}
