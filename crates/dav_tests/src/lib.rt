@@ -40,6 +40,10 @@ mod engine;
 #[cfg(test)]
 mod fixture;
 #[cfg(test)]
+mod handing;
+#[cfg(test)]
+mod noting;
+#[cfg(test)]
 mod outline;
 #[cfg(test)]
 mod transfers;

@@ -1,0 +1,236 @@
+//! A store that notes what it is handed.
+ghost use Rattle.std.specs.Prelude.{◌≡◌};
+
+use dav_resource::{
+    DavFile, DavPath, DavProp, DirEntry, Element, FsResult, Meta, OpenOptions, Record, Text,
+};
+use dav_store::GuardedFileSystem;
+use http::StatusCode;
+use std::alloc::{AllocError, Global};
+
+/// A store that stands before another one, to which it hands each call on as it came. First it notes the call with all
+/// that it was handed; the credentials are a number. A call for whose note memory is lacking isn't handed on.
+///
+/// A path is noted with its prefix and without, and a file by its path and its place.
+#[derive(Debug, Drop)]
+pub struct Noting<F> {
+    inner: F,
+    notes: Vec<String>,
+}
+
+impl<F> Noting<F> {
+    /// A store that stands before another one, and has noted nothing.
+    pub fn new(alloc: Global, inner: F) -> Noting<F> {
+        Noting {
+            inner,
+            notes: Vec::new(alloc),
+        }
+    }
+
+    /// What was noted, a line for each call.
+    pub fn notes(&self) -> Result<String, AllocError> {
+        self.notes.as_slice().join(*self.notes.allocator(), "\n")
+    }
+
+    /// Forgets what was noted.
+    pub fn forget(&mut self) {
+        self.notes.clear();
+    }
+
+    /// Notes a call and what it was handed.
+    fn note(&mut self, call: &str, handed: String, credentials: u64) -> Result<(), AllocError>
+        ensures { self.new.inner ≡ self.old.inner }
+    {
+        let alloc = *self.notes.allocator();
+        let note = format!(in alloc; "{call} {handed} by {credentials}")?;
+        self.notes.push(note)?;
+        Ok(())
+    }
+}
+
+impl<F: GuardedFileSystem<u64>> GuardedFileSystem<u64> for Noting<F> {
+    ghost seen = { λ store. F.seen store.inner };
+
+    ghost well_formed = { λ store. F.well_formed store.inner };
+
+    fn metadata(&mut self, path: &DavPath, credentials: &u64) -> FsResult<Meta> {
+        self.note("metadata", show_path(path)?, *credentials)?;
+        self.inner.metadata(path, credentials)
+    }
+
+    fn read_dir(&mut self, path: &DavPath, credentials: &u64) -> FsResult<Vec<FsResult<DirEntry>>> {
+        self.note("read_dir", show_path(path)?, *credentials)?;
+        self.inner.read_dir(path, credentials)
+    }
+
+    fn create_dir(&mut self, path: &DavPath, credentials: &u64) -> FsResult<()> {
+        self.note("create_dir", show_path(path)?, *credentials)?;
+        self.inner.create_dir(path, credentials)
+    }
+
+    fn remove_file(&mut self, path: &DavPath, credentials: &u64) -> FsResult<()> {
+        self.note("remove_file", show_path(path)?, *credentials)?;
+        self.inner.remove_file(path, credentials)
+    }
+
+    fn remove_dir(&mut self, path: &DavPath, credentials: &u64) -> FsResult<()> {
+        self.note("remove_dir", show_path(path)?, *credentials)?;
+        self.inner.remove_dir(path, credentials)
+    }
+
+    fn copy(&mut self, from: &DavPath, to: &DavPath, credentials: &u64) -> FsResult<()> {
+        self.note("copy", show_two(from, to)?, *credentials)?;
+        self.inner.copy(from, to, credentials)
+    }
+
+    fn rename(&mut self, from: &DavPath, to: &DavPath, credentials: &u64) -> FsResult<()> {
+        self.note("rename", show_two(from, to)?, *credentials)?;
+        self.inner.rename(from, to, credentials)
+    }
+
+    fn open(
+        &mut self,
+        path: &DavPath,
+        options: &OpenOptions,
+        credentials: &u64,
+    ) -> FsResult<DavFile> {
+        self.note("open", show_opening(path, options)?, *credentials)?;
+        self.inner.open(path, options, credentials)
+    }
+
+    fn seek(&mut self, file: &mut DavFile, pos: u64, credentials: &u64) -> FsResult<()> {
+        self.note("seek", show_seek(file, pos)?, *credentials)?;
+        self.inner.seek(file, pos, credentials)
+    }
+
+    fn write_bytes(&mut self, file: &mut DavFile, bytes: &[u8], credentials: &u64) -> FsResult<()> {
+        self.note("write_bytes", show_write(file, bytes)?, *credentials)?;
+        self.inner.write_bytes(file, bytes, credentials)
+    }
+
+    fn flush(&mut self, file: &DavFile, credentials: &u64) -> FsResult<()> {
+        self.note("flush", show_file(file)?, *credentials)?;
+        self.inner.flush(file, credentials)
+    }
+
+    fn file_metadata(&mut self, file: &DavFile, credentials: &u64) -> FsResult<Meta> {
+        self.note("file_metadata", show_file(file)?, *credentials)?;
+        self.inner.file_metadata(file, credentials)
+    }
+
+    fn get_prop(&mut self, path: &DavPath, prop: &DavProp, credentials: &u64) -> FsResult<Element> {
+        self.note("get_prop", show_property_at(path, prop)?, *credentials)?;
+        self.inner.get_prop(path, prop, credentials)
+    }
+
+    fn get_props(&mut self, path: &DavPath, credentials: &u64) -> FsResult<Vec<DavProp>> {
+        self.note("get_props", show_path(path)?, *credentials)?;
+        self.inner.get_props(path, credentials)
+    }
+
+    fn patch_props(
+        &mut self,
+        path: &DavPath,
+        patches: &[(bool, DavProp)],
+        credentials: &u64,
+    ) -> FsResult<Vec<StatusCode>> {
+        self.note("patch_props", show_patches(path, patches)?, *credentials)?;
+        self.inner.patch_props(path, patches, credentials)
+    }
+
+    fn get_quota(&mut self, credentials: &u64) -> FsResult<(u64, Option<u64>)> {
+        let nothing = String::new(*self.notes.allocator());
+        self.note("get_quota", nothing, *credentials)?;
+        self.inner.get_quota(credentials)
+    }
+
+    fn have_props(&self) -> bool {
+        self.inner.have_props()
+    }
+
+    fn records(&self) -> &[Record] {
+        self.inner.records()
+    }
+
+    fn clear_log(&mut self) {
+        self.inner.clear_log();
+    }
+}
+
+// ---- what was handed
+
+/// A path with its prefix, and the same without.
+fn show_path(path: &DavPath) -> Result<String, AllocError> {
+    let whole = path.with_prefix()?.as_url_string()?;
+    let own = path.as_url_string()?;
+    let alloc = *own.allocator();
+    format!(in alloc; "{whole} ({own})")
+}
+
+fn show_two(from: &DavPath, to: &DavPath) -> Result<String, AllocError> {
+    let from = show_path(from)?;
+    let to = show_path(to)?;
+    let alloc = *to.allocator();
+    format!(in alloc; "{from} to {to}")
+}
+
+fn show_opening(path: &DavPath, options: &OpenOptions) -> Result<String, AllocError> {
+    let path = show_path(path)?;
+    let alloc = *path.allocator();
+    format!(in alloc; "{path} {options:?}")
+}
+
+/// A file by its path and its place, and whether each write goes to the end.
+fn show_file(file: &DavFile) -> Result<String, AllocError> {
+    let path = show_path(&file.path)?;
+    let alloc = *path.allocator();
+    let place = file.pos;
+    let end = if file.append { " or the end" } else { "" };
+    format!(in alloc; "{path} at {place}{end}")
+}
+
+fn show_seek(file: &DavFile, pos: u64) -> Result<String, AllocError> {
+    let file = show_file(file)?;
+    let alloc = *file.allocator();
+    format!(in alloc; "{file} to {pos}")
+}
+
+fn show_write(file: &DavFile, bytes: &[u8]) -> Result<String, AllocError> {
+    let file = show_file(file)?;
+    let alloc = *file.allocator();
+    format!(in alloc; "{file} {bytes:?}")
+}
+
+/// A property by its prefix, its name and its namespace.
+pub fn show_property(alloc: Global, prop: &DavProp) -> Result<String, AllocError> {
+    let prefix = text_or_none(prop.prefix.as_ref());
+    let name = prop.name.as_str();
+    let namespace = text_or_none(prop.namespace.as_ref());
+    format!(in alloc; "{prefix}:{name} of {namespace}")
+}
+
+fn text_or_none(text: Option<&Text>) -> &str {
+    match text {
+        Some(text) => text.as_str(),
+        None => "none",
+    }
+}
+
+fn show_property_at(path: &DavPath, prop: &DavProp) -> Result<String, AllocError> {
+    let path = show_path(path)?;
+    let alloc = *path.allocator();
+    let prop = show_property(alloc, prop)?;
+    format!(in alloc; "{path} {prop}")
+}
+
+/// A path and the properties that are to be set or removed.
+fn show_patches(path: &DavPath, patches: &[(bool, DavProp)]) -> Result<String, AllocError> {
+    let mut shown = show_path(path)?;
+    let alloc = *shown.allocator();
+    for (sets, prop) in patches {
+        shown.push_str(if *sets { " set " } else { " remove " })?;
+        let prop = show_property(alloc, prop)?;
+        shown.push_str(prop.as_str())?;
+    }
+    Ok(shown)
+}
