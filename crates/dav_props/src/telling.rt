@@ -1,6 +1,6 @@
 //! What the store is to make of the changes of a PROPPATCH, and how each is told (RFC 4918, section 9.2.1).
 ghost use Rattle.std.specs.Prelude.{◌≡◌, map, filter, IfOk};
-ghost use Rattle.dav_props.specs.Groups.{groups_of};
+ghost use Rattle.dav_props.specs.Groups.{groups_of, AreStatuses};
 ghost use Rattle.dav_props.specs.Property.{bare};
 ghost use Rattle.dav_props.specs.Propstat.{grouped};
 ghost use Rattle.dav_props.specs.Update.{change_of, is_dead as is_dead_change, is_refused as is_refused_change, some_refused as some_refused_of, patch_of, patches_of, failed as failed_change, told_failed, live_made, told_made};
@@ -42,7 +42,8 @@ pub fn tell_failed(
     alloc: Global,
     changes: &[PropertyChange<'_>],
 ) -> Result<BTreeMap<u16, Vec<Element>>, AllocError>
-    ensures { IfOk result (λ groups. groups_of groups ≡ grouped (told_failed (map change_of changes.now))) }
+    ensures groups { IfOk result (λ groups. groups_of groups ≡ grouped (told_failed (map change_of changes.now))) }
+    ensures statuses { IfOk result AreStatuses }
 {
     let mut told = Vec::new(alloc);
     for change in changes {
@@ -65,7 +66,8 @@ pub fn tell_made(
     changes: &[PropertyChange<'_>],
     statuses: &[StatusCode],
 ) -> Result<BTreeMap<u16, Vec<Element>>, AllocError>
-    ensures { IfOk result (λ groups. groups_of groups ≡ grouped (told_made (map change_of changes.now) statuses.now)) }
+    ensures groups { IfOk result (λ groups. groups_of groups ≡ grouped (told_made (map change_of changes.now) statuses.now)) }
+    ensures statuses { IfOk result AreStatuses }
 {
     let mut told = tell_live(alloc, changes)?;
     for (status, element) in statuses.iter().zip(dead_elements(alloc, changes)?) {

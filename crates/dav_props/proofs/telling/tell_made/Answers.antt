@@ -8,8 +8,8 @@ use Rattle.dav_props.specs.Propstat.{grouped}
 use Rattle.dav_props.specs.Update.{change_of, live_made, told_made}
 use Rattle.dav_props.proofs.telling.tell_made.Goals as goal
 
-pub returns : goal.returns
-returns c =
+pub returns-clause-groups : goal.returns-clause-groups
+returns-clause-groups c =
     let elements = c.in_ok-dead_elements.field-0 in
     let answered = c.zip-status-items.ensures in
     let given = YieldsList-at c.into_iter-status-iterator.ensures.into_iter_gives
