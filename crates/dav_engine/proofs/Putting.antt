@@ -21,6 +21,7 @@ use Rattle.std.proofs.Math.Seq.{drop-nil, take-length, drop-append-add}
 use Rattle.http.specs.declared.response.Response.{Response}
 use Rattle.dav_resource.specs.declared.request.Body.{Body}
 use Rattle.dav_parts.specs.Reply.{Answer, reply_of, answer_of}
+use Rattle.dav_walks.specs.PutLaws.{put_here}
 use Rattle.dav_engine.specs.PutReply.{put_reply}
 use Rattle.dav_parts.specs.Dialogue.{Dialogue, Refuses, Passed, GoesOn, needs, if_granted, LeadsTo, EndsIn, Judges, WasGranted}
 use Rattle.dav_engine.specs.Target.{target_of}
@@ -30,7 +31,7 @@ use Rattle.dav_engine.specs.Put.{new_bytes, put_options, put_open_error, put_see
 use Rattle.dav_engine.specs.Step.{WorksOnStore}
 use Rattle.dav_engine.proofs.Granting.{not_granted, not_this_op, WasGranted-first, WasGranted-last, WasGranted-either}
 use Rattle.dav_parts.specs.Dialogues.{LeadsTo-more, unlike, needs-declined}
-use Rattle.dav_engine.proofs.Trees.{get-inserted, insert-inserted}
+use Rattle.dav_engine.proofs.Trees.{insert-inserted}
 
 -- ---- the work
 
@@ -143,7 +144,7 @@ module _ (request : DavRequest) (target : Target) where
             written = λ g. absurd (not_this_op WriteBytes place _ g (λ x. cc));
           };
           bytes = kept old.contents;
-          there = rw is.tree (get-inserted old.contents.tree place (File (kept old.contents)));
+          there = rw is.tree (put_here old.contents.tree place (File (kept old.contents)));
         };
         file = is;
         opened = inl refl;
@@ -201,7 +202,7 @@ module _ (request : DavRequest) (target : Target) where
   filled old mid now file (b ∷ bytes) is at h w =
       let g : Grants (file_call WriteBytes mid.contents place) (IsWritten placed (b ∷ bytes)) mid now = rw at at w.granted in
       let r = record_of (on_file WriteBytes place) outcomes.Granted in
-      let here : get mid.contents.tree place ≡ Some (File (kept old.contents)) = rw h.file.tree (get-inserted old.contents.tree place (File (kept old.contents))) in
+      let here : get mid.contents.tree place ≡ Some (File (kept old.contents)) = rw h.file.tree (put_here old.contents.tree place (File (kept old.contents))) in
       let tree : now.contents.tree ≡ insert old.contents.tree place (File (final_bytes target (b ∷ bytes) (held old.contents))) =
       (g.effect.tree
       ∙ ap (λ node. insert mid.contents.tree place (File (written_at (bytes_at node) (if target.append then length (bytes_at node) else placed.pos) (b ∷ bytes)))) here
@@ -221,7 +222,7 @@ module _ (request : DavRequest) (target : Target) where
           written = λ _. record { tree = rw is tree; properties = rw (g.effect.properties, h.file.properties); limit = rw (g.effect.limit, h.file.limit) };
         };
         bytes = final_bytes target (b ∷ bytes) (held old.contents);
-        there = rw tree (get-inserted old.contents.tree place (File (final_bytes target (b ∷ bytes) (held old.contents))));
+        there = rw tree (put_here old.contents.tree place (File (final_bytes target (b ∷ bytes) (held old.contents))));
       }
 
   -- the writing is ended

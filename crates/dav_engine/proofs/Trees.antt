@@ -5,10 +5,6 @@ use Rattle.std.specs.FinMap.{get, insert, get-insert, same_map}
 use Rattle.dav_resource.specs.Key.{Key, key_cmp, key_cmp_total, key_cmp_exact, tied_decides}
 use Rattle.dav_store.specs.Store.{Node, Tree}
 
--- the node stands at its key
-pub get-inserted : (tree : Tree) (key : Key) (n : Node) → get (insert tree key n) key ≡ Some n
-get-inserted tree key n = get-insert key_cmp_total tree key n key ∙ ap (λ b. cond b (Some n) (get tree key)) ((tied_decides key key).1 (λ i. key))
-
 -- the last of two at one key counts
 pub insert-inserted : (tree : Tree) (key : Key) (n m : Node) → insert (insert tree key n) key m ≡ insert tree key m
 insert-inserted tree key n m =

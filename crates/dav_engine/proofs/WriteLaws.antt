@@ -21,6 +21,7 @@ use Rattle.dav_store.specs.Store.{Contents, File}
 use Rattle.dav_store.specs.declared.lock.DavLock.{DavLock}
 use Rattle.dav_parts.specs.Dialogue.{Dialogue, Asks, Refuses, Passed, needs, LeadsTo, WasGranted}
 use Rattle.dav_parts.specs.Reply.{Reply, Answer}
+use Rattle.dav_walks.specs.PutLaws.{put_elsewhere}
 use Rattle.dav_engine.specs.Laws.{ChangesPathAlone, tells_lock, untimed, untimed_locks, MayHaveRefreshed, MakesNothing, MakesNothingUnlessLocked}
 use Rattle.dav_engine.specs.LockReply.{granted_reply, refreshed_reply}
 use Rattle.dav_engine.specs.Locking.{is_refresh, lock_open_error, file_steps, FileLeaves, TakesBack, GrantsLock, DeniesLock, RefreshesAlone, RefreshesTold, FindsNoLock, lock_asked, refresh_timeout, LockWorkBy, LockCutBy}
@@ -33,7 +34,6 @@ use Rattle.dav_engine.specs.State.{State, Seen, state_of, LocksStay}
 use Rattle.dav_engine.specs.Step.{Serves}
 use Rattle.dav_engine.specs.declared.target.Target.{Target}
 use Rattle.dav_engine.proofs.Granting.{not_granted}
-use Rattle.dav_engine.proofs.Guarding.{other_node}
 
 -- ---- a call was granted, or it wasn't
 
@@ -97,7 +97,7 @@ module _ (request : DavRequest) (old new : State) where
   alone_put target records leaves = by_calls (granted_or_not OpenFile is_open request.path.key records) (granted_or_not WriteBytes is_write request.path.key records)
     where
       at : (bytes : List ℕ) → IsFileAt request.path.key bytes old.contents new.contents → ChangesPathAlone request old new
-      at bytes file = record { elsewhere = λ key apart. ap (λ t. get t key) file.tree ∙ other_node old.contents.tree request.path.key key (File bytes) apart; properties = file.properties }
+      at bytes file = record { elsewhere = λ key apart. ap (λ t. get t key) file.tree ∙ put_elsewhere old.contents.tree request.path.key key (File bytes) apart; properties = file.properties }
 
       by_calls : WasGranted OpenFile request.path.key records ⊎ (WasGranted OpenFile request.path.key records → ⊥) → WasGranted WriteBytes request.path.key records ⊎ (WasGranted WriteBytes request.path.key records → ⊥) → ChangesPathAlone request old new
       by_calls opened (inl written) = at _ (leaves.written written)

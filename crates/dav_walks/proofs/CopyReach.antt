@@ -1,15 +1,14 @@
 -- How far a copy has come: the calls so far, of which the log tells, and what they made. One call of the store leads further.
-use Rattle.std.proofs.Common.{◌≡◌, ◌≢◌, ◌⊎◌, ℕ, cond, Result, true, false, List, [], ◌∷◌, ◌++◌, Option, None, Some, Ok, Err, map, filter_map, refl, sym, ap, ◌∙◌, subst, inl, inr, append_assoc}
-use Rattle.std.specs.FinMap.{FinMap, get, insert, get-insert, get-remove}
+use Rattle.std.proofs.Common.{◌≡◌, ◌≢◌, ◌⊎◌, ℕ, Result, true, false, List, [], ◌∷◌, ◌++◌, Option, None, Some, Ok, Err, map, filter_map, refl, sym, ap, ◌∙◌, subst, inl, inr, append_assoc}
+use Rattle.std.specs.FinMap.{get}
 use Rattle.std.proofs.lemmas.List.{append-nil, map-append}
-use Rattle.dav_resource.specs.Key.{Key, parent, key_cmp, key_cmp_total}
+use Rattle.dav_resource.specs.Key.{Key, parent}
 use Rattle.dav_resource.specs.declared.meta.DirEntry.{DirEntry}
 use Rattle.dav_resource.specs.declared.record.Op.{Op}
 use Rattle.dav_resource.specs.declared.record.Op.TheVariants.{Metadata, ReadDir, CreateDir, Copy, Entry}
 use Rattle.dav_resource.specs.declared.record.Outcome.{Outcome}
 use Rattle.dav_resource.specs.declared.record.Outcome.TheVariants.{Granted, Refused}
 use Rattle.dav_resource.specs.declared.error.FsError.{FsError}
-use Rattle.dav_store.specs.Below.{put_at}
 use Rattle.dav_store.specs.Logged.{Logged, logged}
 use Rattle.dav_store.specs.Store.{Store, Contents, Node, File, Directory, IsWellFormed}
 use Rattle.dav_store.specs.Calls.{Call, record_of, Grants, Declines, IsLawful, metadata_call, create_dir_call, IsMadeAt, bytes_at}
@@ -19,7 +18,8 @@ use Rattle.dav_walks.specs.KeyCall.{standing}
 use Rattle.dav_walks.specs.Deletion.{WasRefused}
 use Rattle.dav_walks.specs.Trace.{HasKind}
 use Rattle.dav_walks.specs.Copying.{CopyStep, logged_step, snapshot, IsGranted, IsMade, IsListed, IsCalledFor, copied, HasRoom}
-use Rattle.dav_walks.proofs.Keys.{same_key_itself, other_key, below_cancel, IsIn-right, IsIn-append}
+use Rattle.dav_walks.specs.PutLaws.{put_here, put_elsewhere, put_at_here, put_at_elsewhere}
+use Rattle.dav_walks.proofs.Keys.{below_cancel, IsIn-right, IsIn-append}
 use Rattle.dav_walks.proofs.Single.{has_error}
 use Rattle.dav_walks.proofs.Facts.{directory_there, file_there}
 use Rattle.dav_walks.proofs.CopyGrow.{Steps, step_on, call_of, only_one, Sound, none_sound, grow, grow_quiet, unseen_steps, grow_unseen}
@@ -54,23 +54,6 @@ op_of_seen p q op outcome i = ap (λ (t : CopyStep). t.op) (only_one _ _ i)
 pub op_of_made : (p q : Key) (op : Op) (outcome : Outcome) → IsMade q (step_on p op outcome ∷ []) → (op ≡ Copy) ⊎ (op ≡ CreateDir)
 op_of_made p q op outcome (inl i) = inl (ap (λ (t : CopyStep). t.op) (only_one _ _ i))
 op_of_made p q op outcome (inr i) = inr (ap (λ (t : CopyStep). t.op) (only_one _ _ i))
-
--- ---- what a map has where something was put, and elsewhere
-
-module _ {X : Type 0} where
-  put_here : (m : FinMap key_cmp X) (k : Key) (x : X) → get (insert m k x) k ≡ Some x
-  put_here m k x = get-insert key_cmp_total m k x k ∙ ap (λ b. cond b (Some x) (get m k)) (same_key_itself k)
-
-  put_beside : (m : FinMap key_cmp X) (k : Key) (x : X) (q : Key) → q ≢ k → get (insert m k x) q ≡ get m q
-  put_beside m k x q apart = get-insert key_cmp_total m k x q ∙ ap (λ b. cond b (Some x) (get m q)) (other_key q k apart)
-
-  put_at_here : (m : FinMap key_cmp X) (k : Key) (o : Option X) → get (put_at m k o) k ≡ o
-  put_at_here m k None = get-remove key_cmp_total m k k ∙ ap (λ b. cond b None (get m k)) (same_key_itself k)
-  put_at_here m k (Some x) = put_here m k x
-
-  put_at_beside : (m : FinMap key_cmp X) (k : Key) (o : Option X) (q : Key) → q ≢ k → get (put_at m k o) q ≡ get m q
-  put_at_beside m k None q apart = get-remove key_cmp_total m k q ∙ ap (λ b. cond b None (get m q)) (other_key q k apart)
-  put_at_beside m k (Some x) q apart = put_beside m k x q apart
 
 -- ---- the calls
 
@@ -140,7 +123,7 @@ module _ {s top d : Key} {old : Store} (room : HasRoom s top d old.contents) (fo
         others : (key : Key) → (IsMade p (step_on p Copy Granted ∷ []) → key ≢ d ++ p) → standing new.contents key ≡ standing mid.contents key
         others j apart =
             let away : j ≢ q = λ e. apart (inl (inl refl)) (e ∙ place) in
-            λ i. ((ap (λ t. get t j) g.effect.tree ∙ put_beside mid.contents.tree q _ j away) i, (ap (λ m. get m j) g.effect.properties ∙ put_at_beside mid.contents.properties q _ j away) i)
+            λ i. ((ap (λ t. get t j) g.effect.tree ∙ put_elsewhere mid.contents.tree q j _ away) i, (ap (λ m. get m j) g.effect.properties ∙ put_at_elsewhere mid.contents.properties q j _ away) i)
 
   module _ (q : Key) (place : q ≡ d ++ p) (directory : HasKind true snap_at) (come : (p ≡ []) ⊎ IsListed p steps) (seen : IsGranted Metadata p steps) (fresh : IsNew p CreateDir steps) (unmade : IsMade p steps → ⊥) where
     free_here : get mid.contents.tree q ≡ None
@@ -173,7 +156,7 @@ module _ {s top d : Key} {old : Store} (room : HasRoom s top d old.contents) (fo
         others : (key : Key) → (IsMade p (step_on p CreateDir Granted ∷ []) → key ≢ d ++ p) → standing new.contents key ≡ standing mid.contents key
         others j apart =
             let away : j ≢ q = λ e. apart (inr (inl refl)) (e ∙ place) in
-            λ i. ((ap (λ t. get t j) g.effect.tree ∙ put_beside mid.contents.tree q _ j away) i, ap (λ m. get m j) g.effect.properties i)
+            λ i. ((ap (λ t. get t j) g.effect.tree ∙ put_elsewhere mid.contents.tree q j _ away) i, ap (λ m. get m j) g.effect.properties i)
 
   module _ (k : Key) (key : k ≡ s ++ p) (directory : HasKind true snap_at) (made : IsGranted CreateDir p steps) (fresh : IsNew p ReadDir steps) where
     pub source_directory : get mid.contents.tree k ≡ Some Directory

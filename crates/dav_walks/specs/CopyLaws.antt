@@ -1,10 +1,9 @@
 -- What follows of each copy, whatever the store refuses.
-use Rattle.std.proofs.Common.{◌≡◌, ◌≢◌, ◌∙◌, ◌⊎◌, Bool, true, false, cond, Some, None, List, [], ◌∷◌, ◌++◌, Option, ap, refl, sym, inl, inr, subst}
+use Rattle.std.proofs.Common.{◌≡◌, ◌≢◌, ◌∙◌, ◌⊎◌, Bool, true, false, Some, None, List, [], ◌∷◌, ◌++◌, Option, ap, refl, sym, inl, inr, subst}
 use Rattle.std.specs.Prelude.{not, ◌&&◌, if◌then◌else◌}
 use Rattle.std.specs.List.{cons_option}
-use Rattle.std.specs.Ordering.{eq_by_cmp}
-use Rattle.std.specs.FinMap.{FinMap, get, insert, get-insert, get-remove}
-use Rattle.dav_resource.specs.Key.{Key, key_cmp, key_cmp_total, tied_decides}
+use Rattle.std.specs.FinMap.{get}
+use Rattle.dav_resource.specs.Key.{Key}
 use Rattle.dav_resource.specs.PathText.{PathValue}
 use Rattle.dav_resource.specs.Errors.{fs_status}
 use Rattle.dav_resource.specs.declared.error.FsError.{FsError}
@@ -13,7 +12,6 @@ use Rattle.dav_resource.specs.declared.record.Outcome.{Outcome}
 use Rattle.dav_resource.specs.declared.record.Outcome.TheVariants.{Granted, Barred, Refused}
 use Rattle.dav_resource.specs.declared.request.Depth.{Depth}
 use Rattle.dav_resource.specs.declared.request.Depth.TheVariants.{Zero, One, Infinity, Default}
-use Rattle.dav_store.specs.Below.{put_at}
 use Rattle.dav_store.specs.Logged.{Logged}
 use Rattle.dav_store.specs.Store.{Contents, Node, File, Directory}
 use Rattle.dav_store.specs.Calls.{IsMadeAt}
@@ -25,6 +23,7 @@ use Rattle.dav_walks.specs.KeyCall.{standing}
 use Rattle.dav_walks.specs.Deletion.{Look, is_call}
 use Rattle.dav_walks.specs.Copying.{CopyStep, IsMade, copied, snapshot, named_by_step, named_once, names_behind, IsLawfulCopy, CopiesTree}
 use Rattle.dav_walks.specs.Copied.{IsPlaced, refusal_names, EndsAlone, CopiesAlone, CopiesAll, CopiesInPart}
+use Rattle.dav_walks.specs.PutLaws.{put_elsewhere, put_at_elsewhere}
 use Rattle.dav_walks.specs.RemovalLaws.{append-nothing}
 
 -- a copy is one that might have been broken off at its end
@@ -35,20 +34,6 @@ whole_copy_in_part Infinity source dest top old new records names c = (c.0, c.1,
 whole_copy_in_part Default source dest top old new records names c = (c.0, c.1, c.2.lawful)
 
 -- ---- nothing changes but at the destination and below it
-
-another_key : (k q : Key) → q ≢ k → eq_by_cmp key_cmp q k ≡ false
-another_key k q apart = go (eq_by_cmp key_cmp q k) refl
-  where
-    go : (b : Bool) → eq_by_cmp key_cmp q k ≡ b → b ≡ false
-    go true e = absurd (apart ((tied_decides q k).0 e))
-    go false e = refl
-
-put_elsewhere : {X : Type 0} (m : FinMap key_cmp X) (k q : Key) (x : X) → q ≢ k → get (insert m k x) q ≡ get m q
-put_elsewhere m k q x apart = get-insert key_cmp_total m k x q ∙ ap (λ b. cond b (Some x) (get m q)) (another_key k q apart)
-
-put_at_elsewhere : {X : Type 0} (m : FinMap key_cmp X) (k q : Key) (o : Option X) → q ≢ k → get (put_at m k o) q ≡ get m q
-put_at_elsewhere m k q None apart = get-remove key_cmp_total m k q ∙ ap (λ b. cond b None (get m q)) (another_key k q apart)
-put_at_elsewhere m k q (Some x) apart = put_elsewhere m k q x apart
 
 module _ (source dest : PathValue) (old new : Contents) (q : Key) (apart : q ≢ dest.key) where
   made_elsewhere : IsMadeAt dest.key old new → standing new q ≡ standing old q

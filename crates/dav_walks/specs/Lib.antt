@@ -6,5 +6,6 @@ pub mod Copying
 pub mod Copied
 pub mod CopyFrames
 pub mod CopyLaws
+pub mod PutLaws
 pub mod RemovalLaws
 pub mod ClearedLaws
