@@ -1,5 +1,5 @@
 -- What the body of a LOCK asks for (RFC 4918, sections 14.11, 14.13, 14.15 and 14.17); its elements are known by their local names alone.
-use Rattle.std.specs.Prelude.{ℕ, Bool, false, ◌&&◌, ◌||◌, if◌then◌else◌, List, [], ◌∷◌, bytes_eq, codes, Option, Some, None, option_map, Result}
+use Rattle.std.specs.Prelude.{ℕ, Bool, false, ◌&&◌, ◌||◌, if◌then◌else◌, List, [], ◌∷◌, codes, Option, Some, None, option_map, Result}
 use Rattle.std.specs.Option.{option_map_or, ok_or}
 use Rattle.std.specs.List.{filter, last_or, list_all, list_any}
 use Rattle.dav_resource.specs.Tree.{Tree, elements_of}
@@ -7,10 +7,8 @@ use Rattle.dav_resource.specs.declared.error.DavError.{DavError}
 use Rattle.dav_resource.specs.declared.error.DavError.TheVariants.{XmlParseError}
 use Rattle.dav_resource.specs.declared.request.ReqBody.{ReqBody}
 use Rattle.dav_resource.specs.declared.request.ReqBody.TheVariants as bodies
+use Rattle.dav_parts.specs.DavElement.{is_named}
 use Rattle.dav_engine.specs.declared.lock_info.LockInfo.{LockInfo}
-
-abbrev pub is_named : List ℕ → Tree → Bool
-is_named name tree = bytes_eq tree.tag.name name
 
 -- the first of them has this name
 abbrev pub first_is_named : List ℕ → List Tree → Bool

@@ -3,8 +3,9 @@ ghost use Rattle.std.specs.Prelude.{◌≡◌, IfOk, option_copied};
 ghost use Rattle.std.specs.List.{list_all, list_any};
 ghost use Rattle.dav_resource.specs.Gives.{GivesBy};
 ghost use Rattle.dav_resource.specs.Tree.{elements_of};
-ghost use Rattle.dav_engine.specs.LockInfo.{is_named as is_named_tree, begins_with as tree_begins_with, is_scope as is_scope_tree, is_write as is_write_tree, is_part as is_part_tree, is_lock_info as is_lock_info_tree, last_named as last_named_in, asks_shared as tree_asks_shared, under_dav as tree_under_dav, owner_in, lock_info_verdict};
+ghost use Rattle.dav_engine.specs.LockInfo.{begins_with as tree_begins_with, is_scope as is_scope_tree, is_write as is_write_tree, is_part as is_part_tree, is_lock_info as is_lock_info_tree, last_named as last_named_in, asks_shared as tree_asks_shared, under_dav as tree_under_dav, owner_in, lock_info_verdict};
 
+use dav_parts::is_named;
 use dav_resource::{DavError, DavResult, Element, ReqBody};
 use std::alloc::{AllocError, Global};
 
@@ -76,12 +77,6 @@ fn is_write(element: &Element) -> bool
     ensures { result ≡ is_write_tree element.now }
 {
     is_named(element, "locktype") && begins_with(element, "write")
-}
-
-fn is_named(element: &Element, name: &str) -> bool
-    ensures { result ≡ is_named_tree name.now element.now }
-{
-    element.name.as_str() == name
 }
 
 /// Whether the first element in it has this name.

@@ -1,8 +1,12 @@
--- Elements of a reply's body: all have the prefix `D`, which the outermost one declares (RFC 4918, section 14; Namespaces in XML 1.0, section 3).
-use Rattle.std.specs.Prelude.{ℕ, List, codes}
+-- Elements of a request's body, by their local names, and of a reply's: these have the prefix `D`, which the outermost one declares (RFC 4918, section 14; Namespaces in XML 1.0, section 3).
+use Rattle.std.specs.Prelude.{ℕ, Bool, List, bytes_eq, codes}
 use Rattle.dav_resource.specs.PathText.{PathValue, url_text}
 use Rattle.dav_resource.specs.PathForms.{prefixed}
 use Rattle.dav_resource.specs.Tree.{Tree, prefixed_element, with_attribute, with_children, one_text, elements}
+
+-- the element has this local name
+abbrev pub is_named : List ℕ → Tree → Bool
+is_named name tree = bytes_eq tree.tag.name name
 
 -- the element with these elements behind what stands in it
 abbrev pub with_elements : Tree → List Tree → Tree

@@ -1,10 +1,18 @@
-//! Elements of a reply's body, which have the prefix `D` (RFC 4918, section 14).
+//! Elements of a request's body, by their local names, and of a reply's, which have the prefix `D` (RFC 4918,
+//! section 14).
 ghost use Rattle.std.specs.Prelude.{◌≡◌, [], ◌∷◌, IfOk};
 ghost use Rattle.dav_resource.specs.Tree.{prefixed_element};
-ghost use Rattle.dav_parts.specs.DavElement.{with_elements, declaring_element as element_that_declares, text_element as element_of_text, href_element as element_of_path};
+ghost use Rattle.dav_parts.specs.DavElement.{with_elements, declaring_element as element_that_declares, text_element as element_of_text, href_element as element_of_path, is_named as is_named_tree};
 
 use dav_resource::{DavPath, Element};
 use std::alloc::{AllocError, Global};
+
+/// Whether this is the element's local name, whatever its prefix and namespace are.
+pub fn is_named(element: &Element, name: &str) -> bool
+    ensures { result ≡ is_named_tree name.now element.now }
+{
+    element.name.as_str() == name
+}
 
 /// An element of this name that declares the prefix. Only memory can be lacking.
 pub fn declaring_element(alloc: Global, name: &str) -> Result<Element, AllocError>

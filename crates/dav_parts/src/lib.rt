@@ -14,9 +14,9 @@ mod reply_header;
 pub use conditional::{
     dav_if_match, etaglist_match, http_if_match, if_match, if_match_get_tokens, ifrange_match,
 };
-pub use dav_element::{declaring_element, href_element, text_element};
+pub use dav_element::{declaring_element, href_element, is_named, text_element};
 pub use lock_tree::{build_lock_prop, list_lockdiscovery, list_supportedlock, timeout_text};
 pub use looking::look;
 pub use multierror::{MultiError, multi_error};
-pub use multistatus::{status_line, xml_headers};
+pub use multistatus::{add_xml_type, status_line, xml_headers};
 pub use reply_header::{add_header, header_value};

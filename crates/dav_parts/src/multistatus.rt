@@ -1,7 +1,8 @@
 //! The replies that tell statuses, and the trees in them (RFC 4918, sections 11.1, 13 and 14).
-ghost use Rattle.std.specs.Prelude.{◌≡◌, codes, [], ◌∷◌, IfOk, IfErr, string_bytes};
+ghost use Rattle.std.specs.Prelude.{◌≡◌, ◌++◌, codes, [], ◌∷◌, IfOk, OnOk, IfErr, string_bytes};
 ghost use Rattle.dav_resource.specs.declared.error.DavError.TheVariants.{Memory};
 ghost use Rattle.dav_parts.specs.Reply.{reply_of, bare_reply as reply_without_body, field};
+ghost use Rattle.dav_parts.specs.ReplyHeader.{HasRoomFor};
 ghost use Rattle.dav_parts.specs.Multistatus.{status_line as line_of_status, shown_status as status_shown_for, response_element as element_of_item, multistatus as tree_of_items, xml_type, multistatus_reply as reply_of_items};
 
 use crate::dav_element::{declaring_element, href_element, text_element};
@@ -43,9 +44,19 @@ pub fn xml_headers(alloc: Global) -> DavResult<HeaderMap<HeaderValue>>
     ensures err { IfErr result (λ e. e ≡ Memory) }
 {
     let mut headers = HeaderMap::new(alloc);
-    let xml = HeaderValue::from_static("application/xml; charset=utf-8");
-    add_header(&mut headers, CONTENT_TYPE, Some(xml))?;
+    add_xml_type(&mut headers)?;
     Ok(headers)
+}
+
+/// Says in `content-type` that the body is XML in UTF-8 (RFC 4918, section 8.2). The only error is `Memory`, where
+/// memory is lacking.
+pub fn add_xml_type(headers: &mut HeaderMap<HeaderValue>) -> DavResult<()>
+    requires { HasRoomFor headers.old (codes "content-type") }
+    ensures ok { OnOk result (headers.new ≡ headers.old ++ field (codes "content-type") xml_type ∷ []) }
+    ensures err { IfErr result (λ e. e ≡ Memory) }
+{
+    let xml = HeaderValue::from_static("application/xml; charset=utf-8");
+    add_header(headers, CONTENT_TYPE, Some(xml))
 }
 
 /// A response for each item, in order.

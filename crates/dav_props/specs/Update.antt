@@ -1,5 +1,5 @@
 -- What the body of a PROPPATCH asks for (RFC 4918, sections 9.2, 14.18, 14.19, 14.23 and 14.26). Elements are known by their local names alone.
-use Rattle.std.specs.Prelude.{ℕ, Bool, true, false, ◌&&◌, ◌||◌, not, nat_eq, if◌then◌else◌, List, [], ◌++◌, map, filter, bytes_eq, codes, Some, None, Result, Ok, Err}
+use Rattle.std.specs.Prelude.{ℕ, Bool, true, false, ◌&&◌, ◌||◌, not, nat_eq, if◌then◌else◌, List, [], ◌++◌, map, filter, codes, Some, None, Result, Ok, Err}
 use Rattle.std.specs.List.{flat_map, list_any, zip}
 use Rattle.dav_resource.specs.Tree.{Tree, elements_of}
 use Rattle.dav_resource.specs.declared.error.DavError.{DavError}
@@ -7,6 +7,7 @@ use Rattle.dav_resource.specs.declared.error.DavError.TheVariants.{XmlParseError
 use Rattle.dav_resource.specs.declared.request.ReqBody.{ReqBody}
 use Rattle.dav_resource.specs.declared.request.ReqBody.TheVariants as bodies
 use Rattle.dav_store.specs.PropertyCalls.{Patch}
+use Rattle.dav_parts.specs.DavElement.{is_named}
 use Rattle.dav_props.specs.Live.{set_status, remove_status}
 use Rattle.dav_props.specs.Property.{bare, prop_named}
 use Rattle.dav_props.specs.Propstat.{Told}
@@ -22,9 +23,6 @@ abbrev pub change_of : PropertyChange → Change
 change_of change = record { set = change.set; element = change.element.now; status = change.status }
 
 -- ---- what the body asks for
-
-abbrev pub is_named : List ℕ → Tree → Bool
-is_named name tree = bytes_eq tree.tag.name name
 
 -- the status of setting a property (true), or of removing it, where the store keeps properties or doesn't
 abbrev pub judged : Bool → Bool → Tree → Change

@@ -1,7 +1,6 @@
 //! A list of languages, the value of `DAV:getcontentlanguage` (RFC 4918, section 15.3).
 ghost use Rattle.std.specs.Prelude.{◌≡◌, ℕ, List, [], ◌∷◌, ◌++◌, codes, IsTrue};
 ghost use Rattle.std.specs.Char.{is_ascii_alphanumeric};
-ghost use Rattle.std.specs.List.{flat_map};
 ghost use Rattle.dav_headers.specs.Values.{is_blank};
 ghost use Rattle.dav_props.specs.Language.{is_subtag_length, is_language_list};
 

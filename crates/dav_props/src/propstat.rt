@@ -1,5 +1,5 @@
 //! The properties of a resource by their statuses (RFC 4918, section 14.22).
-ghost use Rattle.std.specs.Prelude.{◌≡◌, ◌++◌, ◌∷◌, [], IfOk, codes};
+ghost use Rattle.std.specs.Prelude.{◌≡◌, IfOk, codes};
 ghost use Rattle.http.specs.StatusCode.{IsStatusCode};
 ghost use Rattle.dav_resource.specs.Tree.{prefixed_element};
 ghost use Rattle.dav_parts.specs.DavElement.{with_elements};

@@ -3,9 +3,10 @@ ghost use Rattle.std.specs.Prelude.{◌≡◌, ◌++◌, map, IfOk};
 ghost use Rattle.std.specs.List.{flat_map};
 ghost use Rattle.dav_resource.specs.Gives.{GivesBy};
 ghost use Rattle.dav_resource.specs.Tree.{elements_of};
-ghost use Rattle.dav_props.specs.Update.{change_of, judged, changes_in, properties_of, properties_in, update_verdict, is_named as is_named_tree};
+ghost use Rattle.dav_props.specs.Update.{change_of, judged, changes_in, properties_of, properties_in, update_verdict};
 
 use crate::live::{liveprop_remove, liveprop_set};
+use dav_parts::is_named;
 use dav_resource::{DavError, DavResult, Element, ReqBody};
 use http::StatusCode;
 use std::alloc::{AllocError, Global};
@@ -118,10 +119,4 @@ fn judge(element: &Element, set: bool, can_deadprop: bool) -> PropertyChange<'_>
         element,
         status,
     }
-}
-
-fn is_named(element: &Element, name: &str) -> bool
-    ensures { result ≡ is_named_tree name.now element.now }
-{
-    element.name.as_str() == name
 }

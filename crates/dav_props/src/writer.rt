@@ -9,10 +9,9 @@ ghost use Rattle.dav_props.specs.Groups.{groups_of, AreStatuses};
 ghost use Rattle.dav_props.specs.Propstat.{property_response as response_of_groups, property_multistatus};
 
 use crate::propstat::property_response;
-use dav_parts::{add_header, declaring_element};
+use dav_parts::{add_xml_type, declaring_element};
 use dav_resource::{Body, DavPath, DavResult, Element};
 use http::{Response, StatusCode};
-use http_header::{CONTENT_TYPE, HeaderValue};
 use std::alloc::Global;
 use std::collections::BTreeMap;
 
@@ -32,8 +31,7 @@ impl PropWriter {
         ensures err { IfErr result (λ e. e ≡ Memory) }
     {
         let tree = declaring_element(alloc, "D:multistatus")?;
-        let xml = HeaderValue::from_static("application/xml; charset=utf-8");
-        add_header(res.headers_mut(), CONTENT_TYPE, Some(xml))?;
+        add_xml_type(res.headers_mut())?;
         *res.status_mut() = StatusCode::MULTI_STATUS;
         Ok(PropWriter { tree })
     }
