@@ -1,11 +1,10 @@
 -- The replies to LOCK and UNLOCK (RFC 4918, sections 9.10, 9.11 and 10.5).
-use Rattle.std.specs.Prelude.{ℕ, true, ◌&&◌, not, if◌then◌else◌, ◌∷◌, codes, Option, Some, None, is_some}
+use Rattle.std.specs.Prelude.{ℕ, true, if◌then◌else◌, ◌∷◌, codes, Option, is_some}
 use Rattle.http.specs.declared.version.TheConstants.Version.{HTTP_11}
 use Rattle.http_header.specs.HeaderMap.{Entries}
-use Rattle.http_header.specs.FieldValue.{FieldValue, plain_value}
+use Rattle.http_header.specs.FieldValue.{FieldValue}
 use Rattle.dav_resource.specs.LockToken.{coded}
-use Rattle.dav_resource.specs.PathText.{PathValue, url_text}
-use Rattle.dav_resource.specs.PathForms.{is_collection, prefixed}
+use Rattle.dav_resource.specs.PathText.{PathValue}
 use Rattle.dav_resource.specs.declared.meta.Meta.{Meta}
 use Rattle.dav_resource.specs.declared.request.Body.{Body}
 use Rattle.dav_resource.specs.declared.request.DavRequest.{DavRequest}
@@ -13,16 +12,7 @@ use Rattle.dav_store.specs.declared.lock.DavLock.{DavLock}
 use Rattle.dav_parts.specs.LockTree.{lock_prop}
 use Rattle.dav_parts.specs.Multistatus.{xml_type}
 use Rattle.dav_parts.specs.Reply.{Reply, bare_reply, field}
-use Rattle.dav_parts.specs.ReplyHeader.{optional_field}
-use Rattle.dav_engine.specs.Rules.{is_directory, fixed_path}
-
--- a directory's path, with its slash and the prefix, where the request's path lacked the slash
-abbrev pub fixed_location : PathValue → Option Meta → Option FieldValue
-fixed_location path found =
-    if is_directory found && not (is_collection path) then Some (plain_value (url_text (prefixed (fixed_path path found)))) else None
-
-abbrev pub location_fields : PathValue → Option Meta → Entries FieldValue
-location_fields path found = optional_field (codes "content-location") (fixed_location path found)
+use Rattle.dav_engine.specs.Location.{location_fields}
 
 -- a reply that tells a lock in full
 abbrev pub lock_reply : ℕ → Entries FieldValue → DavLock → Reply

@@ -1,17 +1,16 @@
 //! The replies to LOCK and UNLOCK.
-ghost use Rattle.std.specs.Prelude.{◌≡◌, if◌then◌else◌, is_some, ◌++◌, [], codes, IfOk, OnOk, IfErr};
+ghost use Rattle.std.specs.Prelude.{◌≡◌, if◌then◌else◌, is_some, [], IfOk, IfErr};
 ghost use Rattle.dav_resource.specs.LockToken.{coded};
 ghost use Rattle.dav_resource.specs.declared.error.DavError.TheVariants.{Memory};
 ghost use Rattle.dav_parts.specs.Reply.{reply_of};
-ghost use Rattle.dav_parts.specs.ReplyHeader.{HasRoomFor};
-ghost use Rattle.dav_engine.specs.LockReply.{fixed_location as location_of_fixed, location_fields, lock_reply as reply_of_lock, granted_reply as reply_of_granted, refreshed_reply as reply_of_refreshed, unlocked_reply as reply_of_unlocked};
+ghost use Rattle.dav_engine.specs.LockReply.{lock_reply as reply_of_lock, granted_reply as reply_of_granted, refreshed_reply as reply_of_refreshed, unlocked_reply as reply_of_unlocked};
 
-use crate::inner::{fixed_path, is_directory};
+use crate::location::add_location;
 use dav_parts::{add_header, build_lock_prop, header_value, xml_headers};
 use dav_resource::{Body, DavPath, DavRequest, DavResult, Meta};
 use dav_store::DavLock;
 use http::{Response, StatusCode};
-use http_header::{CONTENT_LOCATION, HeaderMap, HeaderName, HeaderValue};
+use http_header::{HeaderMap, HeaderName, HeaderValue};
 use std::alloc::Global;
 
 /// The reply to a LOCK that was granted (RFC 4918, section 9.10.1): 200 where something was found, else 201,
@@ -94,29 +93,4 @@ fn lock_reply(
     *reply.status_mut() = status;
     *reply.headers_mut() = headers;
     Ok(reply)
-}
-
-/// Adds where the resource is, if the path lacked a directory's slash. The only error is `Memory`.
-fn add_location(
-    headers: &mut HeaderMap<HeaderValue>,
-    path: &DavPath,
-    found: &Option<Meta>,
-) -> DavResult<()>
-    requires { HasRoomFor headers.old (codes "content-location") }
-    ensures ok { OnOk result (headers.new ≡ headers.old ++ location_fields path.now found.now) }
-    ensures err { IfErr result (λ e. e ≡ Memory) }
-{
-    add_header(headers, CONTENT_LOCATION, fixed_location(path, found)?)
-}
-
-/// A directory's path, with its slash and the prefix, where the request's path lacked the slash.
-fn fixed_location(path: &DavPath, found: &Option<Meta>) -> DavResult<Option<HeaderValue>>
-    ensures ok { IfOk result (λ value. value ≡ location_of_fixed path.now found.now) }
-    ensures err { IfErr result (λ e. e ≡ Memory) }
-{
-    if path.is_collection() || !is_directory(found.as_ref()) {
-        return Ok(None);
-    }
-    let fixed = fixed_path(path, found.as_ref())?;
-    Ok(Some(header_value(fixed.with_prefix()?.as_url_string()?)?))
 }
