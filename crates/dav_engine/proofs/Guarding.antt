@@ -1,17 +1,19 @@
 -- That each change lies where the locks permit it.
-use Rattle.std.proofs.Common.{◌≡◌, ◌≢◌, ℕ, Bool, true, false, List, [], ◌∷◌, ◌++◌, Option, Some, None, Err, ◌⊎◌, inl, inr, refl, sym, ap, ◌∙◌, cond}
+use Rattle.std.proofs.Common.{◌≡◌, ◌≢◌, ℕ, Bool, true, false, List, [], ◌∷◌, ◌++◌, Option, Some, None, Result, Ok, Err, ◌⊎◌, inl, inr, refl, sym, ap, ◌∙◌}
 use Rattle.std.specs.Ordering.{eq_by_cmp}
 use Rattle.std.specs.Result.{result_ok}
-use Rattle.std.specs.FinMap.{get, insert, get-insert}
+use Rattle.std.specs.FinMap.{get, insert}
 use Rattle.std.proofs.lemmas.Slice.Eq.{bytes_eq-Decides}
-use Rattle.dav_resource.specs.Key.{Key, key_cmp, key_cmp_total, tied_decides}
+use Rattle.dav_resource.specs.Key.{Key, key_cmp, tied_decides}
 use Rattle.dav_resource.specs.declared.error.DavError.TheVariants.{Memory}
+use Rattle.dav_resource.specs.declared.error.FsError.{FsError}
 use Rattle.dav_resource.specs.declared.meta.Meta.{Meta}
 use Rattle.dav_resource.specs.declared.method.DavMethod.{DavMethod}
-use Rattle.dav_resource.specs.declared.method.DavMethod.TheVariants.{MkCol, Copy, Move, Delete, Lock, Unlock}
+use Rattle.dav_resource.specs.declared.method.DavMethod.TheVariants.{PropPatch, MkCol, Copy, Move, Delete, Lock, Unlock}
 use Rattle.dav_resource.specs.declared.request.DavRequest.{DavRequest}
 use Rattle.dav_store.specs.Logged.{Logged}
-use Rattle.dav_store.specs.Store.{Contents, Node, Tree, File}
+use Rattle.dav_store.specs.PropertyCalls.{Patch, IsPatchedAt}
+use Rattle.dav_store.specs.Store.{Contents, Node, File}
 use Rattle.dav_parts.specs.Conditions.{conditions}
 use Rattle.dav_parts.specs.Dialogue.{Passed, LeadsTo, look, refusing}
 use Rattle.dav_parts.specs.Dialogues.{LeadsTo-last, LeadsTo-unrefused}
@@ -19,6 +21,7 @@ use Rattle.dav_parts.specs.Reply.{Answer}
 use Rattle.dav_engine.specs.State.{State}
 use Rattle.dav_store.specs.Locks.{is_at_or_below}
 use Rattle.dav_walks.specs.KeyCall.{standing}
+use Rattle.dav_walks.specs.PutLaws.{put_here, put_elsewhere, put_at_elsewhere}
 use Rattle.dav_walks.specs.RemovalLaws.{removes_within, whole_in_part}
 use Rattle.dav_engine.specs.Rules.{is_permitted, path_rules, shallow_rules, closing, judged, must_find, look_closely, depth_or_all, depth_verdict, fixed_path}
 use Rattle.dav_engine.specs.Target.{target_of}
@@ -29,16 +32,17 @@ use Rattle.dav_engine.specs.Move.{MoveWork, MoveCut}
 use Rattle.dav_engine.specs.Guarded.{IsChanged, IsPermitted, IsLockedFile, IsGuarded}
 use Rattle.dav_engine.specs.Locking.{is_refresh, lock_asked, HasFile, FileLeaves, GrantsLock, DeniesLock, LockWorkBy, LockCutBy}
 use Rattle.dav_store.specs.declared.lock.DavLock.{DavLock}
-use Rattle.dav_engine.proofs.Passing.{permitted_passed, MovePassed, move_passed, CopyPassed, copy_passed}
+use Rattle.dav_engine.proofs.Patching.{update_passed}
+use Rattle.dav_engine.proofs.Passing.{permitted_passed, path_passed, MovePassed, move_passed, CopyPassed, copy_passed}
 use Rattle.dav_engine.proofs.Copying.{copied_outside, copied_part_outside}
 use Rattle.dav_engine.proofs.Moving.{moved_outside, moved_part_outside}
-use Rattle.dav_engine.proofs.Trees.{get-inserted}
 use Rattle.dav_engine.specs.Mkcol.{MkcolLeaves}
 use Rattle.dav_engine.specs.Opening.{IsFileAt}
+use Rattle.dav_engine.specs.Proppatch.{MakesChanges}
 use Rattle.dav_engine.specs.Put.{PutLeaves, put_rules}
 use Rattle.dav_engine.specs.Settings.{Settings}
 use Rattle.dav_engine.specs.Method.{Method}
-use Rattle.dav_engine.specs.Methods.{mkcol_method, write_method, delete_method, copy_method, move_method, lock_method, unlock_method}
+use Rattle.dav_engine.specs.Methods.{mkcol_method, write_method, delete_method, copy_method, move_method, lock_method, unlock_method, proppatch_method}
 
 -- nothing is changed where nothing changes
 unchanged : (key : Key) (old new : Contents) → new ≡ old → IsChanged key old new → ⊥
@@ -52,11 +56,6 @@ guarded_contents : (method : Option DavMethod) (request : DavRequest) (old new :
 guarded_contents method request old new same key changed = absurd (unchanged key old.contents new.contents same changed)
 
 -- ---- what the rules have asked
-
-path_passed : (request : DavRequest) (state : State) (looked : Option Meta) (head : List Logged) (found : Option Meta) → LeadsTo (path_rules request state looked) head (Passed found) → is_permitted request state request.path.key false ≡ true
-path_passed request state looked head found h =
-    let held = LeadsTo-last (conditions state.contents state.locks request looked request.path) _ head found h in
-    permitted_passed 423 (is_permitted request state request.path.key false) looked found held.2 held.4
 
 shallow_passed : (request : DavRequest) (state : State) (head : List Logged) (found : Option Meta) → LeadsTo (shallow_rules request state) head (Passed found) → is_permitted request state request.path.key false ≡ true
 shallow_passed request state head found h =
@@ -79,26 +78,30 @@ delete_passed request state head meta h =
 
 -- ---- what the work has changed
 
--- a node that is put at a key changes no other key
-pub other_node : (tree : Tree) (place key : Key) (n : Node) → (key ≢ place) → get (insert tree place n) key ≡ get tree key
-other_node tree place key n apart = get-insert key_cmp_total tree place n key ∙ kept (eq_by_cmp key_cmp key place) refl
-  where
-    kept : (b : Bool) → eq_by_cmp key_cmp key place ≡ b → cond b (Some n) (get tree key) ≡ get tree key
-    kept true same = absurd (apart ((tied_decides key place).0 same))
-    kept false same = refl
-
-put_elsewhere : (place key : Key) (n : Node) (old new : Contents) → new.tree ≡ insert old.tree place n → new.properties ≡ old.properties → (key ≢ place) → IsChanged key old new → ⊥
-put_elsewhere place key n old new tree properties apart (inl other) = other (sym (ap (λ t. get t key) tree ∙ other_node old.tree place key n apart))
-put_elsewhere place key n old new tree properties apart (inr other) = other (ap (λ p. get p key) (sym properties))
+put_node_elsewhere : (place key : Key) (n : Node) (old new : Contents) → new.tree ≡ insert old.tree place n → new.properties ≡ old.properties → (key ≢ place) → IsChanged key old new → ⊥
+put_node_elsewhere place key n old new tree properties apart (inl other) = other (sym (ap (λ t. get t key) tree ∙ put_elsewhere old.tree place key n apart))
+put_node_elsewhere place key n old new tree properties apart (inr other) = other (ap (λ p. get p key) (sym properties))
 
 mkcol_elsewhere : (request : DavRequest) (records : List Logged) (old new : Contents) (key : Key) → MkcolLeaves request records old new → (key ≢ request.path.key) → IsChanged key old new → ⊥
 mkcol_elsewhere request records old new key leaves apart changed =
-    unchanged key old new (leaves.untouched (λ granted. put_elsewhere request.path.key key _ old new (leaves.made granted).tree (leaves.made granted).properties apart changed)) changed
+    unchanged key old new (leaves.untouched (λ granted. put_node_elsewhere request.path.key key _ old new (leaves.made granted).tree (leaves.made granted).properties apart changed)) changed
 
 put_work_elsewhere : (request : DavRequest) (target : Target) (records : List Logged) (old new : Contents) (key : Key) → PutLeaves request target records old new → (key ≢ request.path.key) → IsChanged key old new → ⊥
 put_work_elsewhere request target records old new key leaves apart changed =
-    let at : (bytes : List ℕ) → IsFileAt request.path.key bytes old new → ⊥ = λ bytes file. put_elsewhere request.path.key key _ old new file.tree file.properties apart changed in
+    let at : (bytes : List ℕ) → IsFileAt request.path.key bytes old new → ⊥ = λ bytes file. put_node_elsewhere request.path.key key _ old new file.tree file.properties apart changed in
     unchanged key old new (leaves.untouched (λ opened. at _ (leaves.opened opened (λ written. at _ (leaves.written written))))) changed
+
+-- properties that are changed at a key are those of no other key
+patched_elsewhere : (place key : Key) (patches : List Patch) (old new : Contents) → IsPatchedAt place patches old new → (key ≢ place) → IsChanged key old new → ⊥
+patched_elsewhere place key patches old new made apart (inl other) = other (ap (λ t. get t key) (sym made.tree))
+patched_elsewhere place key patches old new made apart (inr other) = other (sym (ap (λ p. get p key) made.properties ∙ put_at_elsewhere old.properties place key _ apart))
+
+changes_elsewhere : (keeps : Bool) (place key : Key) (patches : List Patch) (old new : Contents) (records : List Logged) (told : Result (List ℕ) FsError)
+    → MakesChanges keeps place patches old records told new → (key ≢ place) → IsChanged key old new → ⊥
+changes_elsewhere keeps place key [] old new records told none apart = unchanged key old new none.same
+changes_elsewhere keeps place key (patch ∷ patches) old new records told (inl all) apart = patched_elsewhere place key (patch ∷ patches) old new all.made apart
+changes_elsewhere keeps place key (patch ∷ patches) old new records told (inr (inl none)) apart = unchanged key old new none.same
+changes_elsewhere keeps place key (patch ∷ patches) old new records told (inr (inr refused)) apart = unchanged key old new refused.same
 
 -- ---- together
 
@@ -158,9 +161,9 @@ guarded_file request old new records (inl made) key changed = by_node (get old.c
     made_at : get old.contents.tree request.path.key ≡ None → (b : Bool) → eq_by_cmp key_cmp key request.path.key ≡ b → IsLockedFile (Some Lock) request key old.contents new.contents
     made_at nothing true same =
         let here : key ≡ request.path.key = (tied_decides key request.path.key).0 same in
-        record { locks = refl; here = here; nothing = rw here nothing; empty = rw (here, (has.made nothing).tree) (get-inserted old.contents.tree request.path.key (File [])) }
+        record { locks = refl; here = here; nothing = rw here nothing; empty = rw (here, (has.made nothing).tree) (put_here old.contents.tree request.path.key (File [])) }
     made_at nothing false apart =
-        absurd (put_elsewhere request.path.key key (File []) old.contents new.contents (has.made nothing).tree (has.made nothing).properties
+        absurd (put_node_elsewhere request.path.key key (File []) old.contents new.contents (has.made nothing).tree (has.made nothing).properties
         (λ here. absurd (let no : true ≡ false = sym ((tied_decides key request.path.key).1 here) ∙ apart in cc)) changed)
 
     by_node : (node : Option Node) → get old.contents.tree request.path.key ≡ node → IsPermitted request old key ⊎ IsLockedFile (Some Lock) request key old.contents new.contents
@@ -237,3 +240,17 @@ guards_copy settings request found old new head records answer passed done = by_
     by_end : CopyWork request found old records answer new ⊎ ((answer ≡ Err Memory) × CopyCut request found old records new) → IsGuarded (Some Copy) request old new
     by_end (inl work) = within (λ key outside. copied_outside (depth_or_all request) (fixed_path request.path (Some found.meta)) found old new records key outside work.names work.done)
     by_end (inr cut) = within (λ key outside. copied_part_outside (depth_or_all request) (fixed_path request.path (Some found.meta)) found old new records key outside cut.1)
+
+pub guards_proppatch : Guards (Some PropPatch) proppatch_method
+guards_proppatch settings request found old new head records answer passed done = by_end done
+  where
+    keeps : Bool
+    keeps = settings.keeps_properties
+
+    at_path : ((key : Key) → (key ≢ request.path.key) → IsChanged key old.contents new.contents → ⊥) → IsGuarded (Some PropPatch) request old new
+    at_path = guarded_at (Some PropPatch) request old new (update_passed keeps request old head found passed).permitted
+
+    by_end : proppatch_method.Work settings request found old records answer new ⊎ ((answer ≡ Err Memory) × proppatch_method.Cut settings request found old records new) → IsGuarded (Some PropPatch) request old new
+    by_end (inl work) = at_path (λ key. changes_elsewhere keeps request.path.key key _ old.contents new.contents records work.0.told work.0.stored)
+    by_end (inr (told, (inl none, locks))) = at_path (λ key apart. unchanged key old.contents new.contents none.same)
+    by_end (inr (told, (inr made, locks))) = at_path (λ key. changes_elsewhere keeps request.path.key key _ old.contents new.contents records (Ok made.0) made.1)

@@ -18,6 +18,9 @@ pub mod Transferring
 pub mod Moving
 pub mod Copying
 pub mod Passing
+pub mod Patching
+pub mod PatchLaws
+pub mod PatchTells
 pub mod Serving
 pub mod Trees
 pub mod Compatible

@@ -22,7 +22,7 @@ use Rattle.dav_parts.specs.Dialogue.{Passed, LeadsTo, look, if_granted}
 use Rattle.dav_parts.specs.Dialogues.{LeadsTo-last}
 use Rattle.dav_engine.specs.State.{State}
 use Rattle.dav_engine.specs.Settings.{Settings}
-use Rattle.dav_engine.specs.Rules.{judged, told_by_look, or_refused, must_find, look_closely, own_conditions, is_permitted, where_permitted, depth_or_all, is_directory}
+use Rattle.dav_engine.specs.Rules.{judged, told_by_look, or_refused, must_find, look_closely, own_conditions, is_permitted, where_permitted, path_rules, depth_or_all, is_directory}
 use Rattle.dav_engine.specs.Transferring.{where_reached, asked_destination, reach_verdict, parent_verdict, must_have_parent, found_or_absent, look_there, see_destination, may_overwrite, is_deep, is_misplaced, place_verdict, permits_transfer, transfer_rules}
 use Rattle.dav_engine.specs.Move.{MayMove}
 use Rattle.dav_engine.specs.Copy.{MayCopy}
@@ -42,11 +42,17 @@ permitted_value status true a b (r ∷ records) h = absurd h
 permitted_value status false a b [] h = absurd cc
 permitted_value status false a b (r ∷ records) h = absurd h
 
-judged_passed : {A : Type 0} (verdict : Result A DavError) (a : A) (records : List Logged) → LeadsTo (judged verdict) records (Passed a) → verdict ≡ Ok a
+pub judged_passed : {A : Type 0} (verdict : Result A DavError) (a : A) (records : List Logged) → LeadsTo (judged verdict) records (Passed a) → verdict ≡ Ok a
 judged_passed (Ok b) a [] h = let same : a ≡ b = cc in ap Ok (sym same)
 judged_passed (Ok b) a (r ∷ records) h = absurd h
 judged_passed (Err e) a [] h = absurd cc
 judged_passed (Err e) a (r ∷ records) h = absurd h
+
+-- the conditions hold, and the locks of the path permit it
+pub path_passed : (request : DavRequest) (state : State) (looked : Option Meta) (head : List Logged) (found : Option Meta) → LeadsTo (path_rules request state looked) head (Passed found) → is_permitted request state request.path.key false ≡ true
+path_passed request state looked head found h =
+    let held = LeadsTo-last (own_conditions request state looked) _ head found h in
+    permitted_passed 423 (is_permitted request state request.path.key false) looked found held.2 held.4
 
 -- ---- the looks
 

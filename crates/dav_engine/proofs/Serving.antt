@@ -1,5 +1,5 @@
 -- Requests as rules and work.
-use Rattle.std.proofs.Common.{◌≡◌, ◌++◌, [], List, Option, Some, Ok, Err, ◌⊎◌, inl, inr, refl, sym, subst, append_assoc, append-nil, option_map, Result, Bool, true, false, if◌then◌else◌}
+use Rattle.std.proofs.Common.{◌≡◌, ◌++◌, [], List, Option, Some, Ok, Err, ◌⊎◌, inl, inr, refl, sym, subst, append_assoc, append-nil, option_map, Result, IfOk, IfErr, Bool, true, false, if◌then◌else◌}
 use Rattle.std.specs.Option.{option_map_or}
 use Rattle.std.specs.Result.{IsErrAnd}
 use Rattle.std.proofs.lemmas.Result.{err_from_is_err_and}
@@ -14,14 +14,14 @@ use Rattle.dav_store.specs.Logged.{Logged}
 use Rattle.dav_store.specs.Store.{Store, Contents}
 use Rattle.dav_store.specs.Locks.{Locks}
 use Rattle.dav_parts.specs.Dialogue.{Refuses, EndsIn, Judges, Reaches}
-use Rattle.dav_parts.specs.Reply.{Reply, Answer, answer_of}
+use Rattle.dav_parts.specs.Reply.{Reply, Answer, answer_of, reply_of}
 use Rattle.dav_engine.specs.State.{State, Seen, state_of, facts_of}
 use Rattle.dav_engine.specs.Settings.{Settings}
 use Rattle.dav_engine.specs.Method.{Method, StepBy, Refused, Done, CutShort, CutInWork, OnStore, CutOnStore}
-use Rattle.dav_engine.specs.Methods.{Step, mkcol_method, write_method, delete_method, copy_method, move_method, lock_method, unlock_method}
+use Rattle.dav_engine.specs.Methods.{Step, mkcol_method, write_method, delete_method, copy_method, move_method, lock_method, unlock_method, proppatch_method}
 use Rattle.dav_engine.specs.Step.{Serves, Performs, WorksOnStore}
-use Rattle.dav_engine.proofs.Compatible.{Keeps, compatible_same, keeps_mkcol, keeps_put, keeps_delete, keeps_copy, keeps_move, keeps_lock, keeps_unlock}
-use Rattle.dav_engine.proofs.Guarding.{Guards, guarded_same, guards_mkcol, guards_put, guards_delete, guards_copy, guards_move, guards_lock, guards_unlock}
+use Rattle.dav_engine.proofs.Compatible.{Keeps, compatible_same, keeps_mkcol, keeps_put, keeps_delete, keeps_copy, keeps_move, keeps_lock, keeps_unlock, keeps_proppatch}
+use Rattle.dav_engine.proofs.Guarding.{Guards, guarded_same, guards_mkcol, guards_put, guards_delete, guards_copy, guards_move, guards_lock, guards_unlock, guards_proppatch}
 
 -- what was seen, with another store
 abbrev over : Store → Option Locks → Seen
@@ -62,6 +62,9 @@ lock_sound = record { named = λ step. step; guards = guards_lock; keeps = keeps
 pub unlock_sound : IsSound (Some Unlock) unlock_method
 unlock_sound = record { named = λ step. step; guards = guards_unlock; keeps = keeps_unlock }
 
+pub proppatch_sound : IsSound (Some PropPatch) proppatch_method
+proppatch_sound = record { named = λ step. step; guards = guards_proppatch; keeps = keeps_proppatch }
+
 module _ {name : Option DavMethod} (method : Method) (sound : IsSound name method) (settings : Settings) (request : DavRequest) (locks : Option Locks) where
   -- the rules end it, by the exit of a `?`
   pub serves_exit : (old new : Store) (e : DavError) (result : Result (Response Body) DavError) → IsErrAnd result (λ d. d ≡ e)
@@ -91,6 +94,13 @@ module _ {name : Option DavMethod} (method : Method) (sound : IsSound name metho
     guarded = guarded_same name request _ _ (same_state locks old new h.same);
     compatible = compatible_same _ _ (same_state locks old new h.same);
   }
+
+  -- the rules end it, by a reply, unless memory runs out behind them
+  pub serves_told : (old new : Store) (reply : Reply) (result : Result (Response Body) DavError) → IfOk result (λ response. reply_of response ≡ reply) → IfErr result (λ e. e ≡ Memory)
+      → Reaches (method.rules settings request (state_of (over old locks))) old (Refuses (Ok reply)) new → Judges (method.rules settings request (state_of (over old locks))) old (Err Memory) new
+      → Serves name settings (over old locks) request (answer_of result) (over new locks)
+  serves_told old new reply (Ok response) told memory h g = rw told (serves_reply old new reply h)
+  serves_told old new reply (Err e) told memory h g = serves_exit old new Memory (Err e) memory g
 
   -- the rules are passed, and the work follows
   pub serves_work : (found : method.Found) (old mid : Store) (new : Seen) (answer : Answer) → Judges (method.rules settings request (state_of (over old locks))) old (Ok found) mid
@@ -127,20 +137,20 @@ pub serves_as : (read method : Option DavMethod) (settings : Settings) (old : Se
 serves_as read method settings old request answer new is served = subst (λ m. Serves m settings old request answer new) is served
 
 -- the methods that aren't served
-pub unserved : (settings : Settings) (request : DavRequest) (method : DavMethod) → ((method ≡ MkCol) → ⊥) → ((method ≡ Put) → ⊥) → ((method ≡ Patch) → ⊥) → ((method ≡ Delete) → ⊥) → ((method ≡ Copy) → ⊥) → ((method ≡ Move) → ⊥) → ((method ≡ Lock) → ⊥) → ((method ≡ Unlock) → ⊥) → (state : State) → Step (Some method) settings request state [] (Err (Status 501)) state
-unserved settings request Head a b p d c m l u state = record { none = refl; told = refl; same = refl }
-unserved settings request Get a b p d c m l u state = record { none = refl; told = refl; same = refl }
-unserved settings request Put a b p d c m l u state = absurd (b refl)
-unserved settings request Patch a b p d c m l u state = absurd (p refl)
-unserved settings request Options a b p d c m l u state = record { none = refl; told = refl; same = refl }
-unserved settings request PropFind a b p d c m l u state = record { none = refl; told = refl; same = refl }
-unserved settings request PropPatch a b p d c m l u state = record { none = refl; told = refl; same = refl }
-unserved settings request MkCol a b p d c m l u state = absurd (a refl)
-unserved settings request Copy a b p d c m l u state = absurd (c refl)
-unserved settings request Move a b p d c m l u state = absurd (m refl)
-unserved settings request Delete a b p d c m l u state = absurd (d refl)
-unserved settings request Lock a b p d c m l u state = absurd (l refl)
-unserved settings request Unlock a b p d c m l u state = absurd (u refl)
+pub unserved : (settings : Settings) (request : DavRequest) (method : DavMethod) → ((method ≡ MkCol) → ⊥) → ((method ≡ Put) → ⊥) → ((method ≡ Patch) → ⊥) → ((method ≡ Delete) → ⊥) → ((method ≡ Copy) → ⊥) → ((method ≡ Move) → ⊥) → ((method ≡ Lock) → ⊥) → ((method ≡ Unlock) → ⊥) → ((method ≡ PropPatch) → ⊥) → (state : State) → Step (Some method) settings request state [] (Err (Status 501)) state
+unserved settings request Head a b p d c m l u r state = record { none = refl; told = refl; same = refl }
+unserved settings request Get a b p d c m l u r state = record { none = refl; told = refl; same = refl }
+unserved settings request Put a b p d c m l u r state = absurd (b refl)
+unserved settings request Patch a b p d c m l u r state = absurd (p refl)
+unserved settings request Options a b p d c m l u r state = record { none = refl; told = refl; same = refl }
+unserved settings request PropFind a b p d c m l u r state = record { none = refl; told = refl; same = refl }
+unserved settings request PropPatch a b p d c m l u r state = absurd (r refl)
+unserved settings request MkCol a b p d c m l u r state = absurd (a refl)
+unserved settings request Copy a b p d c m l u r state = absurd (c refl)
+unserved settings request Move a b p d c m l u r state = absurd (m refl)
+unserved settings request Delete a b p d c m l u r state = absurd (d refl)
+unserved settings request Lock a b p d c m l u r state = absurd (l refl)
+unserved settings request Unlock a b p d c m l u r state = absurd (u refl)
 
 -- work that knows the store alone leaves the locks
 pub performs_on_store : {Work : Contents → List Logged → Answer → Contents → Type 0} {Cut : Contents → List Logged → Contents → Type 0} (locks : Option Locks) (old new : Store) (answer : Answer) → WorksOnStore Work Cut old answer new → Performs (OnStore Work) (CutOnStore Cut) (over old locks) answer (over new locks)

@@ -1,24 +1,30 @@
--- What a request changes at the most, and what its answer says, in a user's words: each law follows from the method's definition (RFC 4918, sections 9.6, 9.7, 9.9, 9.10 and 13).
+-- What a request changes at the most, and what its answer says, in a user's words: each law follows from the method's definition (RFC 4918, sections 9.2, 9.6, 9.7, 9.9, 9.10 and 13).
 use Rattle.std.specs.Prelude.{◌≡◌, ◌≢◌, ◌⊎◌, ◌||◌, nat_eq, Bool, true, false, List, [], ◌++◌, map, Option, None, option_map, Ok, Err}
 use Rattle.std.specs.FinMap.{get}
+use Rattle.std.specs.List.{list_all}
 use Rattle.std.specs.Option.{ForSome}
 use Rattle.dav_resource.specs.Key.{Key}
 use Rattle.dav_resource.specs.PathText.{PathValue}
 use Rattle.dav_resource.specs.Errors.{dav_status, fs_status}
 use Rattle.dav_resource.specs.declared.error.DavError.TheVariants.{Memory}
 use Rattle.dav_resource.specs.declared.error.FsError.{FsError}
+use Rattle.dav_resource.specs.declared.meta.Meta.{Meta}
 use Rattle.dav_resource.specs.declared.request.Depth.TheVariants.{Zero}
 use Rattle.dav_resource.specs.declared.request.DavRequest.{DavRequest}
 use Rattle.dav_headers.specs.Destination.{destination_of}
 use Rattle.dav_store.specs.Locks.{is_at_or_below, at_or_below}
 use Rattle.dav_store.specs.Members.{IsIn}
+use Rattle.dav_store.specs.PropertyCalls.{properties_at, patched}
 use Rattle.dav_store.specs.Transfers.{IsRenamedTo}
 use Rattle.dav_store.specs.declared.lock.DavLock.{DavLock}
 use Rattle.dav_parts.specs.Multistatus.{Item, multistatus_reply}
 use Rattle.dav_parts.specs.Reply.{Reply, Answer}
+use Rattle.dav_props.specs.Propstat.{Told, grouped}
+use Rattle.dav_props.specs.Update.{Change, update_verdict, some_refused, patches_of}
 use Rattle.dav_walks.specs.Copying.{snapshot, copied}
 use Rattle.dav_walks.specs.KeyCall.{standing}
 use Rattle.dav_engine.specs.Locking.{is_refresh}
+use Rattle.dav_engine.specs.Proppatch.{proppatch_reply}
 use Rattle.dav_engine.specs.Rules.{depth_or_all}
 use Rattle.dav_engine.specs.Transferring.{is_deep}
 use Rattle.dav_engine.specs.Settings.{Settings}
@@ -137,3 +143,40 @@ pub record IsDuplicated (settings : Settings) (request : DavRequest) (old new : 
 -- a 201 or a 204 to a COPY of all below the path tells that
 abbrev pub DuplicatesWhole : Settings → DavRequest → State → Answer → State → Type 0
 DuplicatesWhole settings request old answer new = tells_transferred answer ≡ true → is_deep (depth_or_all request) ≡ true → IsDuplicated settings request old new
+
+-- ---- PROPPATCH
+
+-- no property, nothing else that the store holds, and no lock is another
+pub record ChangesNothing (old new : State) : Type 0 where
+  pub contents : new.contents ≡ old.contents
+  pub locks : LocksStay old new
+
+-- the dead properties that these changes set or remove are set and removed at the path, in order, and nothing else changes
+pub record AreStored (request : DavRequest) (changes : List Change) (old new : State) : Type 0 where
+  pub here : properties_at new.contents request.path.key ≡ patched (patches_of changes) (properties_at old.contents request.path.key)
+  pub elsewhere : (key : Key) → key ≢ request.path.key → properties_at new.contents key ≡ properties_at old.contents key
+  pub tree : new.contents.tree ≡ old.contents.tree
+  pub locks : LocksStay old new
+
+-- each property is told with 200
+abbrev pub all_ok : List Told → Bool
+all_ok told = list_all (λ (t : Told). nat_eq t.0 200) told
+
+-- what the body asks for is told, and where each of it is told with 200 it is stored; else nothing is
+pub record StoresAllOrNothing (settings : Settings) (request : DavRequest) (old : State) (reply : Reply) (new : State) : Type 0 where
+  pub changes : List Change
+  pub asked : update_verdict settings.keeps_properties request.body ≡ Ok changes
+  pub found : Option Meta
+  pub told : List Told
+  pub shown : reply ≡ proppatch_reply request.path found (grouped told)
+  pub stored : all_ok told ≡ true → AreStored request changes old new
+  pub unstored : all_ok told ≡ false → ChangesNothing old new
+
+-- a reply tells that
+abbrev pub TellsStored : Settings → DavRequest → State → Answer → State → Type 0
+TellsStored settings request old answer new = (reply : Reply) → answer ≡ Ok reply → StoresAllOrNothing settings request old reply new
+
+-- a body of whose changes one is refused before the store is asked changes nothing
+abbrev pub StoresNothingBesideRefused : Settings → DavRequest → State → State → Type 0
+StoresNothingBesideRefused settings request old new =
+    (changes : List Change) → update_verdict settings.keeps_properties request.body ≡ Ok changes → some_refused changes ≡ true → ChangesNothing old new

@@ -22,4 +22,7 @@ pub mod LockInfo
 pub mod Locking
 pub mod Unlocking
 pub mod LockReply
+pub mod Location
+pub mod Proppatch
+pub mod Patching
 pub mod Laws

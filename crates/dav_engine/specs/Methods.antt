@@ -2,7 +2,7 @@
 use Rattle.std.specs.Prelude.{◌≡◌, true, false, Bool, List, [], Option, Some, Err}
 use Rattle.dav_resource.specs.declared.meta.Meta.{Meta}
 use Rattle.dav_resource.specs.declared.method.DavMethod.{DavMethod}
-use Rattle.dav_resource.specs.declared.method.DavMethod.TheVariants.{Put, Patch, MkCol, Copy, Move, Delete, Lock, Unlock}
+use Rattle.dav_resource.specs.declared.method.DavMethod.TheVariants.{Put, Patch, PropPatch, MkCol, Copy, Move, Delete, Lock, Unlock}
 use Rattle.dav_resource.specs.declared.error.DavError.TheVariants.{Status}
 use Rattle.dav_resource.specs.declared.request.DavRequest.{DavRequest}
 use Rattle.dav_store.specs.Logged.{Logged}
@@ -20,6 +20,7 @@ use Rattle.dav_engine.specs.Transferring.{transfer_rules}
 use Rattle.dav_engine.specs.Copy.{CopyWork, CopyCut}
 use Rattle.dav_engine.specs.Move.{MoveWork, MoveCut}
 use Rattle.dav_engine.specs.declared.transfer.Transfer.{Transfer}
+use Rattle.dav_engine.specs.Proppatch.{Update, proppatch_rules, ProppatchWork, ProppatchCut}
 use Rattle.dav_engine.specs.Unlocking.{unlock_rules, UnlockWork}
 
 abbrev pub mkcol_method : Method
@@ -56,6 +57,15 @@ lock_method = record { Found = Option Meta; rules = λ settings. lock_rules; Wor
 abbrev pub unlock_method : Method
 unlock_method = record { Found = Option Meta; rules = λ settings. unlock_rules; Work = λ settings. UnlockWork; Cut = λ settings request found. Unbegun }
 
+abbrev pub proppatch_method : Method
+proppatch_method =
+    record {
+      Found = Update;
+      rules = λ settings. proppatch_rules settings.keeps_properties;
+      Work = λ settings request found. OnStore (ProppatchWork settings.keeps_properties request found);
+      Cut = λ settings request found. CutOnStore (ProppatchCut settings.keeps_properties request found);
+    }
+
 -- a method that isn't served: 501, without a call, and nothing changes
 pub record IsUnserved (old : State) (records : List Logged) (answer : Answer) (new : State) : Type 0 where
   pub none : records ≡ []
@@ -72,4 +82,5 @@ Step (Some Copy) settings request old records answer new = StepBy copy_method se
 Step (Some Move) settings request old records answer new = StepBy move_method settings request old records answer new
 Step (Some Lock) settings request old records answer new = StepBy lock_method settings request old records answer new
 Step (Some Unlock) settings request old records answer new = StepBy unlock_method settings request old records answer new
+Step (Some PropPatch) settings request old records answer new = StepBy proppatch_method settings request old records answer new
 Step _ settings request old records answer new = IsUnserved old records answer new

@@ -28,6 +28,7 @@ impl<'a, C: Drop, F: GuardedFileSystem<C>, L: DavLockSystem> DavInner<'a, C, F, 
             DavMethod::Copy | DavMethod::Move => self.handle_copymove(request),
             DavMethod::Lock => self.handle_lock(request),
             DavMethod::Unlock => self.handle_unlock(request),
+            DavMethod::PropPatch => self.handle_proppatch(request),
             _ => Err(DavError::Status(StatusCode::NOT_IMPLEMENTED)),
         }
     }

@@ -1,0 +1,186 @@
+-- What follows for its caller from each step of a PROPPATCH.
+use Rattle.std.proofs.Common.{◌≡◌, ◌⊎◌, ◌∙◌, ◌==◌, ℕ, Bool, true, false, if◌then◌else◌, List, [], ◌∷◌, Option, Some, None, Result, Ok, Err, inl, inr, refl, sym, ap, subst, length, replicate, unwrap_or, arith}
+use Rattle.std.specs.FinMap.{get, empty, empty_of_len, len}
+use Rattle.std.proofs.lemmas.Bool.Decides.{nat_tests}
+use Rattle.dav_resource.specs.declared.error.DavError.{DavError}
+use Rattle.dav_resource.specs.declared.error.FsError.{FsError}
+use Rattle.dav_resource.specs.declared.meta.Meta.{Meta}
+use Rattle.dav_resource.specs.declared.request.DavRequest.{DavRequest}
+use Rattle.dav_store.specs.Logged.{Logged}
+use Rattle.dav_store.specs.PropertyCalls.{Patch, IsPatchedAt, patched, properties_at, some_properties}
+use Rattle.dav_store.specs.Store.{Contents, PropertyMap}
+use Rattle.dav_parts.specs.Conditions.{conditions}
+use Rattle.dav_parts.specs.Dialogue.{Dialogue, Asks, Refuses, Passed, LeadsTo, ◌>>=◌}
+use Rattle.dav_parts.specs.Reply.{Reply, Answer}
+use Rattle.dav_props.specs.Propstat.{grouped}
+use Rattle.dav_props.specs.Update.{Change, update_verdict, some_refused, patches_of, told_failed, told_made}
+use Rattle.dav_walks.specs.PutLaws.{put_at_here, put_at_elsewhere}
+use Rattle.dav_engine.specs.Laws.{all_ok, ChangesNothing, AreStored, StoresAllOrNothing, TellsStored, StoresNothingBesideRefused}
+use Rattle.dav_engine.specs.Method.{StepBy, Refused, Done, CutShort, CutInWork}
+use Rattle.dav_engine.specs.Methods.{proppatch_method}
+use Rattle.dav_engine.specs.Proppatch.{Update, found_rules, unless_some_refused, proppatch_rules, proppatch_reply, told_by_store, MakesChanges}
+use Rattle.dav_engine.specs.Rules.{judged, told_by_look, must_find, is_permitted}
+use Rattle.dav_engine.specs.Settings.{Settings}
+use Rattle.dav_engine.specs.State.{State, LocksStay}
+use Rattle.dav_engine.proofs.Patching.{UpdatePassed, update_passed}
+use Rattle.dav_engine.proofs.PatchTells.{failed_not_ok, made_all_ok, made_not_ok}
+use Rattle.dav_engine.proofs.Passing.{judged_passed}
+use Rattle.dav_engine.proofs.Refusals.{RefusesBy, errs_then, errs_led, errs_told, errs_conditions, errs_permitted}
+
+-- ---- the properties of a key
+
+kept_properties : (properties : PropertyMap) → unwrap_or (some_properties properties) empty ≡ properties
+kept_properties properties =
+    elim (len properties == 0) as (λ b. (len properties == 0) ≡ b → unwrap_or (if b then None else Some properties) empty ≡ properties) [
+      | true ↦ λ none. sym (empty_of_len properties (zero_is none))
+      | false ↦ λ some. refl
+    ] refl
+  where
+    zero_is : (len properties == 0) ≡ true → len properties ≡ 0
+    zero_is none = grind (arith, nat_tests)
+
+module _ (request : DavRequest) (changes : List Change) (old new : State) (locks : LocksStay old new) where
+  stored_all : IsPatchedAt request.path.key (patches_of changes) old.contents new.contents → AreStored request changes old new
+  stored_all made = record {
+    here = ap (λ m. unwrap_or (get m request.path.key) empty) made.properties ∙ ap (λ o. unwrap_or o empty) (put_at_here old.contents.properties request.path.key _) ∙ kept_properties _;
+    elsewhere = λ key apart. ap (λ m. unwrap_or (get m key) empty) made.properties ∙ ap (λ o. unwrap_or o empty) (put_at_elsewhere old.contents.properties request.path.key key _ apart);
+    tree = made.tree;
+    locks = locks;
+  }
+
+  -- there was nothing to store
+  stored_none : patches_of changes ≡ [] → new.contents ≡ old.contents → AreStored request changes old new
+  stored_none none same = record {
+    here = ap (λ (c : Contents). properties_at c request.path.key) same ∙ ap (λ patches. patched patches (properties_at old.contents request.path.key)) (sym none);
+    elsewhere = λ key apart. ap (λ (c : Contents). properties_at c key) same;
+    tree = ap (λ (c : Contents). c.tree) same;
+    locks = locks;
+  }
+
+same_state : (old new : State) → new ≡ old → ChangesNothing old new
+same_state old new same = record { contents = ap (λ (s : State). s.contents) same; locks = ap (λ (s : State). s.locks) same }
+
+-- ---- the rules refuse by a reply only where a change is refused
+
+-- a refusal of two dialogues is that of the first, or of the other
+abbrev IsOfEither : {A B : Type 0} → Dialogue A → (A → Dialogue B) → List Logged → Answer → Type 0
+IsOfEither {A} first after records answer = LeadsTo first records (Refuses answer) ⊎ ((a : A) × (head rest : List Logged) × LeadsTo first head (Passed a) × LeadsTo (after a) rest (Refuses answer))
+
+led_refused : {A B : Type 0} (first : Dialogue A) (after : A → Dialogue B) (records : List Logged) (answer : Answer) → LeadsTo (first >>= after) records (Refuses answer) → IsOfEither first after records answer
+unfolding ◌>>=◌
+led_refused (Asks call next) after [] answer h = absurd cc
+led_refused (Refuses other) after [] answer h = inl (let same : answer ≡ other = cc in ap Refuses same)
+led_refused (Passed a) after [] answer h = inr (a, [], [], refl, h)
+led_refused (Asks call next) after (logged ∷ records) answer h = further (led_refused (next logged.outcome) after records answer h.2)
+  where
+    further : IsOfEither (next logged.outcome) after records answer → IsOfEither (Asks call next) after (logged ∷ records) answer
+    further (inl led) = inl (h.0, h.1, led)
+    further (inr (a, head, rest, led, more)) = inr (a, logged ∷ head, rest, (h.0, h.1, led), more)
+led_refused (Refuses other) after (logged ∷ records) answer h = absurd h
+led_refused (Passed a) after (logged ∷ records) answer h = inr (a, [], logged ∷ records, refl, h)
+
+abbrev AnyError : DavError → Type 0
+AnyError e = Unit {0}
+
+errs_found : (request : DavRequest) (state : State) → RefusesBy AnyError (found_rules request state)
+errs_found request state =
+    errs_then AnyError (must_find state.contents request.path.key) _ (λ outcome. errs_told AnyError (λ e. tt) (told_by_look outcome (state.contents.metas request.path.key)))
+    (λ meta. errs_then AnyError (conditions state.contents state.locks request (Some meta) request.path) _ (errs_conditions AnyError (λ s least. tt) state.contents state.locks request (Some meta) request.path)
+    (λ _. errs_permitted AnyError (λ s least. tt) 423 (omega arith) (is_permitted request state request.path.key false) (Some meta)))
+
+errs_judged : {A : Type 0} (verdict : Result A DavError) → RefusesBy AnyError (judged verdict)
+errs_judged (Ok a) = tt
+errs_judged (Err e) = tt
+
+no_reply : {A : Type 0} (dialogue : Dialogue A) (records : List Logged) (reply : Reply) → RefusesBy AnyError dialogue → LeadsTo dialogue records (Refuses (Ok reply)) → ⊥
+no_reply dialogue records reply errs led = let e = errs_led AnyError dialogue records (Ok reply) errs led in let no = e.1 in cc
+
+decided : {A : Type 0} (refused : Bool) (answer other : Answer) (a : A) (records : List Logged) → LeadsTo (if refused then Refuses answer else Passed a) records (Refuses other) → (refused ≡ true) × (other ≡ answer)
+decided true answer other a [] h = (refl, cc)
+decided true answer other a (r ∷ records) h = absurd h
+decided false answer other a [] h = absurd cc
+decided false answer other a (r ∷ records) h = absurd h
+
+record RepliesRefused (keeps : Bool) (request : DavRequest) (reply : Reply) : Type 0 where
+  changes : List Change
+  asked : update_verdict keeps request.body ≡ Ok changes
+  refused : some_refused changes ≡ true
+  found : Option Meta
+  shown : reply ≡ proppatch_reply request.path found (grouped (told_failed changes))
+
+module _ (keeps : Bool) (request : DavRequest) (state : State) (reply : Reply) where
+  by_changes : (found : Option Meta) (records : List Logged) → LeadsTo (judged (update_verdict keeps request.body) >>= unless_some_refused request found) records (Refuses (Ok reply)) → RepliesRefused keeps request reply
+  by_changes found records led = by_read (led_refused (judged (update_verdict keeps request.body)) (unless_some_refused request found) records (Ok reply) led)
+    where
+      by_read : IsOfEither (judged (update_verdict keeps request.body)) (unless_some_refused request found) records (Ok reply) → RepliesRefused keeps request reply
+      by_read (inl unread) = absurd (no_reply (judged (update_verdict keeps request.body)) records reply (errs_judged (update_verdict keeps request.body)) unread)
+      by_read (inr (changes, head, rest, read, end)) =
+          let is = decided (some_refused changes) _ (Ok reply) (found, changes) rest end in
+          record { changes = changes; asked = judged_passed (update_verdict keeps request.body) changes head read; refused = is.0; found = found; shown = let same = is.1 in cc }
+
+  replies_refused : (records : List Logged) → LeadsTo (proppatch_rules keeps request state) records (Refuses (Ok reply)) → RepliesRefused keeps request reply
+  replies_refused records led = by_found (led_refused (found_rules request state) _ records (Ok reply) led)
+    where
+      by_found : IsOfEither (found_rules request state) (λ found. judged (update_verdict keeps request.body) >>= unless_some_refused request found) records (Ok reply) → RepliesRefused keeps request reply
+      by_found (inl none) = absurd (no_reply (found_rules request state) records reply (errs_found request state) none)
+      by_found (inr (found, head, rest, led, more)) = by_changes found rest more
+
+-- ---- each step
+
+module _ (settings : Settings) (request : DavRequest) (old : State) (records : List Logged) where
+  abbrev keeps : Bool
+  keeps = settings.keeps_properties
+
+  module _ (update : Update) (new : State) (passed : UpdatePassed keeps request old update) (locks : LocksStay old new) (rest : List Logged) (statuses : List ℕ) (reply : Reply)
+      (shown : reply ≡ proppatch_reply request.path update.0 (grouped (told_made update.1 statuses))) where
+    tells : (all_ok (told_made update.1 statuses) ≡ true → AreStored request update.1 old new) → (all_ok (told_made update.1 statuses) ≡ false → ChangesNothing old new) → StoresAllOrNothing settings request old reply new
+    tells stored unstored = record { changes = update.1; asked = passed.read; found = update.0; told = told_made update.1 statuses; shown = shown; stored = stored; unstored = unstored }
+
+    tells_changes : (patches : List Patch) → patches_of update.1 ≡ patches → MakesChanges keeps request.path.key patches old.contents rest (Ok statuses) new.contents → StoresAllOrNothing settings request old reply new
+    tells_changes [] none asks = tells (λ ok. stored_none request update.1 old new locks none asks.same) (λ not_ok. record { contents = asks.same; locks = locks })
+    tells_changes (patch ∷ patches) is (inl all) =
+        let told : statuses ≡ replicate (length (patch ∷ patches)) 200 = let h = all.told_all in cc in
+        tells (λ ok. stored_all request update.1 old new locks (rw is all.made))
+        (λ not_ok. let no : false ≡ true = sym not_ok ∙ ap (λ s. all_ok (told_made update.1 s)) told ∙ made_all_ok update.1 (length (patch ∷ patches)) passed.none_refused in absurd cc)
+    tells_changes (patch ∷ patches) is (inr (inl none)) =
+        let told : statuses ≡ none.statuses = let h = none.told_each in cc in
+        tells (λ ok. absurd (made_not_ok update.1 statuses (ap length told ∙ none.each ∙ ap length (sym is)) (λ all. none.not_all (sym told ∙ all ∙ ap (λ p. replicate (length p) 200) is)) ok))
+        (λ not_ok. record { contents = none.same; locks = locks })
+    tells_changes (patch ∷ patches) is (inr (inr refused)) = let no = refused.told_error in absurd cc
+
+  pub patch_tells : (answer : Answer) (new : State) → StepBy proppatch_method settings request old records answer new → TellsStored settings request old answer new
+  patch_tells answer new (Refused h) reply is =
+      let r = replies_refused keeps request old reply records (subst (λ a. LeadsTo (proppatch_rules keeps request old) records (Refuses a)) is h.head) in
+      record {
+        changes = r.changes;
+        asked = r.asked;
+        found = r.found;
+        told = told_failed r.changes;
+        shown = r.shown;
+        stored = λ ok. absurd (failed_not_ok r.changes r.refused ok);
+        unstored = λ not_ok. same_state old new h.same;
+      }
+  patch_tells answer new (Done h) reply is = by_told h.work.0.told h.work.0.stored h.work.0.answered
+    where
+      passed : UpdatePassed keeps request old h.found
+      passed = update_passed keeps request old h.head h.found h.passed
+
+      by_told : (told : Result (List ℕ) FsError) → MakesChanges keeps request.path.key (patches_of h.found.1) old.contents h.rest told new.contents → answer ≡ told_by_store request h.found told → StoresAllOrNothing settings request old reply new
+      by_told (Ok statuses) made answered = tells_changes h.found new passed h.work.1 h.rest statuses reply (let same = sym is ∙ answered in cc) (patches_of h.found.1) refl made
+      by_told (Err e) made answered = let no = sym is ∙ answered in absurd cc
+  patch_tells answer new (CutShort h) reply is = let no = sym is ∙ h.told in absurd cc
+  patch_tells answer new (CutInWork h) reply is = let no = sym is ∙ h.told in absurd cc
+
+  -- where all rules are passed, no change is refused
+  unrefused : (update : Update) (head : List Logged) → LeadsTo (proppatch_rules keeps request old) head (Passed update) → (changes : List Change) → update_verdict keeps request.body ≡ Ok changes → some_refused changes ≡ true → ⊥
+  unrefused update head led changes asked refused =
+      let passed = update_passed keeps request old head update led in
+      let same : changes ≡ update.1 = let both = sym asked ∙ passed.read in cc in
+      let no : true ≡ false = sym refused ∙ ap some_refused same ∙ passed.none_refused in
+      cc
+
+  pub patch_refused : (answer : Answer) (new : State) → StepBy proppatch_method settings request old records answer new → StoresNothingBesideRefused settings request old new
+  patch_refused answer new (Refused h) changes asked refused = same_state old new h.same
+  patch_refused answer new (Done h) changes asked refused = absurd (unrefused h.found h.head h.passed changes asked refused)
+  patch_refused answer new (CutShort h) changes asked refused = same_state old new h.same
+  patch_refused answer new (CutInWork h) changes asked refused = absurd (unrefused h.found h.head h.passed changes asked refused)

@@ -1,0 +1,35 @@
+-- What the steps of a PROPPATCH's work make of a store.
+use Rattle.std.specs.Prelude.{◌≡◌, ◌⊎◌, ℕ, List, ◌++◌, Result, Ok, Err, Vec}
+use Rattle.std.specs.declared.alloc.Global.{Global}
+use Rattle.dav_resource.specs.Errors.{from_fs}
+use Rattle.dav_resource.specs.Key.{Key}
+use Rattle.dav_resource.specs.declared.error.DavError.{DavError}
+use Rattle.dav_resource.specs.declared.error.DavError.TheVariants.{Memory}
+use Rattle.dav_resource.specs.declared.error.FsError.{FsError}
+use Rattle.dav_resource.specs.declared.request.DavRequest.{DavRequest}
+use Rattle.dav_store.specs.Logged.{Logged}
+use Rattle.dav_store.specs.PropertyCalls.{Patch}
+use Rattle.dav_store.specs.Store.{Store}
+use Rattle.dav_parts.specs.Reply.{Answer}
+use Rattle.dav_engine.specs.Proppatch.{Update, MakesChanges, ProppatchWork, ProppatchCut}
+use Rattle.dav_engine.specs.Step.{WorksOnStore}
+
+-- the changes are made by these records, as far as this was told of them
+pub record StoresChanges (key : Key) (patches : List Patch) (old : Store) (told : Result (List ℕ) FsError) (new : Store) : Type 0 where
+  pub records : List Logged
+  pub logged : new.log ≡ old.log ++ records
+  pub fixed : new.keeps_properties ≡ old.keeps_properties
+  pub stored : MakesChanges old.keeps_properties key patches old.contents records told new.contents
+
+-- the store's refusal, or memory was lacking, and nothing happened
+abbrev pub IsUnmade : Key → List Patch → Store → DavError → Store → Type 0
+IsUnmade key patches old e new = ((e ≡ Memory) × (new ≡ old)) ⊎ ((cause : FsError) × (e ≡ from_fs cause) × StoresChanges key patches old (Err cause) new)
+
+-- the statuses that the store answered, or why it made nothing
+abbrev pub Storing : Key → List Patch → Store → Result (Vec ℕ Global) DavError → Store → Type 0
+Storing key patches old (Ok statuses) new = StoresChanges key patches old (Ok statuses.items) new
+Storing key patches old (Err e) new = IsUnmade key patches old e new
+
+-- the whole work, or it was cut short for want of memory
+abbrev pub Patching : DavRequest → Update → Store → Answer → Store → Type 0
+Patching request update old = WorksOnStore (ProppatchWork old.keeps_properties request update) (ProppatchCut old.keeps_properties request update) old

@@ -1,0 +1,126 @@
+-- PROPPATCH (RFC 4918, section 9.2): sets and removes properties, all of them or none.
+use Rattle.std.specs.Prelude.{◌≡◌, ◌≢◌, ◌⊎◌, ℕ, Bool, if◌then◌else◌, List, [], ◌∷◌, codes, length, replicate, Option, Some, None, Result, Ok, Err}
+use Rattle.http.specs.declared.version.TheConstants.Version.{HTTP_11}
+use Rattle.dav_resource.specs.Errors.{from_fs}
+use Rattle.dav_resource.specs.Key.{Key}
+use Rattle.dav_resource.specs.PathText.{PathValue}
+use Rattle.dav_resource.specs.declared.error.FsError.{FsError}
+use Rattle.dav_resource.specs.declared.error.FsError.TheVariants.{GeneralFailure}
+use Rattle.dav_resource.specs.declared.meta.Meta.{Meta}
+use Rattle.dav_resource.specs.declared.record.Outcome.{Outcome}
+use Rattle.dav_resource.specs.declared.record.Outcome.TheVariants.{Granted, Refused}
+use Rattle.dav_resource.specs.declared.request.Body.{Body}
+use Rattle.dav_resource.specs.declared.request.DavRequest.{DavRequest}
+use Rattle.dav_store.specs.Calls.{Call, IsLawful, error_of, record_of}
+use Rattle.dav_store.specs.Logged.{Logged}
+use Rattle.dav_store.specs.PropertyCalls.{Patch, patch_props_call, patch_record, IsPatchedAt}
+use Rattle.dav_store.specs.Store.{Contents}
+use Rattle.dav_parts.specs.Dialogue.{Dialogue, Passed, Refuses, ◌>>=◌}
+use Rattle.dav_parts.specs.Multistatus.{xml_type}
+use Rattle.dav_parts.specs.Reply.{Reply, Answer, field}
+use Rattle.dav_props.specs.Propstat.{Group, grouped, property_response, property_multistatus}
+use Rattle.dav_props.specs.Update.{Change, update_verdict, some_refused, patches_of, told_failed, told_made}
+use Rattle.dav_engine.specs.Answered.{Unbegun}
+use Rattle.dav_engine.specs.Location.{location_fields}
+use Rattle.dav_engine.specs.Rules.{judged, must_find, path_rules, fixed_path}
+use Rattle.dav_engine.specs.State.{State}
+
+-- ---- the reply
+
+-- 207, with one response that tells the properties by their statuses
+abbrev pub proppatch_reply : PathValue → Option Meta → List Group → Reply
+proppatch_reply path found groups =
+    record {
+      status = 207;
+      version = HTTP_11;
+      headers = field (codes "content-type") xml_type ∷ location_fields path found;
+      body = Body.Tree (property_multistatus (property_response (fixed_path path found) groups ∷ []));
+    }
+
+-- ---- the rules
+
+-- what was found at the path, and the changes that are asked for
+abbrev pub Update : Type 0
+Update = Option Meta × List Change
+
+-- a look at the path, whose refusal refuses the request, its conditions, and the locks of the path
+abbrev pub found_rules : DavRequest → State → Dialogue (Option Meta)
+found_rules request state = must_find state.contents request.path.key >>= λ meta. path_rules request state (Some meta)
+
+-- where a change is refused, none is made, and the reply tells all of them
+abbrev pub unless_some_refused : DavRequest → Option Meta → List Change → Dialogue Update
+unless_some_refused request found changes =
+    if some_refused changes then Refuses (Ok (proppatch_reply request.path found (grouped (told_failed changes)))) else Passed (found, changes)
+
+-- then the body is read, by a store that keeps properties or doesn't, and each change is judged
+abbrev pub proppatch_rules : Bool → DavRequest → State → Dialogue Update
+proppatch_rules keeps request state =
+    found_rules request state >>= λ found.
+    judged (update_verdict keeps request.body) >>= unless_some_refused request found
+
+-- ---- the work: what a store makes of changes, and what it tells of them
+
+-- the call, of a store that keeps properties or doesn't
+abbrev pub patch_call : Bool → Contents → Key → Call
+patch_call keeps contents key = patch_props_call (record { contents = contents; keeps_properties = keeps; log = [] }) key
+
+-- each change is answered 200
+abbrev pub all_made : List Patch → List ℕ
+all_made patches = replicate (length patches) 200
+
+-- there is nothing to ask for
+pub record AsksNothing (old : Contents) (records : List Logged) (told : Result (List ℕ) FsError) (new : Contents) : Type 0 where
+  pub none : records ≡ []
+  pub told_none : told ≡ Ok []
+  pub same : new ≡ old
+
+module _ (keeps : Bool) (key : Key) (patches : List Patch) (old : Contents) (records : List Logged) (told : Result (List ℕ) FsError) (new : Contents) where
+  -- all are made, in order, and each is answered 200
+  pub record MakesAll : Type 0 where
+    pub allowed : (patch_call keeps old key).bar ≡ None
+    pub called : records ≡ patch_record key Granted (all_made patches) ∷ []
+    pub told_all : told ≡ Ok (all_made patches)
+    pub made : IsPatchedAt key patches old new
+
+  -- none is made, and each is answered, not all with 200
+  pub record MakesNone : Type 0 where
+    pub statuses : List ℕ
+    pub each : length statuses ≡ length patches
+    pub not_all : statuses ≢ all_made patches
+    pub called : records ≡ patch_record key (Refused GeneralFailure) statuses ∷ []
+    pub told_each : told ≡ Ok statuses
+    pub same : new ≡ old
+
+  -- the call is refused, and none is made
+  pub record IsPatchRefused : Type 0 where
+    pub error : FsError
+    pub outcome : Outcome
+    pub cause : error_of outcome ≡ Some error
+    pub lawful : IsLawful (patch_call keeps old key).bar outcome
+    pub called : records ≡ record_of (patch_call keeps old key) outcome ∷ []
+    pub told_error : told ≡ Err error
+    pub same : new ≡ old
+
+-- one call for all of them, where there are any
+abbrev pub MakesChanges : Bool → Key → List Patch → Contents → List Logged → Result (List ℕ) FsError → Contents → Type 0
+MakesChanges keeps key [] old records told new = AsksNothing old records told new
+MakesChanges keeps key (patch ∷ patches) old records told new =
+    MakesAll keeps key (patch ∷ patches) old records told new
+    ⊎ MakesNone keeps key (patch ∷ patches) old records told new
+    ⊎ IsPatchRefused keeps key (patch ∷ patches) old records told new
+
+-- the reply tells what the store told, or the request fails as its call did
+abbrev pub told_by_store : DavRequest → Update → Result (List ℕ) FsError → Answer
+told_by_store request update (Ok statuses) = Ok (proppatch_reply request.path update.0 (grouped (told_made update.1 statuses)))
+told_by_store request update (Err e) = Err (from_fs e)
+
+-- the dead properties are stored, as far as the store lets it
+pub record ProppatchWork (keeps : Bool) (request : DavRequest) (update : Update) (old : Contents) (records : List Logged) (answer : Answer) (new : Contents) : Type 0 where
+  pub told : Result (List ℕ) FsError
+  pub stored : MakesChanges keeps request.path.key (patches_of update.1) old records told new
+  pub answered : answer ≡ told_by_store request update told
+
+-- memory ran out before the store was asked, or behind its answer
+abbrev pub ProppatchCut : Bool → DavRequest → Update → Contents → List Logged → Contents → Type 0
+ProppatchCut keeps request update old records new =
+    Unbegun old records new ⊎ ((statuses : List ℕ) × MakesChanges keeps request.path.key (patches_of update.1) old records (Ok statuses) new)
