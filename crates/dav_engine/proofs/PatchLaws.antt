@@ -15,7 +15,7 @@ use Rattle.dav_parts.specs.Reply.{Reply, Answer}
 use Rattle.dav_props.specs.Propstat.{grouped}
 use Rattle.dav_props.specs.Update.{Change, update_verdict, some_refused, patches_of, told_failed, told_made}
 use Rattle.dav_walks.specs.PutLaws.{put_at_here, put_at_elsewhere}
-use Rattle.dav_engine.specs.Laws.{all_ok, ChangesNothing, AreStored, StoresAllOrNothing, TellsStored, StoresNothingBesideRefused}
+use Rattle.dav_engine.specs.Laws.{all_ok, ChangesNothing, AreStored, StoresAllOrNothing, TellsStored, KeepsUnlessTold, StoresNothingBesideRefused}
 use Rattle.dav_engine.specs.Method.{StepBy, Refused, Done, CutShort, CutInWork}
 use Rattle.dav_engine.specs.Methods.{proppatch_method}
 use Rattle.dav_engine.specs.Proppatch.{Update, found_rules, unless_some_refused, proppatch_rules, proppatch_reply, told_by_store, MakesChanges}
@@ -170,6 +170,19 @@ module _ (settings : Settings) (request : DavRequest) (old : State) (records : L
       by_told (Err e) made answered = let no = sym is ∙ answered in absurd cc
   patch_tells answer new (CutShort h) reply is = let no = sym is ∙ h.told in absurd cc
   patch_tells answer new (CutInWork h) reply is = let no = sym is ∙ h.told in absurd cc
+
+  pub patch_kept : (answer : Answer) (new : State) → StepBy proppatch_method settings request old records answer new → KeepsUnlessTold old answer new
+  patch_kept answer new (Refused h) e is other = same_state old new h.same
+  patch_kept answer new (Done h) e is other = by_told h.work.0.told (patches_of h.found.1) h.work.0.stored h.work.0.answered
+    where
+      by_told : (told : Result (List ℕ) FsError) (patches : List Patch) → MakesChanges keeps request.path.key patches old.contents h.rest told new.contents → answer ≡ told_by_store request h.found told → ChangesNothing old new
+      by_told (Ok statuses) patches made answered = let no = sym is ∙ answered in absurd cc
+      by_told (Err cause) [] none answered = record { contents = none.same; locks = h.work.1 }
+      by_told (Err cause) (patch ∷ patches) (inl all) answered = let no = all.told_all in absurd cc
+      by_told (Err cause) (patch ∷ patches) (inr (inl none)) answered = record { contents = none.same; locks = h.work.1 }
+      by_told (Err cause) (patch ∷ patches) (inr (inr refused)) answered = record { contents = refused.same; locks = h.work.1 }
+  patch_kept answer new (CutShort h) e is other = same_state old new h.same
+  patch_kept answer new (CutInWork h) e is other = absurd (other (let same = sym is ∙ h.told in cc))
 
   -- where all rules are passed, no change is refused
   unrefused : (update : Update) (head : List Logged) → LeadsTo (proppatch_rules keeps request old) head (Passed update) → (changes : List Change) → update_verdict keeps request.body ≡ Ok changes → some_refused changes ≡ true → ⊥

@@ -6,6 +6,7 @@ use Rattle.std.specs.Option.{ForSome}
 use Rattle.dav_resource.specs.Key.{Key}
 use Rattle.dav_resource.specs.PathText.{PathValue}
 use Rattle.dav_resource.specs.Errors.{dav_status, fs_status}
+use Rattle.dav_resource.specs.declared.error.DavError.{DavError}
 use Rattle.dav_resource.specs.declared.error.DavError.TheVariants.{Memory}
 use Rattle.dav_resource.specs.declared.error.FsError.{FsError}
 use Rattle.dav_resource.specs.declared.meta.Meta.{Meta}
@@ -175,6 +176,10 @@ pub record StoresAllOrNothing (settings : Settings) (request : DavRequest) (old 
 -- a reply tells that
 abbrev pub TellsStored : Settings → DavRequest → State → Answer → State → Type 0
 TellsStored settings request old answer new = (reply : Reply) → answer ≡ Ok reply → StoresAllOrNothing settings request old reply new
+
+-- an error changes nothing, unless memory ran out
+abbrev pub KeepsUnlessTold : State → Answer → State → Type 0
+KeepsUnlessTold old answer new = (e : DavError) → answer ≡ Err e → e ≢ Memory → ChangesNothing old new
 
 -- a body of whose changes one is refused before the store is asked changes nothing
 abbrev pub StoresNothingBesideRefused : Settings → DavRequest → State → State → Type 0

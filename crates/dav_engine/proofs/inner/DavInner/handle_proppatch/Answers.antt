@@ -7,7 +7,7 @@ use Rattle.dav_engine.specs.Methods.{proppatch_method}
 use Rattle.dav_engine.specs.Proppatch.{proppatch_reply}
 use Rattle.dav_engine.specs.State.{state_of}
 use Rattle.dav_engine.proofs.Patching.{judges_unfound, judges_unreadable, judges_untold, reaches_refusal, judges_update}
-use Rattle.dav_engine.proofs.PatchLaws.{patch_tells, patch_refused}
+use Rattle.dav_engine.proofs.PatchLaws.{patch_tells, patch_kept, patch_refused}
 use Rattle.dav_engine.proofs.Serving.{proppatch_sound, serves_exit, serves_told, serves_work, performs_on_store}
 use Rattle.dav_engine.proofs.inner.DavInner.handle_proppatch.Goals as goal
 
@@ -73,3 +73,18 @@ returns-clause-stored g c = patch_tells _ _ _ _ _ _ (returns-clause-step g c).st
 
 pub returns-clause-refused : goal.returns-clause-refused
 returns-clause-refused g c = patch_refused _ _ _ _ _ _ (returns-clause-step g c).step
+
+pub returns-in_err-found-clause-kept : goal.returns-in_err-found-clause-kept
+returns-in_err-found-clause-kept g c = patch_kept _ _ _ _ _ _ (returns-in_err-found-clause-step g c).step
+
+pub returns-in_err-changes-clause-kept : goal.returns-in_err-changes-clause-kept
+returns-in_err-changes-clause-kept g c = patch_kept _ _ _ _ _ _ (returns-in_err-changes-clause-step g c).step
+
+pub returns-in_err-groups-clause-kept : goal.returns-in_err-groups-clause-kept
+returns-in_err-groups-clause-kept g c = patch_kept _ _ _ _ _ _ (returns-in_err-groups-clause-step g c).step
+
+pub returns-then-some_refused-clause-kept : goal.returns-then-some_refused-clause-kept
+returns-then-some_refused-clause-kept g c = patch_kept _ _ _ _ _ _ (returns-then-some_refused-clause-step g c).step
+
+pub returns-clause-kept : goal.returns-clause-kept
+returns-clause-kept g c = patch_kept _ _ _ _ _ _ (returns-clause-step g c).step
