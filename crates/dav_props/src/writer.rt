@@ -23,7 +23,7 @@ pub struct PropWriter {
 
 impl PropWriter {
     /// A writer that has written no response. The reply gets the status 207, and as its last header field
-    /// `content-type`. The only error is `Memory`, where memory is lacking.
+    /// `content-type`. The only error is `Memory`, where memory is lacking; what the reply has then isn't said.
     pub fn new(alloc: Global, res: &mut Response<Body>) -> DavResult<PropWriter>
         requires { HasRoomFor (reply_of res.old).headers (codes "content-type") }
         ensures empty { IfOk result (λ writer. writer.tree ≡ property_multistatus []) }
