@@ -1,5 +1,5 @@
 //! The replies that tell statuses, and the trees in them (RFC 4918, sections 11.1, 13 and 14).
-ghost use Rattle.std.specs.Prelude.{◌≡◌, ◌++◌, codes, [], ◌∷◌, IfOk, OnOk, IfErr, string_bytes};
+ghost use Rattle.std.specs.Prelude.{◌≡◌, ◌++◌, codes, [], ◌∷◌, IfOk, OnOk, OnErr, IfErr, string_bytes};
 ghost use Rattle.dav_resource.specs.declared.error.DavError.TheVariants.{Memory};
 ghost use Rattle.dav_parts.specs.Reply.{reply_of, bare_reply as reply_without_body, field};
 ghost use Rattle.dav_parts.specs.ReplyHeader.{HasRoomFor};
@@ -49,10 +49,11 @@ pub fn xml_headers(alloc: Global) -> DavResult<HeaderMap<HeaderValue>>
 }
 
 /// Says in `content-type` that the body is XML in UTF-8 (RFC 4918, section 8.2). The only error is `Memory`, where
-/// memory is lacking.
+/// memory is lacking, and then the fields stay as they are.
 pub fn add_xml_type(headers: &mut HeaderMap<HeaderValue>) -> DavResult<()>
     requires { HasRoomFor headers.old (codes "content-type") }
     ensures ok { OnOk result (headers.new ≡ headers.old ++ field (codes "content-type") xml_type ∷ []) }
+    ensures unset { OnErr result (headers.new ≡ headers.old) }
     ensures err { IfErr result (λ e. e ≡ Memory) }
 {
     let xml = HeaderValue::from_static("application/xml; charset=utf-8");

@@ -1,5 +1,5 @@
 //! The header fields of a reply, set one after the other.
-ghost use Rattle.std.specs.Prelude.{◌≡◌, ◌++◌, OnOk, IfOk, IfErr, string_bytes};
+ghost use Rattle.std.specs.Prelude.{◌≡◌, ◌++◌, OnOk, OnErr, IfOk, IfErr, string_bytes};
 ghost use Rattle.http_header.specs.FieldValue.{IsFieldValue, plain_value};
 ghost use Rattle.dav_resource.specs.declared.error.DavError.TheVariants.{Memory};
 ghost use Rattle.dav_parts.specs.ReplyHeader.{HasRoomFor, optional_field};
@@ -8,7 +8,7 @@ use dav_resource::DavResult;
 use http_header::{HeaderMap, HeaderName, HeaderValue};
 
 /// Sets one more header field, the last, where there is a value for it; else the fields stay as they are.
-/// The only error is `Memory`, where memory is lacking.
+/// The only error is `Memory`, where memory is lacking, and then they stay too.
 pub fn add_header(
     headers: &mut HeaderMap<HeaderValue>,
     name: HeaderName,
@@ -16,6 +16,7 @@ pub fn add_header(
 ) -> DavResult<()>
     requires { HasRoomFor headers.old name }
     ensures ok { OnOk result (headers.new ≡ headers.old ++ optional_field name value) }
+    ensures unset { OnErr result (headers.new ≡ headers.old) }
     ensures err { IfErr result (λ e. e ≡ Memory) }
 {
     let Some(value) = value else {

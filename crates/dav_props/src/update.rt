@@ -1,5 +1,5 @@
 //! What the body of a PROPPATCH asks for (RFC 4918, sections 9.2 and 14.19).
-ghost use Rattle.std.specs.Prelude.{◌≡◌, ◌++◌, map, IfOk};
+ghost use Rattle.std.specs.Prelude.{◌≡◌, ◌++◌, map, IfOk, IfErr, IsErrOf};
 ghost use Rattle.std.specs.List.{flat_map};
 ghost use Rattle.dav_resource.specs.Gives.{GivesBy};
 ghost use Rattle.dav_resource.specs.Tree.{elements_of};
@@ -25,13 +25,14 @@ pub struct PropertyChange<'r> {
 /// The changes that a body asks for, in order: each element in a `prop` of a `set` or a `remove`. Elements are known by
 /// their local names alone, and all others are passed over. `can_deadprop` says whether the store keeps properties.
 ///
-/// Errors: `XmlParseError` where there is no body, or one that is no `propertyupdate`; `Memory`.
+/// Errors: `XmlParseError` where there is no body, or one that is no `propertyupdate`; else `Memory` alone.
 pub fn read_update<'r>(
     alloc: Global,
     body: &'r ReqBody,
     can_deadprop: bool,
 ) -> DavResult<Vec<PropertyChange<'r>>>
-    ensures { GivesBy (λ changes. map change_of changes.items) result (update_verdict can_deadprop body.now) }
+    ensures given { GivesBy (λ changes. map change_of changes.items) result (update_verdict can_deadprop body.now) }
+    ensures unread { IfErr (update_verdict can_deadprop body.now) (IsErrOf result) }
 {
     match body {
         ReqBody::Tree(root) if is_named(root, "propertyupdate") => {

@@ -23,11 +23,12 @@ pub struct PropWriter {
 
 impl PropWriter {
     /// A writer that has written no response. The reply gets the status 207, and as its last header field
-    /// `content-type`. The only error is `Memory`, where memory is lacking; what the reply has then isn't said.
+    /// `content-type`. The only error is `Memory`, where memory is lacking, and then the reply is as before.
     pub fn new(alloc: Global, res: &mut Response<Body>) -> DavResult<PropWriter>
         requires { HasRoomFor (reply_of res.old).headers (codes "content-type") }
         ensures empty { IfOk result (λ writer. writer.tree ≡ property_multistatus []) }
         ensures reply { OnOk result (reply_of res.new ≡ record (reply_of res.old) { status = 207; headers = (reply_of res.old).headers ++ field (codes "content-type") xml_type ∷ [] }) }
+        ensures unwritten { OnErr result (reply_of res.new ≡ reply_of res.old) }
         ensures err { IfErr result (λ e. e ≡ Memory) }
     {
         let tree = declaring_element(alloc, "D:multistatus")?;
