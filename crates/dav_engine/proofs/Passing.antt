@@ -48,6 +48,12 @@ judged_passed (Ok b) a (r ∷ records) h = absurd h
 judged_passed (Err e) a [] h = absurd cc
 judged_passed (Err e) a (r ∷ records) h = absurd h
 
+-- what was found passes
+pub path_value : (request : DavRequest) (state : State) (looked : Option Meta) (head : List Logged) (found : Option Meta) → LeadsTo (path_rules request state looked) head (Passed found) → found ≡ looked
+path_value request state looked head found h =
+    let held = LeadsTo-last (own_conditions request state looked) _ head found h in
+    permitted_value 423 (is_permitted request state request.path.key false) looked found held.2 held.4
+
 -- the conditions hold, and the locks of the path permit it
 pub path_passed : (request : DavRequest) (state : State) (looked : Option Meta) (head : List Logged) (found : Option Meta) → LeadsTo (path_rules request state looked) head (Passed found) → is_permitted request state request.path.key false ≡ true
 path_passed request state looked head found h =
@@ -67,7 +73,7 @@ told_passed (Refused e) known meta [] h = absurd cc
 told_passed (Refused e) known meta (r ∷ records) h = absurd h
 
 -- what is to be found is there
-found_passed : (contents : Contents) (key : Key) (meta : Meta) (records : List Logged) → LeadsTo (must_find contents key) records (Passed meta) → contents.metas key ≡ Some meta
+pub found_passed : (contents : Contents) (key : Key) (meta : Meta) (records : List Logged) → LeadsTo (must_find contents key) records (Passed meta) → contents.metas key ≡ Some meta
 found_passed contents key meta [] h = absurd cc
 found_passed contents key meta (r ∷ records) h = told_passed r.outcome (contents.metas key) meta records h.2
 

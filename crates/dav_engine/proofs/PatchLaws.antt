@@ -2,6 +2,7 @@
 use Rattle.std.proofs.Common.{◌≡◌, ◌⊎◌, ◌∙◌, ◌==◌, ℕ, Bool, true, false, if◌then◌else◌, List, [], ◌∷◌, Option, Some, None, Result, Ok, Err, inl, inr, refl, sym, ap, subst, length, replicate, unwrap_or, arith}
 use Rattle.std.specs.FinMap.{get, empty, empty_of_len, len}
 use Rattle.std.proofs.lemmas.Bool.Decides.{nat_tests}
+use Rattle.std.proofs.lemmas.List.{length-replicate}
 use Rattle.dav_resource.specs.declared.error.DavError.{DavError}
 use Rattle.dav_resource.specs.declared.error.FsError.{FsError}
 use Rattle.dav_resource.specs.declared.meta.Meta.{Meta}
@@ -22,8 +23,8 @@ use Rattle.dav_engine.specs.Proppatch.{Update, found_rules, unless_some_refused,
 use Rattle.dav_engine.specs.Rules.{judged, told_by_look, must_find, is_permitted}
 use Rattle.dav_engine.specs.Settings.{Settings}
 use Rattle.dav_engine.specs.State.{State, LocksStay}
-use Rattle.dav_engine.proofs.Patching.{UpdatePassed, update_passed}
-use Rattle.dav_engine.proofs.PatchTells.{failed_not_ok, made_all_ok, made_not_ok}
+use Rattle.dav_engine.proofs.Patching.{UpdatePassed, found_known, update_passed}
+use Rattle.dav_engine.proofs.PatchTells.{failed_not_ok, made_all_ok, made_not_ok, failed_names, made_names}
 use Rattle.dav_engine.proofs.Passing.{judged_passed}
 use Rattle.dav_engine.proofs.Refusals.{RefusesBy, errs_then, errs_led, errs_told, errs_conditions, errs_permitted}
 
@@ -101,29 +102,29 @@ decided true answer other a (r ∷ records) h = absurd h
 decided false answer other a [] h = absurd cc
 decided false answer other a (r ∷ records) h = absurd h
 
-record RepliesRefused (keeps : Bool) (request : DavRequest) (reply : Reply) : Type 0 where
+record RepliesRefused (keeps : Bool) (request : DavRequest) (state : State) (reply : Reply) : Type 0 where
   changes : List Change
   asked : update_verdict keeps request.body ≡ Ok changes
   refused : some_refused changes ≡ true
-  found : Option Meta
-  shown : reply ≡ proppatch_reply request.path found (grouped (told_failed changes))
+  shown : reply ≡ proppatch_reply request.path (state.contents.metas request.path.key) (grouped (told_failed changes))
 
 module _ (keeps : Bool) (request : DavRequest) (state : State) (reply : Reply) where
-  by_changes : (found : Option Meta) (records : List Logged) → LeadsTo (judged (update_verdict keeps request.body) >>= unless_some_refused request found) records (Refuses (Ok reply)) → RepliesRefused keeps request reply
-  by_changes found records led = by_read (led_refused (judged (update_verdict keeps request.body)) (unless_some_refused request found) records (Ok reply) led)
+  by_changes : (found : Option Meta) (records : List Logged) → found ≡ state.contents.metas request.path.key → LeadsTo (judged (update_verdict keeps request.body) >>= unless_some_refused request found) records (Refuses (Ok reply)) → RepliesRefused keeps request state reply
+  by_changes found records known led = by_read (led_refused (judged (update_verdict keeps request.body)) (unless_some_refused request found) records (Ok reply) led)
     where
-      by_read : IsOfEither (judged (update_verdict keeps request.body)) (unless_some_refused request found) records (Ok reply) → RepliesRefused keeps request reply
+      by_read : IsOfEither (judged (update_verdict keeps request.body)) (unless_some_refused request found) records (Ok reply) → RepliesRefused keeps request state reply
       by_read (inl unread) = absurd (no_reply (judged (update_verdict keeps request.body)) records reply (errs_judged (update_verdict keeps request.body)) unread)
       by_read (inr (changes, head, rest, read, end)) =
           let is = decided (some_refused changes) _ (Ok reply) (found, changes) rest end in
-          record { changes = changes; asked = judged_passed (update_verdict keeps request.body) changes head read; refused = is.0; found = found; shown = let same = is.1 in cc }
+          let shown : reply ≡ proppatch_reply request.path found (grouped (told_failed changes)) = let same = is.1 in cc in
+          record { changes = changes; asked = judged_passed (update_verdict keeps request.body) changes head read; refused = is.0; shown = shown ∙ ap (λ m. proppatch_reply request.path m (grouped (told_failed changes))) known }
 
-  replies_refused : (records : List Logged) → LeadsTo (proppatch_rules keeps request state) records (Refuses (Ok reply)) → RepliesRefused keeps request reply
+  replies_refused : (records : List Logged) → LeadsTo (proppatch_rules keeps request state) records (Refuses (Ok reply)) → RepliesRefused keeps request state reply
   replies_refused records led = by_found (led_refused (found_rules request state) _ records (Ok reply) led)
     where
-      by_found : IsOfEither (found_rules request state) (λ found. judged (update_verdict keeps request.body) >>= unless_some_refused request found) records (Ok reply) → RepliesRefused keeps request reply
+      by_found : IsOfEither (found_rules request state) (λ found. judged (update_verdict keeps request.body) >>= unless_some_refused request found) records (Ok reply) → RepliesRefused keeps request state reply
       by_found (inl none) = absurd (no_reply (found_rules request state) records reply (errs_found request state) none)
-      by_found (inr (found, head, rest, led, more)) = by_changes found rest more
+      by_found (inr (found, head, rest, led, more)) = by_changes found rest (found_known request state head found led) more
 
 -- ---- each step
 
@@ -133,18 +134,29 @@ module _ (settings : Settings) (request : DavRequest) (old : State) (records : L
 
   module _ (update : Update) (new : State) (passed : UpdatePassed keeps request old update) (locks : LocksStay old new) (rest : List Logged) (statuses : List ℕ) (reply : Reply)
       (shown : reply ≡ proppatch_reply request.path update.0 (grouped (told_made update.1 statuses))) where
-    tells : (all_ok (told_made update.1 statuses) ≡ true → AreStored request update.1 old new) → (all_ok (told_made update.1 statuses) ≡ false → ChangesNothing old new) → StoresAllOrNothing settings request old reply new
-    tells stored unstored = record { changes = update.1; asked = passed.read; found = update.0; told = told_made update.1 statuses; shown = shown; stored = stored; unstored = unstored }
+    tells : length statuses ≡ length (patches_of update.1) → (all_ok (told_made update.1 statuses) ≡ true → AreStored request update.1 old new) → (all_ok (told_made update.1 statuses) ≡ false → ChangesNothing old new) → StoresAllOrNothing settings request old reply new
+    tells count stored unstored = record {
+      changes = update.1;
+      asked = passed.read;
+      told = told_made update.1 statuses;
+      each = made_names update.1 statuses count;
+      shown = shown ∙ ap (λ m. proppatch_reply request.path m (grouped (told_made update.1 statuses))) passed.known;
+      stored = stored;
+      unstored = unstored;
+    }
 
     tells_changes : (patches : List Patch) → patches_of update.1 ≡ patches → MakesChanges keeps request.path.key patches old.contents rest (Ok statuses) new.contents → StoresAllOrNothing settings request old reply new
-    tells_changes [] none asks = tells (λ ok. stored_none request update.1 old new locks none asks.same) (λ not_ok. record { contents = asks.same; locks = locks })
+    tells_changes [] none asks =
+        let told : statuses ≡ [] = let h = asks.told_none in cc in
+        tells (ap length told ∙ ap length (sym none)) (λ ok. stored_none request update.1 old new locks none asks.same) (λ not_ok. record { contents = asks.same; locks = locks })
     tells_changes (patch ∷ patches) is (inl all) =
         let told : statuses ≡ replicate (length (patch ∷ patches)) 200 = let h = all.told_all in cc in
-        tells (λ ok. stored_all request update.1 old new locks (rw is all.made))
+        tells (ap length told ∙ length-replicate (length (patch ∷ patches)) 200 ∙ ap length (sym is)) (λ ok. stored_all request update.1 old new locks (rw is all.made))
         (λ not_ok. let no : false ≡ true = sym not_ok ∙ ap (λ s. all_ok (told_made update.1 s)) told ∙ made_all_ok update.1 (length (patch ∷ patches)) passed.none_refused in absurd cc)
     tells_changes (patch ∷ patches) is (inr (inl none)) =
         let told : statuses ≡ none.statuses = let h = none.told_each in cc in
-        tells (λ ok. absurd (made_not_ok update.1 statuses (ap length told ∙ none.each ∙ ap length (sym is)) (λ all. none.not_all (sym told ∙ all ∙ ap (λ p. replicate (length p) 200) is)) ok))
+        let count : length statuses ≡ length (patches_of update.1) = ap length told ∙ none.each ∙ ap length (sym is) in
+        tells count (λ ok. absurd (made_not_ok update.1 statuses count (λ all. none.not_all (sym told ∙ all ∙ ap (λ p. replicate (length p) 200) is)) ok))
         (λ not_ok. record { contents = none.same; locks = locks })
     tells_changes (patch ∷ patches) is (inr (inr refused)) = let no = refused.told_error in absurd cc
 
@@ -154,8 +166,8 @@ module _ (settings : Settings) (request : DavRequest) (old : State) (records : L
       record {
         changes = r.changes;
         asked = r.asked;
-        found = r.found;
         told = told_failed r.changes;
+        each = failed_names r.changes;
         shown = r.shown;
         stored = λ ok. absurd (failed_not_ok r.changes r.refused ok);
         unstored = λ not_ok. same_state old new h.same;

@@ -1,14 +1,16 @@
 -- What the statuses in the reply to a PROPPATCH tell.
-use Rattle.std.proofs.Common.{◌≡◌, ◌≢◌, ◌∙◌, ◌++◌, ℕ, zero, suc, Bool, true, false, not, ◌&&◌, ◌||◌, nat_eq, if◌then◌else◌, List, [], ◌∷◌, map, filter, length, replicate, refl, sym, ap, arith}
+use Rattle.std.proofs.Common.{◌≡◌, ◌≢◌, ◌∙◌, ◌++◌, ℕ, zero, suc, Bool, true, false, not, ◌&&◌, ◌||◌, nat_eq, if◌then◌else◌, Option, Some, None, List, [], ◌∷◌, map, filter, length, replicate, refl, sym, ap, arith}
 use Rattle.std.specs.List.{list_any, zip}
 use Rattle.std.proofs.lemmas.Bool.Decides.{nat_tests}
 use Rattle.std.proofs.lemmas.List.{map-append, length-map}
 use Rattle.std.proofs.lemmas.List.Folds.{list_all-append}
-use Rattle.dav_resource.specs.Tree.{Tree}
+use Rattle.dav_resource.specs.Key.{Key}
+use Rattle.dav_resource.specs.Tree.{Tree, Tag, Nodes}
+use Rattle.dav_store.specs.Store.{property_key}
 use Rattle.dav_props.specs.Property.{bare}
 use Rattle.dav_props.specs.Propstat.{Told}
-use Rattle.dav_props.specs.Update.{Change, is_dead, is_refused, failed, told_failed, patch_of, patches_of, made, live_made, told_made}
-use Rattle.dav_engine.specs.Laws.{all_ok}
+use Rattle.dav_props.specs.Update.{Change, is_dead, is_refused, live_first, failed, told_failed, patch_of, patches_of, made, live_made, told_made}
+use Rattle.dav_engine.specs.Laws.{all_ok, property_of}
 
 abbrev live : Change → Bool
 live change = not (is_dead change)
@@ -95,3 +97,51 @@ made_not_ok changes statuses same other ok =
     let count : length (patches_of changes) ≡ length elements = length-map (filter is_dead changes) patch_of ∙ sym (length-map (filter is_dead changes) (λ change. bare change.element)) in
     let all = zip_all statuses elements (same ∙ count) (all_both (live_made changes) (zip statuses elements) ok).1 in
     other (all ∙ ap (λ n. replicate n 200) (sym count))
+
+-- ---- each change is told once
+
+abbrev named : Told → Key
+named told = property_of told.1
+
+abbrev asked : Change → Key
+asked change = property_of change.element
+
+bare_tag : (tag : Tag) (namespace : Option (List ℕ)) (children : Nodes) → property_of (bare (record { tag = record tag { namespace = namespace }; children = children })) ≡ property_key namespace tag.name
+bare_tag tag None children = refl
+bare_tag tag (Some namespace) children = refl
+
+bare_named : (element : Tree) → property_of (bare element) ≡ property_of element
+bare_named element = bare_tag element.tag element.tag.namespace element.children
+
+-- as it is told where it is refused itself, or not
+abbrev told_if : Change → Bool → Told
+told_if change refused = if refused then (change.status, bare change.element) else (424, if change.set && is_dead change then change.element else bare change.element)
+
+failed_named : (change : Change) → named (failed change) ≡ asked change
+failed_named change =
+    elim (is_refused change) as (λ b. named (told_if change b) ≡ asked change) [
+      | true ↦ bare_named change.element
+      | false ↦ elim (change.set && is_dead change) as (λ b. property_of (if b then change.element else bare change.element) ≡ asked change) [ true ↦ refl | false ↦ bare_named change.element ]
+    ]
+
+names_of : (tell : Change → Told) → ((change : Change) → named (tell change) ≡ asked change) → (changes : List Change) → map named (map tell changes) ≡ map asked changes
+names_of tell each [] = refl
+names_of tell each (change ∷ changes) = rw (each change) (ap (λ names. asked change ∷ names) (names_of tell each changes))
+
+-- a status for each
+zip_names : (statuses : List ℕ) (changes : List Change) → length statuses ≡ length changes → map named (zip statuses (map (λ change. bare change.element) changes)) ≡ map asked changes
+zip_names [] [] same = refl
+zip_names [] (change ∷ changes) same = absurd cc
+zip_names (status ∷ statuses) [] same = absurd cc
+zip_names (status ∷ statuses) (change ∷ changes) same = rw (bare_named change.element) (ap (λ names. asked change ∷ names) (zip_names statuses changes (omega (arith, same))))
+
+-- where one is refused
+pub failed_names : (changes : List Change) → map named (told_failed changes) ≡ map asked (live_first changes)
+failed_names changes = names_of failed failed_named (live_first changes)
+
+-- where none is
+pub made_names : (changes : List Change) (statuses : List ℕ) → length statuses ≡ length (patches_of changes) → map named (told_made changes statuses) ≡ map asked (live_first changes)
+made_names changes statuses count =
+    map-append named (live_made changes) (zip statuses (map (λ change. bare change.element) (filter is_dead changes)))
+    ∙ (rw (names_of made (λ change. bare_named change.element) (filter live changes), zip_names statuses (filter is_dead changes) (count ∙ length-map (filter is_dead changes) patch_of))
+    (sym (map-append asked (filter live changes) (filter is_dead changes))))

@@ -26,14 +26,21 @@ use Rattle.dav_engine.specs.Proppatch.{Update, proppatch_reply, found_rules, unl
 use Rattle.dav_engine.specs.Rules.{judged, must_find, is_permitted}
 use Rattle.dav_engine.specs.State.{State}
 use Rattle.dav_engine.proofs.Deleting.{judges_known}
-use Rattle.dav_engine.proofs.Passing.{judged_passed, path_passed}
+use Rattle.dav_engine.proofs.Passing.{judged_passed, path_passed, path_value, found_passed}
 
 -- ---- what the rules have seen to, where they are passed
 
 pub record UpdatePassed (keeps : Bool) (request : DavRequest) (state : State) (update : Update) : Type 0 where
   pub permitted : is_permitted request state request.path.key false ≡ true
+  pub known : update.0 ≡ state.contents.metas request.path.key
   pub read : update_verdict keeps request.body ≡ Ok update.1
   pub none_refused : some_refused update.1 ≡ false
+
+-- what was found is what is there
+pub found_known : (request : DavRequest) (state : State) (head : List Logged) (found : Option Meta) → LeadsTo (found_rules request state) head (Passed found) → found ≡ state.contents.metas request.path.key
+found_known request state head found h =
+    let looked = LeadsTo-last (must_find state.contents request.path.key) _ head found h in
+    path_value request state (Some looked.0) looked.2 found looked.4 ∙ sym (found_passed state.contents request.path.key looked.0 looked.1 looked.3)
 
 decided : {A : Type 0} (refused : Bool) (answer : Answer) (a b : A) (records : List Logged) → LeadsTo (if refused then Refuses answer else Passed a) records (Passed b) → (refused ≡ false) × (b ≡ a)
 decided true answer a b [] h = absurd cc
@@ -49,6 +56,7 @@ update_passed keeps request state head update h =
     let none = decided (some_refused read.0) _ (found.0, read.0) update read.2 read.4 in
     record {
       permitted = path_passed request state (Some looked.0) looked.2 found.0 looked.4;
+      known = ap (λ (u : Update). u.0) none.1 ∙ found_known request state found.1 found.0 found.3;
       read = judged_passed (update_verdict keeps request.body) read.0 read.1 read.3 ∙ ap (λ (u : Update). Ok u.1) (sym none.1);
       none_refused = ap (λ (u : Update). some_refused u.1) none.1 ∙ none.0;
     }

@@ -5,6 +5,7 @@ use Rattle.std.specs.List.{list_all}
 use Rattle.std.specs.Option.{ForSome}
 use Rattle.dav_resource.specs.Key.{Key}
 use Rattle.dav_resource.specs.PathText.{PathValue}
+use Rattle.dav_resource.specs.Tree.{Tree}
 use Rattle.dav_resource.specs.Errors.{dav_status, fs_status}
 use Rattle.dav_resource.specs.declared.error.DavError.{DavError}
 use Rattle.dav_resource.specs.declared.error.DavError.TheVariants.{Memory}
@@ -16,12 +17,13 @@ use Rattle.dav_headers.specs.Destination.{destination_of}
 use Rattle.dav_store.specs.Locks.{is_at_or_below, at_or_below}
 use Rattle.dav_store.specs.Members.{IsIn}
 use Rattle.dav_store.specs.PropertyCalls.{properties_at, patched}
+use Rattle.dav_store.specs.Store.{property_key}
 use Rattle.dav_store.specs.Transfers.{IsRenamedTo}
 use Rattle.dav_store.specs.declared.lock.DavLock.{DavLock}
 use Rattle.dav_parts.specs.Multistatus.{Item, multistatus_reply}
 use Rattle.dav_parts.specs.Reply.{Reply, Answer}
 use Rattle.dav_props.specs.Propstat.{Told, grouped}
-use Rattle.dav_props.specs.Update.{Change, update_verdict, some_refused, patches_of}
+use Rattle.dav_props.specs.Update.{Change, update_verdict, some_refused, live_first, patches_of}
 use Rattle.dav_walks.specs.Copying.{snapshot, copied}
 use Rattle.dav_walks.specs.KeyCall.{standing}
 use Rattle.dav_engine.specs.Locking.{is_refresh}
@@ -163,13 +165,17 @@ pub record AreStored (request : DavRequest) (changes : List Change) (old new : S
 abbrev pub all_ok : List Told → Bool
 all_ok told = list_all (λ (t : Told). nat_eq t.0 200) told
 
--- what the body asks for is told, and where each of it is told with 200 it is stored; else nothing is
+-- the property that an element is: its namespace and its name
+abbrev pub property_of : Tree → Key
+property_of element = property_key element.tag.namespace element.tag.name
+
+-- each change that the body asks for is told, once, and where each is told with 200 they are stored; else nothing is
 pub record StoresAllOrNothing (settings : Settings) (request : DavRequest) (old : State) (reply : Reply) (new : State) : Type 0 where
   pub changes : List Change
   pub asked : update_verdict settings.keeps_properties request.body ≡ Ok changes
-  pub found : Option Meta
   pub told : List Told
-  pub shown : reply ≡ proppatch_reply request.path found (grouped told)
+  pub each : map (λ (t : Told). property_of t.1) told ≡ map (λ change. property_of change.element) (live_first changes)
+  pub shown : reply ≡ proppatch_reply request.path (old.contents.metas request.path.key) (grouped told)
   pub stored : all_ok told ≡ true → AreStored request changes old new
   pub unstored : all_ok told ≡ false → ChangesNothing old new
 

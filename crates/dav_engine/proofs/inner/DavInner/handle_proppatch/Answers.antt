@@ -23,7 +23,7 @@ returns-in_err-changes-clause-step g c =
     let keeps = (g.F.GuardedFileSystem.seen (lent c.args.self.now)).keeps_properties in
     let state = state_of (seen_by g.F.GuardedFileSystem.seen g.L.DavLockSystem.seen c.args.self.now) in
     let judged = c.in_ok-found.ensures in
-    let read = rw (c.have_props.ensures, judged.rules.fixed) at c.in_err-changes.ensures in
+    let read = rw (c.have_props.ensures, judged.rules.fixed) at c.in_err-changes.ensures.given in
     rw judged.same_locks (serves_exit proppatch_method proppatch_sound (settings_by g.F.GuardedFileSystem.seen c.args.self.now) c.args.request.now _ _ _ _ _ c.from_residual-in_err-changes.ensures.1 (judges_unreadable keeps c.args.request.now state _ _ c.in_ok-found.found judged.rules _ read))
 
 pub returns-in_err-groups-clause-step : goal.returns-in_err-groups-clause-step
@@ -31,7 +31,7 @@ returns-in_err-groups-clause-step g c =
     let keeps = (g.F.GuardedFileSystem.seen (lent c.args.self.now)).keeps_properties in
     let state = state_of (seen_by g.F.GuardedFileSystem.seen g.L.DavLockSystem.seen c.args.self.now) in
     let judged = c.in_ok-found.ensures in
-    let read = rw (c.have_props.ensures, judged.rules.fixed) at c.in_ok-changes.ensures in
+    let read = rw (c.have_props.ensures, judged.rules.fixed) at c.in_ok-changes.ensures.given in
     rw judged.same_locks (serves_exit proppatch_method proppatch_sound (settings_by g.F.GuardedFileSystem.seen c.args.self.now) c.args.request.now _ _ _ _ _ c.from_residual-in_err-groups.ensures.1 (judges_untold keeps c.args.request.now state _ _ c.in_ok-found.found judged.rules _ read))
 
 pub returns-then-some_refused-clause-step : goal.returns-then-some_refused-clause-step
@@ -39,7 +39,7 @@ returns-then-some_refused-clause-step g c =
     let keeps = (g.F.GuardedFileSystem.seen (lent c.args.self.now)).keeps_properties in
     let state = state_of (seen_by g.F.GuardedFileSystem.seen g.L.DavLockSystem.seen c.args.self.now) in
     let judged = c.in_ok-found.ensures in
-    let read = rw (c.have_props.ensures, judged.rules.fixed) at c.in_ok-changes.ensures in
+    let read = rw (c.have_props.ensures, judged.rules.fixed) at c.in_ok-changes.ensures.given in
     let is : some_refused (map change_of c.as_slice.result.now) ≡ true = sym c.some_refused.ensures ∙ c.if-some_refused.true in
     let refused = rw c.as_slice.ensures.value at is in
     let groups = grouped (told_failed (map change_of c.in_ok-changes.changes.items)) in
@@ -60,7 +60,7 @@ returns-clause-step g c =
     let keeps = (g.F.GuardedFileSystem.seen (lent c.args.self.now)).keeps_properties in
     let state = state_of (seen_by g.F.GuardedFileSystem.seen g.L.DavLockSystem.seen c.args.self.now) in
     let judged = c.in_ok-found.ensures in
-    let read = rw (c.have_props.ensures, judged.rules.fixed) at c.in_ok-changes.ensures in
+    let read = rw (c.have_props.ensures, judged.rules.fixed) at c.in_ok-changes.ensures.given in
     let is : some_refused (map change_of c.as_slice.result.now) ≡ false = sym c.some_refused.ensures ∙ c.if-some_refused.false in
     let none = rw c.as_slice.ensures.value at is in
     let work = rw (c.as_slice-2.ensures.value, judged.rules.fixed) at c.patch_found.ensures.work in
