@@ -4,7 +4,6 @@ pub mod Deleting
 pub mod FieldText
 pub mod Granting
 pub mod Guarding
-pub mod HttpDate
 pub mod Judging
 pub mod Making
 pub mod PutHeaders

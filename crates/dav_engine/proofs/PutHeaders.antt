@@ -5,7 +5,8 @@ use Rattle.std.proofs.lemmas.Bool.Decides.{nat_tests}
 use Rattle.http_header.specs.FieldValue.{FieldValue, plain_value}
 use Rattle.http_header.specs.HeaderMap.{Entries}
 use Rattle.dav_resource.specs.declared.meta.Meta.{Meta}
-use Rattle.dav_engine.specs.HttpDate.{http_date_text, last_shown}
+use Rattle.dav_dates.specs.Moment.{last_shown}
+use Rattle.dav_dates.specs.HttpDate.{http_date_text}
 use Rattle.dav_parts.specs.Reply.{field}
 use Rattle.dav_parts.specs.ReplyHeader.{optional_field}
 use Rattle.dav_engine.specs.PutReply.{known_headers, put_headers, shown_change, shown_tag, empty_length, quoted}

@@ -1,5 +1,4 @@
 pub mod DavInner
-pub mod HttpDate
 pub mod PutReply
 pub mod Mkcol
 pub mod Put

@@ -4,7 +4,8 @@ use Rattle.std.specs.Option.{option_map_or, option_and_then}
 use Rattle.http_header.specs.HeaderMap.{Entries}
 use Rattle.http_header.specs.FieldValue.{FieldValue, plain_value}
 use Rattle.dav_resource.specs.declared.meta.Meta.{Meta}
-use Rattle.dav_engine.specs.HttpDate.{http_date_text, last_shown}
+use Rattle.dav_dates.specs.Moment.{last_shown}
+use Rattle.dav_dates.specs.HttpDate.{http_date_text}
 use Rattle.dav_parts.specs.Reply.{Reply, bare_reply, field}
 
 -- the moment of the last change, where it is known and can be shown

@@ -4,7 +4,6 @@
 mod copy;
 mod copymove;
 mod delete;
-mod http_date;
 mod inner;
 mod judge;
 mod location;

@@ -1,13 +1,10 @@
--- The date of a second is the one that the function gives.
-use Rattle.std.proofs.Common.{◌≡◌, ℕ, zero, suc, ◌+◌, ◌-◌, ◌*◌, ◌/◌, ◌%◌, ◌<◌, ◌≤◌, inl, inr, List, refl, sym, ap, ◌∙◌, arith}
+-- The numbers of a date and a time of day are those that the second of them has.
+use Rattle.std.proofs.Common.{◌≡◌, ℕ, zero, suc, ◌+◌, ◌-◌, ◌*◌, ◌/◌, ◌%◌, ◌<◌, ◌≤◌, inl, inr, ap, ◌∙◌, arith}
 use Rattle.std.proofs.lemmas.Bool.{cases_eq}
 use Rattle.std.proofs.lemmas.Bool.Decides.{nat_tests}
-use Rattle.httpdate.specs.declared.date.HttpDate.{HttpDate}
-use Rattle.httpdate.specs.Calendar.{IsCivilDate, days_in_month, days_of_years, days_of_months, days_from_civil, weekday}
-use Rattle.httpdate.specs.Date.{unix_secs}
-use Rattle.httpdate.specs.Text.{imf_fixdate}
+use Rattle.httpdate.specs.Calendar.{IsCivilDate, IsTimeOfDay, seconds_from_civil, days_in_month, days_of_years, days_of_months, days_from_civil, weekday}
 use Rattle.httpdate.proofs.CalendarLemmas.{days_from_civil_year, days_from_civil_month}
-use Rattle.dav_engine.specs.HttpDate.{IsHttpDate, ended, ended_years, ended_months, parts_from, parts_of, http_date_text}
+use Rattle.dav_dates.specs.Moment.{ended, ended_years, ended_months, parts_from, parts_of}
 
 -- k periods have ended where the first k have, and none of the others
 ended_is : (lengths : ℕ → ℕ) (n x k : ℕ) → k ≤ n → ((j : ℕ) → j < k → lengths (suc j) ≤ x) → ((j : ℕ) → k ≤ j → j < n → x < lengths (suc j))
@@ -74,22 +71,16 @@ parts_by_year secs day y rest from today years left =
     let of_year : secs / 86400 - days_of_years (ended_years (secs / 86400)) ≡ rest = rw (today, years) left in
     λ i. parts_from (year i) (of_year i) secs
 
--- the numbers of a date are those of its second
-parts_are : (date : HttpDate) → parts_of (unix_secs date) ≡ date.parts
-parts_are date =
-    let p = date.parts in
-    let secs = unix_secs date in
-    let day = days_from_civil p.year p.mon p.day in
-    let of_year = days_of_months p.year (p.mon - 1) + (p.day - 1) in
-    let at = clock day p.hour p.min p.sec secs date.time.0 date.time.1 date.time.2 refl in
-    let months = months_of p.year p.mon p.day date.civil in
-    let month : 1 + ended_months p.year of_year ≡ p.mon = rw months (omega (arith, date.civil.1)) in
-    let of_month : 1 + (of_year - days_of_months p.year (ended_months p.year of_year)) ≡ p.day = rw months (omega (arith, date.civil.2)) in
-    let named : weekday (secs / 86400) ≡ p.wday = ap weekday at.0 ∙ sym date.right_day in
-    parts_by_year secs day p.year of_year date.civil.0.0 at.0 (years_of p.year p.mon p.day date.civil) (omega arith)
-    ∙ (λ i. record { year = p.year; mon = month i; day = of_month i; hour = at.1 i; min = at.2 i; sec = at.3 i; wday = named i })
-
--- so a text that is the date of a second is the one
-pub http_date_text_is : (secs : ℕ) (text : List ℕ) → IsHttpDate secs text → text ≡ http_date_text secs
-unfolding http_date_text
-http_date_text_is secs text (date, same, shown) = shown ∙ ap imf_fixdate (sym (parts_are date)) ∙ ap (λ s. imf_fixdate (parts_of s)) same
+-- the numbers of a second are those of the date and the time of day that it is
+pub parts_are : (y m d hour min sec secs : ℕ) → IsCivilDate y m d → IsTimeOfDay hour min sec → seconds_from_civil y m d hour min sec ≡ secs
+    → parts_of secs ≡ record { year = y; mon = m; day = d; hour = hour; min = min; sec = sec; wday = weekday (days_from_civil y m d) }
+parts_are y m d hour min sec secs civil time same =
+    let day = days_from_civil y m d in
+    let of_year = days_of_months y (m - 1) + (d - 1) in
+    let at = clock day hour min sec secs time.0 time.1 time.2 same in
+    let months = months_of y m d civil in
+    let month : 1 + ended_months y of_year ≡ m = rw months (omega (arith, civil.1)) in
+    let of_month : 1 + (of_year - days_of_months y (ended_months y of_year)) ≡ d = rw months (omega (arith, civil.2)) in
+    let named : weekday (secs / 86400) ≡ weekday day = ap weekday at.0 in
+    parts_by_year secs day y of_year civil.0.0 at.0 (years_of y m d civil) (omega arith)
+    ∙ (λ i. record { year = y; mon = month i; day = of_month i; hour = at.1 i; min = at.2 i; sec = at.3 i; wday = named i })

@@ -1,7 +1,7 @@
 use Rattle.std.proofs.lemmas.Result.{IfOk-weaker}
-use Rattle.dav_engine.proofs.FieldText.{IsFieldValue-date_text}
-use Rattle.dav_engine.proofs.HttpDate.{http_date_text_is}
-use Rattle.dav_engine.proofs.http_date.http_date.Goals as goal
+use Rattle.dav_dates.proofs.FieldText.{IsFieldValue-date_text}
+use Rattle.dav_dates.proofs.HttpDate.{http_date_text_is}
+use Rattle.dav_dates.proofs.header_date.http_date.Goals as goal
 
 pub returns-clause-dated : goal.returns-clause-dated
 returns-clause-dated c =

@@ -1,20 +1,16 @@
--- The date that a header field shows for a second since 1970 (RFC 9110, section 5.6.7), in the Gregorian calendar.
-use Rattle.std.specs.Prelude.{◌≡◌, ℕ, zero, suc, ◌+◌, ◌-◌, ◌/◌, ◌%◌, nat_le, if◌then◌else◌, List}
+-- The numbers of the date and the time of day of a second since 1970, in UTC and the Gregorian calendar (ISO 8601; POSIX.1-2017, section 4.16).
+use Rattle.std.specs.Prelude.{ℕ, zero, suc, ◌+◌, ◌-◌, ◌/◌, ◌%◌, nat_le, if◌then◌else◌, Option, Some, None}
+use Rattle.std.specs.Option.{option_and_then}
 use Rattle.httpdate.specs.declared.parts.Parts.{Parts}
-use Rattle.httpdate.specs.declared.date.HttpDate.{HttpDate}
 use Rattle.httpdate.specs.Calendar.{days_of_years, days_of_months, weekday}
-use Rattle.httpdate.specs.Date.{unix_secs, date_text}
-use Rattle.httpdate.specs.Text.{imf_fixdate}
 
--- the last moment that a reply shows: 9998-12-31T23:59:59Z
+-- the last moment that is shown: 9998-12-31T23:59:59Z
 abbrev pub last_shown : ℕ
 last_shown = 253370764799
 
--- the text is the date of this second
-abbrev pub IsHttpDate : ℕ → List ℕ → Type 0
-IsHttpDate secs text = (date : HttpDate) × (unix_secs date ≡ secs) × (text ≡ date_text date)
-
--- ---- the same as a function
+-- the moment, where it is known and can be shown
+abbrev pub shown_moment : Option ℕ → Option ℕ
+shown_moment moment = option_and_then (λ secs. if nat_le secs last_shown then Some secs else None) moment
 
 -- how many of the first n periods have ended by the day x, where the first k last `lengths k` days together
 unfoldable pub ended : (ℕ → ℕ) → ℕ → ℕ → ℕ
@@ -47,7 +43,3 @@ abbrev pub parts_of : ℕ → Parts
 parts_of secs =
     let years = ended_years (secs / 86400) in
     parts_from (1970 + years) (secs / 86400 - days_of_years years) secs
-
--- the date of a second, as `Sun, 06 Nov 1994 08:49:37 GMT`
-unfoldable pub http_date_text : ℕ → List ℕ
-http_date_text secs = imf_fixdate (parts_of secs)

@@ -1,0 +1,5 @@
+mod Moment
+mod HttpDate
+mod FieldText
+mod Calendars
+mod CreationDate

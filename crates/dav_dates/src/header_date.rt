@@ -1,0 +1,34 @@
+//! Moments, as header fields and properties show them.
+ghost use Rattle.std.specs.Prelude.{◌≡◌, ◌≤◌, IfOk, IfSome, string_bytes};
+ghost use Rattle.http_header.specs.FieldValue.{IsFieldValue};
+ghost use Rattle.dav_dates.specs.Moment.{last_shown, shown_moment};
+ghost use Rattle.dav_dates.specs.HttpDate.{IsHttpDate, http_date_text};
+
+use httpdate::{HttpDate, fmt_http_date};
+use std::alloc::{AllocError, Global};
+
+/// The last moment that is shown: 9998-12-31T23:59:59Z, in seconds since 1970.
+pub const LAST_SHOWN: u64 = 253_370_764_799;
+
+/// The moment where it is known and not past the last one that is shown.
+pub fn shown_moment(moment: Option<u64>) -> Option<u64>
+    ensures exact { result ≡ shown_moment moment }
+    ensures shown { IfSome result (λ secs. secs ≤ last_shown) }
+{
+    match moment {
+        Some(secs) if secs <= LAST_SHOWN => moment,
+        _ => None,
+    }
+}
+
+/// The HTTP date of this second since 1970, as `Thu, 01 Jan 1970 00:00:01 GMT` (RFC 9110, section 5.6.7). It fails only
+/// where memory is lacking.
+pub fn http_date(alloc: Global, secs: u64) -> Result<String, AllocError>
+    requires { secs ≤ last_shown }
+    ensures dated { IfOk result (λ text. IsHttpDate secs (string_bytes text)) }
+    ensures exact { IfOk result (λ text. string_bytes text ≡ http_date_text secs) }
+    ensures field { IfOk result (λ text. IsFieldValue (string_bytes text)) }
+{
+    let date = HttpDate::from_unix_secs(secs).unwrap();
+    fmt_http_date(alloc, date)
+}
