@@ -1,0 +1,44 @@
+-- A live property of one resource, as a reply tells it (RFC 4918, sections 9.1 and 15; RFC 4331; RFC 5397, section 3).
+use Rattle.std.specs.Prelude.{ℕ, Bool, ◌&&◌, not, if◌then◌else◌, List, [], ◌∷◌, codes, Option, Some, is_some}
+use Rattle.std.specs.Option.{option_map}
+use Rattle.dav_resource.specs.Key.{Key}
+use Rattle.dav_resource.specs.Tree.{Tree, prefixed_element}
+use Rattle.dav_resource.specs.declared.meta.Meta.{Meta}
+use Rattle.dav_store.specs.declared.lock.DavLock.{DavLock}
+use Rattle.dav_parts.specs.DavElement.{with_elements, text_element}
+use Rattle.dav_parts.specs.LockTree.{lock_discovery, covering_in, supported_lock}
+use Rattle.dav_live.specs.Viewing.{Asker}
+use Rattle.dav_live.specs.Names.{shown_name}
+use Rattle.dav_live.specs.Rows.{live_text}
+use Rattle.dav_live.specs.declared.property.LiveProperty.{LiveProperty}
+use Rattle.dav_live.specs.declared.property.LiveProperty.TheVariants.{LockDiscovery, ResourceType, SupportedLock, CurrentUserPrincipal}
+
+-- an element of this name that holds the text, where there is one
+abbrev pub text_property : List ℕ → Bool → Option (List ℕ) → Option Tree
+text_property name names_only text = option_map (λ t. if names_only then prefixed_element name else text_element name t) text
+
+-- the element that was asked for, with `D:collection` in it for a directory
+abbrev pub resource_type : Tree → Bool → Bool → Tree
+resource_type asked names_only dir =
+    if dir && not names_only then with_elements asked (prefixed_element (codes "D:collection") ∷ []) else asked
+
+-- the element that was asked for, with the principal in it, where there is one
+abbrev pub current_user_principal : Tree → Bool → Option (List ℕ) → Option Tree
+current_user_principal asked names_only principal =
+    option_map (λ text. if names_only then asked else with_elements asked (text_element (codes "D:href") text ∷ [])) principal
+
+-- the locks that cover the key
+abbrev pub locks_of : Bool → Option (List DavLock) → Key → Tree
+locks_of names_only locks key = if names_only then prefixed_element (codes "D:lockdiscovery") else lock_discovery (covering_in locks key)
+
+-- the locks that there may be, where there is a lock system
+abbrev pub lock_kinds : Bool → Bool → Tree
+lock_kinds names_only present = if names_only then prefixed_element (codes "D:supportedlock") else supported_lock present
+
+-- the property as it is told, or none where its value isn't known; the element that named it stands for itself where no text does
+abbrev pub live_value : LiveProperty → Tree → Bool → Asker → Option (List DavLock) → Key → Meta → Option Tree
+live_value ResourceType asked names_only asker locks key meta = Some (resource_type asked names_only meta.dir)
+live_value CurrentUserPrincipal asked names_only asker locks key meta = current_user_principal asked names_only asker.principal
+live_value LockDiscovery asked names_only asker locks key meta = Some (locks_of names_only locks key)
+live_value SupportedLock asked names_only asker locks key meta = Some (lock_kinds names_only (is_some locks))
+live_value property asked names_only asker locks key meta = text_property (shown_name property) names_only (live_text property asker key meta)

@@ -1,0 +1,51 @@
+//! A live property of a resource, as a reply tells it.
+ghost use Rattle.std.specs.Prelude.{◌≡◌, IfOk, IfErr};
+ghost use Rattle.std.specs.Option.{option_copied};
+ghost use Rattle.dav_resource.specs.declared.error.DavError.TheVariants.{Memory};
+ghost use Rattle.dav_parts.specs.Conditions.{locks_in};
+ghost use Rattle.dav_live.specs.Viewing.{asker_of};
+ghost use Rattle.dav_live.specs.Live.{live_value};
+
+use crate::property::LiveProperty;
+use crate::text::live_text;
+use crate::tree::{
+    current_user_principal, lock_discovery, resource_type, supported_lock, text_property,
+};
+use crate::viewer::Viewer;
+use dav_resource::{DavPath, DavResult, Element, Meta};
+use dav_store::DavLockSystem;
+use std::alloc::Global;
+
+/// A live property of the resource at the path, of which the store told `meta`, as a reply tells it; none where its
+/// value isn't known (RFC 4918, sections 9.1 and 15). `asked` is the element that named the property, and
+/// `names_only` leaves its value out. The only error is `Memory`, where memory is lacking.
+pub fn live_element<L: DavLockSystem>(
+    alloc: Global,
+    property: LiveProperty,
+    asked: &Element,
+    names_only: bool,
+    viewer: &Viewer<'_>,
+    ls: Option<&L>,
+    path: &DavPath,
+    meta: &Meta,
+) -> DavResult<Option<Element>>
+    ensures ok { IfOk result (λ told. told ≡ live_value property asked.now names_only (asker_of viewer.now) (locks_in L.seen (option_copied ls.entry)) path.now.key meta.now) }
+    ensures err { IfErr result (λ e. e ≡ Memory) }
+{
+    match property {
+        LiveProperty::LockDiscovery => Ok(Some(lock_discovery(alloc, names_only, ls, path)?)),
+        LiveProperty::SupportedLock => {
+            Ok(Some(supported_lock(alloc, names_only, ls.is_some())?))
+        }
+        LiveProperty::ResourceType => {
+            Ok(Some(resource_type(alloc, asked, names_only, meta.dir)?))
+        }
+        LiveProperty::CurrentUserPrincipal => {
+            Ok(current_user_principal(alloc, asked, names_only, viewer.principal)?)
+        }
+        _ => {
+            let text = live_text(alloc, property, viewer, path, meta)?;
+            Ok(text_property(alloc, property.shown_name(), names_only, text)?)
+        }
+    }
+}

@@ -1,0 +1,14 @@
+//! The live properties of a resource: those whose values the server knows.
+#![tactic(auto)]
+
+mod element;
+mod moment;
+mod property;
+mod quota;
+mod text;
+mod tree;
+mod viewer;
+
+pub use element::live_element;
+pub use property::LiveProperty;
+pub use viewer::Viewer;

@@ -1,0 +1,134 @@
+//! Which properties are live, and how each is named in a reply.
+ghost use Rattle.std.specs.Prelude.{◌≡◌};
+ghost use Rattle.dav_live.specs.Names.{live_property_of, named_in_dav, named_in_apache, named_in_microsoft, is_quota, shown_name};
+
+use dav_resource::Element;
+
+/// A live property, whose value the server knows (RFC 4918, section 15; RFC 4331; RFC 5397; and those that clients of
+/// Apache's and Microsoft's namespaces ask for).
+#[derive(Clone, Copy, Debug, PartialEq, Eq)]
+pub enum LiveProperty {
+    /// `DAV:creationdate` (RFC 4918, section 15.1).
+    CreationDate,
+    /// `DAV:getcontentlength` (RFC 4918, section 15.4).
+    ContentLength,
+    /// `DAV:getcontenttype` (RFC 4918, section 15.5).
+    ContentType,
+    /// `DAV:getetag` (RFC 4918, section 15.6).
+    ETag,
+    /// `DAV:getlastmodified` (RFC 4918, section 15.7).
+    LastModified,
+    /// `DAV:lockdiscovery` (RFC 4918, section 15.8).
+    LockDiscovery,
+    /// `DAV:resourcetype` (RFC 4918, section 15.9).
+    ResourceType,
+    /// `DAV:supportedlock` (RFC 4918, section 15.10).
+    SupportedLock,
+    /// `DAV:current-user-principal` (RFC 5397, section 3).
+    CurrentUserPrincipal,
+    /// `DAV:quota-available-bytes` (RFC 4331, section 3).
+    QuotaAvailableBytes,
+    /// `DAV:quota-used-bytes` (RFC 4331, section 4).
+    QuotaUsedBytes,
+    /// `executable` of `http://apache.org/dav/props/`.
+    Executable,
+    /// `Win32CreationTime` of `urn:schemas-microsoft-com:`.
+    Win32CreationTime,
+    /// `Win32FileAttributes` of `urn:schemas-microsoft-com:`.
+    Win32FileAttributes,
+    /// `Win32LastAccessTime` of `urn:schemas-microsoft-com:`.
+    Win32LastAccessTime,
+    /// `Win32LastModifiedTime` of `urn:schemas-microsoft-com:`.
+    Win32LastModifiedTime,
+}
+
+impl LiveProperty {
+    /// The live property of this namespace and name; none where no live property is named so.
+    pub fn of_element(prop: &Element) -> Option<LiveProperty>
+        ensures { result ≡ live_property_of prop.now.tag.namespace prop.now.tag.name }
+    {
+        let Some(namespace) = &prop.namespace else {
+            return None;
+        };
+        match namespace.as_str() {
+            "DAV:" => named_in_dav(prop.name.as_str()),
+            "http://apache.org/dav/props/" => named_in_apache(prop.name.as_str()),
+            "urn:schemas-microsoft-com:" => named_in_microsoft(prop.name.as_str()),
+            _ => None,
+        }
+    }
+
+    /// Whether its value is of the store's quota (RFC 4331).
+    pub fn is_quota(self) -> bool
+        ensures { result ≡ is_quota self }
+    {
+        match self {
+            LiveProperty::QuotaAvailableBytes | LiveProperty::QuotaUsedBytes => true,
+            _ => false,
+        }
+    }
+
+    /// Its prefix and name in a reply whose outermost element declares the prefixes.
+    pub(crate) fn shown_name(self) -> &'static str
+        ensures { result.now ≡ shown_name self }
+    {
+        match self {
+            LiveProperty::CreationDate => "D:creationdate",
+            LiveProperty::ContentLength => "D:getcontentlength",
+            LiveProperty::ContentType => "D:getcontenttype",
+            LiveProperty::ETag => "D:getetag",
+            LiveProperty::LastModified => "D:getlastmodified",
+            LiveProperty::LockDiscovery => "D:lockdiscovery",
+            LiveProperty::ResourceType => "D:resourcetype",
+            LiveProperty::SupportedLock => "D:supportedlock",
+            LiveProperty::CurrentUserPrincipal => "D:current-user-principal",
+            LiveProperty::QuotaAvailableBytes => "D:quota-available-bytes",
+            LiveProperty::QuotaUsedBytes => "D:quota-used-bytes",
+            LiveProperty::Executable => "A:executable",
+            LiveProperty::Win32CreationTime => "Z:Win32CreationTime",
+            LiveProperty::Win32FileAttributes => "Z:Win32FileAttributes",
+            LiveProperty::Win32LastAccessTime => "Z:Win32LastAccessTime",
+            LiveProperty::Win32LastModifiedTime => "Z:Win32LastModifiedTime",
+        }
+    }
+}
+
+fn named_in_dav(name: &str) -> Option<LiveProperty>
+    ensures { result ≡ named_in_dav name.now }
+{
+    match name {
+        "creationdate" => Some(LiveProperty::CreationDate),
+        "getcontentlength" => Some(LiveProperty::ContentLength),
+        "getcontenttype" => Some(LiveProperty::ContentType),
+        "getetag" => Some(LiveProperty::ETag),
+        "getlastmodified" => Some(LiveProperty::LastModified),
+        "lockdiscovery" => Some(LiveProperty::LockDiscovery),
+        "resourcetype" => Some(LiveProperty::ResourceType),
+        "supportedlock" => Some(LiveProperty::SupportedLock),
+        "current-user-principal" => Some(LiveProperty::CurrentUserPrincipal),
+        "quota-available-bytes" => Some(LiveProperty::QuotaAvailableBytes),
+        "quota-used-bytes" => Some(LiveProperty::QuotaUsedBytes),
+        _ => None,
+    }
+}
+
+fn named_in_apache(name: &str) -> Option<LiveProperty>
+    ensures { result ≡ named_in_apache name.now }
+{
+    match name {
+        "executable" => Some(LiveProperty::Executable),
+        _ => None,
+    }
+}
+
+fn named_in_microsoft(name: &str) -> Option<LiveProperty>
+    ensures { result ≡ named_in_microsoft name.now }
+{
+    match name {
+        "Win32CreationTime" => Some(LiveProperty::Win32CreationTime),
+        "Win32FileAttributes" => Some(LiveProperty::Win32FileAttributes),
+        "Win32LastAccessTime" => Some(LiveProperty::Win32LastAccessTime),
+        "Win32LastModifiedTime" => Some(LiveProperty::Win32LastModifiedTime),
+        _ => None,
+    }
+}

@@ -1,0 +1,105 @@
+//! The live properties that are told by a tree.
+ghost use Rattle.std.specs.Prelude.{◌≡◌, ◌∷◌, [], codes, IfOk, IfErr};
+ghost use Rattle.std.specs.Option.{option_copied};
+ghost use Rattle.dav_resource.specs.declared.error.DavError.TheVariants.{Memory};
+ghost use Rattle.dav_resource.specs.Tree.{prefixed_element};
+ghost use Rattle.dav_parts.specs.Conditions.{locks_in};
+ghost use Rattle.dav_parts.specs.DavElement.{with_elements};
+ghost use Rattle.dav_live.specs.Live.{resource_type as tree_of_type, current_user_principal as tree_of_principal, text_property as property_of_text, locks_of as tree_of_locks, lock_kinds as tree_of_kinds};
+
+use dav_parts::{list_lockdiscovery, list_supportedlock, text_element};
+use dav_resource::{DavPath, DavResult, Element, Text};
+use dav_store::DavLockSystem;
+use std::alloc::{AllocError, Global};
+
+/// The property of a text, where there is one, under this prefix and name.
+pub(crate) fn text_property(
+    alloc: Global,
+    name: &str,
+    names_only: bool,
+    text: Option<Text>,
+) -> Result<Option<Element>, AllocError>
+    ensures { IfOk result (λ told. told ≡ property_of_text name.now names_only text) }
+{
+    let Some(text) = text else {
+        return Ok(None);
+    };
+    if names_only {
+        Ok(Some(Element::new2(alloc, name)?))
+    } else {
+        Ok(Some(text_element(alloc, name, text.as_str())?))
+    }
+}
+
+/// The element that was asked for, with `D:collection` in it for a directory.
+pub(crate) fn resource_type(
+    alloc: Global,
+    asked: &Element,
+    names_only: bool,
+    dir: bool,
+) -> Result<Element, AllocError>
+    ensures { IfOk result (λ told. told ≡ tree_of_type asked.now names_only dir) }
+{
+    let told = asked.clone()?;
+    if dir && !names_only {
+        with_collection(alloc, told)
+    } else {
+        Ok(told)
+    }
+}
+
+/// With `D:collection` behind what stands in it.
+fn with_collection(alloc: Global, mut element: Element) -> Result<Element, AllocError>
+    ensures { IfOk result (λ told. told ≡ with_elements element (prefixed_element (codes "D:collection") ∷ [])) }
+{
+    element.push_element(Element::new2(alloc, "D:collection")?)?;
+    Ok(element)
+}
+
+/// The element that was asked for, with the principal as `D:href` in it, where there is one.
+pub(crate) fn current_user_principal(
+    alloc: Global,
+    asked: &Element,
+    names_only: bool,
+    principal: Option<&str>,
+) -> Result<Option<Element>, AllocError>
+    ensures { IfOk result (λ told. told ≡ tree_of_principal asked.now names_only (option_copied principal.entry)) }
+{
+    let Some(principal) = principal else {
+        return Ok(None);
+    };
+    let mut told = asked.clone()?;
+    if !names_only {
+        told.push_element(text_element(alloc, "D:href", principal)?)?;
+    }
+    Ok(Some(told))
+}
+
+/// The locks that cover the path.
+pub(crate) fn lock_discovery<L: DavLockSystem>(
+    alloc: Global,
+    names_only: bool,
+    ls: Option<&L>,
+    path: &DavPath,
+) -> DavResult<Element>
+    ensures ok { IfOk result (λ told. told ≡ tree_of_locks names_only (locks_in L.seen (option_copied ls.entry)) path.now.key) }
+    ensures err { IfErr result (λ e. e ≡ Memory) }
+{
+    if names_only {
+        Ok(Element::new2(alloc, "D:lockdiscovery")?)
+    } else {
+        list_lockdiscovery(alloc, ls, path)
+    }
+}
+
+/// The locks that there may be, where a lock system is present.
+pub(crate) fn supported_lock(alloc: Global, names_only: bool, present: bool) -> DavResult<Element>
+    ensures ok { IfOk result (λ told. told ≡ tree_of_kinds names_only present) }
+    ensures err { IfErr result (λ e. e ≡ Memory) }
+{
+    if names_only {
+        Ok(Element::new2(alloc, "D:supportedlock")?)
+    } else {
+        list_supportedlock(alloc, present)
+    }
+}
