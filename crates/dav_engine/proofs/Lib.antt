@@ -1,4 +1,6 @@
 pub mod Aiming
+pub mod AllowList
+pub mod OptionsLaws
 pub mod DeleteLaws
 pub mod Deleting
 pub mod FieldText

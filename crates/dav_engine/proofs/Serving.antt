@@ -18,10 +18,10 @@ use Rattle.dav_parts.specs.Reply.{Reply, Answer, answer_of, reply_of}
 use Rattle.dav_engine.specs.State.{State, Seen, state_of, facts_of}
 use Rattle.dav_engine.specs.Settings.{Settings}
 use Rattle.dav_engine.specs.Method.{Method, StepBy, Refused, Done, CutShort, CutInWork, OnStore, CutOnStore}
-use Rattle.dav_engine.specs.Methods.{Step, mkcol_method, write_method, delete_method, copy_method, move_method, lock_method, unlock_method, proppatch_method}
+use Rattle.dav_engine.specs.Methods.{Step, mkcol_method, write_method, delete_method, copy_method, move_method, lock_method, unlock_method, proppatch_method, options_method}
 use Rattle.dav_engine.specs.Step.{Serves, Performs, WorksOnStore}
-use Rattle.dav_engine.proofs.Compatible.{Keeps, compatible_same, keeps_mkcol, keeps_put, keeps_delete, keeps_copy, keeps_move, keeps_lock, keeps_unlock, keeps_proppatch}
-use Rattle.dav_engine.proofs.Guarding.{Guards, guarded_same, guards_mkcol, guards_put, guards_delete, guards_copy, guards_move, guards_lock, guards_unlock, guards_proppatch}
+use Rattle.dav_engine.proofs.Compatible.{Keeps, compatible_same, keeps_mkcol, keeps_put, keeps_delete, keeps_copy, keeps_move, keeps_lock, keeps_unlock, keeps_proppatch, keeps_options}
+use Rattle.dav_engine.proofs.Guarding.{Guards, guarded_same, guards_mkcol, guards_put, guards_delete, guards_copy, guards_move, guards_lock, guards_unlock, guards_proppatch, guards_options}
 
 -- what was seen, with another store
 abbrev over : Store → Option Locks → Seen
@@ -64,6 +64,9 @@ unlock_sound = record { named = λ step. step; guards = guards_unlock; keeps = k
 
 pub proppatch_sound : IsSound (Some PropPatch) proppatch_method
 proppatch_sound = record { named = λ step. step; guards = guards_proppatch; keeps = keeps_proppatch }
+
+pub options_sound : IsSound (Some Options) options_method
+options_sound = record { named = λ step. step; guards = guards_options; keeps = keeps_options }
 
 module _ {name : Option DavMethod} (method : Method) (sound : IsSound name method) (settings : Settings) (request : DavRequest) (locks : Option Locks) where
   -- the rules end it, by the exit of a `?`
@@ -137,20 +140,20 @@ pub serves_as : (read method : Option DavMethod) (settings : Settings) (old : Se
 serves_as read method settings old request answer new is served = subst (λ m. Serves m settings old request answer new) is served
 
 -- the methods that aren't served
-pub unserved : (settings : Settings) (request : DavRequest) (method : DavMethod) → ((method ≡ MkCol) → ⊥) → ((method ≡ Put) → ⊥) → ((method ≡ Patch) → ⊥) → ((method ≡ Delete) → ⊥) → ((method ≡ Copy) → ⊥) → ((method ≡ Move) → ⊥) → ((method ≡ Lock) → ⊥) → ((method ≡ Unlock) → ⊥) → ((method ≡ PropPatch) → ⊥) → (state : State) → Step (Some method) settings request state [] (Err (Status 501)) state
-unserved settings request Head a b p d c m l u r state = record { none = refl; told = refl; same = refl }
-unserved settings request Get a b p d c m l u r state = record { none = refl; told = refl; same = refl }
-unserved settings request Put a b p d c m l u r state = absurd (b refl)
-unserved settings request Patch a b p d c m l u r state = absurd (p refl)
-unserved settings request Options a b p d c m l u r state = record { none = refl; told = refl; same = refl }
-unserved settings request PropFind a b p d c m l u r state = record { none = refl; told = refl; same = refl }
-unserved settings request PropPatch a b p d c m l u r state = absurd (r refl)
-unserved settings request MkCol a b p d c m l u r state = absurd (a refl)
-unserved settings request Copy a b p d c m l u r state = absurd (c refl)
-unserved settings request Move a b p d c m l u r state = absurd (m refl)
-unserved settings request Delete a b p d c m l u r state = absurd (d refl)
-unserved settings request Lock a b p d c m l u r state = absurd (l refl)
-unserved settings request Unlock a b p d c m l u r state = absurd (u refl)
+pub unserved : (settings : Settings) (request : DavRequest) (method : DavMethod) → ((method ≡ MkCol) → ⊥) → ((method ≡ Put) → ⊥) → ((method ≡ Patch) → ⊥) → ((method ≡ Delete) → ⊥) → ((method ≡ Copy) → ⊥) → ((method ≡ Move) → ⊥) → ((method ≡ Lock) → ⊥) → ((method ≡ Unlock) → ⊥) → ((method ≡ PropPatch) → ⊥) → ((method ≡ Options) → ⊥) → (state : State) → Step (Some method) settings request state [] (Err (Status 501)) state
+unserved settings request Head a b p d c m l u r o state = record { none = refl; told = refl; same = refl }
+unserved settings request Get a b p d c m l u r o state = record { none = refl; told = refl; same = refl }
+unserved settings request Put a b p d c m l u r o state = absurd (b refl)
+unserved settings request Patch a b p d c m l u r o state = absurd (p refl)
+unserved settings request Options a b p d c m l u r o state = absurd (o refl)
+unserved settings request PropFind a b p d c m l u r o state = record { none = refl; told = refl; same = refl }
+unserved settings request PropPatch a b p d c m l u r o state = absurd (r refl)
+unserved settings request MkCol a b p d c m l u r o state = absurd (a refl)
+unserved settings request Copy a b p d c m l u r o state = absurd (c refl)
+unserved settings request Move a b p d c m l u r o state = absurd (m refl)
+unserved settings request Delete a b p d c m l u r o state = absurd (d refl)
+unserved settings request Lock a b p d c m l u r o state = absurd (l refl)
+unserved settings request Unlock a b p d c m l u r o state = absurd (u refl)
 
 -- work that knows the store alone leaves the locks
 pub performs_on_store : {Work : Contents → List Logged → Answer → Contents → Type 0} {Cut : Contents → List Logged → Contents → Type 0} (locks : Option Locks) (old new : Store) (answer : Answer) → WorksOnStore Work Cut old answer new → Performs (OnStore Work) (CutOnStore Cut) (over old locks) answer (over new locks)

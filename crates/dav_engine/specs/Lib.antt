@@ -17,6 +17,7 @@ pub mod Rules
 pub mod Guarded
 pub mod Target
 pub mod Opening
+pub mod Options
 pub mod LockInfo
 pub mod Locking
 pub mod Unlocking

@@ -14,6 +14,7 @@ mod lock_reply;
 mod machine;
 mod mkcol;
 mod opening;
+mod options;
 mod proppatch;
 mod put;
 mod put_reply;

@@ -29,6 +29,7 @@ impl<'a, C: Drop, F: GuardedFileSystem<C>, L: DavLockSystem> DavInner<'a, C, F, 
             DavMethod::Lock => self.handle_lock(request),
             DavMethod::Unlock => self.handle_unlock(request),
             DavMethod::PropPatch => self.handle_proppatch(request),
+            DavMethod::Options => self.handle_options(request),
             _ => Err(DavError::Status(StatusCode::NOT_IMPLEMENTED)),
         }
     }

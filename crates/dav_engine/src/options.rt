@@ -1,0 +1,227 @@
+//! OPTIONS (RFC 9110, section 9.3.7; RFC 4918, section 10.1).
+ghost use Rattle.std.specs.Prelude.{◌≡◌, ◌&&◌, ◌||◌, not, filter, map, is_some, string_bytes, Some, IfOk, IfErr};
+ghost use Rattle.http_header.specs.FieldValue.{IsFieldValue};
+ghost use Rattle.dav_resource.specs.Methods.{method_of, contains_method};
+ghost use Rattle.dav_resource.specs.declared.error.DavError.TheVariants.{Memory};
+ghost use Rattle.dav_resource.specs.declared.method.DavMethod.{DavMethod};
+ghost use Rattle.dav_resource.specs.declared.method.DavMethod.TheVariants.{Options};
+ghost use Rattle.dav_parts.specs.Dialogue.{Judges};
+ghost use Rattle.dav_parts.specs.Reply.{reply_of, answer_of};
+ghost use Rattle.dav_engine.specs.Answered.{Unbegun};
+ghost use Rattle.dav_engine.specs.DavInner.{lent, lent_locks, frame, seen_by, state_by};
+ghost use Rattle.dav_engine.specs.Laws.{ChangesNothing};
+ghost use Rattle.dav_engine.specs.Options.{options_rules, OptionsWork, found_methods as methods_of_found, is_told, is_let, is_own, needs_locks, name_of, names_of, options_reply as reply_of_options};
+ghost use Rattle.dav_engine.specs.Served.{IsServed};
+ghost use Rattle.dav_engine.specs.Step.{Performs};
+
+use crate::DavInner;
+use dav_parts::{add_header, header_value};
+use dav_resource::{Body, DavMethod, DavMethodSet, DavPath, DavRequest, DavResult, Meta};
+use dav_store::{DavLockSystem, GuardedFileSystem};
+use http::Response;
+use http_header::{ALLOW, CONTENT_LENGTH, HeaderMap, HeaderName, HeaderValue};
+use std::alloc::{AllocError, Global};
+
+/// What may be made where nothing is.
+const MISSING: [DavMethod; 4] = [
+    DavMethod::Options,
+    DavMethod::MkCol,
+    DavMethod::Put,
+    DavMethod::Lock,
+];
+
+/// What the root takes, which is neither moved nor deleted.
+const ROOT: [DavMethod; 5] = [
+    DavMethod::Options,
+    DavMethod::PropFind,
+    DavMethod::Copy,
+    DavMethod::Lock,
+    DavMethod::Unlock,
+];
+
+/// What another directory takes.
+const DIRECTORY: [DavMethod; 7] = [
+    DavMethod::Options,
+    DavMethod::PropFind,
+    DavMethod::Copy,
+    DavMethod::Move,
+    DavMethod::Delete,
+    DavMethod::Lock,
+    DavMethod::Unlock,
+];
+
+/// What a file takes, and so what any resource may.
+const FILE: [DavMethod; 11] = [
+    DavMethod::Head,
+    DavMethod::Get,
+    DavMethod::Patch,
+    DavMethod::Put,
+    DavMethod::Options,
+    DavMethod::PropFind,
+    DavMethod::Copy,
+    DavMethod::Move,
+    DavMethod::Delete,
+    DavMethod::Lock,
+    DavMethod::Unlock,
+];
+
+impl<'a, C: Drop, F: GuardedFileSystem<C>, L: DavLockSystem> DavInner<'a, C, F, L> {
+    /// Tells by 200 which methods what stands at the path takes, in `Allow`, and the compliance classes of the server,
+    /// in `DAV`. A look that the store refuses counts as nothing there; of `*` nothing is asked. Told are those that are
+    /// let, LOCK and UNLOCK where there is a lock system, and never the request's own method unless it is OPTIONS. No
+    /// condition, lock or body is looked at. It serves a request of any method as OPTIONS.
+    ///
+    /// The only error is `Memory`. Nothing ever changes.
+    pub fn handle_options(&mut self, request: &DavRequest) -> DavResult<Response<Body>>
+        ensures same_engine { frame self.new ≡ frame self.old }
+        ensures step { IsServed F.seen L.seen (Some Options) self.old request.entry.now (answer_of result) self.new }
+        ensures unchanged { ChangesNothing (state_by F.seen L.seen self.old) (state_by F.seen L.seen self.new) }
+    {
+        let found = self.look_unless_star(request)?;
+        self.tell_methods(request, &found)
+    }
+
+    /// The rules: a look at the path, but not for `*`. What was found passes.
+    fn look_unless_star(&mut self, request: &DavRequest) -> DavResult<Option<Meta>>
+        ensures same_engine { frame self.new ≡ frame self.old }
+        ensures same_locks { lent_locks self.new ≡ lent_locks self.old }
+        ensures rules { Judges (options_rules request.entry.now (state_by F.seen L.seen self.old)) (F.seen (lent self.old)) result (F.seen (lent self.new)) }
+    {
+        if request.path.is_star() {
+            return Ok(None);
+        }
+        self.look(&request.path)
+    }
+
+    /// The work: the reply tells the methods that what was found takes, of those that may be told.
+    fn tell_methods(&self, request: &DavRequest, found: &Option<Meta>) -> DavResult<Response<Body>>
+        ensures { Performs (OptionsWork self.now.allow request.entry.now found.now) Unbegun (seen_by F.seen L.seen self.now) (answer_of result) (seen_by F.seen L.seen self.now) }
+    {
+        let alloc = *self.prefix.allocator();
+        let told = self.told_set(request);
+        let names = told_names(alloc, found_methods(&request.path, found), &told)?;
+        let reply = options_reply(alloc, names)?;
+        Ok(reply)
+    }
+
+    /// The methods that may be told: those that are let, without LOCK and UNLOCK where there is no lock system, and
+    /// without the request's own unless it is OPTIONS.
+    fn told_set(&self, request: &DavRequest) -> DavMethodSet
+        ensures { (method : DavMethod) → contains_method result method ≡ is_told self.now.allow (is_some (lent_locks self.now)) (method_of request.entry.now.method) method }
+    {
+        without_own(self.let_set(), DavMethod::from_method(&request.method))
+    }
+
+    /// The methods that are let, without LOCK and UNLOCK where there is no lock system.
+    fn let_set(&self) -> DavMethodSet
+        ensures { (method : DavMethod) → contains_method result method ≡ (is_let self.now.allow method && (is_some (lent_locks self.now) || not (needs_locks method))) }
+    {
+        let mut set = self.allow.unwrap_or(DavMethodSet::all());
+        if self.ls.is_some() {
+            return set;
+        }
+        set.remove(DavMethod::Lock);
+        set.remove(DavMethod::Unlock);
+        set
+    }
+}
+
+/// The methods without the request's own, unless that is OPTIONS.
+fn without_own(mut set: DavMethodSet, own: Option<DavMethod>) -> DavMethodSet
+    ensures { (method : DavMethod) → contains_method result method ≡ (not (is_own own method) && contains_method set method) }
+{
+    match own {
+        None | Some(DavMethod::Options) => set,
+        Some(own) => {
+            set.remove(own);
+            set
+        }
+    }
+}
+
+/// The methods that what was found at the path takes, in the order in which they are told.
+fn found_methods(path: &DavPath, found: &Option<Meta>) -> &'static [DavMethod]
+    ensures { result.now ≡ methods_of_found path.now found.now }
+{
+    match found {
+        None if path.is_star() => &FILE,
+        None => &MISSING,
+        Some(_) if path.segments().is_empty() => &ROOT,
+        Some(meta) if meta.dir => &DIRECTORY,
+        Some(_) => &FILE,
+    }
+}
+
+/// The names of those methods that are in the set, joined by commas.
+fn told_names(
+    alloc: Global,
+    methods: &[DavMethod],
+    told: &DavMethodSet,
+) -> Result<String, AllocError>
+    ensures { IfOk result (λ names. string_bytes names ≡ names_of (filter (contains_method told.now) methods.now)) }
+{
+    let names = names_in(alloc, methods, told)?;
+    let text = names.as_slice().join(alloc, ",")?;
+    Ok(text)
+}
+
+/// The name of each method that is in the set.
+fn names_in(
+    alloc: Global,
+    methods: &[DavMethod],
+    told: &DavMethodSet,
+) -> Result<Vec<&'static str>, AllocError>
+    ensures { IfOk result (λ names. map (λ name. name.now) names.items ≡ map name_of (filter (contains_method told.now) methods.now)) }
+{
+    let mut names = Vec::new(alloc);
+    for method in methods {
+        if told.contains(*method) {
+            names.push(method_name(*method))?;
+        }
+    }
+    Ok(names)
+}
+
+/// The name of a method, as a request has it.
+fn method_name(method: DavMethod) -> &'static str
+    ensures name { result.now ≡ name_of method }
+    ensures reads_back { method_of result.now ≡ Some method }
+{
+    match method {
+        DavMethod::Head => "HEAD",
+        DavMethod::Get => "GET",
+        DavMethod::Put => "PUT",
+        DavMethod::Patch => "PATCH",
+        DavMethod::Options => "OPTIONS",
+        DavMethod::PropFind => "PROPFIND",
+        DavMethod::PropPatch => "PROPPATCH",
+        DavMethod::MkCol => "MKCOL",
+        DavMethod::Copy => "COPY",
+        DavMethod::Move => "MOVE",
+        DavMethod::Delete => "DELETE",
+        DavMethod::Lock => "LOCK",
+        DavMethod::Unlock => "UNLOCK",
+    }
+}
+
+/// 200, with the compliance classes and these names of methods. The only error is `Memory`, where memory is lacking.
+fn options_reply(alloc: Global, names: String) -> DavResult<Response<Body>>
+    requires { IsFieldValue (string_bytes names) }
+    ensures ok { IfOk result (λ reply. reply_of reply ≡ reply_of_options (string_bytes names)) }
+    ensures err { IfErr result (λ e. e ≡ Memory) }
+{
+    let classes = HeaderValue::from_static("1,2,3,sabredav-partialupdate");
+    let author = HeaderName::from_static("ms-author-via");
+    let mut headers = HeaderMap::new(alloc);
+    add_header(&mut headers, HeaderName::from_static("dav"), Some(classes))?;
+    add_header(&mut headers, author, Some(HeaderValue::from_static("DAV")))?;
+    add_header(
+        &mut headers,
+        CONTENT_LENGTH,
+        Some(HeaderValue::from_static("0")),
+    )?;
+    add_header(&mut headers, ALLOW, Some(header_value(names)?))?;
+    let mut reply = Response::new(alloc, Body::Empty);
+    *reply.headers_mut() = headers;
+    Ok(reply)
+}
