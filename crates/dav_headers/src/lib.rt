@@ -5,6 +5,7 @@
 #![tactic(auto)]
 
 mod body;
+mod client;
 mod depth;
 mod destination;
 mod if_header;
@@ -23,6 +24,7 @@ mod values;
 pub use body::{
     read_checksum, read_content_length, read_content_type, read_expected_entity_length,
 };
+pub use client::{read_litmus, read_user_agent};
 pub use depth::read_depth;
 pub use destination::read_destination;
 pub use if_header::{IfCondition, IfItem, IfList, read_if};
