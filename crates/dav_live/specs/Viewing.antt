@@ -21,6 +21,10 @@ abbrev pub has_part : List ℕ → List ℕ → Bool
 has_part part [] = starts_with nat_eq [] part
 has_part part (b ∷ text) = starts_with nat_eq (b ∷ text) part || has_part part text
 
+-- the client is one of Microsoft's
+abbrev pub names_microsoft : Option (List ℕ) → Bool
+names_microsoft user_agent = option_map_or (has_part (codes "Microsoft")) user_agent false
+
 -- the client is the file system of macOS
 abbrev pub names_webdavfs : Option (List ℕ) → Bool
 names_webdavfs user_agent = option_map_or (has_part (codes "WebDAVFS")) user_agent false

@@ -11,4 +11,4 @@ mod viewer;
 
 pub use element::live_element;
 pub use property::LiveProperty;
-pub use viewer::Viewer;
+pub use viewer::{Viewer, is_microsoft};

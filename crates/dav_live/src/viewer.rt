@@ -1,7 +1,7 @@
 //! Who asks for properties, and what is known besides the resource.
 ghost use Rattle.std.specs.Prelude.{◌≡◌, ◌++◌, ◌↔◌, IsTrue};
 ghost use Rattle.std.specs.Option.{option_copied};
-ghost use Rattle.dav_live.specs.Viewing.{names_webdavfs};
+ghost use Rattle.dav_live.specs.Viewing.{names_microsoft, names_webdavfs};
 
 /// Who asks for properties, and what the store told of its quota.
 #[derive(Clone, Copy, Debug)]
@@ -21,6 +21,16 @@ pub(crate) fn is_webdavfs(user_agent: Option<&str>) -> bool
 {
     match user_agent {
         Some(agent) => agent.contains("WebDAVFS"),
+        None => false,
+    }
+}
+
+/// Whether a client is one of Microsoft's, which name themselves by it.
+pub fn is_microsoft(user_agent: Option<&str>) -> bool
+    ensures { result ≡ names_microsoft (option_copied user_agent.entry) }
+{
+    match user_agent {
+        Some(agent) => agent.contains("Microsoft"),
         None => false,
     }
 }

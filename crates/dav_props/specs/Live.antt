@@ -35,6 +35,17 @@ kind_of (Some namespace) name =
     else (if bytes_eq namespace (codes "http://apache.org/dav/props/") then kind_in_apache name
     else (if bytes_eq namespace (codes "urn:schemas-microsoft-com:") then kind_in_microsoft name else Dead))
 
+-- a store keeps the properties of this kind
+abbrev pub is_kept_kind : PropertyKind → Bool
+is_kept_kind Dead = true
+is_kept_kind DisplayName = true
+is_kept_kind ContentLanguage = true
+is_kept_kind _ = false
+
+-- a store keeps the property of this element's name
+abbrev pub is_kept : Tree → Bool
+is_kept prop = is_kept_kind (kind_of prop.tag.namespace prop.tag.name)
+
 -- ---- what a value may be
 
 abbrev pub node_is_text : XMLNode → Bool

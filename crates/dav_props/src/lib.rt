@@ -9,7 +9,7 @@ mod telling;
 mod update;
 mod writer;
 
-pub use live::{liveprop_remove, liveprop_set};
+pub use live::{is_kept, liveprop_remove, liveprop_set};
 pub use property::{bare_element, element_to_davprop, element_to_davprop_full};
 pub use propstat::group_by_status;
 pub use telling::{patches, some_refused, tell_failed, tell_made};

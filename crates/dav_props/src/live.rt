@@ -5,7 +5,7 @@ ghost use Rattle.dav_resource.specs.Element.{nodes_of};
 ghost use Rattle.dav_resource.specs.Tree.{texts, texts_of};
 ghost use Rattle.dav_props.specs.Language.{is_language_list};
 ghost use Rattle.dav_props.specs.LanguageList.{accepts};
-ghost use Rattle.dav_props.specs.Live.{kind_of, kind_in_dav, kind_in_apache, kind_in_microsoft, node_is_text, node_text, holds_text_alone as tree_holds_text_alone, holds_languages as tree_holds_languages, set_status, remove_status, dead_status as status_of_dead};
+ghost use Rattle.dav_props.specs.Live.{kind_of, kind_in_dav, kind_in_apache, kind_in_microsoft, node_is_text, node_text, holds_text_alone as tree_holds_text_alone, holds_languages as tree_holds_languages, set_status, remove_status, dead_status as status_of_dead, is_kept as is_kept_tree};
 
 use crate::language::LanguageList;
 use dav_resource::{Element, XMLNode};
@@ -64,6 +64,17 @@ pub fn liveprop_remove(prop: &Element, can_deadprop: bool) -> StatusCode
         PropertyKind::Fixed | PropertyKind::PassedOver | PropertyKind::Protected => {
             StatusCode::FORBIDDEN
         }
+    }
+}
+
+/// Whether a property of this name is the store's to keep: it is no live one, or `DAV:displayname` or
+/// `DAV:getcontentlanguage` (RFC 4918, sections 4.2, 15.2 and 15.3).
+pub fn is_kept(prop: &Element) -> bool
+    ensures { result ≡ is_kept_tree prop.now }
+{
+    match property_kind(prop) {
+        PropertyKind::Dead | PropertyKind::DisplayName | PropertyKind::ContentLanguage => true,
+        PropertyKind::Fixed | PropertyKind::PassedOver | PropertyKind::Protected => false,
     }
 }
 

@@ -1,6 +1,7 @@
 //! The body of a reply that tells the properties of resources.
 ghost use Rattle.std.specs.Prelude.{◌≡◌, ◌++◌, ◌∷◌, [], codes, Ok, IfOk, IfErr, OnOk, OnErr};
 ghost use Rattle.dav_resource.specs.declared.error.DavError.TheVariants.{Memory};
+ghost use Rattle.dav_resource.specs.Tree.{with_attribute, xmlns_name};
 ghost use Rattle.dav_parts.specs.DavElement.{with_elements};
 ghost use Rattle.dav_parts.specs.Multistatus.{xml_type};
 ghost use Rattle.dav_parts.specs.Reply.{reply_of, field};
@@ -35,6 +36,17 @@ impl PropWriter {
         add_xml_type(res.headers_mut())?;
         *res.status_mut() = StatusCode::MULTI_STATUS;
         Ok(PropWriter { tree })
+    }
+
+    /// The same writer, whose tree declares one more prefix (Namespaces in XML 1.0, section 3). The only error is
+    /// `Memory`, where memory is lacking.
+    pub fn declare(self, prefix: &str, namespace: &str) -> DavResult<PropWriter>
+        ensures declared { IfOk result (λ writer. writer.tree ≡ with_attribute self.tree (xmlns_name prefix.now) namespace.now) }
+        ensures err { IfErr result (λ e. e ≡ Memory) }
+    {
+        Ok(PropWriter {
+            tree: self.tree.ns(prefix, namespace)?,
+        })
     }
 
     /// Writes one more response: a resource's path, and its properties by their statuses, the least first (RFC 4918,
