@@ -11,7 +11,8 @@ use Rattle.dav_store.specs.Members.{IsIn}
 use Rattle.dav_walks.specs.KeyCall.{KeyCall, same_key, calls_at, path_to, keys_below}
 use Rattle.dav_walks.specs.Deletion.{look_below, calls_below, IsReached, is_call}
 use Rattle.dav_walks.proofs.Keys.{same_key_itself, calls_at-IsIn}
-use Rattle.dav_walks.proofs.Counting.{total, total-plus, total-same, total-most, total-at_least, one, path_below, path_is}
+use Rattle.dav_walks.specs.Counting.{total, one}
+use Rattle.dav_walks.proofs.Counting.{total-plus, total-same, total-most, total-at_least, path_below, path_is}
 use Rattle.dav_walks.proofs.Among.{stands_among}
 
 pub IsIn-filter : {X : Type 0} (p : X → Bool) (x : X) (xs : List X) → IsIn x xs → p x ≡ true → IsIn x (filter p xs)

@@ -13,7 +13,8 @@ use Rattle.dav_walks.specs.Copying.{snapshot, HasRoom}
 use Rattle.dav_walks.proofs.Keys.{same_or}
 use Rattle.dav_walks.proofs.Listings.{Shown, children_once, children_there}
 use Rattle.dav_walks.proofs.Single.{node_of}
-use Rattle.dav_walks.proofs.Counting.{total, total-cons, total-nil, count_below, children_count, counts_itself}
+use Rattle.dav_walks.specs.Counting.{total, count_below}
+use Rattle.dav_walks.proofs.Counting.{total-cons, total-nil, children_count, counts_itself}
 use Rattle.dav_walks.proofs.Among.{stands_among}
 use Rattle.dav_walks.proofs.Going.{entry_left}
 use Rattle.dav_walks.proofs.CopyGrow.{Steps, Sound}

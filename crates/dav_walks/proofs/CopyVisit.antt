@@ -19,7 +19,8 @@ use Rattle.dav_walks.proofs.Keys.{IsIn-left}
 use Rattle.dav_walks.proofs.Listings.{Shown}
 use Rattle.dav_walks.proofs.Single.{Names}
 use Rattle.dav_walks.proofs.Paths.{path_at-itself, path_of_member}
-use Rattle.dav_walks.proofs.Counting.{count_below, counts_itself, total-cons}
+use Rattle.dav_walks.specs.Counting.{count_below}
+use Rattle.dav_walks.proofs.Counting.{counts_itself, total-cons}
 use Rattle.dav_walks.proofs.CopyGrow.{Steps}
 use Rattle.dav_walks.proofs.CopyReach.{Reached}
 use Rattle.dav_walks.proofs.CopyRoom.{snap_there}

@@ -6,10 +6,7 @@ use Rattle.std.proofs.lemmas.Slice.Eq.{bytes_eq-Decides}
 use Rattle.dav_resource.specs.Key.{Key}
 use Rattle.dav_store.specs.Members.{IsIn, AreDistinct, member}
 use Rattle.dav_walks.specs.KeyCall.{path_to}
-
-pub total : {X : Type 0} → (X → ℕ) → List X → ℕ
-total f [] = 0
-total f (x ∷ xs) = f x + total f xs
+use Rattle.dav_walks.specs.Counting.{total, one, is_below, count_below}
 
 pub total-cons : {X : Type 0} (f : X → ℕ) (x : X) (xs : List X) → total f (x ∷ xs) ≡ f x + total f xs
 unfolding total
@@ -29,16 +26,6 @@ total-zero : {X : Type 0} (xs : List X) → total (λ (x : X). 0) xs ≡ 0
 unfolding total
 total-zero [] = refl
 total-zero (x ∷ xs) = omega (arith, total-zero xs)
-
-abbrev pub one : Bool → ℕ
-one b = cond b 1 0
-
-pub is_below : Key → Key → ℕ
-is_below k q = one (is_some (path_to k q))
-
--- how many of the keys are at or below k
-pub count_below : Key → List Key → ℕ
-count_below k ks = total (is_below k) ks
 
 starts : Option Key → List ℕ → ℕ
 starts None n = 0

@@ -15,7 +15,8 @@ use Rattle.dav_walks.specs.declared.frame.Frame.{Frame}
 use Rattle.dav_walks.specs.declared.frame.Entered.TheVariants.{Opened}
 use Rattle.dav_walks.specs.Trace.{Walks, Halts}
 use Rattle.dav_walks.specs.Frames.{IsCut, removal_by, entering_call, Enters, path_of_entry, Closes, RemovesAll, BreaksOff}
-use Rattle.dav_walks.proofs.Counting.{total, total-append}
+use Rattle.dav_walks.specs.Counting.{total}
+use Rattle.dav_walks.proofs.Counting.{total-append}
 use Rattle.dav_walks.proofs.Halting.{walk_halts, listed_halts, child_halts}
 use Rattle.dav_walks.proofs.Listings.{Shown}
 use Rattle.dav_walks.proofs.Listed.{Listed, listed_child, listed_kept, listed_emptied, listed_stuck}

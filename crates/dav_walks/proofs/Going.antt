@@ -15,7 +15,8 @@ use Rattle.dav_walks.specs.declared.frame.Entered.TheVariants.{Over, Opened}
 use Rattle.dav_walks.specs.Trace.{HasKind, Walks, Halts}
 use Rattle.dav_walks.specs.Frames.{IsCut, OpensFrame, entering_call, Enters, path_of_entry}
 use Rattle.dav_walks.proofs.Among.{stands_among}
-use Rattle.dav_walks.proofs.Counting.{total, total-cons, total-append, total-nil, count_below, children_count, counts_itself}
+use Rattle.dav_walks.specs.Counting.{total, count_below}
+use Rattle.dav_walks.proofs.Counting.{total-cons, total-append, total-nil, children_count, counts_itself}
 use Rattle.dav_walks.proofs.Halting.{walk_halts, nothing_halts}
 use Rattle.dav_walks.proofs.Listings.{Shown, shrinks, children_once, children_there, IsIn-name}
 use Rattle.dav_walks.proofs.Listed.{Listed, entry_is_there, entry_is_segment, listed_none, listed_child, listed_unseen}

@@ -1,3 +1,4 @@
+pub mod Adding
 pub mod Alone
 pub mod Among
 pub mod Bound

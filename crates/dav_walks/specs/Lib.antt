@@ -1,4 +1,6 @@
 pub mod KeyCall
+pub mod Counting
+pub mod Listing
 pub mod Deletion
 pub mod Trace
 pub mod Frames
