@@ -1,0 +1,5 @@
+pub mod Answering
+pub mod Each
+pub mod Kept
+pub mod Responses
+pub mod Visits

@@ -1,0 +1,233 @@
+-- Resources that are told one after the other: one, and then those that are left.
+use Rattle.std.proofs.Common.{◌≡◌, ◌∙◌, OnErr, Bool, true, false, List, [], ◌∷◌, ◌++◌, Option, None, Some, Result, Ok, Err, map, inl, inr, refl, sym, ap, subst, append-nil, append_assoc}
+use Rattle.std.specs.Prelude.{◌&&◌}
+use Rattle.std.specs.Option.{option_map}
+use Rattle.std.specs.Result.{IsErrAnd}
+use Rattle.std.proofs.lemmas.List.{map-append}
+use Rattle.std.proofs.lemmas.Result.{err_from_is_err_and}
+use Rattle.dav_resource.specs.Key.{Key}
+use Rattle.dav_resource.specs.Tree.{Tree, Nodes, no_nodes, text_then, element_then, append_nodes, elements}
+use Rattle.dav_resource.specs.declared.error.DavError.{DavError}
+use Rattle.dav_resource.specs.declared.error.DavError.TheVariants.{Memory}
+use Rattle.dav_resource.specs.declared.request.Depth.{Depth}
+use Rattle.dav_store.specs.Logged.{Logged}
+use Rattle.dav_store.specs.Store.{Store, Contents}
+use Rattle.dav_parts.specs.Dialogue.{Dialogue, Refuses, EndsIn}
+use Rattle.dav_parts.specs.DavElement.{with_elements}
+use Rattle.dav_props.specs.Propstat.{Told, grouped, property_response}
+use Rattle.dav_props.specs.declared.writer.PropWriter.{PropWriter}
+use Rattle.dav_walks.specs.Listing.{Shown, ListsAt, AddsMembers, StopsAdding, shown_in, in_turn}
+use Rattle.dav_walks.specs.declared.listing.Resource.{Resource}
+use Rattle.dav_find.specs.declared.search.AskedProperty.{AskedProperty}
+use Rattle.dav_find.specs.Finding.{View, QuotaTold}
+use Rattle.dav_find.specs.Response.{Responds, ComesTo, IsResponse}
+use Rattle.dav_find.specs.Visiting.{Visit, response_of, telling, told, finding, VisitsAll, over, more, stops, begins, breaks, is_shown, is_listed, is_deep}
+use Rattle.dav_find.specs.Writing.{IsShown, IsVisited, IsVisitedInPart, Writes, WritesAll, WritesFrom, written}
+
+-- what holds at any rate holds of an error
+pub on_err : {T E : Type 0} (r : Result T E) (P : Type 0) → P → OnErr r P
+on_err (Ok x) P p = tt
+on_err (Err e) P p = p
+
+-- ---- what is written
+
+append-none : (ns : Nodes) → append_nodes ns no_nodes ≡ ns
+append-none no_nodes = refl
+append-none (text_then t ns) = ap (text_then t) (append-none ns)
+append-none (element_then tag inner ns) = ap (element_then tag inner) (append-none ns)
+
+append-more : (a b c : Nodes) → append_nodes (append_nodes a b) c ≡ append_nodes a (append_nodes b c)
+append-more no_nodes b c = refl
+append-more (text_then t a) b c = ap (text_then t) (append-more a b c)
+append-more (element_then tag inner a) b c = ap (element_then tag inner) (append-more a b c)
+
+elements-more : (ts us : List Tree) → elements (ts ++ us) ≡ append_nodes (elements ts) (elements us)
+elements-more [] us = refl
+elements-more (t ∷ ts) us = ap (element_then t.tag t.children) (elements-more ts us)
+
+pub written_none : (tree : Tree) → written tree [] ≡ tree
+written_none tree = λ i. record tree { children = append-none tree.children i }
+
+pub written_more : (tree : Tree) (visits others : List Visit) → written (written tree visits) others ≡ written tree (visits ++ others)
+written_more tree visits others =
+    let ms : List Tree = map response_of visits in
+    let ns : List Tree = map response_of others in
+    let joined : append_nodes (append_nodes tree.children (elements ms)) (elements ns) ≡ append_nodes tree.children (elements (map response_of (visits ++ others)))
+    = append-more tree.children (elements ms) (elements ns) ∙ ap (append_nodes tree.children) (sym (elements-more ms ns) ∙ ap elements (sym (map-append response_of visits others))) in
+    λ i. record tree { children = joined i }
+
+-- ---- a response
+
+ends_none : {A : Type 0} (dialogue : Dialogue A) (records : List Logged) (e : DavError) → EndsIn dialogue records (Err e) → ComesTo dialogue records None
+ends_none dialogue records e (inl refuses) = (Refuses (Err e), refuses)
+ends_none dialogue records e (inr lacked) = lacked.1
+
+module _ (view : View) (asked : List AskedProperty) where
+  pub shown_none : (here : Resource) (quota : Option QuotaTold) (store : Store) (writer : PropWriter) → IsShown view asked false here quota writer.tree store writer quota store
+  shown_none here quota store writer = record {
+    visits = [];
+    read = record { records = []; told = sym (append-nil store.log); same = refl; fixed = refl; over = (refl, refl, refl) };
+    tree = sym (written_none writer.tree);
+  }
+
+  responds : (here : Resource) (quota : Option QuotaTold) (old new : Store) (answer : List Told × Option QuotaTold) (h : IsResponse view asked here quota old (Ok answer) new) → Responds view old.contents asked here quota h.held.records (Some answer)
+  responds here quota old new answer h = record { kept = h.kept; are = h.are; comes = h.held.ends }
+
+  pub shown_one : (here : Resource) (quota : Option QuotaTold) (before : Tree) (old new : Store) (after : PropWriter) (answer : List Told × Option QuotaTold) → IsResponse view asked here quota old (Ok answer) new
+      → after.tree ≡ with_elements before (property_response here.path (grouped answer.0) ∷ []) → IsShown view asked true here quota before old after answer.1 new
+  shown_one here quota before old new after answer h tree = record {
+    visits = record { path = here.path; told = answer.0 } ∷ [];
+    read = record { records = h.held.records; told = h.held.told; same = h.held.same; fixed = h.held.fixed; over = (answer.0, responds here quota old new answer h, refl) };
+    tree = tree;
+  }
+
+  pub part_untold : (listed : Bool) (here : Resource) (quota : Option QuotaTold) (old new : Store) (e : DavError) → IsResponse view asked here quota old (Err e) new → IsVisitedInPart view asked true listed here quota old new
+  part_untold listed here quota old new e h = record {
+    records = h.held.records;
+    told = h.held.told;
+    same = h.held.same;
+    fixed = h.held.fixed;
+    over = telling refl (record { kept = h.kept; are = h.are; comes = ends_none _ h.held.records e h.held.ends });
+  }
+
+  pub part_unwritten : (listed : Bool) (here : Resource) (quota : Option QuotaTold) (old new : Store) (answer : List Told × Option QuotaTold) → IsResponse view asked here quota old (Ok answer) new → IsVisitedInPart view asked true listed here quota old new
+  part_unwritten listed here quota old new answer h = record {
+    records = h.held.records;
+    told = h.held.told;
+    same = h.held.same;
+    fixed = h.held.fixed;
+    over = told _ answer.1 (answer.0, responds here quota old new answer h, refl);
+  }
+
+  -- ---- its members
+
+  pub visited_alone : (shown : Bool) (here : Resource) (quota : Option QuotaTold) (waits : List Resource) (before : Tree) (old new : Store) (after : PropWriter) (next : Option QuotaTold)
+      → IsShown view asked shown here quota before old after next new → IsVisited view asked shown false here quota waits before old after next waits new
+  visited_alone shown here quota waits before old new after next h = record {
+    visits = h.visits;
+    members = [];
+    read = record {
+      records = h.read.records;
+      told = h.read.told;
+      same = h.read.same;
+      fixed = h.read.fixed;
+      over = record { first = h.read.records; rest = []; cut = sym (append-nil h.read.records); shows = h.read.over; finds = (refl, refl) };
+    };
+    tree = h.tree;
+    added = refl;
+  }
+
+  lists_at : (old mid : Contents) (key : Key) (records : List Logged) (listing : List Shown) → mid ≡ old → ListsAt mid key records listing → ListsAt old key records listing
+  lists_at old mid key records listing same h = subst (λ contents. ListsAt contents key records listing) same h
+
+  pub visited_listed : (shown : Bool) (here : Resource) (quota : Option QuotaTold) (waits wait : List Resource) (before : Tree) (old mid new : Store) (after : PropWriter) (next : Option QuotaTold)
+      → IsShown view asked shown here quota before old after next mid → AddsMembers here.path mid waits new wait → IsVisited view asked shown true here quota waits before old after next wait new
+  visited_listed shown here quota waits wait before old mid new after next h adds = record {
+    visits = h.visits;
+    members = shown_in here.path adds.listing;
+    read = record {
+      records = h.read.records ++ adds.read.records;
+      told = rw (adds.read.told, h.read.told, append_assoc);
+      same = adds.read.same ∙ h.read.same;
+      fixed = adds.read.fixed ∙ h.read.fixed;
+      over = record {
+        first = h.read.records;
+        rest = adds.read.records;
+        cut = refl;
+        shows = h.read.over;
+        finds = (adds.listing, lists_at old.contents mid.contents here.path.key adds.read.records adds.listing h.read.same adds.read.lists, refl);
+      };
+    };
+    tree = h.tree;
+    added = adds.added;
+  }
+
+  pub part_unlisted : (shown : Bool) (here : Resource) (quota : Option QuotaTold) (before : Tree) (old mid new : Store) (after : PropWriter) (next : Option QuotaTold)
+      → IsShown view asked shown here quota before old after next mid → StopsAdding here.path mid new → IsVisitedInPart view asked shown true here quota old new
+  part_unlisted shown here quota before old mid new after next h (inl same) =
+      rw same (record { records = h.read.records; told = h.read.told; same = h.read.same; fixed = h.read.fixed; over = told h.visits next h.read.over })
+  part_unlisted shown here quota before old mid new after next h (inr (listing, read)) = record {
+    records = h.read.records ++ read.records;
+    told = rw (read.told, h.read.told, append_assoc);
+    same = read.same ∙ h.read.same;
+    fixed = read.fixed ∙ h.read.fixed;
+    over = finding h.visits next (shown_in here.path listing) (record {
+      first = h.read.records;
+      rest = read.records;
+      cut = refl;
+      shows = h.read.over;
+      finds = (listing, lists_at old.contents mid.contents here.path.key read.records listing h.read.same read.lists, refl);
+    });
+  }
+
+  -- ---- those that wait
+
+  pub all_over : (deep : Bool) (quota : Option QuotaTold) (store : Store) (writer : PropWriter) → WritesAll view asked deep [] quota writer.tree store (Ok writer) store
+  all_over deep quota store writer = record {
+    end = Some [];
+    read = record { records = []; told = sym (append-nil store.log); same = refl; fixed = refl; over = over refl refl refl };
+    writes = sym (written_none writer.tree);
+  }
+
+  writes_more : (before : Tree) (after : PropWriter) (visits : List Visit) (answer : Result PropWriter DavError) (end : Option (List Visit)) → after.tree ≡ written before visits → Writes view asked after.tree answer end
+      → Writes view asked before answer (option_map (λ vs. visits ++ vs) end)
+  writes_more before after visits (Ok writer) (Some vs) is h = h ∙ ap (λ t. written t vs) is ∙ written_more before visits vs
+  writes_more before after visits (Ok writer) None is h = h
+  writes_more before after visits (Err e) (Some vs) is h = h
+  writes_more before after visits (Err e) None is h = h
+
+  pub all_more : (deep : Bool) (here : Resource) (rest : List Resource) (quota next : Option QuotaTold) (before : Tree) (old mid new : Store) (after : PropWriter) (wait : List Resource) (answer : Result PropWriter DavError)
+      → IsVisited view asked true (deep && here.meta.dir) here quota rest before old after next wait mid → WritesAll view asked deep (in_turn wait) next after.tree mid answer new
+      → WritesAll view asked deep (here ∷ in_turn rest) quota before old answer new
+  all_more deep here rest quota next before old mid new after wait answer h g = record {
+    end = option_map (λ vs. h.visits ++ vs) g.end;
+    read = record {
+      records = h.read.records ++ g.read.records;
+      told = rw (g.read.told, h.read.told, append_assoc);
+      same = g.read.same ∙ h.read.same;
+      fixed = g.read.fixed ∙ h.read.fixed;
+      over = more here (in_turn rest) h.read.records g.read.records h.visits next h.members g.end refl refl h.read.over
+          (subst (λ contents. VisitsAll view contents asked deep (h.members ++ in_turn rest) next g.read.records g.end) h.read.same
+          (subst (λ waiting. VisitsAll view mid.contents asked deep waiting next g.read.records g.end) h.added g.read.over)) refl;
+    };
+    writes = writes_more before after h.visits answer g.end h.tree g.writes;
+  }
+
+  pub all_stop : (deep : Bool) (here : Resource) (rest : List Resource) (quota : Option QuotaTold) (before : Tree) (old new : Store) (answer : Result PropWriter DavError) → IsErrAnd answer (λ d. d ≡ Memory)
+      → IsVisitedInPart view asked true (deep && here.meta.dir) here quota old new → WritesAll view asked deep (here ∷ in_turn rest) quota before old answer new
+  all_stop deep here rest quota before old new answer is h =
+      let p = err_from_is_err_and answer is in
+      rw (p.1, p.2) (record {
+        end = None;
+        read = record { records = h.records; told = h.told; same = h.same; fixed = h.fixed; over = stops here (in_turn rest) refl h.over refl };
+        writes = refl;
+      })
+
+  -- ---- from the target
+
+  pub from_begins : (target : Resource) (depth : Depth) (next : Option QuotaTold) (before : Tree) (old mid new : Store) (after : PropWriter) (wait : List Resource) (answer : Result PropWriter DavError)
+      → IsVisited view asked (is_shown depth) (is_listed depth && target.meta.dir) target None [] before old after next wait mid → WritesAll view asked (is_deep depth) (in_turn wait) next after.tree mid answer new
+      → WritesFrom view asked target depth before old answer new
+  from_begins target depth next before old mid new after wait answer h g = record {
+    end = option_map (λ vs. h.visits ++ vs) g.end;
+    read = record {
+      records = h.read.records ++ g.read.records;
+      told = rw (g.read.told, h.read.told, append_assoc);
+      same = g.read.same ∙ h.read.same;
+      fixed = g.read.fixed ∙ h.read.fixed;
+      over = begins h.read.records g.read.records h.visits next h.members g.end refl h.read.over
+          (subst (λ contents. VisitsAll view contents asked (is_deep depth) h.members next g.read.records g.end) h.read.same
+          (subst (λ waiting. VisitsAll view mid.contents asked (is_deep depth) waiting next g.read.records g.end) (h.added ∙ append-nil h.members) g.read.over)) refl;
+    };
+    writes = writes_more before after h.visits answer g.end h.tree g.writes;
+  }
+
+  pub from_breaks : (target : Resource) (depth : Depth) (before : Tree) (old new : Store) (answer : Result PropWriter DavError) → IsErrAnd answer (λ d. d ≡ Memory)
+      → IsVisitedInPart view asked (is_shown depth) (is_listed depth && target.meta.dir) target None old new → WritesFrom view asked target depth before old answer new
+  from_breaks target depth before old new answer is h =
+      let p = err_from_is_err_and answer is in
+      rw (p.1, p.2) (record {
+        end = None;
+        read = record { records = h.records; told = h.told; same = h.same; fixed = h.fixed; over = breaks h.over refl };
+        writes = refl;
+      })

@@ -1,0 +1,6 @@
+use Rattle.std.proofs.Common.{◌≡◌, ◌++◌}
+use Rattle.dav_find.proofs.listed.joined.Given as goal
+
+-- those so far
+abbrev pub invariant-loop-element : goal.invariant-loop-element
+invariant-loop-element l = l.elements.items ≡ l.initial.elements.items ++ l.yielded

@@ -1,0 +1,8 @@
+use Rattle.std.proofs.Common.{◌≡◌, map}
+use Rattle.std.specs.List.{fold}
+use Rattle.dav_find.specs.Asked.{ask_once, asked_by_server}
+use Rattle.dav_find.proofs.search.ask_listed.Given as goal
+
+-- those so far
+abbrev pub invariant-loop-element : goal.invariant-loop-element
+invariant-loop-element l = l.asked.items ≡ fold ask_once l.initial.asked.items (map asked_by_server l.yielded)

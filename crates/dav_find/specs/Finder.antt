@@ -1,0 +1,42 @@
+-- What a `Finder` is seen as, and how it takes a store's answers: this project's own choice.
+use Rattle.std.specs.Prelude.{◌≡◌, ◌≢◌, ℕ, Bool, List, [], ◌∷◌, ◌++◌, Result, Ok, Err, IfOk, IfErr}
+use Rattle.std.specs.Option.{option_copied}
+use Rattle.dav_resource.specs.Errors.{fs_status}
+use Rattle.dav_resource.specs.declared.error.DavError.{DavError}
+use Rattle.dav_resource.specs.declared.error.DavError.TheVariants as dav
+use Rattle.dav_resource.specs.declared.error.FsError.{FsError}
+use Rattle.dav_resource.specs.declared.error.FsError.TheVariants as fs
+use Rattle.dav_resource.specs.declared.record.Outcome.{Outcome}
+use Rattle.dav_resource.specs.declared.record.Outcome.TheVariants.{Granted, Barred, Refused}
+use Rattle.dav_store.specs.Locks.{Locks}
+use Rattle.dav_store.specs.Logged.{Logged}
+use Rattle.dav_parts.specs.Conditions.{locks_in}
+use Rattle.dav_find.specs.Finding.{View}
+use Rattle.dav_find.specs.declared.finding.Finder.{Finder}
+
+-- how it seeks, over a store that keeps properties or doesn't
+abbrev pub view_of : {C L : Type 0} → (L → Locks) → Finder C L → Bool → View
+view_of seen finder keeps =
+    record {
+      kind = finder.search.now.kind;
+      keeps = keeps;
+      locks = locks_in seen (option_copied finder.ls);
+      principal = option_copied finder.principal;
+      user_agent = option_copied finder.user_agent;
+    }
+
+-- the status of a refusal; what isn't there is 404
+abbrev pub refusal_of : Outcome → ℕ
+refusal_of Granted = 404
+refusal_of (Barred e) = 404
+refusal_of (Refused e) = fs_status e
+
+-- this is the log's last record
+abbrev pub IsLast : Logged → List Logged → Type 0
+IsLast record_of log = (before : List Logged) × (log ≡ before ++ record_of ∷ [])
+
+-- what a store answered, or that memory was lacking, or the status by which the log's last record tells why it wasn't granted
+pub record TellsAnswer {A : Type 0} (log : List Logged) (answer : Result A FsError) (told : Result (Result A ℕ) DavError) : Type 0 where
+  pub granted : IfOk answer (λ a. told ≡ Ok (Ok a))
+  pub lacked : answer ≡ Err fs.Memory → told ≡ Err dav.Memory
+  pub declined : IfErr answer (λ e. e ≢ fs.Memory → (last : Logged) → IsLast last log → told ≡ Ok (Err (refusal_of last.outcome)))

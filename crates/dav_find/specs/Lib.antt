@@ -1,0 +1,9 @@
+pub mod Asked
+pub mod Searching
+pub mod Declaring
+pub mod Finding
+pub mod Telling
+pub mod Response
+pub mod Finder
+pub mod Visiting
+pub mod Writing

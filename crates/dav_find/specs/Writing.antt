@@ -1,0 +1,65 @@
+-- What a writer has written, where resources were told into it: this project's own choice.
+use Rattle.std.specs.Prelude.{◌≡◌, ◌++◌, Bool, List, map, Option, Some, None, Result, Ok, Err}
+use Rattle.dav_resource.specs.Tree.{Tree}
+use Rattle.dav_resource.specs.declared.error.DavError.{DavError}
+use Rattle.dav_resource.specs.declared.error.DavError.TheVariants.{Memory}
+use Rattle.dav_resource.specs.declared.request.Depth.{Depth}
+use Rattle.dav_store.specs.Logged.{Logged}
+use Rattle.dav_store.specs.Store.{Store}
+use Rattle.dav_parts.specs.DavElement.{with_elements}
+use Rattle.dav_props.specs.declared.writer.PropWriter.{PropWriter}
+use Rattle.dav_walks.specs.Listing.{in_turn}
+use Rattle.dav_walks.specs.declared.listing.Resource.{Resource}
+use Rattle.dav_find.specs.declared.search.AskedProperty.{AskedProperty}
+use Rattle.dav_find.specs.Finding.{View, QuotaTold}
+use Rattle.dav_find.specs.Visiting.{Visit, response_of, Shows, Visits, VisitsInPart, VisitsAll, VisitsFrom}
+
+-- the responses of these, behind what had been written
+abbrev pub written : Tree → List Visit → Tree
+written before visits = with_elements before (map response_of visits)
+
+-- the store was read over these records, and nothing changed but the log
+pub record IsRead (Over : List Logged → Type 0) (old new : Store) : Type 0 where
+  pub records : List Logged
+  pub told : new.log ≡ old.log ++ records
+  pub same : new.contents ≡ old.contents
+  pub fixed : new.keeps_properties ≡ old.keeps_properties
+  pub over : Over records
+
+module _ (view : View) (asked : List AskedProperty) where
+  -- the resource is told, where it is to be, and its response written
+  pub record IsShown (shown : Bool) (here : Resource) (quota : Option QuotaTold) (before : Tree) (old : Store) (after : PropWriter) (next : Option QuotaTold) (new : Store) : Type 0 where
+    pub visits : List Visit
+    pub read : IsRead (λ records. Shows view old.contents asked shown here quota records visits next) old new
+    pub tree : after.tree ≡ written before visits
+
+  -- and its members wait
+  pub record IsVisited (shown listed : Bool) (here : Resource) (quota : Option QuotaTold) (waits : List Resource) (before : Tree) (old : Store) (after : PropWriter) (next : Option QuotaTold) (wait : List Resource) (new : Store) : Type 0 where
+    pub visits : List Visit
+    pub members : List Resource
+    pub read : IsRead (λ records. Visits view old.contents asked shown listed here quota records visits next members) old new
+    pub tree : after.tree ≡ written before visits
+    pub added : in_turn wait ≡ members ++ in_turn waits
+
+  -- memory ran out
+  abbrev pub IsVisitedInPart : Bool → Bool → Resource → Option QuotaTold → Store → Store → Type 0
+  IsVisitedInPart shown listed here quota old new = IsRead (λ records. VisitsInPart view old.contents asked shown listed here quota records) old new
+
+  -- what was told is written; or memory ran out
+  abbrev pub Writes : Tree → Result PropWriter DavError → Option (List Visit) → Type 0
+  Writes before (Ok writer) (Some visits) = writer.tree ≡ written before visits
+  Writes before (Ok writer) None = ⊥
+  Writes before (Err e) (Some visits) = ⊥
+  Writes before (Err e) None = e ≡ Memory
+
+  -- all that wait are told
+  pub record WritesAll (deep : Bool) (waiting : List Resource) (quota : Option QuotaTold) (before : Tree) (old : Store) (answer : Result PropWriter DavError) (new : Store) : Type 0 where
+    pub end : Option (List Visit)
+    pub read : IsRead (λ records. VisitsAll view old.contents asked deep waiting quota records end) old new
+    pub writes : Writes before answer end
+
+  -- all that the Depth reaches from the target is told
+  pub record WritesFrom (target : Resource) (depth : Depth) (before : Tree) (old : Store) (answer : Result PropWriter DavError) (new : Store) : Type 0 where
+    pub end : Option (List Visit)
+    pub read : IsRead (λ records. VisitsFrom view old.contents asked target depth records end) old new
+    pub writes : Writes before answer end

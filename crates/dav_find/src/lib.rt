@@ -1,0 +1,15 @@
+//! The properties that a PROPFIND asks for, of which resources, and how they are told (RFC 4918, section 9.1).
+#![tactic(auto)]
+
+mod declaring;
+mod finding;
+mod listed;
+mod refusal;
+mod responding;
+mod search;
+mod telling;
+mod visiting;
+
+pub use declaring::declare_prefixes;
+pub use finding::{Finder, Found};
+pub use search::{AskedProperty, FindKind, Search, read_search};

@@ -1,0 +1,101 @@
+//! The properties that the server adds to those that a request names.
+ghost use Rattle.std.specs.Prelude.{◌≡◌, ◌++◌, codes, IfOk};
+ghost use Rattle.std.specs.Option.{option_copied};
+ghost use Rattle.dav_find.specs.Asked.{property as property_of, dav_properties as properties_of_dav, named_besides as names_besides, microsoft_properties as properties_of_microsoft, server_properties as properties_of_server};
+
+use crate::search::FindKind;
+use dav_live::is_microsoft;
+use dav_resource::Element;
+use std::alloc::{AllocError, Global};
+
+/// The server's own list, by what is asked for and who asks. Only memory can be lacking.
+pub(crate) fn server_properties(
+    alloc: Global,
+    kind: FindKind,
+    user_agent: Option<&str>,
+) -> Result<Vec<Element>, AllocError>
+    ensures { IfOk result (λ elements. elements.items ≡ properties_of_server kind (option_copied user_agent.entry)) }
+{
+    match kind {
+        FindKind::Prop => Ok(Vec::new(alloc)),
+        FindKind::PropName => joined(dav_properties(alloc)?, named_besides(alloc)?),
+        FindKind::AllProp if is_microsoft(user_agent) => {
+            joined(dav_properties(alloc)?, microsoft_properties(alloc)?)
+        }
+        FindKind::AllProp => dav_properties(alloc),
+    }
+}
+
+/// One list behind the other.
+fn joined(mut elements: Vec<Element>, more: Vec<Element>) -> Result<Vec<Element>, AllocError>
+    ensures { IfOk result (λ all. all.items ≡ elements.items ++ more.items) }
+{
+    for element in more {
+        elements.push(element)?;
+    }
+    Ok(elements)
+}
+
+/// Those of RFC 4918, section 15.
+fn dav_properties(alloc: Global) -> Result<Vec<Element>, AllocError>
+    ensures { IfOk result (λ elements. elements.items ≡ properties_of_dav) }
+{
+    Ok(vec![in alloc;
+        dav_property(alloc, "creationdate")?,
+        dav_property(alloc, "displayname")?,
+        dav_property(alloc, "getcontentlanguage")?,
+        dav_property(alloc, "getcontentlength")?,
+        dav_property(alloc, "getcontenttype")?,
+        dav_property(alloc, "getetag")?,
+        dav_property(alloc, "getlastmodified")?,
+        dav_property(alloc, "lockdiscovery")?,
+        dav_property(alloc, "resourcetype")?,
+        dav_property(alloc, "supportedlock")?,
+    ]?)
+}
+
+/// What is told by name alone, besides.
+fn named_besides(alloc: Global) -> Result<Vec<Element>, AllocError>
+    ensures { IfOk result (λ elements. elements.items ≡ names_besides) }
+{
+    Ok(vec![in alloc;
+        dav_property(alloc, "quota-available-bytes")?,
+        dav_property(alloc, "quota-used-bytes")?,
+        property(alloc, "A", "http://apache.org/dav/props/", "executable")?,
+        microsoft_property(alloc, "Win32LastAccessTime")?,
+    ]?)
+}
+
+/// What clients of Microsoft read, besides.
+fn microsoft_properties(alloc: Global) -> Result<Vec<Element>, AllocError>
+    ensures { IfOk result (λ elements. elements.items ≡ properties_of_microsoft) }
+{
+    Ok(vec![in alloc;
+        microsoft_property(alloc, "Win32CreationTime")?,
+        microsoft_property(alloc, "Win32FileAttributes")?,
+        microsoft_property(alloc, "Win32LastAccessTime")?,
+        microsoft_property(alloc, "Win32LastModifiedTime")?,
+    ]?)
+}
+
+fn dav_property(alloc: Global, name: &str) -> Result<Element, AllocError>
+    ensures { IfOk result (λ element. element ≡ property_of (codes "D") (codes "DAV:") name.now) }
+{
+    property(alloc, "D", "DAV:", name)
+}
+
+fn microsoft_property(alloc: Global, name: &str) -> Result<Element, AllocError>
+    ensures { IfOk result (λ element. element ≡ property_of (codes "Z") (codes "urn:schemas-microsoft-com:") name.now) }
+{
+    property(alloc, "Z", "urn:schemas-microsoft-com:", name)
+}
+
+/// The element that names a property, which declares nothing.
+fn property(alloc: Global, prefix: &str, namespace: &str, name: &str) -> Result<Element, AllocError>
+    ensures { IfOk result (λ element. element ≡ property_of prefix.now namespace.now name.now) }
+{
+    let mut element = Element::new(alloc, name)?;
+    element.prefix = Some(String::from_str(alloc, prefix)?);
+    element.namespace = Some(String::from_str(alloc, namespace)?);
+    Ok(element)
+}

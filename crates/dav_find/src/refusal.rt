@@ -1,0 +1,46 @@
+//! Why a call of a store told nothing.
+ghost use Rattle.std.specs.Prelude.{◌≡◌, IfErr};
+ghost use Rattle.dav_resource.specs.declared.error.DavError.TheVariants.{Memory};
+ghost use Rattle.dav_store.specs.Logged.{Logged};
+ghost use Rattle.dav_find.specs.Finder.{TellsAnswer, IsLast, refusal_of};
+
+use dav_resource::{DavError, DavResult, FsError, FsResult, Outcome};
+use dav_store::GuardedFileSystem;
+use http::StatusCode;
+
+/// What a call told, or the status for which it didn't: that of a refusal, or 404. The only error is `Memory`, where the
+/// call had none.
+pub(crate) fn told_by<C, F: GuardedFileSystem<C>, T: Drop>(
+    fs: &F,
+    answer: FsResult<T>,
+) -> DavResult<Result<T, StatusCode>>
+    ensures told { TellsAnswer (F.seen fs.now).log answer result }
+    ensures err { IfErr result (λ e. e ≡ Memory) }
+{
+    match answer {
+        Ok(told) => Ok(Ok(told)),
+        Err(error) => match error {
+            FsError::Memory => Err(DavError::Memory),
+            _ => Ok(Err(refusal_status(fs))),
+        },
+    }
+}
+
+/// The status of the last call, where it was refused; 404 where it was barred.
+fn refusal_status<C, F: GuardedFileSystem<C>>(fs: &F) -> StatusCode
+    ensures { (last : Logged) → IsLast last (F.seen fs.now).log → result ≡ refusal_of last.outcome }
+{
+    match fs.records().last() {
+        Some(record) => outcome_status(record.outcome),
+        None => StatusCode::NOT_FOUND,
+    }
+}
+
+fn outcome_status(outcome: Outcome) -> StatusCode
+    ensures { result ≡ refusal_of outcome }
+{
+    match outcome {
+        Outcome::Refused(error) => error.statuscode(),
+        Outcome::Granted | Outcome::Barred(_) => StatusCode::NOT_FOUND,
+    }
+}

@@ -1,0 +1,29 @@
+//! What a resource is told by.
+ghost use Rattle.std.specs.Prelude.{◌≡◌, IfErr};
+ghost use Rattle.dav_resource.specs.declared.error.DavError.TheVariants.{Memory};
+ghost use Rattle.dav_find.specs.Finder.{view_of};
+ghost use Rattle.dav_find.specs.Response.{IsResponse};
+
+use crate::finding::{Finder, QuotaTold};
+use crate::telling::{Told, tell};
+use dav_resource::{DavResult, Items};
+use dav_store::{DavLockSystem, GuardedFileSystem};
+use dav_walks::Resource;
+
+impl<'r, C, L: DavLockSystem> Finder<'r, C, L> {
+    /// What a resource is told by, and what the store told of its quota so far. The only error is `Memory`.
+    pub(crate) fn respond<F: GuardedFileSystem<C>>(
+        &self,
+        fs: &mut F,
+        here: &Resource,
+        quota: Option<QuotaTold>,
+    ) -> DavResult<(Items<Told>, Option<QuotaTold>)>
+        ensures response { IsResponse (view_of L.seen self.now (F.seen fs.old).keeps_properties) self.now.search.now.asked.items here.now quota (F.seen fs.old) result (F.seen fs.new) }
+        ensures err { IfErr result (λ e. e ≡ Memory) }
+    {
+        let (found, quota) = self.find_each(fs, here, quota)?;
+        let stored = self.find_stored(fs, &here.path)?;
+        let told = tell(self.alloc, self.search.kind, found.as_slice(), &stored)?;
+        Ok((Items::from_vec(told), quota))
+    }
+}

@@ -1,0 +1,262 @@
+//! What a PROPFIND asks for (RFC 4918, sections 9.1 and 14.20).
+ghost use Rattle.std.specs.Prelude.{◌≡◌, [], map, codes, true, bytes_eq, string_bytes, IfOk};
+ghost use Rattle.std.specs.List.{list_any, fold, find};
+ghost use Rattle.std.specs.Option.{option_copied, option_eq, option_map};
+ghost use Rattle.dav_resource.specs.Gives.{GivesBy};
+ghost use Rattle.dav_resource.specs.Tree.{elements_of};
+ghost use Rattle.dav_parts.specs.DavElement.{is_named as is_named_tree};
+ghost use Rattle.dav_find.specs.Asked.{is_of, names_only, named_only, is_same as is_same_tree, ask_once as ask_once_more, asked_by_request, asked_by_server, says_kind as says_kind_tree, is_propfind as is_propfind_tree, named_in, asking, asking_by, asking_in, asking_of};
+ghost use Rattle.dav_find.specs.Searching.{asking_for};
+
+use crate::listed::server_properties;
+use dav_parts::is_named;
+use dav_resource::{DavError, DavResult, Element, ReqBody};
+use std::alloc::{AllocError, Global};
+
+/// How properties are sought (RFC 4918, section 14.20).
+#[derive(Clone, Copy, Debug, PartialEq, Eq)]
+pub enum FindKind {
+    /// All properties: those of RFC 4918, and what the store keeps (section 14.2).
+    AllProp,
+    /// Their names alone (section 14.21).
+    PropName,
+    /// Those that are named (section 14.18).
+    Prop,
+}
+
+impl FindKind {
+    /// Whether the names of properties are told alone.
+    pub(crate) fn names_only(self) -> bool
+        ensures { result ≡ names_only self }
+    {
+        match self {
+            FindKind::PropName => true,
+            FindKind::AllProp | FindKind::Prop => false,
+        }
+    }
+
+    /// Whether properties are told alone that the request names.
+    pub(crate) fn named_only(self) -> bool
+        ensures { result ≡ named_only self }
+    {
+        match self {
+            FindKind::Prop => true,
+            FindKind::AllProp | FindKind::PropName => false,
+        }
+    }
+}
+
+/// A property that is sought.
+#[derive(Drop, Debug)]
+pub struct AskedProperty {
+    /// The element that names it.
+    pub element: Element,
+    /// Whether the server's own list names it, and not the request.
+    pub listed: bool,
+}
+
+impl AskedProperty {
+    /// A value of the same contents. Only memory can be lacking.
+    pub fn clone(&self) -> Result<AskedProperty, AllocError>
+        ensures { IfOk result (λ copy. copy ≡ self.now) }
+    {
+        Ok(AskedProperty {
+            element: self.element.clone()?,
+            listed: self.listed,
+        })
+    }
+}
+
+/// What a PROPFIND asks for: each property once, those that the request names before the server's.
+#[derive(Drop, Debug)]
+pub struct Search {
+    /// How they are sought.
+    pub kind: FindKind,
+    /// The properties that are sought.
+    pub asked: Vec<AskedProperty>,
+}
+
+/// What a body asks for: all properties where there is none. The first `propname`, `prop` or `allprop` in it decides,
+/// and beside `allprop` the first `include` names more. `user_agent` is who asks, where that is known.
+///
+/// Errors: `XmlParseError` for a body that is no `propfind` of `DAV:`, or has none of the three; else `Memory` alone.
+pub fn read_search(alloc: Global, body: &ReqBody, user_agent: Option<&str>) -> DavResult<Search>
+    ensures { GivesBy asking_for result (asking_of body.now (option_copied user_agent.entry)) }
+{
+    match body {
+        ReqBody::None => Ok(search_for(alloc, FindKind::AllProp, None, user_agent)?),
+        ReqBody::Bytes(bytes) if bytes.as_slice().is_empty() => Ok(search_for(
+            alloc,
+            FindKind::AllProp,
+            None,
+            user_agent,
+        )?),
+        ReqBody::Tree(root) if is_propfind(root) => read_propfind(alloc, root, user_agent),
+        _ => Err(DavError::XmlParseError),
+    }
+}
+
+fn is_propfind(root: &Element) -> bool
+    ensures { result ≡ is_propfind_tree root.now }
+{
+    is_named(root, "propfind") && is_of(root, "DAV:")
+}
+
+/// Whether an element stands in this namespace.
+pub(crate) fn is_of(element: &Element, namespace: &str) -> bool
+    ensures { result ≡ is_of namespace.now element.now }
+{
+    match &element.namespace {
+        Some(own) => own.as_str() == namespace,
+        None => false,
+    }
+}
+
+/// What the outermost element asks for.
+fn read_propfind(alloc: Global, root: &Element, user_agent: Option<&str>) -> DavResult<Search>
+    requires { is_propfind_tree root.now ≡ true }
+    ensures { GivesBy asking_for result (asking_in (option_copied user_agent.entry) root.now) }
+{
+    match said_in(root) {
+        Some(said) => Ok(search_by(alloc, root, said, user_agent)?),
+        None => Err(DavError::XmlParseError),
+    }
+}
+
+/// The first element that says what is asked for, where there is one.
+fn said_in(root: &Element) -> Option<&Element>
+    ensures { option_copied result ≡ find says_kind_tree (elements_of root.now.children) }
+{
+    for child in root.child_elems_iter() {
+        if says_kind(child) {
+            return Some(child);
+        }
+    }
+    None
+}
+
+fn says_kind(element: &Element) -> bool
+    ensures { result ≡ says_kind_tree element.now }
+{
+    is_named(element, "propname") || is_named(element, "prop") || is_named(element, "allprop")
+}
+
+/// The first `include`, where there is one.
+fn include_in(root: &Element) -> Option<&Element>
+    ensures { option_copied result ≡ find (is_named_tree (codes "include")) (elements_of root.now.children) }
+{
+    for child in root.child_elems_iter() {
+        if is_named(child, "include") {
+            return Some(child);
+        }
+    }
+    None
+}
+
+/// What the element that says it asks for.
+fn search_by(
+    alloc: Global,
+    root: &Element,
+    said: &Element,
+    user_agent: Option<&str>,
+) -> Result<Search, AllocError>
+    ensures { IfOk result (λ search. asking_for search ≡ asking_by (option_copied user_agent.entry) root.now said.now) }
+{
+    match said.name.as_str() {
+        "propname" => search_for(alloc, FindKind::PropName, None, user_agent),
+        "prop" => search_for(alloc, FindKind::Prop, Some(said), user_agent),
+        _ => search_for(alloc, FindKind::AllProp, include_in(root), user_agent),
+    }
+}
+
+/// A search of this kind for the properties that stand in an element, where there is one, and then the server's.
+fn search_for(
+    alloc: Global,
+    kind: FindKind,
+    own: Option<&Element>,
+    user_agent: Option<&str>,
+) -> Result<Search, AllocError>
+    ensures { IfOk result (λ search. asking_for search ≡ asking kind (named_in (option_copied own.entry)) (option_copied user_agent.entry)) }
+{
+    let asked = ask_own(alloc, own)?;
+    let asked = ask_listed(asked, server_properties(alloc, kind, user_agent)?)?;
+    Ok(Search { kind, asked })
+}
+
+/// The properties that stand in an element, where there is one, each once.
+fn ask_own(alloc: Global, own: Option<&Element>) -> Result<Vec<AskedProperty>, AllocError>
+    ensures { IfOk result (λ asked. asked.items ≡ fold ask_once_more [] (map asked_by_request (named_in (option_copied own.entry)))) }
+{
+    let mut asked = Vec::new(alloc);
+    let Some(part) = own else {
+        return Ok(asked);
+    };
+    for element in part.child_elems_iter() {
+        let element = element.clone()?;
+        let property = AskedProperty {
+            element,
+            listed: false,
+        };
+        asked = ask_once(asked, property)?;
+    }
+    Ok(asked)
+}
+
+/// With the server's own properties, each that isn't asked already.
+fn ask_listed(
+    mut asked: Vec<AskedProperty>,
+    elements: Vec<Element>,
+) -> Result<Vec<AskedProperty>, AllocError>
+    ensures { IfOk result (λ more. more.items ≡ fold ask_once_more asked.items (map asked_by_server elements.items)) }
+{
+    for element in elements {
+        let property = AskedProperty {
+            element,
+            listed: true,
+        };
+        asked = ask_once(asked, property)?;
+    }
+    Ok(asked)
+}
+
+/// With one more property, unless it is asked already.
+fn ask_once(
+    mut asked: Vec<AskedProperty>,
+    more: AskedProperty,
+) -> Result<Vec<AskedProperty>, AllocError>
+    ensures { IfOk result (λ all. all.items ≡ ask_once_more asked.items more) }
+{
+    if is_asked(asked.as_slice(), &more.element) {
+        return Ok(asked);
+    }
+    asked.push(more)?;
+    Ok(asked)
+}
+
+/// Whether one of these properties has the element's name.
+fn is_asked(asked: &[AskedProperty], element: &Element) -> bool
+    ensures { result ≡ list_any (λ (a : AskedProperty). is_same_tree element.now a.element) asked.now }
+{
+    asked
+        .iter()
+        .any(|property| is_same(element, &property.element))
+}
+
+/// Whether both elements name one property: by the namespace and the name.
+pub(crate) fn is_same(one: &Element, other: &Element) -> bool
+    ensures { result ≡ is_same_tree one.now other.now }
+{
+    is_same_text(one.namespace.as_ref(), other.namespace.as_ref())
+        && one.name.as_str() == other.name.as_str()
+}
+
+/// Whether both are none, or one text.
+fn is_same_text(one: Option<&String>, other: Option<&String>) -> bool
+    ensures { result ≡ option_eq bytes_eq (option_map string_bytes (option_copied one.entry)) (option_map string_bytes (option_copied other.entry)) }
+{
+    match (one, other) {
+        (Some(one), Some(other)) => one.as_str() == other.as_str(),
+        (None, None) => true,
+        _ => false,
+    }
+}

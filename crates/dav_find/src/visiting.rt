@@ -1,0 +1,138 @@
+//! The resources that are told, one after the other.
+ghost use Rattle.std.specs.Prelude.{◌≡◌, ◌<◌, ◌+◌, ◌&&◌, Bool, Some, IfOk, IfErr, OnOk, OnErr};
+ghost use Rattle.std.specs.FinMap.{keys};
+ghost use Rattle.dav_resource.specs.declared.error.DavError.TheVariants.{Memory};
+ghost use Rattle.dav_walks.specs.Counting.{count_below};
+ghost use Rattle.dav_walks.specs.Listing.{AreThere, waiting_count, in_turn};
+ghost use Rattle.dav_find.specs.Finder.{view_of};
+ghost use Rattle.dav_find.specs.Visiting.{is_shown as is_shown_at, is_listed as is_listed_at, is_deep as is_deep_at};
+ghost use Rattle.dav_find.specs.Writing.{IsShown, IsVisited, IsVisitedInPart, WritesAll, WritesFrom};
+
+use crate::finding::{Finder, QuotaTold};
+use dav_props::{PropWriter, group_by_status};
+use dav_resource::{DavResult, Depth};
+use dav_store::{DavLockSystem, GuardedFileSystem};
+use dav_walks::{Resource, add_members, take_next};
+
+impl<'r, C, L: DavLockSystem> Finder<'r, C, L> {
+    /// Writes a response for each resource that the Depth reaches (RFC 4918, sections 9.1 and 10.2): the target, unless no
+    /// Depth is given; its members, unless the Depth is 0; and all below them, where it is infinity. A directory comes
+    /// before what is below it, and its members in the order of its listing. A listing that the store refuses is passed
+    /// over, and so is a member that it doesn't show.
+    ///
+    /// The only error is `Memory`. Nothing changes but the store's log.
+    pub fn propfind_directory<F: GuardedFileSystem<C>>(
+        &self,
+        fs: &mut F,
+        target: &Resource,
+        depth: Depth,
+        writer: PropWriter,
+    ) -> DavResult<PropWriter>
+        requires there { (F.seen fs.old).contents.metas target.now.path.key ≡ Some target.now.meta }
+        ensures { WritesFrom (view_of L.seen self.now (F.seen fs.old).keeps_properties) self.now.search.now.asked.items target.now depth writer.tree (F.seen fs.old) result (F.seen fs.new) }
+    {
+        let shown = is_shown(depth);
+        let listed = is_entered(is_listed(depth), target);
+        let mut waiting = Vec::new(self.alloc);
+        let (writer, quota) = self.visit(fs, target, shown, listed, None, writer, &mut waiting)?;
+        self.visit_all(fs, waiting, is_deep(depth), quota, writer)
+    }
+
+    /// Tells all that wait, one after the other, and with `deep` the members of each directory before the next.
+    fn visit_all<F: GuardedFileSystem<C>>(
+        &self,
+        fs: &mut F,
+        mut waiting: Vec<Resource>,
+        deep: bool,
+        mut quota: Option<QuotaTold>,
+        mut writer: PropWriter,
+    ) -> DavResult<PropWriter>
+        requires there { AreThere (F.seen fs.old).contents waiting.items }
+        ensures { WritesAll (view_of L.seen self.now (F.seen fs.old).keeps_properties) self.now.search.now.asked.items deep (in_turn waiting.items) quota writer.tree (F.seen fs.old) result (F.seen fs.new) }
+    {
+        'walk: loop {
+            let Some(here) = take_next(&mut waiting) else {
+                return Ok(writer);
+            };
+            let listed = is_entered(deep, &here);
+            let (more, next) = self.visit(fs, &here, true, listed, quota, writer, &mut waiting)?;
+            writer = more;
+            quota = next;
+        }
+    }
+
+    /// Tells a resource, where it is to be shown, and then has its members wait, where they are to be listed.
+    fn visit<F: GuardedFileSystem<C>>(
+        &self,
+        fs: &mut F,
+        here: &Resource,
+        shown: bool,
+        listed: bool,
+        quota: Option<QuotaTold>,
+        writer: PropWriter,
+        waiting: &mut Vec<Resource>,
+    ) -> DavResult<(PropWriter, Option<QuotaTold>)>
+        ensures visited { IfOk result (λ told. IsVisited (view_of L.seen self.now (F.seen fs.old).keeps_properties) self.now.search.now.asked.items shown listed here.now quota waiting.old.items writer.tree (F.seen fs.old) told.0 told.1 waiting.new.items (F.seen fs.new)) }
+        ensures there { OnOk result (AreThere (F.seen fs.old).contents waiting.old.items → AreThere (F.seen fs.old).contents waiting.new.items) }
+        ensures fewer { OnOk result ((F.seen fs.old).contents.metas here.now.path.key ≡ Some here.now.meta → 0 < count_below here.now.path.key (keys (F.seen fs.old).contents.tree) → waiting_count (F.seen fs.old).contents waiting.new.items < waiting_count (F.seen fs.old).contents waiting.old.items + count_below here.now.path.key (keys (F.seen fs.old).contents.tree)) }
+        ensures err { IfErr result (λ e. e ≡ Memory) }
+        ensures stopped { OnErr result (IsVisitedInPart (view_of L.seen self.now (F.seen fs.old).keeps_properties) self.now.search.now.asked.items shown listed here.now quota (F.seen fs.old) (F.seen fs.new)) }
+    {
+        let (writer, quota) = self.show(fs, here, shown, quota, writer)?;
+        if !listed {
+            return Ok((writer, quota));
+        }
+        add_members(fs, self.credentials, &here.path, waiting)?;
+        Ok((writer, quota))
+    }
+
+    /// Tells a resource, where it is to be shown.
+    fn show<F: GuardedFileSystem<C>>(
+        &self,
+        fs: &mut F,
+        here: &Resource,
+        shown: bool,
+        quota: Option<QuotaTold>,
+        mut writer: PropWriter,
+    ) -> DavResult<(PropWriter, Option<QuotaTold>)>
+        ensures shown { IfOk result (λ told. IsShown (view_of L.seen self.now (F.seen fs.old).keeps_properties) self.now.search.now.asked.items shown here.now quota writer.tree (F.seen fs.old) told.0 told.1 (F.seen fs.new)) }
+        ensures err { IfErr result (λ e. e ≡ Memory) }
+        ensures stopped { (listed : Bool) → OnErr result (IsVisitedInPart (view_of L.seen self.now (F.seen fs.old).keeps_properties) self.now.search.now.asked.items shown listed here.now quota (F.seen fs.old) (F.seen fs.new)) }
+    {
+        if !shown {
+            return Ok((writer, quota));
+        }
+        let (told, quota) = self.respond(fs, here, quota)?;
+        let groups = group_by_status(self.alloc, told.into_vec())?;
+        writer.write_propresponse(&here.path, groups)?;
+        Ok((writer, quota))
+    }
+}
+
+/// Whether the target itself is told.
+fn is_shown(depth: Depth) -> bool
+    ensures { result ≡ is_shown_at depth }
+{
+    depth != Depth::Default
+}
+
+/// Whether the target's members are told.
+fn is_listed(depth: Depth) -> bool
+    ensures { result ≡ is_listed_at depth }
+{
+    depth != Depth::Zero
+}
+
+/// Whether all below the members is told.
+fn is_deep(depth: Depth) -> bool
+    ensures { result ≡ is_deep_at depth }
+{
+    depth == Depth::Infinity
+}
+
+/// Whether a resource's members are sought, where those of a directory are.
+fn is_entered(listed: bool, here: &Resource) -> bool
+    ensures { result ≡ (listed && here.now.meta.dir) }
+{
+    listed && here.meta.dir
+}
