@@ -24,7 +24,7 @@ use Rattle.dav_engine.specs.Rules.{depth_or_all, fixed_path}
 use Rattle.dav_walks.specs.Deletion.{Removes}
 use Rattle.dav_engine.specs.Settings.{Settings}
 use Rattle.dav_engine.specs.Method.{Method}
-use Rattle.dav_engine.specs.Methods.{mkcol_method, write_method, delete_method, copy_method, move_method, lock_method, unlock_method, proppatch_method, options_method}
+use Rattle.dav_engine.specs.Methods.{mkcol_method, write_method, delete_method, copy_method, move_method, lock_method, unlock_method, proppatch_method, options_method, propfind_method}
 
 -- ---- by what becomes of the locks
 
@@ -181,3 +181,7 @@ keeps_proppatch settings request found old new records answer (inr cut) h = stay
 pub keeps_options : Keeps options_method
 keeps_options settings request found old new records answer (inl work) h = compatible_same old new work.same h
 keeps_options settings request found old new records answer (inr cut) h = compatible_same old new cut.1.same h
+
+pub keeps_propfind : Keeps propfind_method
+keeps_propfind settings request found old new records answer (inl work) h = compatible_same old new work.same h
+keeps_propfind settings request found old new records answer (inr cut) h = compatible_same old new cut.1.same h

@@ -9,7 +9,7 @@ use Rattle.dav_resource.specs.declared.error.DavError.TheVariants.{Memory}
 use Rattle.dav_resource.specs.declared.error.FsError.{FsError}
 use Rattle.dav_resource.specs.declared.meta.Meta.{Meta}
 use Rattle.dav_resource.specs.declared.method.DavMethod.{DavMethod}
-use Rattle.dav_resource.specs.declared.method.DavMethod.TheVariants.{Options, PropPatch, MkCol, Copy, Move, Delete, Lock, Unlock}
+use Rattle.dav_resource.specs.declared.method.DavMethod.TheVariants.{Options, PropFind, PropPatch, MkCol, Copy, Move, Delete, Lock, Unlock}
 use Rattle.dav_resource.specs.declared.request.DavRequest.{DavRequest}
 use Rattle.dav_store.specs.Logged.{Logged}
 use Rattle.dav_store.specs.PropertyCalls.{Patch, IsPatchedAt}
@@ -42,7 +42,7 @@ use Rattle.dav_engine.specs.Proppatch.{MakesChanges}
 use Rattle.dav_engine.specs.Put.{PutLeaves, put_rules}
 use Rattle.dav_engine.specs.Settings.{Settings}
 use Rattle.dav_engine.specs.Method.{Method}
-use Rattle.dav_engine.specs.Methods.{mkcol_method, write_method, delete_method, copy_method, move_method, lock_method, unlock_method, proppatch_method, options_method}
+use Rattle.dav_engine.specs.Methods.{mkcol_method, write_method, delete_method, copy_method, move_method, lock_method, unlock_method, proppatch_method, options_method, propfind_method}
 
 -- nothing is changed where nothing changes
 unchanged : (key : Key) (old new : Contents) → new ≡ old → IsChanged key old new → ⊥
@@ -231,6 +231,10 @@ guards_unlock settings request found old new head records answer passed (inr cut
 pub guards_options : Guards (Some Options) options_method
 guards_options settings request found old new head records answer passed (inl work) = guarded_same (Some Options) request old new work.same
 guards_options settings request found old new head records answer passed (inr cut) = guarded_same (Some Options) request old new cut.1.same
+
+pub guards_propfind : Guards (Some PropFind) propfind_method
+guards_propfind settings request found old new head records answer passed (inl work) = guarded_same (Some PropFind) request old new work.same
+guards_propfind settings request found old new head records answer passed (inr cut) = guarded_same (Some PropFind) request old new cut.1.same
 
 pub guards_copy : Guards (Some Copy) copy_method
 guards_copy settings request found old new head records answer passed done = by_end done

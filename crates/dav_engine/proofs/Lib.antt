@@ -1,6 +1,8 @@
 pub mod Aiming
 pub mod AllowList
 pub mod OptionsLaws
+pub mod Propfinding
+pub mod PropfindWork
 pub mod DeleteLaws
 pub mod Deleting
 pub mod FieldText

@@ -9,7 +9,7 @@ use Rattle.dav_engine.specs.Methods.{options_method}
 use Rattle.dav_engine.specs.Settings.{Settings}
 use Rattle.dav_engine.specs.State.{State}
 
-same_state : (old new : State) → new ≡ old → ChangesNothing old new
+pub same_state : (old new : State) → new ≡ old → ChangesNothing old new
 same_state old new same = record { contents = ap (λ (s : State). s.contents) same; locks = ap (λ (s : State). s.locks) same }
 
 pub options_unchanged : (settings : Settings) (request : DavRequest) (old : State) (records : List Logged) (answer : Answer) (new : State) → StepBy options_method settings request old records answer new → ChangesNothing old new

@@ -18,20 +18,20 @@ use Rattle.dav_parts.specs.Reply.{Reply, Answer, answer_of, reply_of}
 use Rattle.dav_engine.specs.State.{State, Seen, state_of, facts_of}
 use Rattle.dav_engine.specs.Settings.{Settings}
 use Rattle.dav_engine.specs.Method.{Method, StepBy, Refused, Done, CutShort, CutInWork, OnStore, CutOnStore}
-use Rattle.dav_engine.specs.Methods.{Step, mkcol_method, write_method, delete_method, copy_method, move_method, lock_method, unlock_method, proppatch_method, options_method}
+use Rattle.dav_engine.specs.Methods.{Step, mkcol_method, write_method, delete_method, copy_method, move_method, lock_method, unlock_method, proppatch_method, options_method, propfind_method}
 use Rattle.dav_engine.specs.Step.{Serves, Performs, WorksOnStore}
-use Rattle.dav_engine.proofs.Compatible.{Keeps, compatible_same, keeps_mkcol, keeps_put, keeps_delete, keeps_copy, keeps_move, keeps_lock, keeps_unlock, keeps_proppatch, keeps_options}
-use Rattle.dav_engine.proofs.Guarding.{Guards, guarded_same, guards_mkcol, guards_put, guards_delete, guards_copy, guards_move, guards_lock, guards_unlock, guards_proppatch, guards_options}
+use Rattle.dav_engine.proofs.Compatible.{Keeps, compatible_same, keeps_mkcol, keeps_put, keeps_delete, keeps_copy, keeps_move, keeps_lock, keeps_unlock, keeps_proppatch, keeps_options, keeps_propfind}
+use Rattle.dav_engine.proofs.Guarding.{Guards, guarded_same, guards_mkcol, guards_put, guards_delete, guards_copy, guards_move, guards_lock, guards_unlock, guards_proppatch, guards_options, guards_propfind}
 
 -- what was seen, with another store
-abbrev over : Store → Option Locks → Seen
+abbrev pub over : Store → Option Locks → Seen
 over store locks = record { store = store; locks = locks }
 
 -- the facts stay where the store's one does
-same_facts : (locks : Option Locks) (old new : Store) → new.keeps_properties ≡ old.keeps_properties → facts_of (over new locks) ≡ facts_of (over old locks)
+pub same_facts : (locks : Option Locks) (old new : Store) → new.keeps_properties ≡ old.keeps_properties → facts_of (over new locks) ≡ facts_of (over old locks)
 same_facts locks old new fixed = λ i. (fixed i, option_map (λ (l : Locks). l.dependable) locks)
 
-same_state : (locks : Option Locks) (old new : Store) → new.contents ≡ old.contents → state_of (over new locks) ≡ state_of (over old locks)
+pub same_state : (locks : Option Locks) (old new : Store) → new.contents ≡ old.contents → state_of (over new locks) ≡ state_of (over old locks)
 same_state locks old new same = λ i. record { contents = same i; locks = option_map (λ (l : Locks). l.list) locks; dependable = option_map_or (λ (l : Locks). l.dependable) locks true }
 
 -- what is proved of a method: a request of this name is served by it, the locks guard it, and it keeps them compatible
@@ -67,6 +67,9 @@ proppatch_sound = record { named = λ step. step; guards = guards_proppatch; kee
 
 pub options_sound : IsSound (Some Options) options_method
 options_sound = record { named = λ step. step; guards = guards_options; keeps = keeps_options }
+
+pub propfind_sound : IsSound (Some PropFind) propfind_method
+propfind_sound = record { named = λ step. step; guards = guards_propfind; keeps = keeps_propfind }
 
 module _ {name : Option DavMethod} (method : Method) (sound : IsSound name method) (settings : Settings) (request : DavRequest) (locks : Option Locks) where
   -- the rules end it, by the exit of a `?`
@@ -140,20 +143,20 @@ pub serves_as : (read method : Option DavMethod) (settings : Settings) (old : Se
 serves_as read method settings old request answer new is served = subst (λ m. Serves m settings old request answer new) is served
 
 -- the methods that aren't served
-pub unserved : (settings : Settings) (request : DavRequest) (method : DavMethod) → ((method ≡ MkCol) → ⊥) → ((method ≡ Put) → ⊥) → ((method ≡ Patch) → ⊥) → ((method ≡ Delete) → ⊥) → ((method ≡ Copy) → ⊥) → ((method ≡ Move) → ⊥) → ((method ≡ Lock) → ⊥) → ((method ≡ Unlock) → ⊥) → ((method ≡ PropPatch) → ⊥) → ((method ≡ Options) → ⊥) → (state : State) → Step (Some method) settings request state [] (Err (Status 501)) state
-unserved settings request Head a b p d c m l u r o state = record { none = refl; told = refl; same = refl }
-unserved settings request Get a b p d c m l u r o state = record { none = refl; told = refl; same = refl }
-unserved settings request Put a b p d c m l u r o state = absurd (b refl)
-unserved settings request Patch a b p d c m l u r o state = absurd (p refl)
-unserved settings request Options a b p d c m l u r o state = absurd (o refl)
-unserved settings request PropFind a b p d c m l u r o state = record { none = refl; told = refl; same = refl }
-unserved settings request PropPatch a b p d c m l u r o state = absurd (r refl)
-unserved settings request MkCol a b p d c m l u r o state = absurd (a refl)
-unserved settings request Copy a b p d c m l u r o state = absurd (c refl)
-unserved settings request Move a b p d c m l u r o state = absurd (m refl)
-unserved settings request Delete a b p d c m l u r o state = absurd (d refl)
-unserved settings request Lock a b p d c m l u r o state = absurd (l refl)
-unserved settings request Unlock a b p d c m l u r o state = absurd (u refl)
+pub unserved : (settings : Settings) (request : DavRequest) (method : DavMethod) → ((method ≡ MkCol) → ⊥) → ((method ≡ Put) → ⊥) → ((method ≡ Patch) → ⊥) → ((method ≡ Delete) → ⊥) → ((method ≡ Copy) → ⊥) → ((method ≡ Move) → ⊥) → ((method ≡ Lock) → ⊥) → ((method ≡ Unlock) → ⊥) → ((method ≡ PropPatch) → ⊥) → ((method ≡ Options) → ⊥) → ((method ≡ PropFind) → ⊥) → (state : State) → Step (Some method) settings request state [] (Err (Status 501)) state
+unserved settings request Head a b p d c m l u r o f state = record { none = refl; told = refl; same = refl }
+unserved settings request Get a b p d c m l u r o f state = record { none = refl; told = refl; same = refl }
+unserved settings request Put a b p d c m l u r o f state = absurd (b refl)
+unserved settings request Patch a b p d c m l u r o f state = absurd (p refl)
+unserved settings request Options a b p d c m l u r o f state = absurd (o refl)
+unserved settings request PropFind a b p d c m l u r o f state = absurd (f refl)
+unserved settings request PropPatch a b p d c m l u r o f state = absurd (r refl)
+unserved settings request MkCol a b p d c m l u r o f state = absurd (a refl)
+unserved settings request Copy a b p d c m l u r o f state = absurd (c refl)
+unserved settings request Move a b p d c m l u r o f state = absurd (m refl)
+unserved settings request Delete a b p d c m l u r o f state = absurd (d refl)
+unserved settings request Lock a b p d c m l u r o f state = absurd (l refl)
+unserved settings request Unlock a b p d c m l u r o f state = absurd (u refl)
 
 -- work that knows the store alone leaves the locks
 pub performs_on_store : {Work : Contents → List Logged → Answer → Contents → Type 0} {Cut : Contents → List Logged → Contents → Type 0} (locks : Option Locks) (old new : Store) (answer : Answer) → WorksOnStore Work Cut old answer new → Performs (OnStore Work) (CutOnStore Cut) (over old locks) answer (over new locks)

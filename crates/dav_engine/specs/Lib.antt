@@ -23,6 +23,7 @@ pub mod Locking
 pub mod Unlocking
 pub mod LockReply
 pub mod Location
+pub mod Propfind
 pub mod Proppatch
 pub mod Patching
 pub mod Laws

@@ -2,7 +2,7 @@
 use Rattle.std.specs.Prelude.{◌≡◌, true, false, Bool, List, [], Option, Some, Err}
 use Rattle.dav_resource.specs.declared.meta.Meta.{Meta}
 use Rattle.dav_resource.specs.declared.method.DavMethod.{DavMethod}
-use Rattle.dav_resource.specs.declared.method.DavMethod.TheVariants.{Put, Patch, Options, PropPatch, MkCol, Copy, Move, Delete, Lock, Unlock}
+use Rattle.dav_resource.specs.declared.method.DavMethod.TheVariants.{Put, Patch, Options, PropFind, PropPatch, MkCol, Copy, Move, Delete, Lock, Unlock}
 use Rattle.dav_resource.specs.declared.error.DavError.TheVariants.{Status}
 use Rattle.dav_resource.specs.declared.request.DavRequest.{DavRequest}
 use Rattle.dav_store.specs.Logged.{Logged}
@@ -20,6 +20,8 @@ use Rattle.dav_engine.specs.Transferring.{transfer_rules}
 use Rattle.dav_engine.specs.Copy.{CopyWork, CopyCut}
 use Rattle.dav_engine.specs.Move.{MoveWork, MoveCut}
 use Rattle.dav_engine.specs.Options.{options_rules, OptionsWork}
+use Rattle.dav_find.specs.Asked.{Asking}
+use Rattle.dav_engine.specs.Propfind.{propfind_rules, PropfindWork, PropfindCut}
 use Rattle.dav_engine.specs.declared.transfer.Transfer.{Transfer}
 use Rattle.dav_engine.specs.Proppatch.{Update, proppatch_rules, ProppatchWork, ProppatchCut}
 use Rattle.dav_engine.specs.Unlocking.{unlock_rules, UnlockWork}
@@ -70,6 +72,9 @@ proppatch_method =
 abbrev pub options_method : Method
 options_method = record { Found = Option Meta; rules = λ settings. options_rules; Work = λ settings. OptionsWork settings.allow; Cut = λ settings request found. Unbegun }
 
+abbrev pub propfind_method : Method
+propfind_method = record { Found = Meta × Asking; rules = λ settings. propfind_rules; Work = PropfindWork; Cut = PropfindCut }
+
 -- a method that isn't served: 501, without a call, and nothing changes
 pub record IsUnserved (old : State) (records : List Logged) (answer : Answer) (new : State) : Type 0 where
   pub none : records ≡ []
@@ -88,4 +93,5 @@ Step (Some Lock) settings request old records answer new = StepBy lock_method se
 Step (Some Unlock) settings request old records answer new = StepBy unlock_method settings request old records answer new
 Step (Some PropPatch) settings request old records answer new = StepBy proppatch_method settings request old records answer new
 Step (Some Options) settings request old records answer new = StepBy options_method settings request old records answer new
+Step (Some PropFind) settings request old records answer new = StepBy propfind_method settings request old records answer new
 Step _ settings request old records answer new = IsUnserved old records answer new

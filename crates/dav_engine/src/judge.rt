@@ -156,7 +156,7 @@ pub(crate) fn judge_depth(depth: Depth) -> DavResult<()>
 }
 
 /// The lock system, to be looked at.
-fn shared<'b, L>(ls: &'b Option<&mut L>) -> Option<&'b L>
+pub(crate) fn shared<'b, L>(ls: &'b Option<&mut L>) -> Option<&'b L>
     ensures { option_copied result ≡ option_map (λ l. l.now) ls.now }
 {
     match ls {

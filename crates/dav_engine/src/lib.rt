@@ -15,6 +15,7 @@ mod machine;
 mod mkcol;
 mod opening;
 mod options;
+mod propfind;
 mod proppatch;
 mod put;
 mod put_reply;

@@ -30,6 +30,7 @@ impl<'a, C: Drop, F: GuardedFileSystem<C>, L: DavLockSystem> DavInner<'a, C, F, 
             DavMethod::Unlock => self.handle_unlock(request),
             DavMethod::PropPatch => self.handle_proppatch(request),
             DavMethod::Options => self.handle_options(request),
+            DavMethod::PropFind => self.handle_propfind(request),
             _ => Err(DavError::Status(StatusCode::NOT_IMPLEMENTED)),
         }
     }

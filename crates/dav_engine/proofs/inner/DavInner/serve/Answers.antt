@@ -12,5 +12,5 @@ returns-in_default-method g c =
       same_engine = refl;
       step =
           serves_as (Some method) _ _ _ c.args.request.now _ _ (sym c.in-Some.is ∙ c.from_method.ensures)
-          (serves_none (Some method) _ c.args.request.now _ (unserved _ c.args.request.now method c.in_default-method.not-MkCol c.in_default-method.not-Put c.in_default-method.not-Patch c.in_default-method.not-Delete c.in_default-method.not-Copy c.in_default-method.not-Move c.in_default-method.not-Lock c.in_default-method.not-Unlock c.in_default-method.not-PropPatch c.in_default-method.not-Options));
+          (serves_none (Some method) _ c.args.request.now _ (unserved _ c.args.request.now method c.in_default-method.not-MkCol c.in_default-method.not-Put c.in_default-method.not-Patch c.in_default-method.not-Delete c.in_default-method.not-Copy c.in_default-method.not-Move c.in_default-method.not-Lock c.in_default-method.not-Unlock c.in_default-method.not-PropPatch c.in_default-method.not-Options c.in_default-method.not-PropFind));
     }

@@ -1,0 +1,100 @@
+-- PROPFIND: its work, by what a finder has written.
+use Rattle.std.proofs.Common.{◌≡◌, ◌∙◌, List, [], ◌++◌, Option, Some, None, Result, Ok, Err, inl, inr, refl, sym, ap, append-nil}
+use Rattle.std.specs.Option.{option_map, option_copied}
+use Rattle.std.specs.Result.{IsErrAnd}
+use Rattle.std.proofs.lemmas.Result.{err_from_is_err_and}
+use Rattle.http.specs.declared.response.Response.{Response}
+use Rattle.dav_resource.specs.Tree.{Tree}
+use Rattle.dav_resource.specs.declared.error.DavError.{DavError}
+use Rattle.dav_resource.specs.declared.error.DavError.TheVariants.{Memory}
+use Rattle.dav_resource.specs.declared.meta.Meta.{Meta}
+use Rattle.dav_resource.specs.declared.request.Body.{Body}
+use Rattle.dav_resource.specs.declared.request.DavRequest.{DavRequest}
+use Rattle.dav_headers.specs.Client.{user_agent_of}
+use Rattle.dav_store.specs.Locks.{Locks}
+use Rattle.dav_store.specs.Store.{Store}
+use Rattle.dav_parts.specs.Conditions.{locks_in}
+use Rattle.dav_parts.specs.Reply.{Reply, Answer, bare_reply, answer_of}
+use Rattle.dav_props.specs.Propstat.{property_multistatus}
+use Rattle.dav_props.specs.declared.writer.PropWriter.{PropWriter}
+use Rattle.dav_find.specs.Asked.{Asking}
+use Rattle.dav_find.specs.Declaring.{with_prefixes}
+use Rattle.dav_find.specs.Finder.{view_of}
+use Rattle.dav_find.specs.Visiting.{Visit}
+use Rattle.dav_find.specs.Writing.{WritesFrom, Writes}
+use Rattle.dav_find.specs.declared.finding.Finder.{Finder}
+use Rattle.dav_engine.specs.Location.{location_fields}
+use Rattle.dav_engine.specs.Propfind.{view_in, target_at, depth_or_default, propfind_fields, Tells, PropfindWork, PropfindCut}
+use Rattle.dav_engine.specs.Settings.{Settings}
+use Rattle.dav_engine.specs.State.{State, state_of}
+use Rattle.dav_engine.specs.Step.{Performs}
+use Rattle.dav_engine.proofs.Serving.{over, same_facts, same_state}
+
+abbrev failed : DavError → Answer
+failed e = Err e
+
+-- the locks of a lock system that is looked at are those of the state
+pub locks_are : {L : Type 0} (seen : L → Locks) (ls : Option L) → locks_in seen ls ≡ option_map (λ (l : Locks). l.list) (option_map seen ls)
+locks_are seen None = refl
+locks_are seen (Some l) = refl
+
+-- a finder seeks as the request says
+pub view_is : {C L : Type 0} (seen : L → Locks) (finder : Finder C L) (settings : Settings) (request : DavRequest) (state : State)
+    → locks_in seen (option_copied finder.ls) ≡ state.locks → option_copied finder.principal ≡ request.principal → option_copied finder.user_agent ≡ user_agent_of request.headers
+    → view_of seen finder settings.keeps_properties ≡ view_in settings request state finder.search.now.kind
+view_is seen finder settings request state locks principal agent =
+    λ i. record { kind = finder.search.now.kind; keeps = settings.keeps_properties; locks = locks i; principal = principal i; user_agent = agent i }
+
+module _ (settings : Settings) (request : DavRequest) (meta : Meta) (asking : Asking) (locks : Option Locks) where
+  -- memory ran out before anything was asked
+  pub performs_unbegun : (store : Store) → Performs (PropfindWork settings request (meta, asking)) (PropfindCut settings request (meta, asking)) (over store locks) (Err Memory) (over store locks)
+  performs_unbegun store = record { records = []; told = sym (append-nil store.log); fixed = refl; done = inr (refl, record { tells = inl refl; same = refl }) }
+
+  pub performs_lacking : (store : Store) (result : Result (Response Body) DavError) → IsErrAnd result (λ d. d ≡ Memory)
+      → Performs (PropfindWork settings request (meta, asking)) (PropfindCut settings request (meta, asking)) (over store locks) (answer_of result) (over store locks)
+  performs_lacking store result is = let p = err_from_is_err_and result is in rw (p.1, p.2) (performs_unbegun store)
+
+  module _ (old new : Store) where
+    abbrev pub WritesAt : Tree → Result PropWriter DavError → Type 0
+    WritesAt before answer = WritesFrom (view_in settings request (state_of (over old locks)) asking.kind) asking.asked (target_at request meta) (depth_or_default request) before old answer new
+
+    -- the resources are told
+    pub performs_told : (writer : PropWriter) (reply : Reply) → WritesAt (with_prefixes asking.asked (property_multistatus [])) (Ok writer)
+        → reply ≡ record (bare_reply 207 (propfind_fields ++ location_fields request.path (Some meta))) { body = Body.Tree writer.tree }
+        → Performs (PropfindWork settings request (meta, asking)) (PropfindCut settings request (meta, asking)) (over old locks) (Ok reply) (over new locks)
+    performs_told writer reply h is = record {
+      records = h.read.records;
+      told = h.read.told;
+      fixed = same_facts locks old new h.read.fixed;
+      done = inl (work h.end h.read.over h.writes);
+    }
+      where
+        work : (end : Option (List Visit)) → Tells settings request (meta, asking) (state_of (over old locks)) h.read.records end
+            → Writes (view_in settings request (state_of (over old locks)) asking.kind) asking.asked (with_prefixes asking.asked (property_multistatus [])) (Ok writer) end
+            → PropfindWork settings request (meta, asking) (state_of (over old locks)) h.read.records (Ok reply) (state_of (over new locks))
+        work (Some visits) tells wrote = record {
+          visits = visits;
+          tells = tells;
+          answered = ap Ok (is ∙ ap (λ (tree : Tree). record (bare_reply 207 (propfind_fields ++ location_fields request.path (Some meta))) { body = Body.Tree tree }) wrote);
+          same = same_state locks old new h.read.same;
+        }
+        work None tells wrote = absurd wrote
+
+    -- memory ran out
+    pub performs_stopped : (before : Tree) (e : DavError) → WritesAt before (Err e) → Performs (PropfindWork settings request (meta, asking)) (PropfindCut settings request (meta, asking)) (over old locks) (Err e) (over new locks)
+    performs_stopped before e h = record {
+      records = h.read.records;
+      told = h.read.told;
+      fixed = same_facts locks old new h.read.fixed;
+      done = inr (cut h.end h.read.over h.writes);
+    }
+      where
+        cut : (end : Option (List Visit)) → Tells settings request (meta, asking) (state_of (over old locks)) h.read.records end
+            → Writes (view_in settings request (state_of (over old locks)) asking.kind) asking.asked before (Err e) end
+            → (failed e ≡ Err Memory) × PropfindCut settings request (meta, asking) (state_of (over old locks)) h.read.records (state_of (over new locks))
+        cut (Some visits) tells wrote = absurd wrote
+        cut None tells wrote = (ap Err wrote, record { tells = inr tells; same = same_state locks old new h.read.same })
+
+    pub performs_broken : (before : Tree) (e : DavError) (result : Result (Response Body) DavError) → IsErrAnd result (λ d. d ≡ e) → WritesAt before (Err e)
+        → Performs (PropfindWork settings request (meta, asking)) (PropfindCut settings request (meta, asking)) (over old locks) (answer_of result) (over new locks)
+    performs_broken before e result is h = let p = err_from_is_err_and result is in rw (p.1, p.2) (performs_stopped before e h)

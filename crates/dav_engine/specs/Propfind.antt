@@ -1,0 +1,106 @@
+-- PROPFIND (RFC 4918, section 9.1): tells the properties of resources.
+use Rattle.std.specs.Prelude.{◌≡◌, ◌⊎◌, not, ◌&&◌, Bool, if◌then◌else◌, List, [], ◌∷◌, ◌++◌, map, codes, is_some, Option, Some, None, unwrap_or, Ok}
+use Rattle.http.specs.declared.version.TheConstants.Version.{HTTP_11}
+use Rattle.http_header.specs.HeaderMap.{Entries}
+use Rattle.http_header.specs.FieldValue.{FieldValue}
+use Rattle.dav_resource.specs.Tree.{Tree, prefixed_element}
+use Rattle.dav_resource.specs.declared.meta.Meta.{Meta}
+use Rattle.dav_resource.specs.declared.request.Body.{Body}
+use Rattle.dav_resource.specs.declared.request.DavRequest.{DavRequest}
+use Rattle.dav_resource.specs.declared.request.Depth.{Depth}
+use Rattle.dav_resource.specs.declared.request.Depth.TheVariants.{Default}
+use Rattle.dav_headers.specs.Depth.{depth_of}
+use Rattle.dav_headers.specs.Client.{user_agent_of, litmus_of}
+use Rattle.dav_store.specs.Logged.{Logged}
+use Rattle.dav_parts.specs.DavElement.{declaring_element, with_elements}
+use Rattle.dav_parts.specs.Dialogue.{Dialogue, Passed, Refuses, ◌>>=◌}
+use Rattle.dav_parts.specs.Multistatus.{xml_type}
+use Rattle.dav_parts.specs.Reply.{Reply, Answer, field}
+use Rattle.dav_props.specs.Propstat.{property_multistatus}
+use Rattle.dav_walks.specs.declared.listing.Resource.{Resource}
+use Rattle.dav_find.specs.Asked.{Asking, asking_of}
+use Rattle.dav_find.specs.Declaring.{with_prefixes}
+use Rattle.dav_find.specs.Finding.{View}
+use Rattle.dav_find.specs.Visiting.{Visit, VisitsFrom, response_of, is_deep}
+use Rattle.dav_find.specs.declared.search.FindKind.{FindKind}
+use Rattle.dav_engine.specs.Location.{location_fields}
+use Rattle.dav_engine.specs.Rules.{judged, must_find, fixed_path}
+use Rattle.dav_engine.specs.Settings.{Settings}
+use Rattle.dav_engine.specs.State.{State}
+
+-- ---- what is read of the request
+
+-- no Depth that can be read is a Depth of its own here
+abbrev pub depth_or_default : DavRequest → Depth
+depth_or_default request = unwrap_or (depth_of request.headers) Default
+
+-- all that is below the resource is told to the test suite litmus alone (RFC 4918, section 9.1, lets a server refuse it)
+abbrev pub is_too_deep : DavRequest → Bool
+is_too_deep request = is_deep (depth_or_default request) && not (is_some (litmus_of request.headers))
+
+-- ---- the replies
+
+-- no cache may keep them (RFC 9111, sections 5.2.2.4 and 5.4)
+abbrev pub uncached_fields : Entries FieldValue
+uncached_fields = field (codes "cache-control") (codes "no-cache") ∷ field (codes "pragma") (codes "no-cache") ∷ []
+
+abbrev pub propfind_fields : Entries FieldValue
+propfind_fields = uncached_fields ++ field (codes "content-type") xml_type ∷ []
+
+-- the precondition that a Depth of infinity doesn't meet (RFC 4918, section 16)
+abbrev pub finite_depth_error : Tree
+finite_depth_error = with_elements (declaring_element (codes "D:error")) (prefixed_element (codes "D:propfind-finite-depth") ∷ [])
+
+abbrev pub finite_depth_reply : Reply
+finite_depth_reply = record { status = 501; version = HTTP_11; headers = propfind_fields; body = Body.Tree finite_depth_error }
+
+-- 207, with a response for each resource that is told
+abbrev pub propfind_reply : DavRequest → Meta × Asking → List Visit → Reply
+propfind_reply request found visits =
+    record {
+      status = 207;
+      version = HTTP_11;
+      headers = propfind_fields ++ location_fields request.path (Some found.0);
+      body = Body.Tree (with_elements (with_prefixes found.1.asked (property_multistatus [])) (map response_of visits));
+    }
+
+-- ---- the rules
+
+-- a look at the path, whose refusal refuses the request, and what the body asks for
+abbrev pub sought_rules : DavRequest → State → Dialogue (Meta × Asking)
+sought_rules request state =
+    must_find state.contents request.path.key >>= λ meta.
+    judged (asking_of request.body (user_agent_of request.headers)) >>= λ asking.
+    Passed (meta, asking)
+
+-- a Depth of infinity is refused before, by a reply
+abbrev pub propfind_rules : DavRequest → State → Dialogue (Meta × Asking)
+propfind_rules request state = if is_too_deep request then Refuses (Ok finite_depth_reply) else sought_rules request state
+
+-- ---- the work
+
+-- how the properties are sought
+abbrev pub view_in : Settings → DavRequest → State → FindKind → View
+view_in settings request state kind =
+    record { kind = kind; keeps = settings.keeps_properties; locks = state.locks; principal = request.principal; user_agent = user_agent_of request.headers }
+
+-- what stands at the path, by its path with a directory's slash
+abbrev pub target_at : DavRequest → Meta → Resource
+target_at request meta = record { path = fixed_path request.path (Some meta); meta = meta }
+
+-- over these records, these resources are told; or memory ran out
+abbrev pub Tells : Settings → DavRequest → Meta × Asking → State → List Logged → Option (List Visit) → Type 0
+Tells settings request found old records end =
+    VisitsFrom (view_in settings request old found.1.kind) old.contents found.1.asked (target_at request found.0) (depth_or_default request) records end
+
+-- they are told, and nothing changes
+pub record PropfindWork (settings : Settings) (request : DavRequest) (found : Meta × Asking) (old : State) (records : List Logged) (answer : Answer) (new : State) : Type 0 where
+  pub visits : List Visit
+  pub tells : Tells settings request found old records (Some visits)
+  pub answered : answer ≡ Ok (propfind_reply request found visits)
+  pub same : new ≡ old
+
+-- memory ran out, and nothing changes
+pub record PropfindCut (settings : Settings) (request : DavRequest) (found : Meta × Asking) (old : State) (records : List Logged) (new : State) : Type 0 where
+  pub tells : (records ≡ []) ⊎ Tells settings request found old records None
+  pub same : new ≡ old
