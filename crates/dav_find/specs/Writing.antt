@@ -1,16 +1,21 @@
 -- What a writer has written, where resources were told into it: this project's own choice.
-use Rattle.std.specs.Prelude.{◌≡◌, ◌++◌, Bool, List, map, Option, Some, None, Result, Ok, Err}
+use Rattle.std.specs.Prelude.{◌≡◌, ◌++◌, ◌<◌, Bool, List, map, Option, Some, None, Result, Ok, Err}
+use Rattle.std.specs.FinMap.{keys}
 use Rattle.dav_resource.specs.Tree.{Tree}
 use Rattle.dav_resource.specs.declared.error.DavError.{DavError}
 use Rattle.dav_resource.specs.declared.error.DavError.TheVariants.{Memory}
 use Rattle.dav_resource.specs.declared.request.Depth.{Depth}
+use Rattle.dav_store.specs.Locks.{Locks}
 use Rattle.dav_store.specs.Logged.{Logged}
-use Rattle.dav_store.specs.Store.{Store}
+use Rattle.dav_store.specs.Store.{Store, Contents}
 use Rattle.dav_parts.specs.DavElement.{with_elements}
 use Rattle.dav_props.specs.declared.writer.PropWriter.{PropWriter}
-use Rattle.dav_walks.specs.Listing.{in_turn}
+use Rattle.dav_walks.specs.Counting.{count_below}
+use Rattle.dav_walks.specs.Listing.{AreFewer, in_turn}
 use Rattle.dav_walks.specs.declared.listing.Resource.{Resource}
 use Rattle.dav_find.specs.declared.search.AskedProperty.{AskedProperty}
+use Rattle.dav_find.specs.declared.finding.Finder.{Finder}
+use Rattle.dav_find.specs.Finder.{view_of}
 use Rattle.dav_find.specs.Finding.{View, QuotaTold}
 use Rattle.dav_find.specs.Visiting.{Visit, response_of, Shows, Visits, VisitsInPart, VisitsAll, VisitsFrom}
 
@@ -63,3 +68,22 @@ module _ (view : View) (asked : List AskedProperty) where
     pub end : Option (List Visit)
     pub read : IsRead (λ records. VisitsFrom view old.contents asked target depth records end) old new
     pub writes : Writes before answer end
+
+-- ---- by a finder, over a lock system that is seen so
+
+module _ {C L : Type 0} (seen : L → Locks) (finder : Finder C L) where
+  abbrev pub ShowsBy : Bool → Resource → Option QuotaTold → Tree → Store → PropWriter × Option QuotaTold → Store → Type 0
+  ShowsBy shown here quota before old told new =
+      IsShown (view_of seen finder old.keeps_properties) finder.search.now.asked.items shown here quota before old told.0 told.1 new
+
+  abbrev pub VisitsBy : Bool → Bool → Resource → Option QuotaTold → List Resource → Tree → Store → PropWriter × Option QuotaTold → List Resource → Store → Type 0
+  VisitsBy shown listed here quota waits before old told wait new =
+      IsVisited (view_of seen finder old.keeps_properties) finder.search.now.asked.items shown listed here quota waits before old told.0 told.1 wait new
+
+  abbrev pub StopsBy : Bool → Bool → Resource → Option QuotaTold → Store → Store → Type 0
+  StopsBy shown listed here quota old new = IsVisitedInPart (view_of seen finder old.keeps_properties) finder.search.now.asked.items shown listed here quota old new
+
+-- fewer keys wait, where the resource is there
+abbrev pub TakesAway : Contents → Resource → List Resource → List Resource → Type 0
+TakesAway contents here before after =
+    contents.metas here.path.key ≡ Some here.meta → 0 < count_below here.path.key (keys contents.tree) → AreFewer contents here.path.key before after

@@ -1,12 +1,10 @@
 //! The resources that are told, one after the other.
-ghost use Rattle.std.specs.Prelude.{◌≡◌, ◌<◌, ◌+◌, ◌&&◌, Bool, Some, IfOk, IfErr, OnOk, OnErr};
-ghost use Rattle.std.specs.FinMap.{keys};
+ghost use Rattle.std.specs.Prelude.{◌≡◌, ◌&&◌, Bool, Some, IfOk, IfErr, OnOk, OnErr};
 ghost use Rattle.dav_resource.specs.declared.error.DavError.TheVariants.{Memory};
-ghost use Rattle.dav_walks.specs.Counting.{count_below};
-ghost use Rattle.dav_walks.specs.Listing.{AreThere, waiting_count, in_turn};
+ghost use Rattle.dav_walks.specs.Listing.{AreThere, in_turn};
 ghost use Rattle.dav_find.specs.Finder.{view_of};
 ghost use Rattle.dav_find.specs.Visiting.{is_shown as is_shown_at, is_listed as is_listed_at, is_deep as is_deep_at};
-ghost use Rattle.dav_find.specs.Writing.{IsShown, IsVisited, IsVisitedInPart, WritesAll, WritesFrom};
+ghost use Rattle.dav_find.specs.Writing.{ShowsBy, VisitsBy, StopsBy, TakesAway, WritesAll, WritesFrom};
 
 use crate::finding::{Finder, QuotaTold};
 use dav_props::{PropWriter, group_by_status};
@@ -72,11 +70,11 @@ impl<'r, C, L: DavLockSystem> Finder<'r, C, L> {
         writer: PropWriter,
         waiting: &mut Vec<Resource>,
     ) -> DavResult<(PropWriter, Option<QuotaTold>)>
-        ensures visited { IfOk result (λ told. IsVisited (view_of L.seen self.now (F.seen fs.old).keeps_properties) self.now.search.now.asked.items shown listed here.now quota waiting.old.items writer.tree (F.seen fs.old) told.0 told.1 waiting.new.items (F.seen fs.new)) }
+        ensures visited { IfOk result (λ told. VisitsBy L.seen self.now shown listed here.now quota waiting.old.items writer.tree (F.seen fs.old) told waiting.new.items (F.seen fs.new)) }
         ensures there { OnOk result (AreThere (F.seen fs.old).contents waiting.old.items → AreThere (F.seen fs.old).contents waiting.new.items) }
-        ensures fewer { OnOk result ((F.seen fs.old).contents.metas here.now.path.key ≡ Some here.now.meta → 0 < count_below here.now.path.key (keys (F.seen fs.old).contents.tree) → waiting_count (F.seen fs.old).contents waiting.new.items < waiting_count (F.seen fs.old).contents waiting.old.items + count_below here.now.path.key (keys (F.seen fs.old).contents.tree)) }
+        ensures fewer { OnOk result (TakesAway (F.seen fs.old).contents here.now waiting.old.items waiting.new.items) }
         ensures err { IfErr result (λ e. e ≡ Memory) }
-        ensures stopped { OnErr result (IsVisitedInPart (view_of L.seen self.now (F.seen fs.old).keeps_properties) self.now.search.now.asked.items shown listed here.now quota (F.seen fs.old) (F.seen fs.new)) }
+        ensures stopped { OnErr result (StopsBy L.seen self.now shown listed here.now quota (F.seen fs.old) (F.seen fs.new)) }
     {
         let (writer, quota) = self.show(fs, here, shown, quota, writer)?;
         if !listed {
@@ -95,9 +93,9 @@ impl<'r, C, L: DavLockSystem> Finder<'r, C, L> {
         quota: Option<QuotaTold>,
         mut writer: PropWriter,
     ) -> DavResult<(PropWriter, Option<QuotaTold>)>
-        ensures shown { IfOk result (λ told. IsShown (view_of L.seen self.now (F.seen fs.old).keeps_properties) self.now.search.now.asked.items shown here.now quota writer.tree (F.seen fs.old) told.0 told.1 (F.seen fs.new)) }
+        ensures shown { IfOk result (λ told. ShowsBy L.seen self.now shown here.now quota writer.tree (F.seen fs.old) told (F.seen fs.new)) }
         ensures err { IfErr result (λ e. e ≡ Memory) }
-        ensures stopped { (listed : Bool) → OnErr result (IsVisitedInPart (view_of L.seen self.now (F.seen fs.old).keeps_properties) self.now.search.now.asked.items shown listed here.now quota (F.seen fs.old) (F.seen fs.new)) }
+        ensures stopped { (listed : Bool) → OnErr result (StopsBy L.seen self.now shown listed here.now quota (F.seen fs.old) (F.seen fs.new)) }
     {
         if !shown {
             return Ok((writer, quota));

@@ -64,3 +64,7 @@ AreThere contents waiting = (r : Resource) → IsIn r waiting → contents.metas
 -- how many keys stand at or below those that wait
 abbrev pub waiting_count : Contents → List Resource → ℕ
 waiting_count contents waiting = total (λ r. count_below r.path.key (keys contents.tree)) waiting
+
+-- fewer keys wait than before, with those at or below the key, which waits no longer
+abbrev pub AreFewer : Contents → Key → List Resource → List Resource → Type 0
+AreFewer contents key before after = waiting_count contents after < waiting_count contents before + count_below key (keys contents.tree)

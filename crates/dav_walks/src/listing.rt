@@ -6,7 +6,7 @@ ghost use Rattle.dav_resource.specs.declared.error.DavError.TheVariants.{Memory}
 ghost use Rattle.dav_store.specs.Members.{IsIn};
 ghost use Rattle.dav_store.specs.Store.{Contents, IsWellFormed};
 ghost use Rattle.dav_walks.specs.Counting.{count_below};
-ghost use Rattle.dav_walks.specs.Listing.{AddsMembers, StopsAdding, AreThere, waiting_count, shown_in, in_turn};
+ghost use Rattle.dav_walks.specs.Listing.{AddsMembers, StopsAdding, AreThere, AreFewer, waiting_count, shown_in, in_turn};
 
 use crate::frame::member_path;
 use dav_resource::{DavError, DavPath, DavResult, DirEntry, FsError, FsResult, Meta};
@@ -44,7 +44,7 @@ pub fn add_members<C, F: GuardedFileSystem<C>>(
 ) -> DavResult<()>
     ensures added { OnOk result (AddsMembers directory.now (F.seen fs.old) waiting.old.items (F.seen fs.new) waiting.new.items) }
     ensures there { OnOk result (AreThere (F.seen fs.old).contents waiting.old.items → AreThere (F.seen fs.old).contents waiting.new.items) }
-    ensures fewer { OnOk result ((meta : Meta) → (F.seen fs.old).contents.metas directory.now.key ≡ Some meta → waiting_count (F.seen fs.old).contents waiting.new.items < waiting_count (F.seen fs.old).contents waiting.old.items + count_below directory.now.key (keys (F.seen fs.old).contents.tree)) }
+    ensures fewer { OnOk result ((meta : Meta) → (F.seen fs.old).contents.metas directory.now.key ≡ Some meta → AreFewer (F.seen fs.old).contents directory.now.key waiting.old.items waiting.new.items) }
     ensures err { IfErr result (λ e. e ≡ Memory) }
     ensures stopped { OnErr result (StopsAdding directory.now (F.seen fs.old) (F.seen fs.new)) }
 {
