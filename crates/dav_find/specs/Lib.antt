@@ -7,3 +7,7 @@ pub mod Response
 pub mod Finder
 pub mod Visiting
 pub mod Writing
+pub mod Range
+pub mod RangeKeys
+pub mod RangeSteps
+pub mod RangeLaws

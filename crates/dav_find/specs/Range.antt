@@ -1,0 +1,95 @@
+-- Which resources a PROPFIND tells, and which directories it lists for that, whatever the store refuses (RFC 4918, sections 9.1 and 10.2). Below the
+-- resource `top` that is asked of, a key is said by the path x that leads down to it.
+use Rattle.std.specs.Prelude.{◌≡◌, ◌≢◌, ◌⊎◌, Bool, true, List, [], ◌∷◌, ◌++◌, filter_map, Option, None, Some}
+use Rattle.std.specs.FinMap.{get}
+use Rattle.dav_resource.specs.Key.{Key}
+use Rattle.dav_resource.specs.declared.record.Op.{Op}
+use Rattle.dav_resource.specs.declared.record.Op.TheVariants.{ReadDir, Entry}
+use Rattle.dav_resource.specs.declared.record.Outcome.{Outcome}
+use Rattle.dav_resource.specs.declared.record.Outcome.TheVariants.{Granted}
+use Rattle.dav_resource.specs.declared.request.Depth.{Depth}
+use Rattle.dav_store.specs.Logged.{Logged, logged}
+use Rattle.dav_store.specs.Members.{IsIn, AreDistinct, member}
+use Rattle.dav_store.specs.Store.{Contents, Directory}
+use Rattle.dav_find.specs.Visiting.{is_shown, is_listed, is_deep}
+
+-- ---- what the Depth reaches
+
+-- the resource itself, its members, and what is further below
+abbrev pub reaches : Depth → Key → Bool
+reaches depth [] = is_shown depth
+reaches depth (name ∷ []) = is_listed depth
+reaches depth (name ∷ next ∷ x) = is_deep depth
+
+-- the members of what is there
+abbrev pub reaches_members : Depth → Key → Bool
+reaches_members depth [] = is_listed depth
+reaches_members depth (name ∷ x) = is_deep depth
+
+-- ---- what is hidden
+
+-- a call of this kind on the key wasn't granted
+pub record WasDeclined (records : List Logged) (op : Op) (key : Key) : Type 0 where
+  pub outcome : Outcome
+  pub called : IsIn (logged op (key ∷ []) outcome) records
+  pub declined : outcome ≢ Granted
+
+-- each call was granted
+abbrev pub AllGranted : List Logged → Type 0
+AllGranted records = (r : Logged) → IsIn r records → r.outcome ≡ Granted
+
+-- on the way down to the key some listing was refused, or didn't show the next
+abbrev pub IsHidden : List Logged → Key → Key → Type 0
+IsHidden records top [] = ⊥
+IsHidden records top (name ∷ x) = WasDeclined records ReadDir top ⊎ WasDeclined records Entry (member top name) ⊎ IsHidden records (member top name) x
+
+-- ---- what is listed
+
+-- the directory that a call lists
+abbrev pub listed_by : Op → List Key → Option Key
+listed_by ReadDir (key ∷ []) = Some key
+listed_by _ _ = None
+
+abbrev pub listed_key : Logged → Option Key
+listed_key record_of = listed_by record_of.op record_of.keys
+
+-- those that are listed, in order
+abbrev pub listed_in : List Logged → List Key
+listed_in records = filter_map listed_key records
+
+-- ---- the range
+
+-- none comes again, or behind one below it
+abbrev pub AreDownwards : List Key → Type 0
+AreDownwards [] = Unit {0}
+AreDownwards (key ∷ keys) = ((later : Key) → IsIn later keys → (x : Key) → key ≢ later ++ x) × AreDownwards keys
+
+abbrev pub Stands : Contents → Key → Type 0
+Stands contents key = get contents.tree key ≢ None
+
+abbrev pub IsDirectory : Contents → Key → Type 0
+IsDirectory contents key = get contents.tree key ≡ Some Directory
+
+-- of the keys at and below `top`, these are exactly the ones that are reached, of this kind and not hidden
+pub record AreReached (Reached : Key → Bool) (Kind : Key → Type 0) (records : List Logged) (top : Key) (keys : List Key) : Type 0 where
+  pub reached : (x : Key) → IsIn (top ++ x) keys → Reached x ≡ true
+  pub kind : (x : Key) → IsIn (top ++ x) keys → Kind (top ++ x)
+  pub unhidden : (x : Key) → IsIn (top ++ x) keys → IsHidden records top x → ⊥
+  pub each : (x : Key) → Reached x ≡ true → Kind (top ++ x) → (IsHidden records top x → ⊥) → IsIn (top ++ x) keys
+
+-- none is elsewhere
+abbrev pub AreWithin : Key → List Key → Type 0
+AreWithin top keys = (key : Key) → IsIn key keys → (x : Key) × (key ≡ top ++ x)
+
+-- What stands in the Depth's range and isn't hidden is told, and nothing else: each once, and a directory before what is below it. So where each call
+-- was granted, all that stands in the range is told. Each directory of which the members are in the range, and that isn't hidden, is listed, and
+-- nothing else: each once.
+pub record TellsRange (contents : Contents) (depth : Depth) (top : Key) (records : List Logged) (told : List Key) : Type 0 where
+  pub once : AreDistinct told
+  pub downwards : AreDownwards told
+  pub within : AreWithin top told
+  pub tells : AreReached (reaches depth) (Stands contents) records top told
+  pub whole : AllGranted records → (x : Key) → reaches depth x ≡ true → Stands contents (top ++ x) → IsIn (top ++ x) told
+  pub listed_once : AreDistinct (listed_in records)
+  pub listed_within : AreWithin top (listed_in records)
+  pub lists : AreReached (reaches_members depth) (IsDirectory contents) records top (listed_in records)
