@@ -3,6 +3,7 @@ pub mod AllowList
 pub mod OptionsLaws
 pub mod Propfinding
 pub mod PropfindWork
+pub mod PropfindLaws
 pub mod DeleteLaws
 pub mod Deleting
 pub mod FieldText

@@ -1,4 +1,4 @@
--- What a request changes at the most, and what its answer says, in a user's words: each law follows from the method's definition (RFC 4918, sections 9.2, 9.6, 9.7, 9.9, 9.10 and 13).
+-- What a request changes at the most, and what its answer says, in a user's words: each law follows from the method's definition (RFC 4918, sections 9.1, 9.2, 9.6, 9.7, 9.9, 9.10 and 13).
 use Rattle.std.specs.Prelude.{◌≡◌, ◌≢◌, ◌⊎◌, ◌||◌, nat_eq, Bool, true, false, List, [], ◌++◌, map, Option, None, option_map, Ok, Err}
 use Rattle.std.specs.FinMap.{get}
 use Rattle.std.specs.List.{list_all}
@@ -10,10 +10,12 @@ use Rattle.dav_resource.specs.Errors.{dav_status, fs_status}
 use Rattle.dav_resource.specs.declared.error.DavError.{DavError}
 use Rattle.dav_resource.specs.declared.error.DavError.TheVariants.{Memory}
 use Rattle.dav_resource.specs.declared.error.FsError.{FsError}
+use Rattle.dav_resource.specs.declared.meta.Meta.{Meta}
 use Rattle.dav_resource.specs.declared.request.Depth.TheVariants.{Zero}
 use Rattle.dav_resource.specs.declared.request.DavRequest.{DavRequest}
 use Rattle.dav_headers.specs.Destination.{destination_of}
 use Rattle.dav_store.specs.Locks.{is_at_or_below, at_or_below}
+use Rattle.dav_store.specs.Logged.{Logged}
 use Rattle.dav_store.specs.Members.{IsIn}
 use Rattle.dav_store.specs.PropertyCalls.{properties_at, patched}
 use Rattle.dav_store.specs.Store.{property_key}
@@ -23,14 +25,19 @@ use Rattle.dav_parts.specs.Multistatus.{Item, multistatus_reply}
 use Rattle.dav_parts.specs.Reply.{Reply, Answer}
 use Rattle.dav_props.specs.Propstat.{Told, grouped}
 use Rattle.dav_props.specs.Update.{Change, update_verdict, some_refused, live_first, patches_of}
+use Rattle.dav_find.specs.Asked.{Asking}
+use Rattle.dav_find.specs.Range.{TellsRange}
+use Rattle.dav_find.specs.RangeSteps.{told_keys}
+use Rattle.dav_find.specs.Visiting.{Visit}
 use Rattle.dav_walks.specs.Copying.{snapshot, copied}
 use Rattle.dav_walks.specs.KeyCall.{standing}
 use Rattle.dav_engine.specs.Locking.{is_refresh}
+use Rattle.dav_engine.specs.Propfind.{depth_or_default, propfind_reply}
 use Rattle.dav_engine.specs.Proppatch.{proppatch_reply}
 use Rattle.dav_engine.specs.Rules.{depth_or_all}
 use Rattle.dav_engine.specs.Transferring.{is_deep}
 use Rattle.dav_engine.specs.Settings.{Settings}
-use Rattle.dav_engine.specs.State.{State, LocksStay, DropsLocks}
+use Rattle.dav_engine.specs.State.{State, Seen, LocksStay, DropsLocks}
 
 -- ---- DELETE
 
@@ -190,3 +197,18 @@ KeepsUnlessTold old answer new = (e : DavError) → answer ≡ Err e → e ≢ M
 abbrev pub StoresNothingBesideRefused : Settings → DavRequest → State → State → Type 0
 StoresNothingBesideRefused settings request old new =
     (changes : List Change) → update_verdict settings.keeps_properties request.body ≡ Ok changes → some_refused changes ≡ true → ChangesNothing old new
+
+-- ---- PROPFIND
+
+-- the reply tells these resources, and they are the range of the Depth by the records that the log has gained
+pub record ShowsRange (request : DavRequest) (old : Seen) (reply : Reply) (new : Seen) : Type 0 where
+  pub found : Meta × Asking
+  pub visits : List Visit
+  pub shown : reply ≡ propfind_reply request found visits
+  pub records : List Logged
+  pub logged : new.store.log ≡ old.store.log ++ records
+  pub range : TellsRange old.store.contents (depth_or_default request) request.path.key records (told_keys visits)
+
+-- a 207 does
+abbrev pub TellsItsRange : DavRequest → Seen → Answer → Seen → Type 0
+TellsItsRange request old answer new = (reply : Reply) → answer ≡ Ok reply → reply.status ≡ 207 → ShowsRange request old reply new

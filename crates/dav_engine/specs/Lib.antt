@@ -24,6 +24,7 @@ pub mod Unlocking
 pub mod LockReply
 pub mod Location
 pub mod Propfind
+pub mod Finding
 pub mod Proppatch
 pub mod Patching
 pub mod Laws

@@ -1,9 +1,10 @@
 use Rattle.std.proofs.Common.{◌≡◌, ◌∙◌, true, false, sym, ap}
 use Rattle.dav_find.specs.Searching.{asking_for}
-use Rattle.dav_engine.specs.DavInner.{settings_by, seen_by}
+use Rattle.dav_engine.specs.DavInner.{lent, settings_by, seen_by}
 use Rattle.dav_engine.specs.Methods.{propfind_method}
 use Rattle.dav_engine.specs.Propfind.{is_too_deep, finite_depth_reply}
 use Rattle.dav_engine.specs.State.{state_of}
+use Rattle.dav_engine.proofs.PropfindLaws.{propfind_tells}
 use Rattle.dav_engine.proofs.Propfinding.{reaches_finite, judges_lacking, judges_missing, judges_unread_body, judges_sought, found_there, propfind_unchanged}
 use Rattle.dav_engine.proofs.Serving.{propfind_sound, serves_exit, serves_told, serves_work}
 use Rattle.dav_engine.proofs.inner.DavInner.handle_propfind.Goals as goal
@@ -58,3 +59,15 @@ returns-in_err-search-clause-unchanged g c = propfind_unchanged _ _ _ _ _ _ (ret
 
 pub returns-clause-unchanged : goal.returns-clause-unchanged
 returns-clause-unchanged g c = propfind_unchanged _ _ _ _ _ _ (returns-clause-step g c).step
+
+pub returns-then-is_too_deep-clause-range : goal.returns-then-is_too_deep-clause-range
+returns-then-is_too_deep-clause-range g c = propfind_tells _ _ _ _ _ (g.met.F.GuardedFileSystem.well_formed (lent c.args.self.now)) (returns-then-is_too_deep-clause-step g c)
+
+pub returns-in_err-meta-clause-range : goal.returns-in_err-meta-clause-range
+returns-in_err-meta-clause-range g c = propfind_tells _ _ _ _ _ (g.met.F.GuardedFileSystem.well_formed (lent c.args.self.now)) (returns-in_err-meta-clause-step g c)
+
+pub returns-in_err-search-clause-range : goal.returns-in_err-search-clause-range
+returns-in_err-search-clause-range g c = propfind_tells _ _ _ _ _ (g.met.F.GuardedFileSystem.well_formed (lent c.args.self.now)) (returns-in_err-search-clause-step g c)
+
+pub returns-clause-range : goal.returns-clause-range
+returns-clause-range g c = propfind_tells _ _ _ _ _ (g.met.F.GuardedFileSystem.well_formed (lent c.args.self.now)) (returns-clause-step g c)

@@ -1,0 +1,13 @@
+-- The work of a PROPFIND, from what is seen to what is seen: this project's own choice.
+use Rattle.dav_resource.specs.declared.meta.Meta.{Meta}
+use Rattle.dav_resource.specs.declared.request.DavRequest.{DavRequest}
+use Rattle.dav_parts.specs.Reply.{Answer}
+use Rattle.dav_find.specs.Asked.{Asking}
+use Rattle.dav_engine.specs.Propfind.{PropfindWork, PropfindCut}
+use Rattle.dav_engine.specs.Settings.{Settings}
+use Rattle.dav_engine.specs.State.{Seen}
+use Rattle.dav_engine.specs.Step.{Performs}
+
+-- it is done, or cut short for want of memory
+abbrev pub PerformsPropfind : Settings → DavRequest → Meta × Asking → Seen → Answer → Seen → Type 0
+PerformsPropfind settings request found old answer new = Performs (PropfindWork settings request found) (PropfindCut settings request found) old answer new
