@@ -25,15 +25,22 @@ mod target;
 mod transfer;
 mod unlock;
 
+pub use dav_find::{AskedProperty, FindKind, Finder, Found, Search, declare_prefixes, read_search};
 pub use dav_headers::{
     ContentRange, IfCondition, IfItem, IfList, UpdateRange, read_checksum, read_content_length,
     read_content_range, read_content_type, read_depth, read_destination,
     read_expected_entity_length, read_if, read_if_match, read_if_none_match, read_lock_token,
     read_overwrite, read_place, read_tagged_path, read_update_range,
 };
+pub use dav_live::{LiveProperty, Viewer, is_microsoft, live_element};
 pub use dav_parts::{
     MultiError, build_lock_prop, dav_if_match, etaglist_match, http_if_match, if_match,
     if_match_get_tokens, ifrange_match, list_lockdiscovery, list_supportedlock, multi_error,
+};
+pub use dav_props::{
+    PropWriter, PropertyChange, bare_element, element_to_davprop, element_to_davprop_full,
+    group_by_status, is_kept, liveprop_remove, liveprop_set, patches, read_update, some_refused,
+    tell_failed, tell_made,
 };
 pub use dav_resource::{
     Body, ChildElements, DavError, DavFile, DavMethod, DavMethodSet, DavPath, DavProp, DavRequest,
@@ -41,5 +48,6 @@ pub use dav_resource::{
     LockToken, Meta, Op, OpenOptions, Outcome, Record, ReqBody, Text, XMLNode,
 };
 pub use dav_store::{DavLock, DavLockSystem, GuardedFileSystem, LockError};
+pub use dav_walks::{Resource, delete_items, do_copy};
 pub use inner::DavInner;
 pub use lock::get_timeout;
