@@ -1,5 +1,5 @@
 -- The lines of an outline: how far in they stand, and the names, namespaces and quoted texts in them; this project's own choice.
-use Rattle.std.specs.Prelude.{ℕ, ◌/◌, ◌%◌, ◌==◌, ◌&&◌, ◌||◌, not, nat_eq, nat_lt, Bool, List, [], ◌∷◌, length, drop, Option, Some, None, option_map, option_and_then, if◌then◌else◌, codes}
+use Rattle.std.specs.Prelude.{◌≡◌, ℕ, ◌≤◌, ◌/◌, ◌%◌, ◌==◌, ◌&&◌, ◌||◌, not, nat_eq, nat_lt, Bool, List, [], ◌∷◌, length, drop, Option, Some, None, option_map, option_and_then, if◌then◌else◌, codes}
 use Rattle.std.specs.List.{prefix_len, before_first, after_first, list_all, starts_with}
 use Rattle.dav_resource.specs.Tree.{has_colon}
 use Rattle.dav_headers.specs.Values.{cut_at}
@@ -15,6 +15,14 @@ spaces line = prefix_len is_space line
 -- how far in a line stands, two spaces for each level, and what stands behind them
 abbrev pub split_level : List ℕ → Option (ℕ × List ℕ)
 split_level line = if spaces line % 2 == 0 then Some (spaces line / 2, drop (spaces line) line) else None
+
+-- how far in a line stands
+abbrev pub level_of : List ℕ → Option ℕ
+level_of line = option_map (λ found. found.0) (split_level line)
+
+-- behind lines that leave so many elements unclosed a line of this level is the root, or stands in one of them
+abbrev pub HasPlace : ℕ → ℕ → Type 0
+HasPlace level unclosed = (level ≤ unclosed) × (level ≡ 0 → unclosed ≡ 0)
 
 -- ---- names
 

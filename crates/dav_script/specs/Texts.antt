@@ -16,6 +16,7 @@ fault_text fault.BadHeader = codes "bad header"
 fault_text fault.UnknownDirective = codes "unknown directive"
 fault_text fault.BadValue = codes "bad value"
 fault_text fault.BadOutline = codes "bad outline"
+fault_text fault.OutlineTooDeep = codes "outline too deep"
 
 -- why a script wasn't served by the program of this name
 abbrev pub trouble_text : List ℕ → Trouble → List ℕ

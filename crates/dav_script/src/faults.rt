@@ -16,6 +16,8 @@ pub enum Fault {
     UnknownDirective,
     BadValue,
     BadOutline,
+    /// A line of an outline stands at a level that no outline has.
+    OutlineTooDeep,
 }
 
 /// Why a line wasn't read.
@@ -62,6 +64,7 @@ impl fmt::Display for Fault {
             Fault::UnknownDirective => "unknown directive",
             Fault::BadValue => "bad value",
             Fault::BadOutline => "bad outline",
+            Fault::OutlineTooDeep => "outline too deep",
         })
     }
 }

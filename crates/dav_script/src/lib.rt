@@ -25,7 +25,7 @@ pub use directive::{read_token, unescape};
 pub use faults::{Fault, LineError, ScriptError};
 pub use names::{error_name, op_name, op_named, refusal_error};
 pub use outline_line::is_name;
-pub use outline_read::OutlineReader;
+pub use outline_read::{OUTLINE_LEVELS, OutlineReader};
 pub use outline_write::outline;
 pub use print::lock_text;
 pub use refusal::PlannedRefusal;

@@ -4,7 +4,7 @@ ghost use Rattle.std.specs.List.{position_or_len, before_first, list_all};
 ghost use Rattle.dav_resource.specs.Tree.{prefixed_element};
 ghost use Rattle.dav_headers.specs.Values.{cut_at};
 ghost use Rattle.dav_script.specs.Errors.{IsOutlineError};
-ghost use Rattle.dav_script.specs.Outline.{is_space, spaces, split_level, is_name_byte, is_name, is_qualified_name, split_namespace, escaped_letter, quoted};
+ghost use Rattle.dav_script.specs.Outline.{is_space, spaces, split_level, level_of, is_name_byte, is_name, is_qualified_name, split_namespace, escaped_letter, quoted};
 
 use crate::faults::{Fault, LineError};
 use dav_resource::{Element, Text, XMLNode};
@@ -12,7 +12,8 @@ use std::alloc::Global;
 
 /// What a line shows: its level, and a text, or an element with nothing in it yet. The only fault is `BadOutline`.
 pub fn read_node(alloc: Global, line: &str) -> Result<(usize, XMLNode), LineError>
-    ensures { IfErr result IsOutlineError }
+    ensures level { IfOk result (λ found. level_of line.now ≡ Some found.0) }
+    ensures err { IfErr result IsOutlineError }
 {
     let (level, text) = split_level(line).ok_or(Fault::BadOutline)?;
     let node = match text.strip_prefix('"') {

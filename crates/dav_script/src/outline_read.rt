@@ -1,11 +1,17 @@
 //! An outline, read line by line as the tree that it shows.
-ghost use Rattle.std.specs.Prelude.{◌≡◌, ◌⊎◌, ◌<◌, length, [], IfErr};
+ghost use Rattle.std.specs.Prelude.{◌≡◌, ◌⊎◌, ◌<◌, ◌≤◌, length, max, min, [], Some, Err, IfErr, IsSomeAnd, MatchResult, OnOk};
 ghost use Rattle.dav_script.specs.Errors.{IsOutlineError};
+ghost use Rattle.dav_script.specs.Outline.{HasPlace, level_of};
+ghost use Rattle.dav_script.specs.declared.outline_read.TheConstants.{OUTLINE_LEVELS};
 
 use crate::faults::{Fault, LineError, ScriptError};
 use crate::outline_line::read_node;
 use dav_resource::{Element, XMLNode};
 use std::alloc::{AllocError, Global};
+
+/// How many levels an outline has at most, that of its root with them. What copies, prints or drops a tree goes down it
+/// by recursion, so that each level takes stack.
+pub const OUTLINE_LEVELS: usize = 256;
 
 /// An outline of which some lines were read.
 #[derive(Debug, Drop)]
@@ -15,6 +21,7 @@ pub struct OutlineReader {
     /// The elements that a further line may stand in, each at its level. Each of them is put into the one before it
     /// once a line shows that no more stands in it.
     unclosed: Vec<Element>,
+    ghost bounded: { length unclosed.items ≤ OUTLINE_LEVELS },
 }
 
 impl OutlineReader {
@@ -30,15 +37,19 @@ impl OutlineReader {
     }
 
     /// Reads one line: the root, or a text or an element two spaces further in than the element that it stands in.
-    /// The only fault is `BadOutline`. After an error parts of the tree may be lost.
+    /// The faults are `BadOutline`, and `OutlineTooDeep` of a line that would fit but for its level. After an error
+    /// parts of the tree may be lost.
     pub fn read_line(&mut self, line: &str) -> Result<(), LineError>
-        ensures err { IfErr result IsOutlineError }
+        ensures err { IfErr result (λ e. IsOutlineError e ⊎ (e ≡ LineError.Fault Fault.OutlineTooDeep)) }
         ensures line { self.new.line ≡ self.old.line }
+
+        // A line of a level that no outline has is not read. It is too deep where it would stand in the deepest element.
+        ensures read { OnOk result (IsSomeAnd (level_of line.now) (λ level. level < OUTLINE_LEVELS)) }
+        ensures deep { result ≡ Err (LineError.Fault Fault.OutlineTooDeep) → level_of line.now ≡ Some OUTLINE_LEVELS }
+        ensures full { result ≡ Err (LineError.Fault Fault.OutlineTooDeep) → length self.old.unclosed.items ≡ OUTLINE_LEVELS }
     {
         let (level, node) = read_node(*self.unclosed.allocator(), line)?;
-        if level > self.unclosed.len() || (level == 0 && !self.unclosed.is_empty()) {
-            return Err(Fault::BadOutline.into());
-        }
+        check_level(level, self.unclosed.len())?;
         self.close(level)?;
         match node {
             XMLNode::Element(element) => self.unclosed.push(element)?,
@@ -53,7 +64,7 @@ impl OutlineReader {
     /// Puts each open element from this level on into the one before it. The root stays open.
     fn close(&mut self, level: usize) -> Result<(), AllocError>
         ensures line { self.new.line ≡ self.old.line }
-        ensures root { 0 < length self.old.unclosed.items → 0 < length self.new.unclosed.items }
+        ensures closed { OnOk result (length self.new.unclosed.items ≡ min (length self.old.unclosed.items) (max level 1)) }
     {
         while self.unclosed.len() > level.max(1) {
             let Some(element) = self.unclosed.pop() else {
@@ -76,4 +87,19 @@ impl OutlineReader {
             None => Err(ScriptError::Fault(self.line, Fault::BadOutline)),
         }
     }
+}
+
+/// Whether a line of this level can be read behind lines that leave so many elements unclosed.
+fn check_level(level: usize, unclosed: usize) -> Result<(), Fault>
+    ensures { MatchResult result
+        (λ _. HasPlace level unclosed × (level < OUTLINE_LEVELS))
+        (λ fault. ((fault ≡ Fault.BadOutline) × ¬ (HasPlace level unclosed)) ⊎ ((fault ≡ Fault.OutlineTooDeep) × HasPlace level unclosed × (OUTLINE_LEVELS ≤ level))) }
+{
+    if level > unclosed || (level == 0 && unclosed > 0) {
+        return Err(Fault::BadOutline);
+    }
+    if level >= OUTLINE_LEVELS {
+        return Err(Fault::OutlineTooDeep);
+    }
+    Ok(())
 }
