@@ -9,6 +9,7 @@ use dav_memfs::MemFs;
 use dav_memls::MemLs;
 use dav_refusing::Refusing;
 use dav_resource::{Body, DavError, DavPath, DavRequest, DavResult};
+use dav_store::GuardedFileSystem;
 use http::Response;
 use std::alloc::Global;
 use std::io::Write;
@@ -84,6 +85,11 @@ impl<'a> Session<'a> {
     pub fn set_store(&mut self, alloc: Global, mut store: MemFs) {
         store.set_now(self.now);
         self.store = Refusing::new(alloc, store, Vec::new(alloc));
+    }
+
+    /// Forgets the records of the calls so far: those of the store, and of the one behind it.
+    pub fn clear_log(&mut self) {
+        GuardedFileSystem::<()>::clear_log(&mut self.store);
     }
 
     /// Plans a refusal, behind those that are planned and not used. Only memory can be lacking.

@@ -63,6 +63,7 @@ impl Script for Requests {
     ) -> Result<(), Stopped> {
         for block in self.blocks {
             session.serve(alloc, block, output)?;
+            session.clear_log();
             output.write_all(b"\n")?;
         }
         Ok(())

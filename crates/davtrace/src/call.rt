@@ -118,7 +118,7 @@ impl CallLine {
             }
             Call::Tree(tree) => output.write_all(outline(alloc, &tree)?.as_bytes())?,
         }
-        print_records(alloc, output, &mut session.store)
+        print_records(alloc, output, session)
     }
 }
 

@@ -1,8 +1,6 @@
 //! The records of a store's log, printed.
-use dav_memfs::MemFs;
-use dav_refusing::Refusing;
 use dav_resource::{Outcome, Record};
-use dav_script::{Stopped, error_name, op_name};
+use dav_script::{Session, Stopped, error_name, op_name};
 use dav_store::GuardedFileSystem;
 use std::alloc::{AllocError, Global};
 use std::io::Write;
@@ -11,13 +9,13 @@ use std::io::Write;
 pub fn print_records<O: Write>(
     alloc: Global,
     output: &mut O,
-    store: &mut Refusing<MemFs>,
+    session: &mut Session<'_>,
 ) -> Result<(), Stopped> {
-    for record in GuardedFileSystem::<()>::records(store) {
+    for record in GuardedFileSystem::<()>::records(&session.store) {
         let text = record_text(alloc, record)?;
         writeln!(output, "- {text}")?;
     }
-    GuardedFileSystem::<()>::clear_log(store);
+    session.clear_log();
     Ok(())
 }
 

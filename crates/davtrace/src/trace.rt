@@ -49,7 +49,7 @@ impl Script for Trace {
             match step {
                 Step::Request(block) => {
                     session.serve(alloc, block, output)?;
-                    print_records(alloc, output, &mut session.store)?;
+                    print_records(alloc, output, session)?;
                 }
                 Step::Calls(calls) => {
                     for call in calls {
