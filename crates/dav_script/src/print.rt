@@ -13,11 +13,11 @@ use http_header::{HeaderMap, HeaderName, HeaderValue};
 use std::alloc::{AllocError, Global};
 use std::io::Write;
 
-/// Prints the request line of a block, as it is written.
-pub fn print_request<O: Write>(output: &mut O, block: &Block) -> Result<(), Stopped> {
+/// The line that is printed of a block: its request line, as it is written.
+pub fn request_line(alloc: Global, block: &Block) -> Result<String, AllocError> {
     let method = block.method.as_str();
     let path = block.path.as_str();
-    Ok(writeln!(output, "> {method} {path}")?)
+    format!(in alloc; "> {method} {path}")
 }
 
 /// Prints a reply: its status, its headers by their names, and the outline of its tree. Of an error its status

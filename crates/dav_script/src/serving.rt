@@ -1,6 +1,6 @@
 //! The blocks of a script, served.
 use crate::blocks::Block;
-use crate::print::{print_end, print_reply, print_request};
+use crate::print::{print_end, print_reply, request_line};
 use crate::refusal::PlannedRefusal;
 use crate::requests::request;
 use crate::trouble::Stopped;
@@ -14,6 +14,9 @@ use http::Response;
 use std::alloc::Global;
 use std::io::Write;
 use std::mem;
+
+/// What a run answers to each of its requests.
+type Replies = Vec<DavResult<Response<Body>>>;
 
 /// What the blocks of a script share: one store in memory, one lock system in memory, and the moment.
 #[derive(Drop)]
@@ -46,9 +49,52 @@ impl<'a> Session<'a> {
     pub fn serve<O: Write>(
         &mut self,
         alloc: Global,
-        mut block: Block,
+        block: Block,
         output: &mut O,
     ) -> Result<(), Stopped> {
+        let line = request_line(alloc, &block)?;
+        writeln!(output, "{line}")?;
+        let request = match self.begin(alloc, block)? {
+            Ok(request) => request,
+            Err(error) => return print_reply(alloc, output, &Err(error)),
+        };
+        match self.run(alloc, &[request])? {
+            Ok(replies) => print_replies(alloc, output, &replies),
+            Err(_) => Err(Stopped::Memory),
+        }
+    }
+
+    /// Serves blocks by one run of the engine, and prints the request line and the reply of each, with an empty line
+    /// between them. What they refuse is all planned before, and the store's moment is that of the last. Where the run
+    /// is an error, which is want of memory, that is printed alone, and nothing was served.
+    pub fn serve_at_once<O: Write>(
+        &mut self,
+        alloc: Global,
+        blocks: Vec<Block>,
+        output: &mut O,
+    ) -> Result<(), Stopped> {
+        let mut asked = Vec::new(alloc);
+        let mut requests = Vec::new(alloc);
+        for block in blocks {
+            let line = request_line(alloc, &block)?;
+            let refused = match self.begin(alloc, block)? {
+                Ok(request) => {
+                    requests.push(request)?;
+                    None
+                }
+                Err(error) => Some(error),
+            };
+            asked.push(Asked { line, refused })?;
+        }
+        match self.run(alloc, &requests)? {
+            Ok(replies) => print_asked(alloc, output, asked, replies),
+            Err(_) => Ok(output.write_all(b"run: Memory\n")?),
+        }
+    }
+
+    /// Counts a block, goes to its moment and plans what it refuses; and gives its request, or why its path can't be
+    /// read. Only memory can be lacking.
+    fn begin(&mut self, alloc: Global, mut block: Block) -> Result<DavResult<DavRequest>, Stopped> {
         self.blocks = self.blocks.saturating_add(1);
         if let Some(now) = block.now {
             self.set_now(now);
@@ -56,17 +102,10 @@ impl<'a> Session<'a> {
         for refusal in mem::replace(&mut block.refusals, Vec::new(alloc)) {
             self.plan(refusal)?;
         }
-        print_request(output, &block)?;
         match DavPath::from_str_and_prefix(alloc, block.path.as_str(), self.prefix) {
-            Ok(path) => {
-                let request = request(alloc, self.blocks, self.now, path, block)?;
-                for reply in &self.run(alloc, request)? {
-                    print_reply(alloc, output, reply)?;
-                }
-                Ok(())
-            }
+            Ok(path) => Ok(Ok(request(alloc, self.blocks, self.now, path, block)?)),
             Err(DavError::Memory) => Err(Stopped::Memory),
-            Err(error) => print_reply(alloc, output, &Err(error)),
+            Err(error) => Ok(Err(error)),
         }
     }
 
@@ -104,27 +143,70 @@ impl<'a> Session<'a> {
         print_end(alloc, output, self.store.inner_mut(), &self.locks)
     }
 
-    /// Lets the engine serve one request. Its reply may be want of memory; an `Err` is that of the engine itself.
+    /// Lets an engine serve requests by one run, and gives what that answers. Only memory can be lacking.
     fn run(
         &mut self,
         alloc: Global,
-        request: DavRequest,
-    ) -> Result<Vec<DavResult<Response<Body>>>, Stopped> {
+        requests: &[DavRequest],
+    ) -> Result<DavResult<Replies>, Stopped> {
         let prefix = String::from_str(alloc, self.prefix)?;
-        match serve_request(&mut self.store, &mut self.locks, prefix, request) {
-            Ok(replies) => Ok(replies),
-            Err(_) => Err(Stopped::Memory),
-        }
+        Ok(run_requests(&mut self.store, &mut self.locks, prefix, requests))
     }
 }
 
-/// Serves one request by an engine of its own over a store and a lock system.
-fn serve_request<'a>(
+/// Serves requests by a run of an engine of its own over a store and a lock system.
+fn run_requests<'a>(
     store: &'a mut Refusing<MemFs>,
     locks: &'a mut MemLs,
     prefix: String,
-    request: DavRequest,
-) -> DavResult<Vec<DavResult<Response<Body>>>> {
+    requests: &[DavRequest],
+) -> DavResult<Replies> {
     let mut engine = DavInner::new(store, Some(locks), prefix, None, ());
-    engine.run(&[request])
+    engine.run(requests)
+}
+
+/// A block of a run.
+#[derive(Drop)]
+struct Asked {
+    /// Its request line, as it is printed.
+    line: String,
+    /// Why its path can't be read, where it can't. Then it isn't served.
+    refused: Option<DavError>,
+}
+
+/// Prints replies, one behind the other.
+fn print_replies<O: Write>(
+    alloc: Global,
+    output: &mut O,
+    replies: &[DavResult<Response<Body>>],
+) -> Result<(), Stopped> {
+    for reply in replies {
+        print_reply(alloc, output, reply)?;
+    }
+    Ok(())
+}
+
+/// Prints the replies of a run, each behind the request line of its block, with an empty line between them.
+fn print_asked<O: Write>(
+    alloc: Global,
+    output: &mut O,
+    asked: Vec<Asked>,
+    replies: Replies,
+) -> Result<(), Stopped> {
+    let mut replies = replies.into_iter();
+    for (place, block) in asked.into_iter().enumerate() {
+        let Asked { line, refused } = block;
+        if place > 0 {
+            output.write_all(b"\n")?;
+        }
+        writeln!(output, "{line}")?;
+        let reply = match refused {
+            Some(error) => Some(Err(error)),
+            None => replies.next(),
+        };
+        if let Some(reply) = &reply {
+            print_reply(alloc, output, reply)?;
+        }
+    }
+    Ok(())
 }

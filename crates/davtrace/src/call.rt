@@ -67,6 +67,8 @@ enum Call {
     Anew(NewStore),
     /// The outline of this tree.
     Tree(Element),
+    /// The service of the requests that follow by one run.
+    AtOnce,
 }
 
 impl CallLine {
@@ -95,6 +97,11 @@ impl CallLine {
         Ok(CallLine { text, call })
     }
 
+    /// Whether the requests that follow are served at once.
+    pub fn is_at_once(&self) -> bool {
+        matches!(self.call, Call::AtOnce)
+    }
+
     /// Makes the call, and prints the line, what is answered, and the records that the call left. Calls on an open
     /// file are on the one that was opened last.
     pub fn make<O: Write>(
@@ -117,6 +124,7 @@ impl CallLine {
                 *file = None;
             }
             Call::Tree(tree) => output.write_all(outline(alloc, &tree)?.as_bytes())?,
+            Call::AtOnce => {}
         }
         print_records(alloc, output, session)
     }
@@ -127,6 +135,7 @@ fn read_call(alloc: Global, name: &str, value: &str) -> Result<Call, LineError> 
     match name {
         "now" => Ok(Call::Now(read_number(value).ok_or(Fault::BadValue)?)),
         "refuse" => Ok(Call::Refuse(read_refusal(alloc, value)?)),
+        "at_once" if value.is_empty() => Ok(Call::AtOnce),
         "refuse_call" => Ok(Call::RefuseCall(NumberedRefusal::read(value)?)),
         _ => read_other(alloc, name, value),
     }

@@ -4,7 +4,7 @@ use crate::records::print_records;
 use dav_script::{
     Block, BlockReader, Fault, LineError, OutlineReader, Script, ScriptError, Session, Stopped,
 };
-use std::alloc::Global;
+use std::alloc::{AllocError, Global};
 use std::io::Write;
 
 /// The blocks of a script, in order.
@@ -20,6 +20,8 @@ enum Step {
     Request(Block),
     /// Lines that call the store or the lock system themselves.
     Calls(Vec<CallLine>),
+    /// Requests that are served by one run, none or more.
+    AtOnce(Vec<Block>),
 }
 
 impl Script for Trace {
@@ -55,6 +57,13 @@ impl Script for Trace {
                     for call in calls {
                         call.make(alloc, session, &mut file, output)?;
                     }
+                }
+                Step::AtOnce(blocks) => {
+                    if blocks.is_empty() {
+                        continue;
+                    }
+                    session.serve_at_once(alloc, blocks, output)?;
+                    print_records(alloc, output, session)?;
                 }
             }
             output.write_all(b"\n")?;
@@ -97,7 +106,7 @@ impl TraceReader {
     /// Reads a line of a block with a request.
     fn read_request_line(&mut self, number: u64, line: &[u8]) -> Result<(), ScriptError> {
         if let Some(block) = self.blocks.read_line(number, line)? {
-            self.steps.push(Step::Request(block))?;
+            self.add_request(block)?;
         }
         Ok(())
     }
@@ -105,10 +114,31 @@ impl TraceReader {
     /// Ends the block that is open, where one is.
     fn end_block(&mut self) -> Result<(), ScriptError> {
         if let Some(block) = self.blocks.end_block()? {
-            self.steps.push(Step::Request(block))?;
+            self.add_request(block)?;
         }
         if let Some(calls) = self.calls.take() {
-            self.steps.push(Step::Calls(calls.end()?))?;
+            self.add_calls(calls.end()?)?;
+        }
+        Ok(())
+    }
+
+    /// Adds a block with a request: to those that are served at once, where it follows them.
+    fn add_request(&mut self, block: Block) -> Result<(), AllocError> {
+        if let Some(Step::AtOnce(blocks)) = self.steps.last_mut() {
+            blocks.push(block)?;
+        } else {
+            self.steps.push(Step::Request(block))?;
+        }
+        Ok(())
+    }
+
+    /// Adds a block of calls, and begins the requests that are served at once behind it, where it says so.
+    fn add_calls(&mut self, calls: Vec<CallLine>) -> Result<(), AllocError> {
+        let alloc = *calls.allocator();
+        let at_once = calls.iter().any(CallLine::is_at_once);
+        self.steps.push(Step::Calls(calls))?;
+        if at_once {
+            self.steps.push(Step::AtOnce(Vec::new(alloc)))?;
         }
         Ok(())
     }
