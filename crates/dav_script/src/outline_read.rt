@@ -1,5 +1,5 @@
 //! An outline, read line by line as the tree that it shows.
-ghost use Rattle.std.specs.Prelude.{◌≡◌, ◌⊎◌, ◌<◌, ◌≤◌, length, max, min, [], Some, Err, IfErr, IsSomeAnd, MatchResult, OnOk};
+ghost use Rattle.std.specs.Prelude.{◌≡◌, ◌⊎◌, ◌<◌, ◌≤◌, length, max, min, [], Some, Err, IfErr, IsSomeAnd, OnOk};
 ghost use Rattle.dav_script.specs.Errors.{IsOutlineError};
 ghost use Rattle.dav_script.specs.Outline.{HasPlace, level_of};
 ghost use Rattle.dav_script.specs.declared.outline_read.TheConstants.{OUTLINE_LEVELS};
@@ -91,9 +91,10 @@ impl OutlineReader {
 
 /// Whether a line of this level can be read behind lines that leave so many elements unclosed.
 fn check_level(level: usize, unclosed: usize) -> Result<(), Fault>
-    ensures { MatchResult result
-        (λ _. HasPlace level unclosed × (level < OUTLINE_LEVELS))
-        (λ fault. ((fault ≡ Fault.BadOutline) × ¬ (HasPlace level unclosed)) ⊎ ((fault ≡ Fault.OutlineTooDeep) × HasPlace level unclosed × (OUTLINE_LEVELS ≤ level))) }
+    ensures read { OnOk result (HasPlace level unclosed × (level < OUTLINE_LEVELS)) }
+    ensures bad { result ≡ Err Fault.BadOutline → ¬ (HasPlace level unclosed) }
+    ensures deep { result ≡ Err Fault.OutlineTooDeep → HasPlace level unclosed × (OUTLINE_LEVELS ≤ level) }
+    ensures err { IfErr result (λ fault. (fault ≡ Fault.BadOutline) ⊎ (fault ≡ Fault.OutlineTooDeep)) }
 {
     if level > unclosed || (level == 0 && unclosed > 0) {
         return Err(Fault::BadOutline);
