@@ -188,14 +188,14 @@ impl DavPath {
     }
 
     /// Goes down to the member of this name: one more segment, and no slash. It copies the key's
-    /// segments, which the path's copies keep as they are.
+    /// segments where a copy of the path has them in common, which keeps them as they are.
     /// Where memory is lacking the path is as before.
     pub fn push_segment(&mut self, name: &str) -> Result<(), AllocError>
         requires { IsSegment name.now }
         ensures ok { OnOk result (self.new ≡ member_path self.old name.now) }
         ensures err { OnErr result (self.new ≡ self.old) }
     {
-        self.segments = key::copy_member(&self.segments, name)?;
+        key::push_member(&mut self.segments, name)?;
         self.star = false;
         self.slash = false;
         Ok(())

@@ -1,5 +1,5 @@
 //! Keys, as lists of segments.
-ghost use Rattle.std.specs.Prelude.{◌≡◌, ◌≤◌, [], ◌∷◌, ◌++◌, ◌||◌, ◌==◌, drop, length, vec_len, IsTrue, IfOk, OnOk, bytes_eq};
+ghost use Rattle.std.specs.Prelude.{◌≡◌, ◌≤◌, [], ◌∷◌, ◌++◌, ◌||◌, ◌==◌, drop, length, vec_len, IsTrue, IfOk, OnOk, OnErr, bytes_eq};
 ghost use Rattle.std.specs.List.{starts_with};
 ghost use Rattle.dav_resource.specs.Key.{parent};
 ghost use Rattle.dav_resource.specs.Texts.{texts};
@@ -82,15 +82,21 @@ pub(crate) fn copy_parent(key: &Rc<Vec<String>>) -> Result<Rc<Vec<String>>, Allo
     share(copy)
 }
 
-/// A copy with one more segment at its end. Only memory can be lacking.
-pub(crate) fn copy_member(key: &Rc<Vec<String>>, name: &str) -> Result<Rc<Vec<String>>, AllocError>
-    ensures { IfOk result (λ copy. texts copy.value.items ≡ texts key.now.value.items ++ name.now ∷ []) }
+/// Puts one more segment at the end: in place where no other path has the segments in common, and else at the end of a
+/// copy of its own. Only memory can be lacking, and then nothing changes.
+pub(crate) fn push_member(key: &mut Rc<Vec<String>>, name: &str) -> Result<(), AllocError>
+    ensures ok { OnOk result (texts key.new.value.items ≡ texts key.old.value.items ++ name.now ∷ []) }
+    ensures err { OnErr result (texts key.new.value.items ≡ texts key.old.value.items) }
 {
-    let alloc = *key.allocator();
-    let mut copy = copy_key(alloc, key.as_slice())?;
-    let name = String::from_str(alloc, name)?;
+    let name = String::from_str(*key.allocator(), name)?;
+    if let Some(own) = Rc::get_mut(key) {
+        own.push(name)?;
+        return Ok(());
+    }
+    let mut copy = copy_key(*key.allocator(), key.as_slice())?;
     copy.push(name)?;
-    share(copy)
+    *key = share(copy)?;
+    Ok(())
 }
 
 /// A copy of the prefix's segments and then of the key's. Only memory can be lacking.
