@@ -1,4 +1,5 @@
 pub mod Answering
+pub mod AskedOnce
 pub mod Each
 pub mod Kept
 pub mod Responses

@@ -1,4 +1,5 @@
 pub mod Asked
+pub mod AskedNames
 pub mod Searching
 pub mod Declaring
 pub mod Finding

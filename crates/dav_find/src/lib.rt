@@ -1,6 +1,7 @@
 //! The properties that a PROPFIND asks for, of which resources, and how they are told (RFC 4918, section 9.1).
 #![tactic(auto)]
 
+mod asked_list;
 mod declaring;
 mod finding;
 mod listed;

@@ -1,13 +1,14 @@
 //! What a PROPFIND asks for (RFC 4918, sections 9.1 and 14.20).
 ghost use Rattle.std.specs.Prelude.{◌≡◌, [], map, codes, true, bytes_eq, string_bytes, IfOk};
-ghost use Rattle.std.specs.List.{list_any, fold, find};
+ghost use Rattle.std.specs.List.{fold, find};
 ghost use Rattle.std.specs.Option.{option_copied, option_eq, option_map};
 ghost use Rattle.dav_resource.specs.Gives.{GivesBy};
 ghost use Rattle.dav_resource.specs.Tree.{elements_of};
 ghost use Rattle.dav_parts.specs.DavElement.{is_named as is_named_tree};
-ghost use Rattle.dav_find.specs.Asked.{is_of, names_only, named_only, is_same as is_same_tree, ask_once as ask_once_more, asked_by_request, asked_by_server, says_kind as says_kind_tree, is_propfind as is_propfind_tree, named_in, asking, asking_by, asking_in, asking_of};
+ghost use Rattle.dav_find.specs.Asked.{is_of, names_only, named_only, is_same as is_same_tree, ask_once, asked_by_request, asked_by_server, says_kind as says_kind_tree, is_propfind as is_propfind_tree, named_in, asking, asking_by, asking_in, asking_of};
 ghost use Rattle.dav_find.specs.Searching.{asking_for};
 
+use crate::asked_list::AskedList;
 use crate::listed::server_properties;
 use dav_parts::is_named;
 use dav_resource::{DavError, DavResult, Element, ReqBody};
@@ -180,66 +181,41 @@ fn search_for(
 {
     let asked = ask_own(alloc, own)?;
     let asked = ask_listed(asked, server_properties(alloc, kind, user_agent)?)?;
-    Ok(Search { kind, asked })
+    Ok(Search {
+        kind,
+        asked: asked.into_vec(),
+    })
 }
 
 /// The properties that stand in an element, where there is one, each once.
-fn ask_own(alloc: Global, own: Option<&Element>) -> Result<Vec<AskedProperty>, AllocError>
-    ensures { IfOk result (λ asked. asked.items ≡ fold ask_once_more [] (map asked_by_request (named_in (option_copied own.entry)))) }
+fn ask_own(alloc: Global, own: Option<&Element>) -> Result<AskedList, AllocError>
+    ensures { IfOk result (λ list. list.asked.items ≡ fold ask_once [] (map asked_by_request (named_in (option_copied own.entry)))) }
 {
-    let mut asked = Vec::new(alloc);
+    let mut list = AskedList::new(alloc);
     let Some(part) = own else {
-        return Ok(asked);
+        return Ok(list);
     };
     for element in part.child_elems_iter() {
         let element = element.clone()?;
-        let property = AskedProperty {
+        list = list.ask_once(AskedProperty {
             element,
             listed: false,
-        };
-        asked = ask_once(asked, property)?;
+        })?;
     }
-    Ok(asked)
+    Ok(list)
 }
 
 /// With the server's own properties, each that isn't asked already.
-fn ask_listed(
-    mut asked: Vec<AskedProperty>,
-    elements: Vec<Element>,
-) -> Result<Vec<AskedProperty>, AllocError>
-    ensures { IfOk result (λ more. more.items ≡ fold ask_once_more asked.items (map asked_by_server elements.items)) }
+fn ask_listed(mut list: AskedList, elements: Vec<Element>) -> Result<AskedList, AllocError>
+    ensures { IfOk result (λ more. more.asked.items ≡ fold ask_once list.asked.items (map asked_by_server elements.items)) }
 {
     for element in elements {
-        let property = AskedProperty {
+        list = list.ask_once(AskedProperty {
             element,
             listed: true,
-        };
-        asked = ask_once(asked, property)?;
+        })?;
     }
-    Ok(asked)
-}
-
-/// With one more property, unless it is asked already.
-fn ask_once(
-    mut asked: Vec<AskedProperty>,
-    more: AskedProperty,
-) -> Result<Vec<AskedProperty>, AllocError>
-    ensures { IfOk result (λ all. all.items ≡ ask_once_more asked.items more) }
-{
-    if is_asked(asked.as_slice(), &more.element) {
-        return Ok(asked);
-    }
-    asked.push(more)?;
-    Ok(asked)
-}
-
-/// Whether one of these properties has the element's name.
-fn is_asked(asked: &[AskedProperty], element: &Element) -> bool
-    ensures { result ≡ list_any (λ (a : AskedProperty). is_same_tree element.now a.element) asked.now }
-{
-    asked
-        .iter()
-        .any(|property| is_same(element, &property.element))
+    Ok(list)
 }
 
 /// Whether both elements name one property: by the namespace and the name.

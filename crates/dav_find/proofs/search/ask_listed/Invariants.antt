@@ -5,4 +5,4 @@ use Rattle.dav_find.proofs.search.ask_listed.Given as goal
 
 -- those so far
 abbrev pub invariant-loop-element : goal.invariant-loop-element
-invariant-loop-element l = l.asked.items ≡ fold ask_once l.initial.asked.items (map asked_by_server l.yielded)
+invariant-loop-element l = l.list.asked.items ≡ fold ask_once l.initial.list.asked.items (map asked_by_server l.yielded)

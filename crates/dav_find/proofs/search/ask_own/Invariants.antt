@@ -7,4 +7,4 @@ use Rattle.dav_find.proofs.search.ask_own.Given as goal
 
 -- with those that are left they are all
 abbrev pub invariant-loop-element : goal.invariant-loop-element
-invariant-loop-element l = fold ask_once l.asked.items (map asked_by_request (child_elements l.element-iterator)) ≡ fold ask_once [] (map asked_by_request (named_in (option_copied l.own)))
+invariant-loop-element l = fold ask_once l.list.asked.items (map asked_by_request (child_elements l.element-iterator)) ≡ fold ask_once [] (map asked_by_request (named_in (option_copied l.own)))
