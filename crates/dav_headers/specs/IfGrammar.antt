@@ -56,17 +56,21 @@ pub data Conditions : List IfToken → List IfCondition → Type 0 where
   condition : (t : IfToken) (it : IfItem) (tokens : List IfToken) (others : List IfCondition) → IsItem t it → Conditions tokens others → Conditions (t ∷ tokens) (record { not = false; item = it } ∷ others)
   negated : (t : IfToken) (it : IfItem) (tokens : List IfToken) (others : List IfCondition) → IsItem t it → Conditions tokens others → Conditions (Not ∷ t ∷ tokens) (record { not = true; item = it } ∷ others)
 
--- the tokens are these lists, where a tag governs the lists up to the next one, and this tag those before any; behind each tag stands a list
-pub data AreLists : Option (List ℕ) → List IfToken → List IfList → Type 0 where
-  no_list : (tag : Option (List ℕ)) → AreLists tag [] []
-  list : (tag : Option (List ℕ)) (tokens inside rest : List IfToken) (conditions : List IfCondition) (others : List IfList) → tokens ≡ Open ∷ (inside ++ Close ∷ rest) → Conditions inside conditions → AreLists tag rest others → AreLists tag tokens (record { resource_tag = tag; conditions = conditions } ∷ others)
-  about : (tag : Option (List ℕ)) (text : List ℕ) (tokens : List IfToken) (lists : List IfList) → AreLists (Some text) (Open ∷ tokens) lists → AreLists tag (Angle text ∷ Open ∷ tokens) lists
+-- the tokens with this tag before them, where there is one
+abbrev pub behind : Option (List ℕ) → List IfToken → List IfToken
+behind None tokens = tokens
+behind (Some text) tokens = Angle text ∷ tokens
+
+-- the tokens are these lists, each with the tag right before it, where there is one; behind each tag stands a list
+pub data AreLists : List IfToken → List IfList → Type 0 where
+  no_list : AreLists [] []
+  list : (tag : Option (List ℕ)) (tokens inside rest : List IfToken) (conditions : List IfCondition) (others : List IfList) → tokens ≡ behind tag (Open ∷ (inside ++ Close ∷ rest)) → Conditions inside conditions → AreLists rest others → AreLists tokens (record { resource_tag = tag; conditions = conditions } ∷ others)
 
 -- the text spells these lists, of which there is one at least
 pub record SpellsIf (text : List ℕ) (lists : List IfList) : Type 0 where
   pub tokens : List IfToken
   pub spelled : Tokens text tokens
-  pub listed : AreLists None tokens lists
+  pub listed : AreLists tokens lists
   pub some : lists ≢ []
 
 -- the header's first value is readable, and spells these lists

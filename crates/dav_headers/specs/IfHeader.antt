@@ -1,6 +1,5 @@
--- The header If (RFC 4918, section 10.4): lists of conditions, each about the resource that a tag before it names.
+-- The header If (RFC 4918, section 10.4): lists of conditions, each with the resource tag right before it, where there is one.
 use Rattle.std.specs.Prelude.{ℕ, Bool, true, false, List, [], ◌∷◌, Option, Some, None, option_map, option_and_then, codes}
-use Rattle.std.specs.Option.{option_or}
 use Rattle.http_header.specs.HeaderMap.{Entries}
 use Rattle.http_header.specs.FieldValue.{FieldValue}
 use Rattle.dav_headers.specs.Values.{first_text}
@@ -34,26 +33,20 @@ conditions_of false (Close ∷ tokens) = Some ([], tokens)
 conditions_of false (Not ∷ tokens) = conditions_of true tokens
 conditions_of negated (token ∷ tokens) = with_condition negated (item_of token) (conditions_of false tokens)
 
--- a list: what stands between `(` and `)`
-abbrev pub first_list : List IfToken → Option (List IfCondition × List IfToken)
-first_list [] = None
-first_list (Open ∷ tokens) = conditions_of false tokens
-first_list (token ∷ tokens) = None
+-- the conditions between `(` and `)`, and what follows that
+abbrev pub enclosed : List IfToken → Option (List IfCondition × List IfToken)
+enclosed [] = None
+enclosed (Open ∷ tokens) = conditions_of false tokens
+enclosed (token ∷ tokens) = None
 
 -- a list with the tag right before it, where there is one
-abbrev pub with_tag : Option (List ℕ) → List IfCondition × List IfToken → (Option (List ℕ) × List IfCondition) × List IfToken
-with_tag tag found = ((tag, found.0), found.1)
+abbrev pub with_tag : Option (List ℕ) → List IfCondition × List IfToken → IfList × List IfToken
+with_tag tag found = (record { resource_tag = tag; conditions = found.0 }, found.1)
 
-abbrev pub first_entry : List IfToken → Option ((Option (List ℕ) × List IfCondition) × List IfToken)
-first_entry [] = None
-first_entry (Angle text ∷ tokens) = option_map (with_tag (Some text)) (first_list tokens)
-first_entry (token ∷ tokens) = option_map (with_tag None) (first_list (token ∷ tokens))
-
--- each list with the tag that governs it: its own, else the one before
-abbrev pub governed : Option (List ℕ) → List (Option (List ℕ) × List IfCondition) → List IfList
-governed before [] = []
-governed before (entry ∷ entries) =
-    record { resource_tag = option_or entry.0 before; conditions = entry.1 } ∷ governed (option_or entry.0 before) entries
+abbrev pub first_list : List IfToken → Option (IfList × List IfToken)
+first_list [] = None
+first_list (Angle text ∷ tokens) = option_map (with_tag (Some text)) (enclosed tokens)
+first_list (token ∷ tokens) = option_map (with_tag None) (enclosed (token ∷ tokens))
 
 -- where there is one at all
 abbrev pub some_lists : List IfList → Option (List IfList)
@@ -62,7 +55,7 @@ some_lists (list ∷ lists) = Some (list ∷ lists)
 
 -- the lists of tokens, and of a text
 abbrev pub lists_of : List IfToken → Option (List IfList)
-lists_of tokens = option_and_then (λ entries. some_lists (governed None entries)) (all_of first_entry tokens)
+lists_of tokens = option_and_then some_lists (all_of first_list tokens)
 
 abbrev pub if_lists : List ℕ → Option (List IfList)
 if_lists text = option_and_then lists_of (tokens_of text)

@@ -1,7 +1,7 @@
 //! The header If (RFC 4918, section 10.4).
-ghost use Rattle.std.specs.Prelude.{◌≡◌, List, false, Some, Ok, IfOk, IfSome, option_map, option_copied};
+ghost use Rattle.std.specs.Prelude.{◌≡◌, List, false, Some, Ok, IfOk, IfSome, option_map};
 ghost use Rattle.dav_resource.specs.Gives.{GivesBy};
-ghost use Rattle.dav_headers.specs.IfHeader.{item_of, conditions_of, first_entry, lists_of, if_lists, if_of};
+ghost use Rattle.dav_headers.specs.IfHeader.{item_of, conditions_of, first_list, lists_of, if_lists, if_of};
 ghost use Rattle.dav_headers.specs.IfGrammar.{IfHeaderSpells};
 ghost use Rattle.dav_headers.specs.declared.if_header.IfList.{IfList};
 
@@ -9,7 +9,7 @@ use crate::if_token::{IfToken, tokens_of};
 use crate::values::first_text;
 use dav_resource::{DavResult, ETag, Items, Text};
 use http_header::{HeaderMap, HeaderValue};
-use std::alloc::{AllocError, Global};
+use std::alloc::Global;
 use std::collections::VecDeque;
 
 /// What a condition asks for.
@@ -30,10 +30,12 @@ pub struct IfCondition {
     pub item: IfItem,
 }
 
-/// One list of conditions, which holds where all of them do.
+/// One list of conditions, which holds where all of them do. It is about the resource that the tag
+/// right before it names. Without one it is about the same resource as the list before it, and where
+/// no tag came before, about the path of the request (RFC 4918, section 10.4.2).
 #[derive(Drop, Debug)]
 pub struct IfList {
-    /// The tag that names the resource it is about; none for the path of the request.
+    /// The resource tag right before it, as written between `<` and `>`; none where there is none.
     pub resource_tag: Option<Text>,
     /// The conditions, in order.
     pub conditions: Items<IfCondition>,
@@ -75,15 +77,12 @@ fn conditions_of(
     Ok(None)
 }
 
-/// A list, with the tag right before it.
-type Entry = (Option<Text>, Items<IfCondition>);
-
 /// Takes a list, with the tag right before it, where there is one. Where there is no list, some of
 /// the tokens are taken all the same.
-fn first_entry(alloc: Global, tokens: &mut VecDeque<IfToken>) -> DavResult<Option<Entry>>
-    ensures { GivesBy (option_map (λ entry. (entry, tokens.new.items))) result (Ok (first_entry tokens.old.items)) }
+fn first_list(alloc: Global, tokens: &mut VecDeque<IfToken>) -> DavResult<Option<IfList>>
+    ensures { GivesBy (option_map (λ list. (list, tokens.new.items))) result (Ok (first_list tokens.old.items)) }
 {
-    let (tag, open) = match tokens.pop_front() {
+    let (resource_tag, open) = match tokens.pop_front() {
         Some(IfToken::Angle(text)) => (Some(text), tokens.pop_front()),
         token => (None, token),
     };
@@ -91,42 +90,29 @@ fn first_entry(alloc: Global, tokens: &mut VecDeque<IfToken>) -> DavResult<Optio
         return Ok(None);
     };
     match conditions_of(alloc, tokens)? {
-        Some(conditions) => Ok(Some((tag, conditions))),
+        Some(conditions) => Ok(Some(IfList {
+            resource_tag,
+            conditions,
+        })),
         None => Ok(None),
     }
 }
 
-/// The lists of tokens, each with the tag that governs it, unless the tokens are something else.
+/// The lists of tokens, unless the tokens are something else.
 fn lists_of(alloc: Global, mut tokens: VecDeque<IfToken>) -> DavResult<Option<Items<IfList>>>
     ensures { GivesBy (λ lists. lists) result (Ok (lists_of tokens.items)) }
 {
     let mut lists = Vec::new(alloc);
-    let mut governing = None;
     while !tokens.is_empty() {
-        let Some((tag, conditions)) = first_entry(alloc, &mut tokens)? else {
+        let Some(list) = first_list(alloc, &mut tokens)? else {
             return Ok(None);
         };
-        governing = tag.or(governing);
-        let resource_tag = copy_of(governing.as_ref())?;
-        lists.push(IfList {
-            resource_tag,
-            conditions,
-        })?;
+        lists.push(list)?;
     }
     if lists.is_empty() {
         return Ok(None);
     }
     Ok(Some(Items::from_vec(lists)))
-}
-
-/// The same tag, where there is one. Only memory can be lacking.
-fn copy_of(tag: Option<&Text>) -> Result<Option<Text>, AllocError>
-    ensures { IfOk result (λ copy. copy ≡ option_copied tag.entry) }
-{
-    match tag {
-        Some(text) => Ok(Some(text.clone()?)),
-        None => Ok(None),
-    }
 }
 
 /// The lists of a text, unless it can't be read.
@@ -140,7 +126,10 @@ fn if_lists(alloc: Global, text: &str) -> DavResult<Option<Items<IfList>>>
 }
 
 /// The lists of the header If, in order (RFC 4918, section 10.4): of its first value, where that is
-/// readable; none where it isn't, or where there is no such header.
+/// readable; none where it isn't, or where there is no such header. Each list has the resource tag
+/// right before it alone; a tag that governs several lists stands in the first of them.
+///
+/// It costs time and memory in proportion to the length of the value.
 ///
 /// The only error is `Memory`, where memory is lacking.
 pub fn read_if(alloc: Global, headers: &HeaderMap<HeaderValue>) -> DavResult<Option<Items<IfList>>>
