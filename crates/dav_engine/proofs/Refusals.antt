@@ -24,7 +24,7 @@ use Rattle.dav_headers.specs.TagList.{if_match_of, if_none_match_of}
 use Rattle.dav_store.specs.Logged.{Logged}
 use Rattle.dav_store.specs.Store.{Contents}
 use Rattle.dav_store.specs.declared.lock.DavLock.{DavLock}
-use Rattle.dav_parts.specs.Conditions.{item_holds_at, condition_holds, all_hold, key_of_list, conditions_hold, list_holds, any_holds, lists_hold, if_holds, while_true, until_true, unless_refused, tokens_where, http_verdict, if_match_fails, if_none_match_fails, none_match_status, none_match_verdict, current_tag, dav_if_match, conditions}
+use Rattle.dav_parts.specs.Conditions.{item_holds_at, condition_holds, all_hold, key_of_list, conditions_hold, any_holds, lists_hold, if_holds, while_true, until_true, unless_refused, tokens_where, http_verdict, if_match_fails, if_none_match_fails, none_match_status, none_match_verdict, current_tag, dav_if_match, conditions}
 use Rattle.dav_parts.specs.Dialogue.{Dialogue, Asks, Refuses, Passed, LeadsTo, look, ◌>>=◌}
 use Rattle.dav_parts.specs.Reply.{Answer}
 use Rattle.dav_engine.specs.Rules.{judged, or_refused, where_permitted, depth_verdict}
@@ -134,15 +134,16 @@ module _ (Kind : DavError → Type 0) where
       errs_list key [] = tt
       errs_list key (first ∷ others) = errs_all key (first ∷ others)
 
-      errs_any : (path : PathValue) (lists : List IfList) → RefusesBy (any_holds contents locks path lists)
-      errs_any path [] = tt
-      errs_any path (list ∷ lists) =
-          errs_then (list_holds contents locks path list) _ (errs_list (key_of_list contents locks path list.resource_tag) list.conditions)
-          (λ holds. errs_until holds (any_holds contents locks path lists) (errs_any path lists))
+      errs_any : (path : PathValue) (before : Option Key) (lists : List IfList) → RefusesBy (any_holds contents locks path before lists)
+      errs_any path before [] = tt
+      errs_any path before (list ∷ lists) =
+          let about = key_of_list before path list.resource_tag in
+          errs_then (conditions_hold contents locks about list.conditions) _ (errs_list about list.conditions)
+          (λ holds. errs_until holds (any_holds contents locks path about lists) (errs_any path about lists))
 
       errs_lists : (path : PathValue) (lists : Option (List IfList)) → RefusesBy (lists_hold contents locks path lists)
       errs_lists path None = tt
-      errs_lists path (Some lists) = errs_any path lists
+      errs_lists path (Some lists) = errs_any path (Some path.key) lists
 
       errs_unless : {A : Type 0} (refusal : Option ℕ) (next : Dialogue A) → ((s : ℕ) → refusal ≡ Some s → 300 ≤ s) → RefusesBy next → RefusesBy (unless_refused refusal next)
       errs_unless None next least h = h

@@ -1,8 +1,9 @@
 -- The header If, judged step by step.
-use Rattle.std.proofs.Common.{◌≡◌, ◌+◌, ◌<◌, ◌++◌, ℕ, Bool, true, false, List, [], ◌∷◌, drop, take, get_or, length, Option, Some, None, Result, Ok, Err, refl, sym, subst}
+use Rattle.std.proofs.Common.{◌≡◌, ◌+◌, ◌<◌, ◌++◌, ℕ, Bool, true, false, List, [], ◌∷◌, drop, take, get_or, length, Option, Some, None, option_map, option_copied, Bor, Result, Ok, Err, refl, ap, sym, subst}
 use Rattle.std.specs.Result.{IsErrAnd}
 use Rattle.std.proofs.lemmas.List.{take_more, at_drop_more}
 use Rattle.std.proofs.lemmas.List.Elements.{filter_map-append}
+use Rattle.dav_resource.specs.Gives.{GivesBy}
 use Rattle.dav_resource.specs.Key.{Key}
 use Rattle.dav_resource.specs.PathText.{PathValue}
 use Rattle.dav_resource.specs.declared.error.DavError.{DavError}
@@ -12,7 +13,7 @@ use Rattle.dav_store.specs.Store.{Store}
 use Rattle.dav_store.specs.declared.lock.DavLock.{DavLock}
 use Rattle.dav_parts.specs.Dialogue.{Dialogue, Passed, ◌>>=◌, Judges, Reaches}
 use Rattle.dav_parts.specs.Dialogues.{judges_exit, judges_pure, judges_left, reaches_then}
-use Rattle.dav_parts.specs.Conditions.{token_of, tokens_in, condition_holds, all_hold, list_holds, any_holds, while_true, until_true}
+use Rattle.dav_parts.specs.Conditions.{token_of, tokens_in, condition_holds, all_hold, key_of_list, conditions_hold, any_holds, while_true, until_true}
 
 -- ---- tokens
 
@@ -29,23 +30,16 @@ tokens_in-some c token is = rw is refl
 pub tokens_in-none : (c : IfCondition) → token_of c.item ≡ None → tokens_in (c ∷ []) ≡ []
 tokens_in-none c is = rw is refl
 
--- ---- lists over what is left of them
+-- ---- a dialogue of which this part is next
 
-module _ {T : Type 0} (part : T → Dialogue Bool) (all : List T → Dialogue Bool) (go_on : Bool → Dialogue Bool → Dialogue Bool) (step : (x : T) (xs : List T) → all (x ∷ xs) ≡ part x >>= λ holds. go_on holds (all xs)) where
-  next : (xs : List T) (i : ℕ) (x : T) → i < length xs → x ≡ get_or xs i x → all (drop i xs) ≡ part x >>= λ holds. go_on holds (all (drop (i + 1) xs))
-  next xs i x within is = rw (at_drop_more all xs i x within, ← is) (step x (drop (i + 1) xs))
+module _ (dialogue left part : Dialogue Bool) (after : Bool → Dialogue Bool) (old mid new : Store) (is : left ≡ part >>= after) (h : Reaches dialogue old left mid) where
+  -- the part ends in a value
+  pub goes_on : (holds : Bool) → Judges part mid (Ok holds) new → Reaches dialogue old (after holds) new
+  goes_on holds g = reaches_then dialogue part after old mid new holds (rw is at h) g
 
-  -- the next one ends in a value
-  pub goes_on : (xs : List T) (i : ℕ) (x : T) (old mid new : Store) (holds : Bool) → i < length xs → x ≡ get_or xs i x
-      → Reaches (all xs) old (all (drop i xs)) mid → Judges (part x) mid (Ok holds) new → Reaches (all xs) old (go_on holds (all (drop (i + 1) xs))) new
-  goes_on xs i x old mid new holds within is h g =
-      reaches_then (all xs) (part x) (λ b. go_on b (all (drop (i + 1) xs))) old mid new holds (rw (next xs i x within is) at h) g
-
-  -- the next one has no memory
-  pub stops : (xs : List T) (i : ℕ) (x : T) (old mid new : Store) (e : DavError) (verdict : Result Bool DavError) → i < length xs → x ≡ get_or xs i x
-      → Reaches (all xs) old (all (drop i xs)) mid → IsErrAnd verdict (λ d. d ≡ e) → Judges (part x) mid (Err e) new → Judges (all xs) old verdict new
-  stops xs i x old mid new e verdict within is h exit g =
-      judges_left (all xs) _ old mid new verdict (rw (next xs i x within is) at h) (judges_exit (λ b. go_on b (all (drop (i + 1) xs))) (part x) mid new e verdict exit g)
+  -- the part has no memory
+  pub stops : (e : DavError) (verdict : Result Bool DavError) → IsErrAnd verdict (λ d. d ≡ e) → Judges part mid (Err e) new → Judges dialogue old verdict new
+  stops e verdict exit g = judges_left dialogue _ old mid new verdict (rw is at h) (judges_exit after part mid new e verdict exit g)
 
 -- it ends in a value
 pub ends_here : (dialogue left : Dialogue Bool) (old new : Store) (holds : Bool) → left ≡ Passed holds → Reaches dialogue old left new → Judges dialogue old (Ok holds) new
@@ -57,40 +51,58 @@ module _ (locks : Option (List DavLock)) (key : Option Key) (conditions : List I
   abbrev Holding : List IfCondition → Type 0
   Holding left = Reaches (all_hold old.contents locks key conditions) old (all_hold old.contents locks key left) mid
 
+  abbrev after_condition : Bool → Dialogue Bool
+  after_condition holds = while_true holds (all_hold old.contents locks key (drop (i + 1) conditions))
+
+  next_condition : all_hold old.contents locks key (drop i conditions) ≡ condition_holds old.contents locks key c >>= after_condition
+  next_condition = rw (at_drop_more (all_hold old.contents locks key) conditions i c within, ← is) refl
+
   same_condition : {verdict : Result Bool DavError} → Holding (drop i conditions) → Judges (condition_holds mid.contents locks key c) mid verdict new → Judges (condition_holds old.contents locks key c) mid verdict new
   same_condition {verdict} h g = subst (λ contents. Judges (condition_holds contents locks key c) mid verdict new) h.same g
 
   pub one_holds : Holding (drop i conditions) → Judges (condition_holds mid.contents locks key c) mid (Ok true) new
       → Reaches (all_hold old.contents locks key conditions) old (all_hold old.contents locks key (drop (i + 1) conditions)) new
-  one_holds h g = goes_on (condition_holds old.contents locks key) (all_hold old.contents locks key) while_true (λ x xs. refl) conditions i c old mid new true within is h (same_condition h g)
+  one_holds h g = goes_on _ _ _ after_condition old mid new next_condition h true (same_condition h g)
 
   pub one_fails : Holding (drop i conditions) → Judges (condition_holds mid.contents locks key c) mid (Ok false) new → Judges (all_hold old.contents locks key conditions) old (Ok false) new
-  one_fails h g =
-      ends_here _ _ old new false refl (goes_on (condition_holds old.contents locks key) (all_hold old.contents locks key) while_true (λ x xs. refl) conditions i c old mid new false within is h (same_condition h g))
+  one_fails h g = ends_here _ _ old new false refl (goes_on _ _ _ after_condition old mid new next_condition h false (same_condition h g))
 
   pub one_stops : (e : DavError) (verdict : Result Bool DavError) → Holding (drop i conditions) → IsErrAnd verdict (λ d. d ≡ e) → Judges (condition_holds mid.contents locks key c) mid (Err e) new
       → Judges (all_hold old.contents locks key conditions) old verdict new
-  one_stops e verdict h exit g =
-      stops (condition_holds old.contents locks key) (all_hold old.contents locks key) while_true (λ x xs. refl) conditions i c old mid new e verdict within is h exit (same_condition h g)
+  one_stops e verdict h exit g = stops _ _ _ after_condition old mid new next_condition h e verdict exit (same_condition h g)
 
 -- ---- the lists
 
-module _ (locks : Option (List DavLock)) (path : PathValue) (lists : List IfList) (i : ℕ) (l : IfList) (old mid new : Store) (within : i < length lists) (is : l ≡ get_or lists i l) where
-  abbrev Failing : List IfList → Type 0
-  Failing left = Reaches (any_holds old.contents locks path lists) old (any_holds old.contents locks path left) mid
+-- what is lent has the same key
+pub key_lent : {P : Type 0} (key : P → Key) (lent : Option (Bor P)) (path : Option P) → option_copied lent ≡ path → option_map (λ p. key p.now) lent ≡ option_map key path
+key_lent key None path is = ap (option_map key) is
+key_lent key (Some p) path is = ap (option_map key) is
 
-  same_list : {verdict : Result Bool DavError} → Failing (drop i lists) → Judges (list_holds mid.contents locks path l) mid verdict new → Judges (list_holds old.contents locks path l) mid verdict new
-  same_list {verdict} h g = subst (λ contents. Judges (list_holds contents locks path l) mid verdict new) h.same g
+-- what a list is about has been read
+pub key_given : {P : Type 0} (key : P → Key) (expected : Option Key) (path : Option P) → GivesBy (option_map key) (Ok path) (Ok expected) → expected ≡ option_map key path
+key_given key expected path given = cc
 
-  pub list_fails : Failing (drop i lists) → Judges (list_holds mid.contents locks path l) mid (Ok false) new
-      → Reaches (any_holds old.contents locks path lists) old (any_holds old.contents locks path (drop (i + 1) lists)) new
-  list_fails h g = goes_on (list_holds old.contents locks path) (any_holds old.contents locks path) until_true (λ x xs. refl) lists i l old mid new false within is h (same_list h g)
+module _ (locks : Option (List DavLock)) (path : PathValue) (lists : List IfList) (i : ℕ) (l : IfList) (before about : Option Key) (old mid new : Store) (within : i < length lists) (is : l ≡ get_or lists i l) (read : key_of_list before path l.resource_tag ≡ about) where
+  -- none of the lists so far holds, the last of them is about this key, and these are left
+  abbrev Failing : Option Key → List IfList → Store → Type 0
+  Failing key left store = Reaches (any_holds old.contents locks path (Some path.key) lists) old (any_holds old.contents locks path key left) store
 
-  pub list_serves : Failing (drop i lists) → Judges (list_holds mid.contents locks path l) mid (Ok true) new → Judges (any_holds old.contents locks path lists) old (Ok true) new
-  list_serves h g =
-      ends_here _ _ old new true refl (goes_on (list_holds old.contents locks path) (any_holds old.contents locks path) until_true (λ x xs. refl) lists i l old mid new true within is h (same_list h g))
+  abbrev after_list : Bool → Dialogue Bool
+  after_list holds = until_true holds (any_holds old.contents locks path about (drop (i + 1) lists))
 
-  pub list_stops : (e : DavError) (verdict : Result Bool DavError) → Failing (drop i lists) → IsErrAnd verdict (λ d. d ≡ e) → Judges (list_holds mid.contents locks path l) mid (Err e) new
-      → Judges (any_holds old.contents locks path lists) old verdict new
-  list_stops e verdict h exit g =
-      stops (list_holds old.contents locks path) (any_holds old.contents locks path) until_true (λ x xs. refl) lists i l old mid new e verdict within is h exit (same_list h g)
+  next_list : any_holds old.contents locks path before (drop i lists) ≡ conditions_hold old.contents locks about l.conditions >>= after_list
+  next_list = rw (at_drop_more (any_holds old.contents locks path before) lists i l within, ← is, ← read) refl
+
+  same_list : {verdict : Result Bool DavError} → Failing before (drop i lists) mid → Judges (conditions_hold mid.contents locks about l.conditions) mid verdict new
+      → Judges (conditions_hold old.contents locks about l.conditions) mid verdict new
+  same_list {verdict} h g = subst (λ contents. Judges (conditions_hold contents locks about l.conditions) mid verdict new) h.same g
+
+  pub list_fails : Failing before (drop i lists) mid → Judges (conditions_hold mid.contents locks about l.conditions) mid (Ok false) new → Failing about (drop (i + 1) lists) new
+  list_fails h g = goes_on _ _ _ after_list old mid new next_list h false (same_list h g)
+
+  pub list_serves : Failing before (drop i lists) mid → Judges (conditions_hold mid.contents locks about l.conditions) mid (Ok true) new → Judges (any_holds old.contents locks path (Some path.key) lists) old (Ok true) new
+  list_serves h g = ends_here _ _ old new true refl (goes_on _ _ _ after_list old mid new next_list h true (same_list h g))
+
+  pub list_stops : (e : DavError) (verdict : Result Bool DavError) → Failing before (drop i lists) mid → IsErrAnd verdict (λ d. d ≡ e) → Judges (conditions_hold mid.contents locks about l.conditions) mid (Err e) new
+      → Judges (any_holds old.contents locks path (Some path.key) lists) old verdict new
+  list_stops e verdict h exit g = stops _ _ _ after_list old mid new next_list h e verdict exit (same_list h g)

@@ -110,6 +110,11 @@ abbrev pub until_true : Bool → Dialogue Bool → Dialogue Bool
 until_true true rest = Passed true
 until_true false rest = rest
 
+-- the key that a list is about: that of its own tag, below the request's prefix, else that of the list before it (RFC 4918, section 10.4.2)
+abbrev pub key_of_list : Option Key → PathValue → Option (List ℕ) → Option Key
+key_of_list before path None = before
+key_of_list before path (Some tag) = option_map (λ p. p.key) (tagged_path tag path.prefix)
+
 module _ (contents : Contents) (locks : Option (List DavLock)) where
   abbrev pub item_holds : Key → IfItem → Dialogue Bool
   item_holds key (StateToken token) = Passed (token_holds locks key token)
@@ -129,28 +134,22 @@ module _ (contents : Contents) (locks : Option (List DavLock)) where
   all_hold key [] = Passed true
   all_hold key (condition ∷ conditions) = condition_holds key condition >>= λ holds. while_true holds (all_hold key conditions)
 
-  -- the key that a list is about: its tag's, else the request's
-  abbrev pub key_of_list : PathValue → Option (List ℕ) → Option Key
-  key_of_list path None = Some path.key
-  key_of_list path (Some tag) = option_map (λ p. p.key) (tagged_path tag path.prefix)
-
   -- a list of no conditions doesn't hold
   abbrev pub conditions_hold : Option Key → List IfCondition → Dialogue Bool
   conditions_hold key [] = Passed false
   conditions_hold key (first ∷ others) = all_hold key (first ∷ others)
 
-  abbrev pub list_holds : PathValue → IfList → Dialogue Bool
-  list_holds path list = conditions_hold (key_of_list path list.resource_tag) list.conditions
+  -- some list holds; none is asked after it; `before` is what a first list without a tag is about
+  abbrev pub any_holds : PathValue → Option Key → List IfList → Dialogue Bool
+  any_holds path before [] = Passed false
+  any_holds path before (list ∷ lists) =
+      let about = key_of_list before path list.resource_tag in
+      conditions_hold about list.conditions >>= λ holds. until_true holds (any_holds path about lists)
 
-  -- some list holds; none is asked after it
-  abbrev pub any_holds : PathValue → List IfList → Dialogue Bool
-  any_holds path [] = Passed false
-  any_holds path (list ∷ lists) = list_holds path list >>= λ holds. until_true holds (any_holds path lists)
-
-  -- without a readable header nothing is asked
+  -- without a readable header nothing is asked; the lists before any tag are about the request's key
   abbrev pub lists_hold : PathValue → Option (List IfList) → Dialogue Bool
   lists_hold path None = Passed true
-  lists_hold path (Some lists) = any_holds path lists
+  lists_hold path (Some lists) = any_holds path (Some path.key) lists
 
   abbrev pub if_holds : DavRequest → PathValue → Dialogue Bool
   if_holds request path = lists_hold path (if_of request.headers)

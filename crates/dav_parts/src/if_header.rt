@@ -1,7 +1,8 @@
 //! The header If, judged list by list.
-ghost use Rattle.std.specs.Prelude.{◌≡◌, ◌++◌, IfOk, option_map, option_copied};
+ghost use Rattle.std.specs.Prelude.{◌≡◌, ◌++◌, Some, Ok, IfOk, option_map, option_copied};
+ghost use Rattle.dav_resource.specs.Gives.{GivesBy};
 ghost use Rattle.dav_parts.specs.Dialogue.{Judges};
-ghost use Rattle.dav_parts.specs.Conditions.{locks_in, token_of, tokens_in, all_tokens, token_holds, tag_holds, item_holds, item_holds_at, turned as turned_by, condition_holds, all_hold, conditions_hold, list_holds, any_holds, lists_hold};
+ghost use Rattle.dav_parts.specs.Conditions.{locks_in, token_of, tokens_in, all_tokens, token_holds, tag_holds, item_holds, item_holds_at, turned as turned_by, condition_holds, all_hold, key_of_list, conditions_hold, any_holds, lists_hold};
 
 use crate::conditional::{current_tag, is_tagged};
 use crate::looking::look;
@@ -65,6 +66,8 @@ pub(crate) fn if_holds<C, F: GuardedFileSystem<C>, L: DavLockSystem>(
     }
 }
 
+/// Whether one of the lists holds, each at the path that it is about. Each tag is read once, where
+/// its list is reached.
 fn any_holds<C, F: GuardedFileSystem<C>, L: DavLockSystem>(
     alloc: Global,
     lists: &[IfList],
@@ -73,34 +76,32 @@ fn any_holds<C, F: GuardedFileSystem<C>, L: DavLockSystem>(
     path: &DavPath,
     credentials: &C,
 ) -> DavResult<bool>
-    ensures { Judges (any_holds (F.seen fs.old).contents (locks_in L.seen (option_copied ls.entry)) path.now lists.now) (F.seen fs.old) result (F.seen fs.new) }
+    ensures { Judges (any_holds (F.seen fs.old).contents (locks_in L.seen (option_copied ls.entry)) path.now (Some path.now.key) lists.now) (F.seen fs.old) result (F.seen fs.new) }
 {
+    let mut about = Some(path.clone()?);
     for list in lists {
-        if list_holds(alloc, list, fs, ls, path, credentials)? {
+        about = path_of_list(alloc, list, about, path)?;
+        let conditions = list.conditions.as_slice();
+        if conditions_hold(conditions, fs, ls, about.as_ref(), credentials)? {
             return Ok(true);
         }
     }
     Ok(false)
 }
 
-/// Whether a list holds at the path that it is about: its tag's, else the request's.
-fn list_holds<C, F: GuardedFileSystem<C>, L: DavLockSystem>(
+/// The path that a list is about: its own tag's, else that of the list before it. None where the tag
+/// can't be read.
+fn path_of_list(
     alloc: Global,
     list: &IfList,
-    fs: &mut F,
-    ls: Option<&L>,
+    before: Option<DavPath>,
     path: &DavPath,
-    credentials: &C,
-) -> DavResult<bool>
-    ensures { Judges (list_holds (F.seen fs.old).contents (locks_in L.seen (option_copied ls.entry)) path.now list.now) (F.seen fs.old) result (F.seen fs.new) }
+) -> DavResult<Option<DavPath>>
+    ensures { GivesBy (option_map (λ p. p.key)) result (Ok (key_of_list (option_map (λ p. p.key) before) path.now list.now.resource_tag)) }
 {
-    let conditions = list.conditions.as_slice();
     match &list.resource_tag {
-        None => conditions_hold(conditions, fs, ls, Some(path), credentials),
-        Some(tag) => {
-            let tagged = read_tagged_path(alloc, tag.as_str(), path)?;
-            conditions_hold(conditions, fs, ls, tagged.as_ref(), credentials)
-        }
+        Some(tag) => read_tagged_path(alloc, tag.as_str(), path),
+        None => Ok(before),
     }
 }
 
