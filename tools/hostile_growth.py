@@ -56,6 +56,12 @@ def find_names(count):
     return block("PROPFIND /", "Depth: 0", *find_tree(*properties(count, 2)))
 
 
+def find_all_and_names(count):
+    """A PROPFIND of all properties that names so many besides."""
+    asked = tree("D:propfind {DAV:}", "  D:allprop {DAV:}", "  D:include {DAV:}", *properties(count, 2))
+    return block("PROPFIND /", "Depth: 0", *asked)
+
+
 def patch_one(*lines):
     """A PROPPATCH of one property, in which these lines stand."""
     return block("PROPPATCH /", *update_tree("      p", *lines))
@@ -114,6 +120,9 @@ def lock_loads():
     yield Load("DELETE of locked files by all their tokens", 500, deleted)
     shared = lambda n: script(put("/f"), *requests("LOCK", ["/f"] * n, *lock_tree("shared")))
     yield Load("shared LOCKs of one path", 500, shared)
+    held = lambda n: [put("/f"), *requests("LOCK", ["/f"] * n, *lock_tree("shared"))]
+    writes = lambda n: script(*held(n), *[put("/f", "x", f"If: (<urn:lock:{n + 1}>)")] * n)
+    yield Load("PUTs of a file with as many shared locks", 500, writes)
     below = lambda n: script(*chain(n), block(f"LOCK {path_of(n)}", *lock_tree()), block("OPTIONS *"))
     gone = lambda n: block("DELETE /a", f"If: (<urn:lock:{n + 1}>)")
     yield Load("a LOCK below as many directories", 50, lambda n: script(below(n), gone(n)))
@@ -148,6 +157,8 @@ def property_loads():
     yield Load("names of a PROPFIND that are there", 500, lambda n: script(patch_names(n), find_names(n)))
     every = lambda n: script(patch_names(n), block("PROPFIND /", "Depth: 0"))
     yield Load("PROPFIND of all properties", 1000, every)
+    beside = lambda n: script(patch_names(n), find_all_and_names(n))
+    yield Load("PROPFIND of all properties and as many names", 500, beside)
 
 
 def nesting_loads():
