@@ -1,5 +1,5 @@
-pub mod Keys
 pub mod Planning
+pub mod Queues
 pub mod Refusals
 pub mod CallsBehind
 pub mod Listings

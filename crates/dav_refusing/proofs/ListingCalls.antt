@@ -15,36 +15,35 @@ use Rattle.dav_store.specs.Logged.{Logged, logged, logged_of}
 use Rattle.dav_store.specs.Store.{Store, Contents}
 use Rattle.dav_store.specs.Members.{Child, IsIn, AreChildren, IsShownAs, Lists, ReadsDir, member, names_of, read_dir_bar, unseen_record}
 use Rattle.dav_store.specs.Logged.{record_on}
-use Rattle.dav_refusing.specs.Plans as plans
-use Rattle.dav_refusing.specs.Plans.{Planned, refusal_for, without_first, shown_as, shown_by, refused_record, hidden_by, left_by, IsNamed, IsListingOf, IsLetBy}
+use Rattle.dav_refusing.specs.Plans.{Plan, Call, refusal_for, shown_as, shown_by, refused_record, hidden_by, left_by, without_firsts, IsNamed, IsListingOf, IsLetBy}
 use Rattle.dav_refusing.specs.Pending.{Pending, due, passed_by}
 use Rattle.dav_refusing.specs.Refusing.{inner_of, pending_of, plan_of, records_of, seen_behind, IsWhollyKept, Passes, GoesByPlan, Follows, PassesListing, PassesReadDir, HasListed, KeepsReading, FollowsReading}
 use Rattle.dav_refusing.specs.declared.refusing.Refusing.{Refusing}
-use Rattle.dav_refusing.specs.declared.refusing.plan.Refusal.{Refusal}
-use Rattle.dav_refusing.proofs.Refusals.{CallBehind, AllOwn, own_first, own_without, own_plan, looks_kept, IsCall, answers_call, no_statuses, lawful}
+use Rattle.dav_refusing.proofs.Queues.{own_planned}
+use Rattle.dav_refusing.proofs.Refusals.{CallBehind, IsOwnPlan, looks_kept, IsCall, answers_call, no_statuses, lawful}
 
 abbrev pub Listing : Type 0
 Listing = Vec (Result DirEntry FsError) Global
 
 -- ---- members that the plan lets be seen
 
-names-shown : (plan : List Planned) (directory : Key) (children : List Child) → names_of (shown_by plan directory children) ≡ names_of children
+names-shown : (plan : Plan) (directory : Key) (children : List Child) → names_of (shown_by plan directory children) ≡ names_of children
 names-shown plan directory [] = refl
-names-shown plan directory ((name, Ok entry) ∷ children) = ap (λ ns. name ∷ ns) (names-shown (without_first Entry (Some (member directory name)) plan) directory children)
+names-shown plan directory ((name, Ok entry) ∷ children) = ap (λ ns. name ∷ ns) (names-shown plan directory children)
 names-shown plan directory ((name, Err e) ∷ children) = ap (λ ns. name ∷ ns) (names-shown plan directory children)
 
-still_shown : (old : Contents) (directory : Key) (plan : List Planned) (children : List Child) → AllOwn plan → ((c : Child) → IsIn c children → IsShownAs old directory c) → (c : Child) → IsIn c (shown_by plan directory children) → IsShownAs old directory c
+still_shown : (old : Contents) (directory : Key) (plan : Plan) (children : List Child) → IsOwnPlan plan → ((c : Child) → IsIn c children → IsShownAs old directory c) → (c : Child) → IsIn c (shown_by plan directory children) → IsShownAs old directory c
 still_shown old directory plan [] own are c within = absurd within
 still_shown old directory plan ((name, Err e) ∷ children) own are c (inl is) = subst (IsShownAs old directory) is (are (name, Err e) (inl refl))
 still_shown old directory plan ((name, Err e) ∷ children) own are c (inr within) = still_shown old directory plan children own (λ c' w. are c' (inr w)) c within
 still_shown old directory plan ((name, Ok entry) ∷ children) own are c (inl is) =
-    subst (IsShownAs old directory) is (by_error (refusal_for Entry (Some (member directory name)) plan) refl)
+    subst (IsShownAs old directory) is (by_error (refusal_for Entry (member directory name) plan) refl)
   where
-    by_error : (o : Option FsError) → refusal_for Entry (Some (member directory name)) plan ≡ o → IsShownAs old directory (name, shown_as o entry)
+    by_error : (o : Option FsError) → refusal_for Entry (member directory name) plan ≡ o → IsShownAs old directory (name, shown_as o entry)
     by_error None e = are (name, Ok entry) (inl refl)
-    by_error (Some e) found = own_first Entry (Some (member directory name)) plan e own found
+    by_error (Some e) found = own Entry (member directory name) e found
 still_shown old directory plan ((name, Ok entry) ∷ children) own are c (inr within) =
-    still_shown old directory (without_first Entry (Some (member directory name)) plan) children (own_without Entry (Some (member directory name)) plan own) (λ c' w. are c' (inr w)) c within
+    still_shown old directory plan children own (λ c' w. are c' (inr w)) c within
 
 named : (old : Contents) (directory : Key) (c : Child) → IsShownAs old directory c → IsNamed c
 named old directory (name, Ok entry) is = is.0
@@ -53,11 +52,11 @@ named old directory (name, Err e) is = tt
 -- ---- the records of members that the store behind doesn't show
 
 -- the keys of the records are those of the members that aren't shown
-told-keys : (plan : List Planned) (directory : PathValue) (children : List Child) (hidden : List Record) → map logged_of hidden ≡ filter_map (unseen_record directory.key) children
+told-keys : (plan : Plan) (directory : PathValue) (children : List Child) (hidden : List Record) → map logged_of hidden ≡ filter_map (unseen_record directory.key) children
     → map logged_of (hidden_by plan directory children hidden) ≡ filter_map (unseen_record directory.key) (shown_by plan directory.key children)
 told-keys plan directory [] hidden are = refl
 told-keys plan directory ((name, Ok entry) ∷ children) hidden are =
-    by_error (refusal_for Entry (Some (member directory.key name)) plan) _ (shown_by (without_first Entry (Some (member directory.key name)) plan) directory.key children) (told-keys (without_first Entry (Some (member directory.key name)) plan) directory children hidden are)
+    by_error (refusal_for Entry (member directory.key name) plan) _ (shown_by plan directory.key children) (told-keys plan directory children hidden are)
   where
     by_error : (o : Option FsError) (told : List Record) (shown : List Child) → map logged_of told ≡ filter_map (unseen_record directory.key) shown
         → map logged_of (refused_record directory name o ++ told) ≡ filter_map (unseen_record directory.key) ((name, shown_as o entry) ∷ shown)
@@ -110,14 +109,14 @@ module _ {F : Type 0} (see : F → Store) (path : PathValue) where
 
   pub as_listing : (old new : Refusing F) (e : FsError) → Follows see ReadDir (path ∷ []) Declining old (Err e) new → FollowsReading see path old (Err e) new
   as_listing old new e (inl h) = inl (h.0, record { inner = inl h.1.inner; pending = h.1.pending; records = h.1.records })
-  as_listing old new e (inr h) = inr (h.0, by_due (due ReadDir (Some path.key) (pending_of old)) h.1)
+  as_listing old new e (inr h) = inr (h.0, by_due (due ReadDir path.key (pending_of old)) h.1)
     where
       by_due : (r : Option FsError) → GoesByPlan ReadDir (path ∷ []) (Passes see ReadDir (path ∷ []) Declining) r old (Err e) new → GoesByPlan ReadDir (path ∷ []) (PassesReadDir see path) r old (Err e) new
       by_due (Some e') h = h
       by_due None h = record { behind = declined _ _ e h.behind; left = h.left; outcome = h.outcome; statuses = h.statuses; told = h.told; records = h.records }
 
-  as_call : (old new : Refusing F) (e : FsError) → HadMemory (Err e) → GoesByPlan ReadDir (path ∷ []) (PassesReadDir see path) (due ReadDir (Some path.key) (pending_of old)) old (Err e) new → Follows see ReadDir (path ∷ []) Declining old (Err e) new
-  as_call old new e not_memory goes = inr (not_memory, by_due (due ReadDir (Some path.key) (pending_of old)) goes)
+  as_call : (old new : Refusing F) (e : FsError) → HadMemory (Err e) → GoesByPlan ReadDir (path ∷ []) (PassesReadDir see path) (due ReadDir path.key (pending_of old)) old (Err e) new → Follows see ReadDir (path ∷ []) Declining old (Err e) new
+  as_call old new e not_memory goes = inr (not_memory, by_due (due ReadDir path.key (pending_of old)) goes)
     where
       by_due : (r : Option FsError) → GoesByPlan ReadDir (path ∷ []) (PassesReadDir see path) r old (Err e) new → GoesByPlan ReadDir (path ∷ []) (Passes see ReadDir (path ∷ []) Declining) r old (Err e) new
       by_due (Some e') h = h
@@ -134,13 +133,13 @@ module _ {F : Type 0} (see : F → Store) (path : PathValue) where
 
   -- ---- a listing that is granted
 
-  pub lists : (old begun ended : Refusing F) (called : F) (call : Record) (listed shown : List (Result DirEntry FsError)) (before after hidden unseen : List Record) (left : List Refusal)
+  pub lists : (old begun ended : Refusing F) (called : F) (call : Record) (listed shown : List (Result DirEntry FsError)) (before after hidden unseen : List Record) (refused : List Call)
       → call ≡ record_on ReadDir (path ∷ []) Granted → IsWhollyKept old begun → Lists path.key (see (inner_of begun)) listed (see called)
       → map logged_of before ≡ (see (inner_of begun)).log → map logged_of after ≡ (see called).log → hidden ≡ take (length after - (length before + 1)) (drop (length before + 1) after)
-      → ((children : List Child) → IsListingOf path.key children listed hidden → IsLetBy (plan_of begun) path children hidden shown unseen (plans.plan_of left))
-      → inner_of ended ≡ called → pending_of ended ≡ record (passed_by (pending_of begun)) { plan = plans.plan_of left } → records_of ended ≡ records_of begun ++ call ∷ unseen
+      → ((children : List Child) → IsListingOf path.key children listed hidden → IsLetBy (plan_of begun) path children hidden shown unseen refused)
+      → inner_of ended ≡ called → pending_of ended ≡ record (passed_by (pending_of begun)) { plan = without_firsts refused (plan_of begun) } → records_of ended ≡ records_of begun ++ call ∷ unseen
       → PassesListing see path old shown ended
-  lists old begun ended called call listed shown before after hidden unseen left call_is kept g b a hidden_is lets inner pending records =
+  lists old begun ended called call listed shown before after hidden unseen refused call_is kept g b a hidden_is lets inner pending records =
       let was : see (inner_of begun) ≡ see (inner_of old) = ap see kept.inner in
       let is : see called ≡ see (inner_of ended) = ap see (sym inner) in
       let hide : map logged_of hidden ≡ filter_map (unseen_record path.key) g.children = hidden_are before after hidden (see (inner_of begun)).log (see called).log (logged ReadDir (path.key ∷ []) Granted) (filter_map (unseen_record path.key) g.children) b a g.told (hidden_is ∙ take_all (length after - (length before + 1)) (drop (length before + 1) after) (omega (arith, length-drop (length before + 1) after))) in
@@ -157,7 +156,7 @@ module _ {F : Type 0} (see : F → Store) (path : PathValue) where
           fixed = ap (λ (s : Store). s.keeps_properties) (sym is) ∙ g.fixed ∙ ap (λ (s : Store). s.keeps_properties) was;
         };
         shown = let_by.shown ∙ ap (λ (p : Pending). map (λ c. c.1) (shown_by p.plan path.key g.children)) kept.pending;
-        left = pending ∙ (λ i. record (passed_by (pending_of begun)) { plan = let_by.left_is i }) ∙ ap (λ (p : Pending). record (passed_by p) { plan = left_by p.plan path.key g.children }) kept.pending;
+        left = pending ∙ (λ i. record (passed_by (pending_of begun)) { plan = without_firsts (let_by.refused_are i) (plan_of begun) }) ∙ ap (λ (p : Pending). record (passed_by p) { plan = left_by p.plan path.key g.children }) kept.pending;
         hidden = hidden;
         told = hide;
         records = records ∙ (λ i. kept.records i ++ call_is i ∷ let_by.told i) ∙ ap (λ (p : Pending). records_of old ++ record_on ReadDir (path ∷ []) Granted ∷ hidden_by p.plan path g.children hidden) kept.pending;
@@ -169,7 +168,7 @@ module _ {F : Type 0} (see : F → Store) (path : PathValue) where
     children = shown_by (plan_of old) path.key h.behind.children;
     are = record {
       each_once = rw (names-shown (plan_of old) path.key h.behind.children) h.behind.are.each_once;
-      shown = still_shown (see (inner_of old)).contents path.key (plan_of old) h.behind.children (own_plan old.pending.plan.refusals.items old.pending.plan.own) h.behind.are.shown;
+      shown = still_shown (see (inner_of old)).contents path.key (plan_of old) h.behind.children (own_planned old.pending.plan.queues) h.behind.are.shown;
     };
     listed = h.shown;
     same = h.behind.same;
@@ -178,7 +177,7 @@ module _ {F : Type 0} (see : F → Store) (path : PathValue) where
     fixed = h.behind.fixed;
   }
 
-  pub follows_listing : (old new : Refusing F) (listing : Listing) (shown : List (Result DirEntry FsError)) → due ReadDir (Some path.key) (pending_of old) ≡ None → listing.items ≡ shown → PassesListing see path old shown new
+  pub follows_listing : (old new : Refusing F) (listing : Listing) (shown : List (Result DirEntry FsError)) → due ReadDir path.key (pending_of old) ≡ None → listing.items ≡ shown → PassesListing see path old shown new
       → FollowsReading see path old (Ok listing) new
   follows_listing old new listing shown free is h =
       inr ((λ e. absurd cc), subst (λ r. GoesByPlan ReadDir (path ∷ []) (PassesReadDir see path) r old (Ok listing) new) (sym free) (subst (λ l. PassesListing see path old l new) (sym is) h))
@@ -191,7 +190,7 @@ module _ {F : Type 0} (see : F → Store) (path : PathValue) where
       declined (seen_behind see old) (seen_behind see new) e
       (lawful see ReadDir (path ∷ []) declining_call old new (Err e) (as_call old new e h.0 h.1))
   lawful_reading old new (Ok listing) (inl h) = absurd (let no : Ok listing ≡ Err Memory = h.0 in cc)
-  lawful_reading old new (Ok listing) (inr h) = by_due (due ReadDir (Some path.key) (pending_of old)) h.1
+  lawful_reading old new (Ok listing) (inr h) = by_due (due ReadDir path.key (pending_of old)) h.1
     where
       by_due : (r : Option FsError) → GoesByPlan ReadDir (path ∷ []) (PassesReadDir see path) r old (Ok listing) new → ReadsDir (seen_behind see old) path.key (Ok listing) (seen_behind see new)
       by_due (Some e) g = absurd (let no : Ok listing ≡ Err e = g.0 in cc)

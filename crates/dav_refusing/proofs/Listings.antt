@@ -1,5 +1,5 @@
 -- What a plan leaves of a listing, member by member.
-use Rattle.std.proofs.Common.{◌≡◌, ◌∙◌, ℕ, Option, Some, Result, Ok, Err, refl, sym, ap, subst, inl, inr, List, [], ◌∷◌, ◌++◌, ◌<◌, ◌+◌, ◌≤◌, map, filter_map, length, take, drop, get_or, arith, append-nil, append_assoc, add-one, drop-cons}
+use Rattle.std.proofs.Common.{◌≡◌, ◌∙◌, ℕ, Option, Result, Ok, Err, refl, sym, ap, subst, inl, inr, List, [], ◌∷◌, ◌++◌, ◌<◌, ◌+◌, ◌≤◌, map, filter_map, length, take, drop, get_or, arith, append-nil, append_assoc, add-one, drop-cons}
 use Rattle.std.proofs.lemmas.List.{take_all, drop_all, take_more_set, drop-set-lt}
 use Rattle.std.proofs.Math.ListN.{set}
 use Rattle.std.proofs.lemmas.List.Elements.{All-set}
@@ -11,7 +11,7 @@ use Rattle.dav_resource.specs.declared.record.Record.{Record}
 use Rattle.dav_resource.specs.declared.error.FsError.{FsError}
 use Rattle.dav_store.specs.Logged.{logged_of}
 use Rattle.dav_store.specs.Members.{Child, member, unseen_record}
-use Rattle.dav_refusing.specs.Plans.{Planned, refusal_for, without_first, shown_as, shown_by, refused_record, hidden_by, left_by, AreNamed, IsListingOf, IsLetBy, HaveSegmentNames}
+use Rattle.dav_refusing.specs.Plans.{Plan, Call, refusal_for, shown_as, shown_by, refused_call, refused_calls, refused_record, hidden_by, AreNamed, IsListingOf, IsLetBy, HaveSegmentNames}
 
 abbrev pub Shown : Type 0
 Shown = Result DirEntry FsError
@@ -20,29 +20,33 @@ abbrev pub shown_of : Child → Shown
 shown_of c = c.1
 
 -- the first members are let be seen as the plan says, and the others are still to come
-pub record Underway (directory : PathValue) (children : List Child) (first : List Planned) (all_hidden : List Record) (i : ℕ) (listing : List Shown) (unseen : List Record) (plan : List Planned) (hidden : List Record) : Type 0 where
+pub record Underway (plan : Plan) (directory : PathValue) (children : List Child) (all_hidden : List Record) (i : ℕ) (listing : List Shown) (unseen : List Record) (refused : List Call) (hidden : List Record) : Type 0 where
   pub rest : List Child
   pub named : AreNamed rest
   pub ahead : drop i listing ≡ map shown_of rest
   pub still : map logged_of hidden ≡ filter_map (unseen_record directory.key) rest
-  pub shown : take i listing ++ map shown_of (shown_by plan directory.key rest) ≡ map shown_of (shown_by first directory.key children)
-  pub told : unseen ++ hidden_by plan directory rest hidden ≡ hidden_by first directory children all_hidden
-  pub left : left_by plan directory.key rest ≡ left_by first directory.key children
+  pub shown : take i listing ++ map shown_of (shown_by plan directory.key rest) ≡ map shown_of (shown_by plan directory.key children)
+  pub told : unseen ++ hidden_by plan directory rest hidden ≡ hidden_by plan directory children all_hidden
+  pub called : refused ++ refused_calls plan directory.key rest ≡ refused_calls plan directory.key children
 
-pub begins : (directory : PathValue) (children : List Child) (plan : List Planned) (listing : List Shown) (hidden : List Record) → IsListingOf directory.key children listing hidden → Underway directory children plan hidden 0 listing [] plan hidden
-begins directory children plan listing hidden is = record { rest = children; named = is.named; ahead = is.listed; still = is.told; shown = refl; told = refl; left = refl }
+pub begins : (plan : Plan) (directory : PathValue) (children : List Child) (listing : List Shown) (hidden : List Record) → IsListingOf directory.key children listing hidden → Underway plan directory children hidden 0 listing [] [] hidden
+begins plan directory children listing hidden is = record { rest = children; named = is.named; ahead = is.listed; still = is.told; shown = refl; told = refl; called = refl }
 
-pub ends : (directory : PathValue) (children : List Child) (first plan : List Planned) (all_hidden : List Record) (i : ℕ) (listing : List Shown) (unseen hidden : List Record) → Underway directory children first all_hidden i listing unseen plan hidden → length listing ≤ i
-    → IsLetBy first directory children all_hidden listing unseen plan
-ends directory children first plan all_hidden i listing unseen hidden u all = by_rest u.rest u.ahead u.shown u.told u.left
+pub ends : (plan : Plan) (directory : PathValue) (children : List Child) (all_hidden : List Record) (i : ℕ) (listing : List Shown) (unseen : List Record) (refused : List Call) (hidden : List Record)
+    → Underway plan directory children all_hidden i listing unseen refused hidden → length listing ≤ i → IsLetBy plan directory children all_hidden listing unseen refused
+ends plan directory children all_hidden i listing unseen refused hidden u all = by_rest u.rest u.ahead u.shown u.told u.called
   where
-    by_rest : (rest : List Child) → drop i listing ≡ map shown_of rest → take i listing ++ map shown_of (shown_by plan directory.key rest) ≡ map shown_of (shown_by first directory.key children)
-        → unseen ++ hidden_by plan directory rest hidden ≡ hidden_by first directory children all_hidden
-        → left_by plan directory.key rest ≡ left_by first directory.key children → IsLetBy first directory children all_hidden listing unseen plan
-    by_rest [] ahead shown told left = record { shown = sym (take_all i listing all) ∙ sym (append-nil (take i listing)) ∙ shown; told = sym (append-nil unseen) ∙ told; left_is = left }
-    by_rest (c ∷ rest) ahead shown told left = absurd (let none : [] ≡ shown_of c ∷ map shown_of rest = sym (drop_all i listing all) ∙ ahead in cc)
+    by_rest : (rest : List Child) → drop i listing ≡ map shown_of rest → take i listing ++ map shown_of (shown_by plan directory.key rest) ≡ map shown_of (shown_by plan directory.key children)
+        → unseen ++ hidden_by plan directory rest hidden ≡ hidden_by plan directory children all_hidden
+        → refused ++ refused_calls plan directory.key rest ≡ refused_calls plan directory.key children → IsLetBy plan directory children all_hidden listing unseen refused
+    by_rest [] ahead shown told called = record {
+      shown = sym (take_all i listing all) ∙ sym (append-nil (take i listing)) ∙ shown;
+      told = sym (append-nil unseen) ∙ told;
+      refused_are = sym (append-nil refused) ∙ called;
+    }
+    by_rest (c ∷ rest) ahead shown told called = absurd (let none : [] ≡ shown_of c ∷ map shown_of rest = sym (drop_all i listing all) ∙ ahead in cc)
 
-module _ (directory : PathValue) (children : List Child) (first : List Planned) (all_hidden : List Record) (i : ℕ) (listing next_listing : List Shown) (unseen : List Record) (plan : List Planned) (hidden : List Record) (x y : Shown)
+module _ (plan : Plan) (directory : PathValue) (children : List Child) (all_hidden : List Record) (i : ℕ) (listing next_listing : List Shown) (unseen : List Record) (refused : List Call) (hidden : List Record) (x y : Shown)
     (is : x ≡ get_or listing i x) (inside : i < length listing) (set_is : next_listing ≡ set listing i y) where
   ahead_is : drop i listing ≡ x ∷ drop (i + 1) listing
   ahead_is = drop-cons listing i x inside ∙ (λ j. sym is j ∷ drop (sym (add-one i) j) listing)
@@ -54,18 +58,18 @@ module _ (directory : PathValue) (children : List Child) (first : List Planned) 
   drop_next = ap (drop (i + 1)) set_is ∙ drop-set-lt (i + 1) listing i y (omega arith)
 
   -- a member that the store behind doesn't show
-  pub still_hidden : Underway directory children first all_hidden i listing unseen plan hidden → (e : FsError) (h : Record) (others next_unseen : List Record) (next_plan : List Planned) → x ≡ Err e → y ≡ x → hidden ≡ h ∷ others
-      → next_unseen ≡ unseen ++ h ∷ [] → next_plan ≡ plan → Underway directory children first all_hidden (i + 1) next_listing next_unseen next_plan others
-  still_hidden u e h others next_unseen next_plan err same some told_is plan_is = subst (λ l. Underway directory children first all_hidden (i + 1) next_listing l next_plan others) (sym told_is) (subst (λ p. Underway directory children first all_hidden (i + 1) next_listing (unseen ++ h ∷ []) p others) (sym plan_is) (
-      by_rest u.rest u.named (sym ahead_is ∙ u.ahead) (ap (map logged_of) (sym some) ∙ u.still) u.shown (ap (λ l. unseen ++ hidden_by plan directory u.rest l) (sym some) ∙ u.told) u.left))
+  pub still_hidden : Underway plan directory children all_hidden i listing unseen refused hidden → (e : FsError) (h : Record) (others next_unseen : List Record) (next_refused : List Call) → x ≡ Err e → y ≡ x → hidden ≡ h ∷ others
+      → next_unseen ≡ unseen ++ h ∷ [] → next_refused ≡ refused → Underway plan directory children all_hidden (i + 1) next_listing next_unseen next_refused others
+  still_hidden u e h others next_unseen next_refused err same some told_is refused_is =
+      by_rest u.rest u.named (sym ahead_is ∙ u.ahead) (ap (map logged_of) (sym some) ∙ u.still) u.shown (ap (λ l. unseen ++ hidden_by plan directory u.rest l) (sym some) ∙ u.told) u.called
     where
       by_rest : (rest : List Child) → AreNamed rest → x ∷ drop (i + 1) listing ≡ map shown_of rest → logged_of h ∷ map logged_of others ≡ filter_map (unseen_record directory.key) rest
-          → take i listing ++ map shown_of (shown_by plan directory.key rest) ≡ map shown_of (shown_by first directory.key children)
-          → unseen ++ hidden_by plan directory rest (h ∷ others) ≡ hidden_by first directory children all_hidden
-          → left_by plan directory.key rest ≡ left_by first directory.key children → Underway directory children first all_hidden (i + 1) next_listing (unseen ++ h ∷ []) plan others
-      by_rest [] named ahead still shown told left = absurd cc
-      by_rest ((name, Ok entry) ∷ rest) named ahead still shown told left = absurd (let one : x ≡ Ok entry = cc in let no : Err e ≡ Ok entry = sym err ∙ one in cc)
-      by_rest ((name, Err e') ∷ rest) named ahead still shown told left =
+          → take i listing ++ map shown_of (shown_by plan directory.key rest) ≡ map shown_of (shown_by plan directory.key children)
+          → unseen ++ hidden_by plan directory rest (h ∷ others) ≡ hidden_by plan directory children all_hidden
+          → refused ++ refused_calls plan directory.key rest ≡ refused_calls plan directory.key children → Underway plan directory children all_hidden (i + 1) next_listing next_unseen next_refused others
+      by_rest [] named ahead still shown told called = absurd cc
+      by_rest ((name, Ok entry) ∷ rest) named ahead still shown told called = absurd (let one : x ≡ Ok entry = cc in let no : Err e ≡ Ok entry = sym err ∙ one in cc)
+      by_rest ((name, Err e') ∷ rest) named ahead still shown told called =
           let one : x ≡ Err e' = cc in
           record {
             rest = rest;
@@ -73,12 +77,12 @@ module _ (directory : PathValue) (children : List Child) (first : List Planned) 
             ahead = drop_next ∙ (let more : drop (i + 1) listing ≡ map shown_of rest = cc in more);
             still = (let more : map logged_of others ≡ filter_map (unseen_record directory.key) rest = cc in more);
             shown = take_next (map shown_of (shown_by plan directory.key rest)) ∙ ap (λ s. take i listing ++ s ∷ map shown_of (shown_by plan directory.key rest)) (same ∙ one) ∙ shown;
-            told = append_assoc unseen (h ∷ []) (hidden_by plan directory rest others) ∙ told;
-            left = left;
+            told = ap (λ l. l ++ hidden_by plan directory rest others) told_is ∙ append_assoc unseen (h ∷ []) (hidden_by plan directory rest others) ∙ told;
+            called = ap (λ l. l ++ refused_calls plan directory.key rest) refused_is ∙ called;
           }
 
   -- it has left a record
-  pub never_unrecorded : Underway directory children first all_hidden i listing unseen plan hidden → (e : FsError) → x ≡ Err e → hidden ≡ [] → ⊥
+  pub never_unrecorded : Underway plan directory children all_hidden i listing unseen refused hidden → (e : FsError) → x ≡ Err e → hidden ≡ [] → ⊥
   never_unrecorded u e err none = by_rest u.rest (sym ahead_is ∙ u.ahead) (ap (map logged_of) (sym none) ∙ u.still)
     where
       by_rest : (rest : List Child) → x ∷ drop (i + 1) listing ≡ map shown_of rest → [] ≡ filter_map (unseen_record directory.key) rest → ⊥
@@ -87,38 +91,40 @@ module _ (directory : PathValue) (children : List Child) (first : List Planned) 
       by_rest ((name, Err e') ∷ rest) ahead still = absurd cc
 
   -- a member that it shows
-  pub let_be_seen : Underway directory children first all_hidden i listing unseen plan hidden → (entry : DirEntry) (error : Option FsError) (next_unseen : List Record) (next_plan : List Planned) (next_hidden : List Record) → x ≡ Ok entry → y ≡ shown_as error entry
-      → error ≡ refusal_for Entry (Some (member directory.key entry.name)) plan → next_plan ≡ without_first Entry (Some (member directory.key entry.name)) plan
-      → next_unseen ≡ unseen ++ refused_record directory entry.name error → next_hidden ≡ hidden
-      → Underway directory children first all_hidden (i + 1) next_listing next_unseen next_plan next_hidden
-  let_be_seen u entry error next_unseen next_plan next_hidden ok seen why left_is told_is hidden_is = by_rest u.rest u.named (sym ahead_is ∙ u.ahead) u.still u.shown u.told u.left
+  pub let_be_seen : Underway plan directory children all_hidden i listing unseen refused hidden → (entry : DirEntry) (error : Option FsError) (next_unseen : List Record) (next_refused : List Call) (next_hidden : List Record)
+      → x ≡ Ok entry → y ≡ shown_as error entry → error ≡ refusal_for Entry (member directory.key entry.name) plan
+      → next_unseen ≡ unseen ++ refused_record directory entry.name error → next_refused ≡ refused ++ refused_call directory.key entry.name error → next_hidden ≡ hidden
+      → Underway plan directory children all_hidden (i + 1) next_listing next_unseen next_refused next_hidden
+  let_be_seen u entry error next_unseen next_refused next_hidden ok seen why told_is refused_is hidden_is = by_rest u.rest u.named (sym ahead_is ∙ u.ahead) u.still u.shown u.told u.called
     where
       by_rest : (rest : List Child) → AreNamed rest → x ∷ drop (i + 1) listing ≡ map shown_of rest → map logged_of hidden ≡ filter_map (unseen_record directory.key) rest
-          → take i listing ++ map shown_of (shown_by plan directory.key rest) ≡ map shown_of (shown_by first directory.key children)
-          → unseen ++ hidden_by plan directory rest hidden ≡ hidden_by first directory children all_hidden
-          → left_by plan directory.key rest ≡ left_by first directory.key children → Underway directory children first all_hidden (i + 1) next_listing next_unseen next_plan next_hidden
-      by_rest [] named ahead still shown told left = absurd cc
-      by_rest ((name, Err e) ∷ rest) named ahead still shown told left = absurd (let one : x ≡ Err e = cc in let no : Ok entry ≡ Err e = sym ok ∙ one in cc)
-      by_rest ((name, Ok entry') ∷ rest) named ahead still shown told left =
+          → take i listing ++ map shown_of (shown_by plan directory.key rest) ≡ map shown_of (shown_by plan directory.key children)
+          → unseen ++ hidden_by plan directory rest hidden ≡ hidden_by plan directory children all_hidden
+          → refused ++ refused_calls plan directory.key rest ≡ refused_calls plan directory.key children → Underway plan directory children all_hidden (i + 1) next_listing next_unseen next_refused next_hidden
+      by_rest [] named ahead still shown told called = absurd cc
+      by_rest ((name, Err e) ∷ rest) named ahead still shown told called = absurd (let one : x ≡ Err e = cc in let no : Ok entry ≡ Err e = sym ok ∙ one in cc)
+      by_rest ((name, Ok entry') ∷ rest) named ahead still shown told called =
           let one : x ≡ Ok entry' = cc in
           let same : entry ≡ entry' = (let both : Ok entry ≡ Ok entry' = sym ok ∙ one in cc) in
           let name_is : entry.name ≡ name = ap (λ n. n.name) same ∙ named (name, Ok entry') (inl refl) in
-          let error_is : error ≡ refusal_for Entry (Some (member directory.key name)) plan = why ∙ ap (λ n. refusal_for Entry (Some (member directory.key n)) plan) name_is in
-          let plan_is : next_plan ≡ without_first Entry (Some (member directory.key name)) plan = left_is ∙ ap (λ n. without_first Entry (Some (member directory.key n)) plan) name_is in
+          let error_is : error ≡ refusal_for Entry (member directory.key name) plan = why ∙ ap (λ n. refusal_for Entry (member directory.key n) plan) name_is in
           record {
             rest = rest;
             named = λ c within. named c (inr within);
             ahead = drop_next ∙ (let more : drop (i + 1) listing ≡ map shown_of rest = cc in more);
             still = ap (map logged_of) hidden_is ∙ still;
-            shown = take_next (map shown_of (shown_by next_plan directory.key rest))
-                ∙ ap (λ s. take i listing ++ s ∷ map shown_of (shown_by next_plan directory.key rest)) seen
-                ∙ (λ j. take i listing ++ shown_as (error_is j) (same j) ∷ map shown_of (shown_by (plan_is j) directory.key rest))
+            shown = take_next (map shown_of (shown_by plan directory.key rest))
+                ∙ ap (λ s. take i listing ++ s ∷ map shown_of (shown_by plan directory.key rest)) seen
+                ∙ (λ j. take i listing ++ shown_as (error_is j) (same j) ∷ map shown_of (shown_by plan directory.key rest))
                 ∙ shown;
-            told = ap (λ l. l ++ hidden_by next_plan directory rest next_hidden) told_is
-                ∙ append_assoc unseen (refused_record directory entry.name error) (hidden_by next_plan directory rest next_hidden)
-                ∙ (λ j. unseen ++ (refused_record directory (name_is j) (error_is j) ++ hidden_by (plan_is j) directory rest (hidden_is j)))
+            told = ap (λ l. l ++ hidden_by plan directory rest next_hidden) told_is
+                ∙ append_assoc unseen (refused_record directory entry.name error) (hidden_by plan directory rest next_hidden)
+                ∙ (λ j. unseen ++ (refused_record directory (name_is j) (error_is j) ++ hidden_by plan directory rest (hidden_is j)))
                 ∙ told;
-            left = ap (λ p. left_by p directory.key rest) plan_is ∙ left;
+            called = ap (λ l. l ++ refused_calls plan directory.key rest) refused_is
+                ∙ append_assoc refused (refused_call directory.key entry.name error) (refused_calls plan directory.key rest)
+                ∙ (λ j. refused ++ (refused_call directory.key (name_is j) (error_is j) ++ refused_calls plan directory.key rest))
+                ∙ called;
           }
 
 -- the names stay segments

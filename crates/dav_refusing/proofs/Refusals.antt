@@ -1,5 +1,5 @@
 -- Calls of a store that refuses by plan or by number.
-use Rattle.std.proofs.Common.{◌≡◌, ◌≢◌, ◌∙◌, ℕ, true, false, cond, Option, Some, None, Result, Ok, Err, refl, sym, ap, subst, ◌⊎◌, inl, inr, List, [], ◌∷◌, ◌++◌, ◌+◌, ◌-◌, ◌==◌, All, slice_get, map, length, suc, zero, arith}
+use Rattle.std.proofs.Common.{◌≡◌, ◌≢◌, ◌∙◌, ℕ, true, false, cond, Option, Some, None, Result, Ok, Err, refl, sym, ap, subst, ◌⊎◌, inl, inr, List, [], ◌∷◌, ◌++◌, ◌+◌, ◌-◌, ◌==◌, slice_get, map, length, suc, zero, arith}
 use Rattle.std.specs.Option.{option_map, option_or}
 use Rattle.std.proofs.lemmas.List.{map-append, append_cancel_left}
 use Rattle.std.specs.Prelude.{Bool, Vec}
@@ -18,16 +18,16 @@ use Rattle.dav_store.specs.Store.{Store, Contents}
 use Rattle.dav_store.specs.Calls.{Answers, Declines, IsOwn}
 use Rattle.dav_store.specs.PropertyCalls.{Patch, Patches, DropsPatches, PatchesProps, patch_props_call}
 use Rattle.dav_store.specs.Logged.{record_with, record_on}
-use Rattle.dav_refusing.specs.Plans as plans
-use Rattle.dav_refusing.specs.Plans.{Planned, first_key, is_for, refusal_for, without_first}
+use Rattle.dav_refusing.specs.Plans.{Plan, first_key, refusal_for}
+use Rattle.dav_refusing.specs.Slots.{plan_in}
 use Rattle.dav_refusing.specs.Pending as pendings
 use Rattle.dav_refusing.specs.Pending.{Pending, numbered_of, error_now, one_later, due, plan_after, after_call, passed_by}
 use Rattle.dav_refusing.specs.Refusing.{last_outcome, inner_of, pending_of, records_of, seen_behind, IsWhollyKept, Refuses, Passes, GoesByPlan, Follows}
 use Rattle.dav_refusing.specs.declared.refusing.Refusing.{Refusing}
 use Rattle.dav_refusing.specs.declared.refusing.pending.NumberedRefusal.{NumberedRefusal}
 use Rattle.dav_refusing.specs.declared.refusing.pending.Pending as code
-use Rattle.dav_refusing.specs.declared.refusing.plan.Refusal.{Refusal}
 use Rattle.dav_refusing.proofs.Planning.{without-none}
+use Rattle.dav_refusing.proofs.Queues.{own_planned}
 
 -- ---- logs
 
@@ -57,40 +57,19 @@ same_last log r s is = let last : r ∷ [] ≡ s ∷ [] = append_cancel_left log
 -- ---- errors
 
 -- each refusal of the plan is with an error of the store's own
-abbrev pub AllOwn : List Planned → Type 0
-AllOwn [] = Unit {0}
-AllOwn (p ∷ plan) = IsOwn p.error × AllOwn plan
-
-pub own_plan : (refusals : List Refusal) → All (λ r. IsOwn r.error) refusals → AllOwn (plans.plan_of refusals)
-own_plan [] own = tt
-own_plan (r ∷ refusals) own = (own zero r (omega arith), own_plan refusals (λ k d less. own (suc k) d (omega arith)))
-
-pub own_first : (op : Op) (key : Option Key) (plan : List Planned) (e : FsError) → AllOwn plan → refusal_for op key plan ≡ Some e → IsOwn e
-own_first op key [] e own is = absurd cc
-own_first op key (p ∷ plan) e own is =
-    elim (is_for op key p) as (λ b. cond b (Some p.error) (refusal_for op key plan) ≡ Some e → IsOwn e) [
-      | true ↦ λ h. (let same : p.error ≡ e = cc in subst IsOwn same own.0)
-      | false ↦ λ h. own_first op key plan e own.1 h
-    ] is
-
-pub own_without : (op : Op) (key : Option Key) (plan : List Planned) → AllOwn plan → AllOwn (without_first op key plan)
-own_without op key [] own = tt
-own_without op key (p ∷ plan) own =
-    elim (is_for op key p) as (λ b. AllOwn (cond b plan (p ∷ without_first op key plan))) [ true ↦ own.1 | false ↦ (own.0, own_without op key plan own.1) ]
+abbrev pub IsOwnPlan : Plan → Type 0
+IsOwnPlan plan = (op : Op) (key : Key) (e : FsError) → refusal_for op key plan ≡ Some e → IsOwn e
 
 -- and so is the call by its number
-pub own_due : (op : Op) (key : Option Key) (pending : code.Pending) (e : FsError) → due op key (pendings.pending_of pending) ≡ Some e → IsOwn e
+pub own_due : (op : Op) (key : Key) (pending : code.Pending) (e : FsError) → due op key (pendings.pending_of pending) ≡ Some e → IsOwn e
 own_due op key pending e is = by_number pending.numbered is
   where
-    by_plan : refusal_for op key (plans.plan_of pending.plan.refusals.items) ≡ Some e → IsOwn e
-    by_plan is = own_first op key (plans.plan_of pending.plan.refusals.items) e (own_plan pending.plan.refusals.items pending.plan.own) is
-
-    by_number : (n : Option NumberedRefusal) → option_or (error_now (option_map numbered_of n)) (refusal_for op key (plans.plan_of pending.plan.refusals.items)) ≡ Some e → IsOwn e
-    by_number None is = by_plan is
+    by_number : (n : Option NumberedRefusal) → option_or (error_now (option_map numbered_of n)) (refusal_for op key (plan_in pending.plan.queues)) ≡ Some e → IsOwn e
+    by_number None is = own_planned pending.plan.queues op key e is
     by_number (Some n) is =
-        elim (n.before == 0) as (λ b. option_or (cond b (Some n.error) None) (refusal_for op key (plans.plan_of pending.plan.refusals.items)) ≡ Some e → IsOwn e) [
+        elim (n.before == 0) as (λ b. option_or (cond b (Some n.error) None) (refusal_for op key (plan_in pending.plan.queues)) ≡ Some e → IsOwn e) [
           | true ↦ λ h. (let same : n.error ≡ e = cc in subst IsOwn same n.own)
-          | false ↦ λ h. by_plan h
+          | false ↦ λ h. own_planned pending.plan.queues op key e h
         ] is
 
 -- ---- what is left to be refused
@@ -100,7 +79,7 @@ neither None p is = (refl, is)
 neither (Some e) p is = absurd cc
 
 -- a call for which no error is due is only counted
-pub after-passed : (op : Op) (key : Option Key) (pending : Pending) → due op key pending ≡ None → after_call op key pending ≡ passed_by pending
+pub after-passed : (op : Op) (key : Key) (pending : Pending) → due op key pending ≡ None → after_call op key pending ≡ passed_by pending
 after-passed op key pending free =
     let none = neither (error_now pending.numbered) (refusal_for op key pending.plan) free in
     let plan : plan_after (error_now pending.numbered) op key pending.plan ≡ pending.plan = ap (λ o. plan_after o op key pending.plan) none.0 ∙ without-none op key pending.plan none.1 in

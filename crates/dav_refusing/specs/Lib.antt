@@ -1,4 +1,5 @@
 pub mod Plans
+pub mod Slots
 pub mod Pending
 pub mod Refusing
 pub mod InnerLends

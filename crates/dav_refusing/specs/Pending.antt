@@ -1,11 +1,11 @@
 -- What a store is to refuse yet, a call by its number and the calls of a plan: this project's own choice.
-use Rattle.std.specs.Prelude.{ℕ, ◌-◌, ◌==◌, if◌then◌else◌, List, Option, Some, None}
+use Rattle.std.specs.Prelude.{ℕ, ◌-◌, ◌==◌, if◌then◌else◌, Option, Some, None}
 use Rattle.std.specs.Option.{option_map, option_or}
 use Rattle.dav_resource.specs.Key.{Key}
 use Rattle.dav_resource.specs.declared.record.Op.{Op}
 use Rattle.dav_resource.specs.declared.error.FsError.{FsError}
-use Rattle.dav_refusing.specs.Plans as plans
-use Rattle.dav_refusing.specs.Plans.{Planned, refusal_for, without_first}
+use Rattle.dav_refusing.specs.Plans.{Plan, refusal_for, without_first}
+use Rattle.dav_refusing.specs.Slots.{plan_in}
 use Rattle.dav_refusing.specs.declared.refusing.pending.NumberedRefusal.{NumberedRefusal}
 use Rattle.dav_refusing.specs.declared.refusing.pending.Pending as code
 
@@ -17,7 +17,7 @@ pub record Numbered : Type 0 where
 -- what is to be refused: one call by its number, where one is, and the calls of a plan
 pub record Pending : Type 0 where
   pub numbered : Option Numbered
-  pub plan : List Planned
+  pub plan : Plan
 
 -- the numbered call's error, where the next call is the one
 abbrev pub error_now : Option Numbered → Option FsError
@@ -30,16 +30,16 @@ one_later None = None
 one_later (Some n) = if n.before == 0 then None else Some (record { before = n.before - 1; error = n.error })
 
 -- what a call is to be refused with, if at all: by its number, or else by the plan
-abbrev pub due : Op → Option Key → Pending → Option FsError
+abbrev pub due : Op → Key → Pending → Option FsError
 due op key pending = option_or (error_now pending.numbered) (refusal_for op key pending.plan)
 
 -- the plan after a call: one that is refused by its number uses up nothing of it
-abbrev pub plan_after : Option FsError → Op → Option Key → List Planned → List Planned
+abbrev pub plan_after : Option FsError → Op → Key → Plan → Plan
 plan_after None op key plan = without_first op key plan
 plan_after (Some e) op key plan = plan
 
 -- what is to be refused after a call
-abbrev pub after_call : Op → Option Key → Pending → Pending
+abbrev pub after_call : Op → Key → Pending → Pending
 after_call op key pending = record { numbered = one_later pending.numbered; plan = plan_after (error_now pending.numbered) op key pending.plan }
 
 -- what it is after a call that isn't refused
@@ -52,4 +52,4 @@ abbrev pub numbered_of : NumberedRefusal → Numbered
 numbered_of n = record { before = n.before; error = n.error }
 
 abbrev pub pending_of : code.Pending → Pending
-pending_of pending = record { numbered = option_map numbered_of pending.numbered; plan = plans.plan_of pending.plan.refusals.items }
+pending_of pending = record { numbered = option_map numbered_of pending.numbered; plan = plan_in pending.plan.queues }

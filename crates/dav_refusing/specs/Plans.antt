@@ -1,5 +1,5 @@
 -- Plans of refusals, and what a listing of members becomes by one: this project's own choice.
-use Rattle.std.specs.Prelude.{◌≡◌, ℕ, nat_eq, Bool, ◌&&◌, if◌then◌else◌, List, [], ◌∷◌, ◌++◌, map, filter_map, All, IfOk, Option, Some, None, Ok, Err, Result}
+use Rattle.std.specs.Prelude.{◌≡◌, ℕ, nat_eq, Bool, ◌&&◌, if◌then◌else◌, List, [], ◌∷◌, ◌++◌, map, drop, slice_get, filter_map, All, IfOk, Option, Some, None, Ok, Err, Result}
 use Rattle.std.specs.Ordering.{eq_by_cmp}
 use Rattle.dav_resource.specs.Key.{Key, key_cmp}
 use Rattle.dav_resource.specs.declared.meta.DirEntry.{DirEntry}
@@ -13,7 +13,6 @@ use Rattle.dav_resource.specs.PathForms.{member_path}
 use Rattle.dav_store.specs.Logged.{logged_of}
 use Rattle.dav_store.specs.Members.{Child, member, IsIn, unseen_record}
 use Rattle.dav_store.specs.Logged.{record_on}
-use Rattle.dav_refusing.specs.declared.refusing.plan.Refusal.{Refusal}
 
 -- the place of a kind of call among them all
 abbrev pub place_of_op : Op → ℕ
@@ -39,40 +38,43 @@ place_of_op Entry = 16
 abbrev pub same_op : Op → Op → Bool
 same_op a b = nat_eq (place_of_op a) (place_of_op b)
 
--- a refusal that is to come: of which call, at which key, and with which error
-pub record Planned : Type 0 where
-  pub op : Op
-  pub key : Key
-  pub error : FsError
+-- the key of a call's first path; of a call without a path, the root's
+abbrev pub first_key : List PathValue → Key
+first_key [] = []
+first_key (path ∷ paths) = path.key
 
-abbrev pub planned_of : Refusal → Planned
-planned_of refusal = record { op = refusal.op; key = refusal.path.key; error = refusal.error }
+-- the errors that the calls of each kind on each key are to be refused with, in their order
+abbrev pub Plan : Type 0
+Plan = Op → Key → List FsError
 
-abbrev pub plan_of : List Refusal → List Planned
-plan_of refusals = map planned_of refusals
+-- nothing is to be refused
+abbrev pub no_refusals : Plan
+no_refusals op key = []
 
--- the key of a call's first path, where it has one
-abbrev pub first_key : List PathValue → Option Key
-first_key [] = None
-first_key (path ∷ paths) = Some path.key
+-- two calls, each by its kind and its key, go by the same errors
+abbrev pub is_for : Op → Key → Op → Key → Bool
+is_for op key other other_key = same_op op other && eq_by_cmp key_cmp key other_key
 
--- it is for this call: of a call without a path only the kind counts
-abbrev pub is_for : Op → Option Key → Planned → Bool
-is_for op None p = same_op p.op op
-is_for op (Some key) p = same_op p.op op && eq_by_cmp key_cmp key p.key
+-- the plan with these errors for the calls of one kind on one key
+abbrev pub with_errors : Op → Key → List FsError → Plan → Plan
+with_errors op key errors plan other other_key = if is_for op key other other_key then errors else plan other other_key
 
-abbrev pub refuses : Op → Option Key → Refusal → Bool
-refuses op key refusal = is_for op key (planned_of refusal)
+-- the key that a refusal is for: `get_quota` has no path
+abbrev pub planned_key : Op → Key → Key
+planned_key GetQuota key = []
+planned_key op key = key
 
--- the error of the first one for the call, where there is one
-abbrev pub refusal_for : Op → Option Key → List Planned → Option FsError
-refusal_for op key [] = None
-refusal_for op key (p ∷ plan) = if is_for op key p then Some p.error else refusal_for op key plan
+-- the plan with one more refusal, behind those for the same calls
+abbrev pub with_last : Op → Key → FsError → Plan → Plan
+with_last op key error plan = with_errors op key (plan op key ++ error ∷ []) plan
+
+-- the first error for the call, where there is one
+abbrev pub refusal_for : Op → Key → Plan → Option FsError
+refusal_for op key plan = slice_get (plan op key) 0
 
 -- the plan without that one; where there is none, as it is
-abbrev pub without_first : Op → Option Key → List Planned → List Planned
-without_first op key [] = []
-without_first op key (p ∷ plan) = if is_for op key p then plan else p ∷ without_first op key plan
+abbrev pub without_first : Op → Key → Plan → Plan
+without_first op key plan = with_errors op key (drop 1 (plan op key)) plan
 
 -- ---- listings
 
@@ -82,17 +84,34 @@ shown_as None entry = Ok entry
 shown_as (Some e) entry = Err e
 
 -- the members as the plan lets them be seen; a member that isn't shown anyway uses up nothing
-abbrev pub shown_by : List Planned → Key → List Child → List Child
+abbrev pub shown_by : Plan → Key → List Child → List Child
 shown_by plan directory [] = []
-shown_by plan directory ((name, Ok entry) ∷ children) =
-    (name, shown_as (refusal_for Entry (Some (member directory name)) plan) entry) ∷ shown_by (without_first Entry (Some (member directory name)) plan) directory children
+shown_by plan directory ((name, Ok entry) ∷ children) = (name, shown_as (refusal_for Entry (member directory name) plan) entry) ∷ shown_by plan directory children
 shown_by plan directory ((name, Err e) ∷ children) = (name, Err e) ∷ shown_by plan directory children
 
+-- a call by its kind and its key
+abbrev pub Call : Type 0
+Call = Op × Key
+
+-- that of showing a member, where it is refused
+abbrev pub refused_call : Key → List ℕ → Option FsError → List Call
+refused_call directory name None = []
+refused_call directory name (Some e) = (Entry, member directory name) ∷ []
+
+-- those of showing the members that the plan refuses
+abbrev pub refused_calls : Plan → Key → List Child → List Call
+refused_calls plan directory [] = []
+refused_calls plan directory ((name, Ok entry) ∷ children) = refused_call directory name (refusal_for Entry (member directory name) plan) ++ refused_calls plan directory children
+refused_calls plan directory ((name, Err e) ∷ children) = refused_calls plan directory children
+
+-- the plan without the first refusal of each of these calls
+abbrev pub without_firsts : List Call → Plan → Plan
+without_firsts [] plan = plan
+without_firsts (call ∷ calls) plan = without_firsts calls (without_first call.0 call.1 plan)
+
 -- what is left of the plan then
-abbrev pub left_by : List Planned → Key → List Child → List Planned
-left_by plan directory [] = plan
-left_by plan directory ((name, Ok entry) ∷ children) = left_by (without_first Entry (Some (member directory name)) plan) directory children
-left_by plan directory ((name, Err e) ∷ children) = left_by plan directory children
+abbrev pub left_by : Plan → Key → List Child → Plan
+left_by plan directory children = without_firsts (refused_calls plan directory children) plan
 
 -- the record of a member that the plan refuses, by the directory's path with the member's name
 abbrev pub refused_record : PathValue → List ℕ → Option FsError → List Record
@@ -100,10 +119,9 @@ refused_record directory name None = []
 refused_record directory name (Some e) = record_on Entry (member_path directory name ∷ []) (Refused e) ∷ []
 
 -- the records of the members that aren't shown, in the listing's order; a member that isn't shown anyway keeps its record
-abbrev pub hidden_by : List Planned → PathValue → List Child → List Record → List Record
+abbrev pub hidden_by : Plan → PathValue → List Child → List Record → List Record
 hidden_by plan directory [] hidden = []
-hidden_by plan directory ((name, Ok entry) ∷ children) hidden =
-    refused_record directory name (refusal_for Entry (Some (member directory.key name)) plan) ++ hidden_by (without_first Entry (Some (member directory.key name)) plan) directory children hidden
+hidden_by plan directory ((name, Ok entry) ∷ children) hidden = refused_record directory name (refusal_for Entry (member directory.key name) plan) ++ hidden_by plan directory children hidden
 hidden_by plan directory ((name, Err e) ∷ children) [] = []
 hidden_by plan directory ((name, Err e) ∷ children) (r ∷ hidden) = r ∷ hidden_by plan directory children hidden
 
@@ -125,12 +143,12 @@ pub record IsListingOf (directory : Key) (children : List Child) (listing : List
   pub listed : listing ≡ map (λ c. c.1) children
   pub told : map logged_of hidden ≡ filter_map (unseen_record directory) children
 
--- it shows them as the plan lets them be seen; these are the records of those that it doesn't show now, and this is left of the plan
-pub record IsLetBy (plan : List Planned) (directory : PathValue) (children : List Child) (hidden : List Record) (listing : List (Result DirEntry FsError)) (unseen : List Record) (left : List Planned) : Type 0 where
+-- it shows them as the plan lets them be seen; these are the records of those that it doesn't show now, and the calls that the plan refuses
+pub record IsLetBy (plan : Plan) (directory : PathValue) (children : List Child) (hidden : List Record) (listing : List (Result DirEntry FsError)) (unseen : List Record) (refused : List Call) : Type 0 where
   pub shown : listing ≡ map (λ c. c.1) (shown_by plan directory.key children)
   pub told : unseen ≡ hidden_by plan directory children hidden
-  pub left_is : left ≡ left_by plan directory.key children
+  pub refused_are : refused ≡ refused_calls plan directory.key children
 
 -- so it shows its members, whichever they are
-abbrev pub LetsThrough : List Planned → PathValue → List (Result DirEntry FsError) → List Record → List (Result DirEntry FsError) → List Record → List Planned → Type 0
-LetsThrough plan directory listing hidden shown unseen left = (children : List Child) → IsListingOf directory.key children listing hidden → IsLetBy plan directory children hidden shown unseen left
+abbrev pub LetsThrough : Plan → PathValue → List (Result DirEntry FsError) → List Record → List (Result DirEntry FsError) → List Record → List Call → Type 0
+LetsThrough plan directory listing hidden shown unseen refused = (children : List Child) → IsListingOf directory.key children listing hidden → IsLetBy plan directory children hidden shown unseen refused

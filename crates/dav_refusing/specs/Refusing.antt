@@ -14,7 +14,7 @@ use Rattle.dav_store.specs.Logged.{Logged, logged_of}
 use Rattle.dav_store.specs.Store.{Store}
 use Rattle.dav_store.specs.Members.{Lists, ReadsDir, unseen_record}
 use Rattle.dav_store.specs.Logged.{record_with, record_on}
-use Rattle.dav_refusing.specs.Plans.{Planned, first_key, shown_by, hidden_by, left_by}
+use Rattle.dav_refusing.specs.Plans.{Plan, first_key, shown_by, hidden_by, left_by}
 use Rattle.dav_refusing.specs.Pending as pendings
 use Rattle.dav_refusing.specs.Pending.{Pending, due, after_call}
 use Rattle.dav_refusing.specs.declared.refusing.Refusing.{Refusing}
@@ -35,7 +35,7 @@ module _ {F : Type 0} where
   pending_of store = pendings.pending_of store.pending
 
   -- of that the plan
-  abbrev pub plan_of : Refusing F → List Planned
+  abbrev pub plan_of : Refusing F → Plan
   plan_of store = (pending_of store).plan
 
   -- its records, the oldest first
@@ -99,7 +99,7 @@ module _ {F : Type 0} where
     pub listed : List (Result DirEntry FsError)
     pub behind : Lists path.key (see (inner_of old)) listed (see (inner_of new))
     pub shown : answer ≡ map (λ c. c.1) (shown_by (plan_of old) path.key behind.children)
-    pub left : pending_of new ≡ record (after_call ReadDir (Some path.key) (pending_of old)) { plan = left_by (plan_of old) path.key behind.children }
+    pub left : pending_of new ≡ record (after_call ReadDir path.key (pending_of old)) { plan = left_by (plan_of old) path.key behind.children }
     pub hidden : List Record
     pub told : map logged_of hidden ≡ filter_map (unseen_record path.key) behind.children
     pub records : records_of new ≡ records_of old ++ record_on ReadDir (path ∷ []) Granted ∷ hidden_by (plan_of old) path behind.children hidden
@@ -110,7 +110,7 @@ module _ {F : Type 0} where
 
   -- no error is due for the listing, and the store behind has listed the directory, which changes its log alone
   pub record HasListed (see : F → Store) (path : PathValue) (old new : Refusing F) : Type 0 where
-    pub free : due ReadDir (Some path.key) (pending_of old) ≡ None
+    pub free : due ReadDir path.key (pending_of old) ≡ None
     pub listed : List (Result DirEntry FsError)
     pub behind : Lists path.key (see (inner_of old)) listed (see (inner_of new))
 

@@ -3,4 +3,4 @@
 
 mod refusing;
 
-pub use refusing::{Refusal, Refusing};
+pub use refusing::Refusing;

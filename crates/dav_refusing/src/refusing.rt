@@ -7,13 +7,14 @@ ghost use Rattle.dav_store.specs.Members.{ReadsDir, RemovesFile, RemovesDir};
 ghost use Rattle.dav_store.specs.Transfers.{Copies, Renames};
 ghost use Rattle.dav_store.specs.PropertyCalls.{GetsProp, GetsProps, PatchesProps, GetsQuota, IsWhole, name_of};
 ghost use Rattle.dav_store.specs.Logged.{record_on};
-ghost use Rattle.dav_refusing.specs.Plans as plans;
-ghost use Rattle.dav_refusing.specs.Plans.{first_key};
+ghost use Rattle.dav_refusing.specs.Plans.{first_key, no_refusals, planned_key, with_last, without_firsts};
+ghost use Rattle.dav_refusing.specs.Slots.{slot_call};
 ghost use Rattle.dav_refusing.specs.Refusing.{last_outcome as outcome_of_last};
 
 mod listing;
 mod pending;
 mod plan;
+mod slot;
 
 use dav_resource::{
     DavFile, DavPath, DavProp, DirEntry, Element, FsError, FsResult, Items, Meta, Op, OpenOptions,
@@ -21,10 +22,8 @@ use dav_resource::{
 };
 use dav_store::{GuardedFileSystem, one_path, two_paths};
 use http::StatusCode;
-use listing::refuse_members;
+use listing::{Unseen, refuse_members};
 use pending::Pending;
-use plan::Plan;
-pub use plan::Refusal;
 use std::alloc::Global;
 
 /// A store that refuses by plan, or by number: it stands before another store, and passes on each call for which no
@@ -47,30 +46,32 @@ impl<F> Refusing<F> {
     ghost use Rattle.dav_refusing.specs.Refusing.{inner_of, pending_of, plan_of, records_of, IsWhollyKept, Refuses};
     ghost use Rattle.dav_refusing.specs.InnerLends.{LendsInner};
 
-    /// A store that stands before another one and refuses these calls, with an empty log. No call is to be refused by
-    /// its number.
-    pub fn new(alloc: Global, inner: F, plan: Vec<Refusal>) -> Refusing<F>
-        requires { All (λ r. IsOwn r.error) plan.items }
+    /// A store that stands before another one and passes each call on, with an empty log, until it is told what to refuse.
+    pub fn new(alloc: Global, inner: F) -> Refusing<F>
         ensures inner { inner_of result ≡ inner }
-        ensures plan { pending_of result ≡ record { numbered = None; plan = plans.plan_of plan.items } }
+        ensures plan { pending_of result ≡ record { numbered = None; plan = no_refusals } }
         ensures records { records_of result ≡ [] }
     {
         Refusing {
             inner,
-            pending: Pending::new(Plan::new(plan)),
+            pending: Pending::new(alloc),
             log: Vec::new(alloc),
         }
     }
 
-    /// Puts a refusal at the end of the plan. Only memory can be lacking, and then nothing changes.
+    /// Plans to refuse a call of this kind whose first path has the key of this one, behind those of the same kind and key
+    /// that are planned. The first path of a call on an open file is the file's; `get_quota` has none, so that any path
+    /// will do for it; `Op::Entry` is the showing of a member in a listing.
+    ///
+    /// Only memory can be lacking, and then nothing changes. It takes time as the logarithm of the calls that are planned.
     pub fn add(&mut self, op: Op, path: DavPath, error: FsError) -> FsResult<()>
         requires { IsOwn error }
         ensures inner { inner_of self.new ≡ inner_of self.old }
         ensures records { records_of self.new ≡ records_of self.old }
-        ensures ok { OnOk result (pending_of self.new ≡ record (pending_of self.old) { plan = plan_of self.old ++ record { op = op; key = path.key; error = error } ∷ [] }) }
+        ensures ok { OnOk result (pending_of self.new ≡ record (pending_of self.old) { plan = with_last op (planned_key op path.key) error (plan_of self.old) }) }
         ensures err { IfErr result (λ e. (e ≡ FsError.Memory) × (pending_of self.new ≡ pending_of self.old)) }
     {
-        self.pending.add(Refusal { op, path, error })?;
+        self.pending.add(op, path, error)?;
         Ok(())
     }
 
@@ -116,7 +117,7 @@ impl<F> Refusing<F> {
             outcome: Outcome::Granted,
             statuses: Items::from_vec(Vec::new(self.allocator())),
         };
-        match self.pending.take(op, call.paths.as_slice()) {
+        match self.pending.take(op, call.paths.as_slice())? {
             Some(error) => {
                 call.outcome = Outcome::Refused(error);
                 self.log.push(call).unwrap();
@@ -126,19 +127,19 @@ impl<F> Refusing<F> {
         }
     }
 
-    /// Writes the records of a listing and of the members that it doesn't show, counts the call and keeps what is left of
-    /// the plan. Only memory can be lacking, and then nothing changes.
-    fn keep_listing(&mut self, call: Record, mut unseen: Vec<Record>, plan: Plan) -> FsResult<()>
+    /// Writes the records of a listing and of the members that it doesn't show, counts the call and uses up what the plan
+    /// refused of it. Only memory can be lacking, and then nothing changes.
+    fn keep_listing(&mut self, call: Record, mut unseen: Unseen) -> FsResult<()>
         ensures inner { inner_of self.new ≡ inner_of self.old }
-        ensures plan { OnOk result (pending_of self.new ≡ record (passed_by (pending_of self.old)) { plan = plans.plan_of plan.refusals.items }) }
-        ensures records { OnOk result (records_of self.new ≡ records_of self.old ++ call ∷ unseen.items) }
+        ensures plan { OnOk result (pending_of self.new ≡ record (passed_by (pending_of self.old)) { plan = without_firsts (map slot_call unseen.refused.items) (plan_of self.old) }) }
+        ensures records { OnOk result (records_of self.new ≡ records_of self.old ++ call ∷ unseen.records.items) }
         ensures err { IfErr result (λ e. (e ≡ FsError.Memory) × IsWhollyKept self.old self.new) }
     {
-        self.log.reserve(1 + unseen.len())?;
+        self.log.reserve(1 + unseen.records.len())?;
         self.log.push(call).unwrap();
-        self.log.append(&mut unseen).unwrap();
+        self.log.append(&mut unseen.records).unwrap();
         self.pending.count();
-        self.pending.keep_plan(plan);
+        self.pending.use_up(&unseen.refused);
         Ok(())
     }
 
@@ -189,10 +190,9 @@ impl<C, F: GuardedFileSystem<C>> GuardedFileSystem<C> for Refusing<F> {
         let told = self.inner.records().len();
         match self.inner.read_dir(path, credentials) {
             Ok(mut listing) => {
-                let mut plan = self.pending.clone_plan()?;
                 let hidden = &self.inner.records()[told + 1..];
-                let unseen = refuse_members(path, &mut plan, &mut listing, hidden)?;
-                self.keep_listing(call, unseen, plan)?;
+                let unseen = refuse_members(path, self.pending.plan(), &mut listing, hidden)?;
+                self.keep_listing(call, unseen)?;
                 Ok(listing)
             }
             Err(error) => {

@@ -37,7 +37,7 @@ impl<'a> Session<'a> {
     pub fn new(alloc: Global, prefix: &'a str) -> Result<Session<'a>, Stopped> {
         Ok(Session {
             prefix,
-            store: Refusing::new(alloc, MemFs::new(alloc)?, Vec::new(alloc)),
+            store: Refusing::new(alloc, MemFs::new(alloc)?),
             locks: MemLs::new(alloc),
             blocks: 0,
             now: 0,
@@ -123,7 +123,7 @@ impl<'a> Session<'a> {
     /// Begins anew with another store, which refuses nothing. The moment and the locks stay.
     pub fn set_store(&mut self, alloc: Global, mut store: MemFs) {
         store.set_now(self.now);
-        self.store = Refusing::new(alloc, store, Vec::new(alloc));
+        self.store = Refusing::new(alloc, store);
     }
 
     /// Forgets the records of the calls so far: those of the store, and of the one behind it.

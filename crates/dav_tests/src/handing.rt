@@ -20,7 +20,7 @@ type Store = Refusing<Noting<MemFs>>;
 /// One that is to refuse nothing.
 fn new_store(alloc: Global) -> FsResult<Store> {
     let behind = Noting::new(alloc, MemFs::new(alloc)?);
-    Ok(Refusing::new(alloc, behind, Vec::new(alloc)))
+    Ok(Refusing::new(alloc, behind))
 }
 
 /// A path below the prefix `/dav`.

@@ -1,29 +1,53 @@
 //! What a plan leaves of a listing.
-ghost use Rattle.std.specs.Prelude.{◌≡◌, [], ◌∷◌, ◌++◌, IfOk, IfErr, Some};
+ghost use Rattle.std.specs.Prelude.{◌≡◌, [], ◌++◌, map, IfOk, IfErr};
 ghost use Rattle.dav_resource.specs.PathText.{IsSegment};
 ghost use Rattle.dav_store.specs.Members.{member};
-ghost use Rattle.dav_refusing.specs.Plans.{plan_of, refusal_for, without_first, refused_record, HaveSegmentNames, LetsThrough};
+ghost use Rattle.dav_refusing.specs.Plans.{refusal_for, refused_call, refused_record, HaveSegmentNames, LetsThrough};
+ghost use Rattle.dav_refusing.specs.Slots.{plan_in, slot_call};
 
 use super::plan::Plan;
+use super::slot::Slot;
 use dav_resource::{DavPath, DirEntry, FsError, FsResult, Items, Op, Outcome, Record};
 use std::alloc::Global;
 
-/// Refuses each member of a directory for which the plan has a refusal, and gives the records of all that aren't
-/// shown, in the listing's order. `hidden` are the records of those that weren't shown before.
+/// The members that a listing doesn't show.
+#[derive(Drop)]
+pub(super) struct Unseen {
+    /// The records of all of them, in the listing's order.
+    pub(super) records: Vec<Record>,
+    /// The slots of those that the plan refuses, whose refusals are to be used up.
+    pub(super) refused: Vec<Slot>,
+}
+
+impl Unseen {
+    /// None so far.
+    fn new(alloc: Global) -> Unseen
+        ensures records { result.records.items ≡ [] }
+        ensures refused { result.refused.items ≡ [] }
+    {
+        Unseen {
+            records: Vec::new(alloc),
+            refused: Vec::new(alloc),
+        }
+    }
+}
+
+/// Refuses each member of a directory for which the plan has a refusal, and gives those that aren't shown. `hidden` are
+/// the records of those that weren't shown before. The plan stays as it is.
 ///
-/// Only memory can be lacking; then the listing and the plan may be anything.
+/// Only memory can be lacking; then the listing may be anything. One lookup for each member.
 pub(super) fn refuse_members(
     path: &DavPath,
-    plan: &mut Plan,
+    plan: &Plan,
     listing: &mut [FsResult<DirEntry>],
     hidden: &[Record],
-) -> FsResult<Vec<Record>>
+) -> FsResult<Unseen>
     requires { HaveSegmentNames listing.old }
-    ensures let_by { IfOk result (λ unseen. LetsThrough (plan_of plan.old.refusals.items) path.now listing.old hidden.now listing.new unseen.items (plan_of plan.new.refusals.items)) }
+    ensures let_by { IfOk result (λ unseen. LetsThrough (plan_in plan.now.queues) path.now listing.old hidden.now listing.new unseen.records.items (map slot_call unseen.refused.items)) }
     ensures err { IfErr result (λ e. e ≡ FsError.Memory) }
 {
     let mut rest = hidden;
-    let mut unseen = Vec::new(plan.allocator());
+    let mut unseen = Unseen::new(plan.allocator());
     for shown in listing.iter_mut() {
         match shown {
             Ok(entry) => {
@@ -33,7 +57,7 @@ pub(super) fn refuse_members(
             }
             Err(_) => {
                 if let Some((record, others)) = rest.split_first() {
-                    unseen.push(record.clone()?)?;
+                    unseen.records.push(record.clone()?)?;
                     rest = others;
                 }
             }
@@ -42,36 +66,38 @@ pub(super) fn refuse_members(
     Ok(unseen)
 }
 
-/// Takes the refusal for a member out of the plan, where there is one, and writes the member's record. Where the plan is
+/// The error that the plan refuses to show a member with, where it does; then the member is unseen. Where the plan is
 /// empty no memory is taken.
 fn refuse_member(
     path: &DavPath,
-    plan: &mut Plan,
+    plan: &Plan,
     entry: &DirEntry,
-    unseen: &mut Vec<Record>,
+    unseen: &mut Unseen,
 ) -> FsResult<Option<FsError>>
     requires { IsSegment entry.now.name }
-    ensures error { IfOk result (λ error. error ≡ refusal_for Op.Entry (Some (member path.now.key entry.now.name)) (plan_of plan.old.refusals.items)) }
-    ensures left { IfOk result (λ error. plan_of plan.new.refusals.items ≡ without_first Op.Entry (Some (member path.now.key entry.now.name)) (plan_of plan.old.refusals.items)) }
-    ensures told { IfOk result (λ error. unseen.new.items ≡ unseen.old.items ++ refused_record path.now entry.now.name error) }
+    ensures error { IfOk result (λ error. error ≡ refusal_for Op.Entry (member path.now.key entry.now.name) (plan_in plan.now.queues)) }
+    ensures told { IfOk result (λ error. unseen.new.records.items ≡ unseen.old.records.items ++ refused_record path.now entry.now.name error) }
+    ensures refused { IfOk result (λ error. map slot_call unseen.new.refused.items ≡ map slot_call unseen.old.refused.items ++ refused_call path.now.key entry.now.name error) }
     ensures err { IfErr result (λ e. e ≡ FsError.Memory) }
 {
     if plan.is_empty() {
         return Ok(None);
     }
-    let alloc = *unseen.allocator();
+    let alloc = plan.allocator();
     let mut member = path.clone()?;
     member.push_segment(entry.name.as_str())?;
     let mut paths = Vec::with_capacity(alloc, 1)?;
     paths.push(member)?;
-    let Some(error) = plan.take(Op::Entry, &paths) else {
+    let slot = Slot::of_call(Op::Entry, &paths)?;
+    let Some(error) = plan.first(&slot) else {
         return Ok(None);
     };
-    unseen.push(Record {
+    unseen.records.push(Record {
         op: Op::Entry,
         paths: Items::from_vec(paths),
         outcome: Outcome::Refused(error),
         statuses: Items::from_vec(Vec::new(alloc)),
     })?;
+    unseen.refused.push(slot)?;
     Ok(Some(error))
 }

@@ -1,12 +1,13 @@
 //! What a store that refuses is to refuse yet.
-ghost use Rattle.std.specs.Prelude.{◌≡◌, ◌-◌, ◌≤◌, [], ◌∷◌, ◌++◌, OnOk, OnErr, Some, None, IfSome, IfOk};
+ghost use Rattle.std.specs.Prelude.{◌≡◌, ◌-◌, ◌≤◌, map, OnOk, OnErr, Some, None, IfSome, IfOk};
 ghost use Rattle.std.specs.Option.{option_map};
 ghost use Rattle.std.proofs.Props.{props};
 ghost use Rattle.dav_store.specs.Calls.{IsOwn};
 
-use super::plan::{Plan, Refusal};
+use super::plan::Plan;
+use super::slot::Slot;
 use dav_resource::{DavPath, FsError, Op};
-use std::alloc::AllocError;
+use std::alloc::{AllocError, Global};
 
 /// A call that is to be refused by its number.
 #[derive(Clone, Copy, Debug)]
@@ -26,27 +27,34 @@ pub(crate) struct Pending {
 }
 
 impl Pending {
-    ghost use Rattle.dav_refusing.specs.Plans.{first_key, planned_of, plan_of};
+    ghost use Rattle.dav_refusing.specs.Plans.{first_key, no_refusals, planned_key, with_last, without_firsts};
+    ghost use Rattle.dav_refusing.specs.Slots.{slot_call};
     ghost use Rattle.dav_refusing.specs.Pending.{numbered_of, pending_of, error_now, due, after_call, passed_by};
 
-    /// A plan, and no call by its number.
-    pub(crate) fn new(plan: Plan) -> Pending
-        ensures { pending_of result ≡ record { numbered = None; plan = plan_of plan.refusals.items } }
+    /// Nothing.
+    pub(crate) fn new(alloc: Global) -> Pending
+        ensures { pending_of result ≡ record { numbered = None; plan = no_refusals } }
     {
         Pending {
             numbered: None,
-            plan,
+            plan: Plan::new(alloc),
         }
     }
 
+    /// What is planned.
+    pub(super) fn plan(&self) -> &Plan
+        ensures { result.now ≡ self.now.plan }
+    {
+        &self.plan
+    }
+
     /// Puts a refusal at the end of the plan. Only memory can be lacking, and then nothing changes.
-    pub(crate) fn add(&mut self, refusal: Refusal) -> Result<(), AllocError>
-        requires { IsOwn refusal.error }
-        ensures ok { OnOk result (pending_of self.new ≡ record (pending_of self.old) { plan = plan_of self.old.plan.refusals.items ++ planned_of refusal ∷ [] }) }
+    pub(crate) fn add(&mut self, op: Op, path: DavPath, error: FsError) -> Result<(), AllocError>
+        requires { IsOwn error }
+        ensures ok { OnOk result (pending_of self.new ≡ record (pending_of self.old) { plan = with_last op (planned_key op path.key) error (pending_of self.old).plan }) }
         ensures err { OnErr result (pending_of self.new ≡ pending_of self.old) }
     {
-        self.plan.add(refusal)?;
-        Ok(())
+        self.plan.add(op, path, error)
     }
 
     /// Has the nth call refused, counted from 1, and no other one by its number.
@@ -62,19 +70,26 @@ impl Pending {
     }
 
     /// The error that a call is to be refused with, where one is due. It is used up then, and the call is counted; else
-    /// nothing changes.
-    pub(crate) fn take(&mut self, op: Op, paths: &[DavPath]) -> Option<FsError>
-        ensures error { result ≡ due op (first_key paths.now) (pending_of self.old) }
-        ensures left { IfSome result (λ _. pending_of self.new ≡ after_call op (first_key paths.now) (pending_of self.old)) }
-        ensures kept { result ≡ None → pending_of self.new ≡ pending_of self.old }
-        ensures own { IfSome result IsOwn }
+    /// nothing changes. Only memory can be lacking, and then nothing changes either.
+    pub(crate) fn take(&mut self, op: Op, paths: &[DavPath]) -> Result<Option<FsError>, AllocError>
+        ensures error { IfOk result (λ error. error ≡ due op (first_key paths.now) (pending_of self.old)) }
+        ensures left { IfOk result (λ error. IfSome error (λ _. pending_of self.new ≡ after_call op (first_key paths.now) (pending_of self.old))) }
+        ensures kept { IfOk result (λ error. error ≡ None → pending_of self.new ≡ pending_of self.old) }
+        ensures own { IfOk result (λ error. IfSome error IsOwn) }
+        ensures err { OnErr result (pending_of self.new ≡ pending_of self.old) }
     {
         let error = match self.due_by_number() {
             Some(error) => error,
-            None => self.plan.take(op, paths)?,
+            None => {
+                let slot = Slot::of_call(op, paths)?;
+                let Some(error) = self.plan.take(&slot) else {
+                    return Ok(None);
+                };
+                error
+            }
         };
         self.count();
-        Some(error)
+        Ok(Some(error))
     }
 
     /// The error of the call that is to be refused by its number, where it is the next one.
@@ -101,17 +116,10 @@ impl Pending {
         };
     }
 
-    /// A copy of the plan. Only memory can be lacking, and of an empty plan none is taken.
-    pub(crate) fn clone_plan(&self) -> Result<Plan, AllocError>
-        ensures { IfOk result (λ copy. plan_of copy.refusals.items ≡ (pending_of self.now).plan) }
+    /// Uses up the first refusal of the plan for each of these slots.
+    pub(super) fn use_up(&mut self, slots: &[Slot])
+        ensures { pending_of self.new ≡ record (pending_of self.old) { plan = without_firsts (map slot_call slots.now) (pending_of self.old).plan } }
     {
-        self.plan.clone()
-    }
-
-    /// Puts another plan in the place of the plan.
-    pub(crate) fn keep_plan(&mut self, plan: Plan)
-        ensures { pending_of self.new ≡ record (pending_of self.old) { plan = plan_of plan.refusals.items } }
-    {
-        self.plan = plan;
+        self.plan.take_all(slots);
     }
 }

@@ -1,114 +1,100 @@
 //! The plan of a store that refuses by plan.
-ghost use Rattle.std.specs.Prelude.{◌≡◌, ◌↔◌, [], ◌∷◌, ◌++◌, All, IsTrue, IfOk, OnOk, OnErr, IfSome, position};
+ghost use Rattle.std.specs.Prelude.{◌≡◌, [], IsTrue, OnOk, OnErr, IfSome, map};
 ghost use Rattle.std.proofs.Props.{props};
 ghost use Rattle.dav_store.specs.Calls.{IsOwn};
-ghost use Rattle.dav_refusing.specs.Plans.{first_key, refuses, plan_of, refusal_for, without_first};
 
+use super::slot::Slot;
 use dav_resource::{DavPath, FsError, Op};
 use std::alloc::{AllocError, Global};
+use std::collections::{BTreeMap, VecDeque};
 
-/// A call that is to be refused.
-#[derive(Debug, Drop)]
-pub struct Refusal {
-    /// Which call; `Op::Entry` is the showing of a member in a listing.
-    pub op: Op,
-    /// The call's first path, of which the key counts; of a call on an open file the file's. Of `Op::GetQuota` any: the
-    /// call has no path.
-    pub path: DavPath,
-    /// What it is refused with.
-    pub error: FsError,
+/// An error that a store may refuse a call with of its own will.
+#[derive(Clone, Copy, Debug)]
+struct OwnError {
+    error: FsError,
+    ghost own: { IsOwn error } by { Prim.hlevel props },
 }
 
-impl Refusal {
-    /// Whether it is for a call of this kind on these paths.
-    fn is_for(&self, op: Op, paths: &[DavPath]) -> bool
-        ensures { result ≡ refuses op (first_key paths.now) self.now }
-    {
-        self.op == op
-            && match paths.first() {
-                Some(path) => self.path.segments() == path.segments(),
-                None => true,
-            }
-    }
-
-    /// A value of the same contents. Only memory can be lacking.
-    fn clone(&self) -> Result<Refusal, AllocError>
-        ensures { IfOk result (λ copy. copy ≡ self.now) }
-    {
-        Ok(Refusal {
-            op: self.op,
-            path: self.path.clone()?,
-            error: self.error,
-        })
-    }
-}
-
-/// The calls that are to be refused by a plan, those of one kind on one key in their order.
+/// The calls that are to be refused by a plan: for those of each slot their errors, the first planned first.
 #[derive(Debug, Drop)]
-pub(crate) struct Plan {
-    refusals: Vec<Refusal>,
-    ghost own: { All (λ r. IsOwn r.error) refusals.items } by { Prim.hlevel props },
+pub(super) struct Plan {
+    alloc: Global,
+    queues: BTreeMap<Slot, VecDeque<OwnError>>,
 }
 
 impl Plan {
-    /// A plan of these refusals.
-    pub(crate) fn new(refusals: Vec<Refusal>) -> Plan
-        requires { All (λ r. IsOwn r.error) refusals.items }
-        ensures { result.refusals ≡ refusals }
+    ghost use Rattle.dav_refusing.specs.Plans.{no_refusals, planned_key, refusal_for, with_last, without_first, without_firsts};
+    ghost use Rattle.dav_refusing.specs.Slots.{plan_in, slot_call, slot_key};
+
+    /// A plan that refuses nothing.
+    pub(super) fn new(alloc: Global) -> Plan
+        ensures { plan_in result.queues ≡ no_refusals }
     {
-        Plan { refusals }
+        Plan {
+            alloc,
+            queues: BTreeMap::new(alloc),
+        }
     }
 
-    /// Puts a refusal at the end. Only memory can be lacking, and then nothing changes.
-    pub(crate) fn add(&mut self, refusal: Refusal) -> Result<(), AllocError>
-        requires { IsOwn refusal.error }
-        ensures ok { OnOk result (self.new.refusals.items ≡ self.old.refusals.items ++ refusal ∷ []) }
-        ensures err { OnErr result (self.new.refusals.items ≡ self.old.refusals.items) }
+    /// Puts a refusal at the end. Only memory can be lacking, and then nothing changes. At most two lookups.
+    pub(super) fn add(&mut self, op: Op, path: DavPath, error: FsError) -> Result<(), AllocError>
+        requires { IsOwn error }
+        ensures ok { OnOk result (plan_in self.new.queues ≡ with_last op (planned_key op path.key) error (plan_in self.old.queues)) }
+        ensures err { OnErr result (plan_in self.new.queues ≡ plan_in self.old.queues) }
     {
-        self.refusals.push(refusal)?;
+        let slot = Slot::of_refusal(op, path);
+        let error = OwnError { error };
+        if let Some(queue) = self.queues.get_mut(&slot) {
+            queue.push_back(error)?;
+            return Ok(());
+        }
+        let mut queue = VecDeque::new(self.alloc);
+        queue.push_back(error)?;
+        self.queues.insert(slot, queue)?;
         Ok(())
     }
 
-    /// Takes the first refusal for a call of this kind on these paths out, and gives its error.
-    pub(crate) fn take(&mut self, op: Op, paths: &[DavPath]) -> Option<FsError>
-        ensures error { result ≡ refusal_for op (first_key paths.now) (plan_of self.old.refusals.items) }
-        ensures left { plan_of self.new.refusals.items ≡ without_first op (first_key paths.now) (plan_of self.old.refusals.items) }
+    /// The error that the next call of this slot is to be refused with, if at all. One lookup.
+    pub(super) fn first(&self, slot: &Slot) -> Option<FsError>
+        ensures error { result ≡ refusal_for slot.now.op (slot_key slot.now) (plan_in self.now.queues) }
         ensures own { IfSome result IsOwn }
     {
-        let index = index_for(&self.refusals, op, paths)?;
-        let refusal = self.refusals.remove(index);
-        Some(refusal.error)
+        let planned = self.queues.get(slot)?.front()?;
+        Some(planned.error)
+    }
+
+    /// Takes the first refusal for the calls of this slot out, and gives its error. At most two lookups.
+    pub(super) fn take(&mut self, slot: &Slot) -> Option<FsError>
+        ensures error { result ≡ refusal_for slot.now.op (slot_key slot.now) (plan_in self.old.queues) }
+        ensures left { plan_in self.new.queues ≡ without_first slot.now.op (slot_key slot.now) (plan_in self.old.queues) }
+        ensures own { IfSome result IsOwn }
+    {
+        let queue = self.queues.get_mut(slot)?;
+        let first = queue.pop_front();
+        if queue.is_empty() {
+            self.queues.remove(slot);
+        }
+        Some(first?.error)
+    }
+
+    /// Takes the first refusal for the calls of each of these slots out. At most two lookups for each.
+    pub(super) fn take_all(&mut self, slots: &[Slot])
+        ensures { plan_in self.new.queues ≡ without_firsts (map slot_call slots.now) (plan_in self.old.queues) }
+    {
+        for slot in slots {
+            self.take(slot);
+        }
     }
 
     /// Whether nothing is to be refused.
-    pub(crate) fn is_empty(&self) -> bool
-        ensures { IsTrue result ↔ plan_of self.now.refusals.items ≡ [] }
+    pub(super) fn is_empty(&self) -> bool
+        ensures { IsTrue result → plan_in self.now.queues ≡ no_refusals }
     {
-        self.refusals.is_empty()
+        self.queues.is_empty()
     }
 
     /// The allocator that the refusals are kept by.
-    pub(crate) fn allocator(&self) -> Global {
-        *self.refusals.allocator()
+    pub(super) fn allocator(&self) -> Global {
+        self.alloc
     }
-
-    /// A plan of the same refusals. Only memory can be lacking, and of an empty plan none is taken.
-    pub(crate) fn clone(&self) -> Result<Plan, AllocError>
-        ensures { IfOk result (λ copy. copy.refusals.items ≡ self.now.refusals.items) }
-    {
-        let mut refusals = Vec::new(self.allocator());
-        for refusal in &self.refusals {
-            refusals.push(refusal.clone()?)?;
-        }
-        Ok(Plan { refusals })
-    }
-}
-
-/// The place of the first refusal for a call of this kind on these paths.
-fn index_for(refusals: &[Refusal], op: Op, paths: &[DavPath]) -> Option<usize>
-    ensures { result ≡ position (refuses op (first_key paths.now)) refusals.now }
-{
-    refusals
-        .iter()
-        .position(|refusal| refusal.is_for(op, paths))
 }

@@ -1,11 +1,12 @@
-use Rattle.std.proofs.Common.{◌≡◌, ◌∙◌, Ok, Err, None, [], ◌∷◌, ◌+◌, ◌-◌, length, take, drop, refl, sym, ap, subst, arith}
+use Rattle.std.proofs.Common.{◌≡◌, ◌∙◌, Ok, Err, None, [], ◌∷◌, ◌+◌, ◌-◌, length, map, take, drop, refl, sym, ap, subst, arith}
 use Rattle.std.proofs.lemmas.List.{with_items_is}
 use Rattle.std.specs.Vec.{with_items}
 use Rattle.dav_resource.specs.declared.record.Record.{Record}
 use Rattle.dav_resource.specs.declared.record.Op.TheVariants.{ReadDir}
 use Rattle.dav_resource.specs.declared.record.Outcome.TheVariants.{Granted}
 use Rattle.dav_store.specs.Logged.{record_on}
-use Rattle.dav_refusing.specs.Plans.{first_key, plan_of, HaveSegmentNames, IsLetBy}
+use Rattle.dav_refusing.specs.Plans.{first_key, HaveSegmentNames, IsLetBy}
+use Rattle.dav_refusing.specs.Slots.{plan_in, slot_call}
 use Rattle.dav_refusing.specs.Pending.{due}
 use Rattle.dav_refusing.specs.Refusing.{pending_of, FollowsReading}
 use Rattle.dav_refusing.proofs.Refusals.{passes}
@@ -24,9 +25,9 @@ returns-in_ok-keep_listing-in-Ok-clause-plan g c =
     (subst (λ paths. due ReadDir (first_key paths) (pending_of c.args.self.now) ≡ None) c.in_ok-paths.ensures c.in_ok-call.ensures.free)
     (with_items_is c.in-Ok.listing c.refuse_members.new.listing (omega arith))
     (lists g.F.GuardedFileSystem.seen c.args.path.now c.args.self.now c.begin.new.self c.keep_listing.new.self c.read_dir.new.self c.in_ok-call.call c.in-Ok.listing.items c.refuse_members.new.listing
-    c.records-told.result.now c.records.result.now _ c.in_ok-unseen-in-Ok.unseen.items c.refuse_members.new.plan.refusals.items
+    c.records-told.result.now c.records.result.now _ c.in_ok-unseen-in-Ok.unseen.records.items (map slot_call c.in_ok-unseen-in-Ok.unseen.refused.items)
     (c.in_ok-call.ensures.call ∙ ap (λ paths. record_on ReadDir paths Granted) c.in_ok-paths.ensures) c.in_ok-call.ensures.kept c.in-Ok.ensures.granted c.records-told.ensures c.records.ensures refl
-    (λ children is. subst (λ plan. IsLetBy plan c.args.path.now children (take (length c.records.result.now - (length c.records-told.result.now + 1)) (drop (length c.records-told.result.now + 1) c.records.result.now)) c.refuse_members.new.listing c.in_ok-unseen-in-Ok.unseen.items (plan_of c.refuse_members.new.plan.refusals.items)) c.in_ok-plan-in-Ok.ensures
+    (λ children is. subst (λ plan. IsLetBy (plan_in plan.queues) c.args.path.now children (take (length c.records.result.now - (length c.records-told.result.now + 1)) (drop (length c.records-told.result.now + 1) c.records.result.now)) c.refuse_members.new.listing c.in_ok-unseen-in-Ok.unseen.records.items (map slot_call c.in_ok-unseen-in-Ok.unseen.refused.items)) c.plan.ensures
     (c.in_ok-unseen-in-Ok.ensures.let_by children (rw c.deref_mut.ensures.value is)))
     c.keep_listing.ensures.inner c.in_ok-keep_listing-in-Ok.ensures.plan c.in_ok-keep_listing-in-Ok.ensures.records)
 

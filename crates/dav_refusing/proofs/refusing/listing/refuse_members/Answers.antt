@@ -1,7 +1,8 @@
-use Rattle.std.proofs.Common.{◌∙◌, ◌∷◌, ◌<◌, ◌≤◌, length, arith, Err, Ok, ap, sym, subst, get_or}
+use Rattle.std.proofs.Common.{◌∙◌, ◌∷◌, ◌<◌, ◌≤◌, length, map, arith, Err, Ok, ap, sym, subst, get_or}
 use Rattle.std.specs.Prelude.{IfOk}
 use Rattle.dav_resource.specs.PathText.{IsSegment}
-use Rattle.dav_refusing.specs.Plans.{plan_of, shown_as}
+use Rattle.dav_refusing.specs.Plans.{shown_as}
+use Rattle.dav_refusing.specs.Slots.{plan_in, slot_call}
 use Rattle.dav_refusing.proofs.Listings.{ends, let_be_seen, still_hidden, never_unrecorded, names_stay, no_records}
 use Rattle.dav_refusing.proofs.refusing.listing.refuse_members.Goals.{in-Ok+in_ok-error-in-Ok+in-Some+in-Ok+in-Some-1, in-Ok+in_ok-error-in-Ok+in-Some+in-Ok+in-None-1, in-Ok+in_ok-error-in-Ok+in-Some+in-Err-1, in-Ok+in_ok-error-in-Ok+in_default, in-Err+in-Some-split_first+in_ok-clone-in-Err+in_ok-push-in-Err, in-Err+in_default-split_first}
 use Rattle.dav_refusing.proofs.refusing.listing.refuse_members.Goals as goal
@@ -13,48 +14,48 @@ loop-shown-preserved c =
       | in-Ok+in_ok-error-in-Ok+in-Some+in-Ok+in-Some-1 w ↦ record {
         names = names_stay c.loop-shown.shown-index c.loop-shown.listing c.match-shown.listing (Err w.in-Some.error) w.listing-is c.loop-shown.invariant.names tt;
         under = λ children is.
-            let_be_seen c.args.path.now children (plan_of c.args.plan.now.refusals.items) c.args.hidden.now c.loop-shown.shown-index c.loop-shown.listing c.match-shown.listing c.loop-shown.unseen.items (plan_of c.loop-shown.plan.refusals.items) c.loop-shown.rest.now
+            let_be_seen (plan_in c.args.plan.now.queues) c.args.path.now children c.args.hidden.now c.loop-shown.shown-index c.loop-shown.listing c.match-shown.listing c.loop-shown.unseen.records.items (map slot_call c.loop-shown.unseen.refused.items) c.loop-shown.rest.now
             c.shown-item.result (Err w.in-Some.error) c.shown-item.is inside w.listing-is (c.loop-shown.invariant.under children is)
-            w.in-Ok.entry w.in_ok-error-in-Ok.field-0 c.match-shown.unseen.items (plan_of c.match-shown.plan.refusals.items) c.match-shown.rest.now (c.shown-item.is ∙ w.in-Ok.is) (sym (ap (λ o. shown_as o w.in-Ok.entry) w.in-Some.is))
-            w.in_ok-error-in-Ok.ensures.error (ap (λ p. plan_of p.refusals.items) w.plan-is ∙ w.in_ok-error-in-Ok.ensures.left) (ap (λ v. v.items) w.unseen-is ∙ w.in_ok-error-in-Ok.ensures.told) (ap (λ v. v.now) w.rest-is);
+            w.in-Ok.entry w.in_ok-error-in-Ok.field-0 c.match-shown.unseen.records.items (map slot_call c.match-shown.unseen.refused.items) c.match-shown.rest.now (c.shown-item.is ∙ w.in-Ok.is) (sym (ap (λ o. shown_as o w.in-Ok.entry) w.in-Some.is))
+            w.in_ok-error-in-Ok.ensures.error (ap (λ u. u.records.items) w.unseen-is ∙ w.in_ok-error-in-Ok.ensures.told) (ap (λ u. map slot_call u.refused.items) w.unseen-is ∙ w.in_ok-error-in-Ok.ensures.refused) (ap (λ v. v.now) w.rest-is);
       }
       | in-Ok+in_ok-error-in-Ok+in-Some+in-Ok+in-None-1 w ↦ record {
         names = names_stay c.loop-shown.shown-index c.loop-shown.listing c.match-shown.listing (Err w.in-Some.error) w.listing-is c.loop-shown.invariant.names tt;
         under = λ children is.
-            let_be_seen c.args.path.now children (plan_of c.args.plan.now.refusals.items) c.args.hidden.now c.loop-shown.shown-index c.loop-shown.listing c.match-shown.listing c.loop-shown.unseen.items (plan_of c.loop-shown.plan.refusals.items) c.loop-shown.rest.now
+            let_be_seen (plan_in c.args.plan.now.queues) c.args.path.now children c.args.hidden.now c.loop-shown.shown-index c.loop-shown.listing c.match-shown.listing c.loop-shown.unseen.records.items (map slot_call c.loop-shown.unseen.refused.items) c.loop-shown.rest.now
             c.shown-item.result (Err w.in-Some.error) c.shown-item.is inside w.listing-is (c.loop-shown.invariant.under children is)
-            w.in-Ok.entry w.in_ok-error-in-Ok.field-0 c.match-shown.unseen.items (plan_of c.match-shown.plan.refusals.items) c.match-shown.rest.now (c.shown-item.is ∙ w.in-Ok.is) (sym (ap (λ o. shown_as o w.in-Ok.entry) w.in-Some.is))
-            w.in_ok-error-in-Ok.ensures.error (ap (λ p. plan_of p.refusals.items) w.plan-is ∙ w.in_ok-error-in-Ok.ensures.left) (ap (λ v. v.items) w.unseen-is ∙ w.in_ok-error-in-Ok.ensures.told) (ap (λ v. v.now) w.rest-is);
+            w.in-Ok.entry w.in_ok-error-in-Ok.field-0 c.match-shown.unseen.records.items (map slot_call c.match-shown.unseen.refused.items) c.match-shown.rest.now (c.shown-item.is ∙ w.in-Ok.is) (sym (ap (λ o. shown_as o w.in-Ok.entry) w.in-Some.is))
+            w.in_ok-error-in-Ok.ensures.error (ap (λ u. u.records.items) w.unseen-is ∙ w.in_ok-error-in-Ok.ensures.told) (ap (λ u. map slot_call u.refused.items) w.unseen-is ∙ w.in_ok-error-in-Ok.ensures.refused) (ap (λ v. v.now) w.rest-is);
       }
       | in-Ok+in_ok-error-in-Ok+in-Some+in-Err-1 w ↦ record {
         names = names_stay c.loop-shown.shown-index c.loop-shown.listing c.match-shown.listing (Err w.in-Some.error) w.listing-is c.loop-shown.invariant.names tt;
         under = λ children is.
-            let_be_seen c.args.path.now children (plan_of c.args.plan.now.refusals.items) c.args.hidden.now c.loop-shown.shown-index c.loop-shown.listing c.match-shown.listing c.loop-shown.unseen.items (plan_of c.loop-shown.plan.refusals.items) c.loop-shown.rest.now
+            let_be_seen (plan_in c.args.plan.now.queues) c.args.path.now children c.args.hidden.now c.loop-shown.shown-index c.loop-shown.listing c.match-shown.listing c.loop-shown.unseen.records.items (map slot_call c.loop-shown.unseen.refused.items) c.loop-shown.rest.now
             c.shown-item.result (Err w.in-Some.error) c.shown-item.is inside w.listing-is (c.loop-shown.invariant.under children is)
-            w.in-Ok.entry w.in_ok-error-in-Ok.field-0 c.match-shown.unseen.items (plan_of c.match-shown.plan.refusals.items) c.match-shown.rest.now (c.shown-item.is ∙ w.in-Ok.is) (sym (ap (λ o. shown_as o w.in-Ok.entry) w.in-Some.is))
-            w.in_ok-error-in-Ok.ensures.error (ap (λ p. plan_of p.refusals.items) w.plan-is ∙ w.in_ok-error-in-Ok.ensures.left) (ap (λ v. v.items) w.unseen-is ∙ w.in_ok-error-in-Ok.ensures.told) (ap (λ v. v.now) w.rest-is);
+            w.in-Ok.entry w.in_ok-error-in-Ok.field-0 c.match-shown.unseen.records.items (map slot_call c.match-shown.unseen.refused.items) c.match-shown.rest.now (c.shown-item.is ∙ w.in-Ok.is) (sym (ap (λ o. shown_as o w.in-Ok.entry) w.in-Some.is))
+            w.in_ok-error-in-Ok.ensures.error (ap (λ u. u.records.items) w.unseen-is ∙ w.in_ok-error-in-Ok.ensures.told) (ap (λ u. map slot_call u.refused.items) w.unseen-is ∙ w.in_ok-error-in-Ok.ensures.refused) (ap (λ v. v.now) w.rest-is);
       }
       | in-Ok+in_ok-error-in-Ok+in_default w ↦ record {
         names = names_stay c.loop-shown.shown-index c.loop-shown.listing c.match-shown.listing (Ok w.in-Ok.entry) w.listing-is c.loop-shown.invariant.names (subst (λ s. IfOk s (λ entry. IsSegment entry.name)) w.in-Ok.is (c.loop-shown.invariant.names c.loop-shown.shown-index c.shown-item.result inside));
         under = λ children is.
-            let_be_seen c.args.path.now children (plan_of c.args.plan.now.refusals.items) c.args.hidden.now c.loop-shown.shown-index c.loop-shown.listing c.match-shown.listing c.loop-shown.unseen.items (plan_of c.loop-shown.plan.refusals.items) c.loop-shown.rest.now
+            let_be_seen (plan_in c.args.plan.now.queues) c.args.path.now children c.args.hidden.now c.loop-shown.shown-index c.loop-shown.listing c.match-shown.listing c.loop-shown.unseen.records.items (map slot_call c.loop-shown.unseen.refused.items) c.loop-shown.rest.now
             c.shown-item.result (Ok w.in-Ok.entry) c.shown-item.is inside w.listing-is (c.loop-shown.invariant.under children is)
-            w.in-Ok.entry w.in_ok-error-in-Ok.field-0 c.match-shown.unseen.items (plan_of c.match-shown.plan.refusals.items) c.match-shown.rest.now (c.shown-item.is ∙ w.in-Ok.is) (sym (ap (λ o. shown_as o w.in-Ok.entry) w.in_default.is))
-            w.in_ok-error-in-Ok.ensures.error (ap (λ p. plan_of p.refusals.items) w.plan-is ∙ w.in_ok-error-in-Ok.ensures.left) (ap (λ v. v.items) w.unseen-is ∙ w.in_ok-error-in-Ok.ensures.told) (ap (λ v. v.now) w.rest-is);
+            w.in-Ok.entry w.in_ok-error-in-Ok.field-0 c.match-shown.unseen.records.items (map slot_call c.match-shown.unseen.refused.items) c.match-shown.rest.now (c.shown-item.is ∙ w.in-Ok.is) (sym (ap (λ o. shown_as o w.in-Ok.entry) w.in_default.is))
+            w.in_ok-error-in-Ok.ensures.error (ap (λ u. u.records.items) w.unseen-is ∙ w.in_ok-error-in-Ok.ensures.told) (ap (λ u. map slot_call u.refused.items) w.unseen-is ∙ w.in_ok-error-in-Ok.ensures.refused) (ap (λ v. v.now) w.rest-is);
       }
       | in-Err+in-Some-split_first+in_ok-clone-in-Err+in_ok-push-in-Err w ↦ record {
         names = names_stay c.loop-shown.shown-index c.loop-shown.listing c.match-shown.listing (get_or c.loop-shown.listing c.loop-shown.shown-index c.shown-item.result) w.listing-is c.loop-shown.invariant.names (c.loop-shown.invariant.names c.loop-shown.shown-index c.shown-item.result inside);
         under = λ children is.
-            still_hidden c.args.path.now children (plan_of c.args.plan.now.refusals.items) c.args.hidden.now c.loop-shown.shown-index c.loop-shown.listing c.match-shown.listing c.loop-shown.unseen.items (plan_of c.loop-shown.plan.refusals.items) c.loop-shown.rest.now
+            still_hidden (plan_in c.args.plan.now.queues) c.args.path.now children c.args.hidden.now c.loop-shown.shown-index c.loop-shown.listing c.match-shown.listing c.loop-shown.unseen.records.items (map slot_call c.loop-shown.unseen.refused.items) c.loop-shown.rest.now
             c.shown-item.result (get_or c.loop-shown.listing c.loop-shown.shown-index c.shown-item.result) c.shown-item.is inside w.listing-is (c.loop-shown.invariant.under children is)
-            w.in-Err.field-0 w.in_ok-clone-in-Err.field-0 c.match-shown.rest.now c.match-shown.unseen.items (plan_of c.match-shown.plan.refusals.items) (c.shown-item.is ∙ w.in-Err.is) (sym c.shown-item.is)
+            w.in-Err.field-0 w.in_ok-clone-in-Err.field-0 c.match-shown.rest.now c.match-shown.unseen.records.items (map slot_call c.match-shown.unseen.refused.items) (c.shown-item.is ∙ w.in-Err.is) (sym c.shown-item.is)
             (w.in-Some-split_first.ensures.cases.0 ∙ (λ j. sym w.in_ok-clone-in-Err.ensures j ∷ (sym w.rest-is j).now))
-            (ap (λ v. v.items) w.unseen-is ∙ w.in_ok-push-in-Err.ensures.items) (ap (λ p. plan_of p.refusals.items) w.plan-is);
+            (ap (λ u. u.records.items) w.unseen-is ∙ w.in_ok-push-in-Err.ensures.items) (ap (λ u. map slot_call u.refused.items) w.unseen-is);
       }
       | in-Err+in_default-split_first w ↦ record {
         names = names_stay c.loop-shown.shown-index c.loop-shown.listing c.match-shown.listing (get_or c.loop-shown.listing c.loop-shown.shown-index c.shown-item.result) w.listing-is c.loop-shown.invariant.names (c.loop-shown.invariant.names c.loop-shown.shown-index c.shown-item.result inside);
         under = λ children is.
-            absurd (never_unrecorded c.args.path.now children (plan_of c.args.plan.now.refusals.items) c.args.hidden.now c.loop-shown.shown-index c.loop-shown.listing c.match-shown.listing c.loop-shown.unseen.items (plan_of c.loop-shown.plan.refusals.items) c.loop-shown.rest.now
+            absurd (never_unrecorded (plan_in c.args.plan.now.queues) c.args.path.now children c.args.hidden.now c.loop-shown.shown-index c.loop-shown.listing c.match-shown.listing c.loop-shown.unseen.records.items (map slot_call c.loop-shown.unseen.refused.items) c.loop-shown.rest.now
             c.shown-item.result (get_or c.loop-shown.listing c.loop-shown.shown-index c.shown-item.result) c.shown-item.is inside w.listing-is (c.loop-shown.invariant.under children is)
             w.in-Err.field-0 (c.shown-item.is ∙ w.in-Err.is) (no_records c.loop-shown.rest.now w.in_default-split_first.ensures.cases));
       }
@@ -62,5 +63,5 @@ loop-shown-preserved c =
 
 pub returns-clause-let_by : goal.returns-clause-let_by
 returns-clause-let_by c children is =
-    ends c.args.path.now children (plan_of c.args.plan.now.refusals.items) (plan_of c.loop-shown.plan.refusals.items) c.args.hidden.now c.loop-shown.shown-index c.loop-shown.listing c.loop-shown.unseen.items c.loop-shown.rest.now
+    ends (plan_in c.args.plan.now.queues) c.args.path.now children c.args.hidden.now c.loop-shown.shown-index c.loop-shown.listing c.loop-shown.unseen.records.items (map slot_call c.loop-shown.unseen.refused.items) c.loop-shown.rest.now
     (c.loop-shown.invariant.under children is) (let all : length c.loop-shown.listing ≤ c.loop-shown.shown-index = omega arith in all)

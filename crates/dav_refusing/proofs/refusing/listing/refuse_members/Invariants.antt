@@ -1,6 +1,7 @@
-use Rattle.std.proofs.Common.{List}
+use Rattle.std.proofs.Common.{List, map}
 use Rattle.dav_store.specs.Members.{Child}
-use Rattle.dav_refusing.specs.Plans.{plan_of, HaveSegmentNames, IsListingOf}
+use Rattle.dav_refusing.specs.Plans.{HaveSegmentNames, IsListingOf}
+use Rattle.dav_refusing.specs.Slots.{plan_in, slot_call}
 use Rattle.dav_refusing.proofs.Listings.{Underway}
 use Rattle.dav_refusing.proofs.refusing.listing.refuse_members.Given as goal
 
@@ -9,5 +10,5 @@ abbrev pub invariant-loop-shown : goal.invariant-loop-shown
 invariant-loop-shown l = record {
   names : HaveSegmentNames l.listing;
   under : (children : List Child) → IsListingOf l.path.key children l.initial.listing l.hidden
-      → Underway l.path children (plan_of l.initial.plan.refusals.items) l.hidden l.shown-index l.listing l.unseen.items (plan_of l.plan.refusals.items) l.rest;
+      → Underway (plan_in l.plan.queues) l.path children l.hidden l.shown-index l.listing l.unseen.records.items (map slot_call l.unseen.refused.items) l.rest;
 }

@@ -1,24 +1,31 @@
-use Rattle.std.proofs.Common.{◌∙◌, ap, sym, Some}
-use Rattle.dav_refusing.specs.Plans.{first_key, plan_of}
-use Rattle.dav_refusing.proofs.Planning.{first_place, no_place}
+use Rattle.std.proofs.Common.{◌∙◌, ap}
+use Rattle.dav_refusing.specs.Slots.{plan_in}
+use Rattle.dav_refusing.specs.declared.refusing.plan.Plan.{Plan}
+use Rattle.dav_refusing.proofs.Queues.{none-planned, plan-removed, plan-taken}
+use Rattle.dav_refusing.proofs.refusing.plan.Plan.take.Goals.{then-is_empty+in-Some-1, then-is_empty+in-None-1, else-is_empty}
 use Rattle.dav_refusing.proofs.refusing.plan.Plan.take.Goals as goal
 
-pub returns-in_err-index-clause-error : goal.returns-in_err-index-clause-error
-returns-in_err-index-clause-error c =
-    let free = no_place c.args.op (first_key c.args.paths.now) c.args.self.now.refusals.items c.index_for.result (rw c.deref.ensures.value at c.index_for.ensures) c.in_err-index.was in
-    c.from_residual.ensures ∙ sym free.none
+pub returns-in_err-queue-clause-left : goal.returns-in_err-queue-clause-left
+returns-in_err-queue-clause-left c = none-planned c.args.slot.now c.args.self.now.queues c.get_mut.follows.lender-at-none c.in_err-queue.ensures.value c.get_mut.follows.holds-at-none
 
-pub returns-in_err-index-clause-left : goal.returns-in_err-index-clause-left
-returns-in_err-index-clause-left c =
-    let free = no_place c.args.op (first_key c.args.paths.now) c.args.self.now.refusals.items c.index_for.result (rw c.deref.ensures.value at c.index_for.ensures) c.in_err-index.was in
-    sym free.left
-
-pub returns-clause-error : goal.returns-clause-error
-returns-clause-error c =
-    let place = first_place c.args.op (first_key c.args.paths.now) c.args.self.now.refusals.items c.index_for.result c.in_ok-index.index (rw c.deref.ensures.value at c.index_for.ensures) c.in_ok-index.was in
-    ap (λ r. Some r.error) c.remove-refusal.ensures.value ∙ sym (place.found c.remove-refusal.result)
+pub returns-in_err-first-clause-left : goal.returns-in_err-first-clause-left
+returns-in_err-first-clause-left c =
+    elim c.if-is_empty.branch [
+      | then-is_empty+in-Some-1 w ↦ ap (λ (p : Plan). plan_in p.queues) w.self-is
+          ∙ plan-removed c.args.slot.now c.args.self.now.queues c.in_ok-queue.queue.now c.pop_front-first.new.self (c.get_mut.follows.lender c.pop_front-first.new.self) c.in_ok-queue.ensures.value (c.get_mut.follows.holds c.pop_front-first.new.self) w.remove.new.self c.pop_front-first.ensures.rest c.is_empty.result c.is_empty.ensures w.if-is_empty.true w.remove.ensures.updates
+      | then-is_empty+in-None-1 w ↦ ap (λ (p : Plan). plan_in p.queues) w.self-is
+          ∙ plan-removed c.args.slot.now c.args.self.now.queues c.in_ok-queue.queue.now c.pop_front-first.new.self (c.get_mut.follows.lender c.pop_front-first.new.self) c.in_ok-queue.ensures.value (c.get_mut.follows.holds c.pop_front-first.new.self) w.remove.new.self c.pop_front-first.ensures.rest c.is_empty.result c.is_empty.ensures w.if-is_empty.true w.remove.ensures.updates
+      | else-is_empty w ↦ ap (λ (p : Plan). plan_in p.queues) w.self-is
+          ∙ plan-taken c.args.slot.now c.args.self.now.queues c.in_ok-queue.queue.now c.pop_front-first.new.self (c.get_mut.follows.lender c.pop_front-first.new.self) c.in_ok-queue.ensures.value (c.get_mut.follows.holds c.pop_front-first.new.self) c.pop_front-first.ensures.rest
+    ]
 
 pub returns-clause-left : goal.returns-clause-left
 returns-clause-left c =
-    let place = first_place c.args.op (first_key c.args.paths.now) c.args.self.now.refusals.items c.index_for.result c.in_ok-index.index (rw c.deref.ensures.value at c.index_for.ensures) c.in_ok-index.was in
-    ap plan_of c.remove-refusal.ensures.items ∙ place.left
+    elim c.if-is_empty.branch [
+      | then-is_empty+in-Some-1 w ↦ ap (λ (p : Plan). plan_in p.queues) w.self-is
+          ∙ plan-removed c.args.slot.now c.args.self.now.queues c.in_ok-queue.queue.now c.pop_front-first.new.self (c.get_mut.follows.lender c.pop_front-first.new.self) c.in_ok-queue.ensures.value (c.get_mut.follows.holds c.pop_front-first.new.self) w.remove.new.self c.pop_front-first.ensures.rest c.is_empty.result c.is_empty.ensures w.if-is_empty.true w.remove.ensures.updates
+      | then-is_empty+in-None-1 w ↦ ap (λ (p : Plan). plan_in p.queues) w.self-is
+          ∙ plan-removed c.args.slot.now c.args.self.now.queues c.in_ok-queue.queue.now c.pop_front-first.new.self (c.get_mut.follows.lender c.pop_front-first.new.self) c.in_ok-queue.ensures.value (c.get_mut.follows.holds c.pop_front-first.new.self) w.remove.new.self c.pop_front-first.ensures.rest c.is_empty.result c.is_empty.ensures w.if-is_empty.true w.remove.ensures.updates
+      | else-is_empty w ↦ ap (λ (p : Plan). plan_in p.queues) w.self-is
+          ∙ plan-taken c.args.slot.now c.args.self.now.queues c.in_ok-queue.queue.now c.pop_front-first.new.self (c.get_mut.follows.lender c.pop_front-first.new.self) c.in_ok-queue.ensures.value (c.get_mut.follows.holds c.pop_front-first.new.self) c.pop_front-first.ensures.rest
+    ]

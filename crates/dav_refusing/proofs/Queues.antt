@@ -1,0 +1,116 @@
+-- Plans as the code keeps them: queues of errors by slots.
+use Rattle.std.proofs.Common.{◌≡◌, ◌∙◌, Bool, true, false, cond, List, [], ◌∷◌, ◌++◌, Option, Some, None, String, refl, sym, ap, drop, slice_get, subst, ◌==◌, ◌&&◌}
+use Rattle.std.specs.declared.alloc.Global.{Global}
+use Rattle.std.specs.Ordering.{nat_cmp, eq_by_cmp, ordering_then}
+use Rattle.std.specs.Cmp.{tied_then, unsigned_tied}
+use Rattle.std.specs.Cmp.Lexicographic.{slice_cmp}
+use Rattle.std.specs.String.{string_cmp}
+use Rattle.std.proofs.lemmas.Bool.{eqb-true}
+use Rattle.std.proofs.lemmas.List.{nil_from_length}
+use Rattle.std.specs.Option.{IsSome}
+use Rattle.std.specs.VecDeque.{deque_len}
+use Rattle.std.specs.BTreeMap.{BTreeMap, is_at, get, get_by, UpdatesBy, WritesThrough}
+use Rattle.dav_resource.specs.Key.{Key, key_cmp}
+use Rattle.dav_resource.specs.Texts.{texts}
+use Rattle.dav_resource.specs.declared.record.Op.{Op}
+use Rattle.dav_resource.specs.declared.error.FsError.{FsError}
+use Rattle.dav_store.specs.Calls.{IsOwn}
+use Rattle.dav_refusing.specs.Plans.{is_for, place_of_op, refusal_for, with_errors, without_first, with_last}
+use Rattle.dav_refusing.specs.Slots.{Queue, slot_key, slot_cmp, slot_at, errors_of, errors_in, plan_in}
+use Rattle.dav_refusing.specs.declared.refusing.slot.Slot.{Slot}
+use Rattle.dav_refusing.specs.declared.refusing.plan.OwnError.{OwnError}
+use Rattle.dav_refusing.proofs.Planning.{with_errors-same, without-none}
+
+-- ---- the order of slots
+
+-- segments compare as the key that they are
+pub texts_cmp : (a b : List (String Global)) → slice_cmp string_cmp a b ≡ key_cmp (texts a) (texts b)
+texts_cmp [] [] = refl
+texts_cmp [] (y ∷ ys) = refl
+texts_cmp (x ∷ xs) [] = refl
+texts_cmp (x ∷ xs) (y ∷ ys) = ap (ordering_then (string_cmp x y)) (texts_cmp xs ys)
+
+-- a slot is at another where calls of both go by the same errors
+slot-is_for : (slot : Slot) (op : Op) (key : Key) → is_at (slot_cmp slot) (slot_at op key) ≡ is_for slot.op (slot_key slot) op key
+slot-is_for slot op key =
+    sym (tied_then (nat_cmp (place_of_op slot.op) (place_of_op op)) (key_cmp (slot_key slot) key))
+    ∙ ap (λ b. b && eq_by_cmp key_cmp (slot_key slot) key) (unsigned_tied (place_of_op slot.op) (place_of_op op))
+
+-- ---- one queue
+
+errors_in-cond : (b : Bool) (v w : Option Queue) → errors_in (cond b v w) ≡ cond b (errors_in v) (errors_in w)
+errors_in-cond true v w = refl
+errors_in-cond false v w = refl
+
+-- the plan once one slot has another queue, or none
+pub plan-set : (slot : Slot) (w : Option Queue) (m n : BTreeMap Slot Queue) → UpdatesBy slot_cmp (slot_cmp slot) m n w → plan_in n ≡ with_errors slot.op (slot_key slot) (errors_in w) (plan_in m)
+plan-set slot w m n u = λ i op key. here op key i
+  where
+    here : (op : Op) (key : Key) → plan_in n op key ≡ with_errors slot.op (slot_key slot) (errors_in w) (plan_in m) op key
+    here op key =
+        ap errors_in (u.0 (slot_at op key))
+        ∙ errors_in-cond (is_at (slot_cmp slot) (slot_at op key)) w (get slot_cmp m (slot_at op key))
+        ∙ ap (λ b. cond b (errors_in w) (plan_in m op key)) (slot-is_for slot op key)
+
+-- ---- the errors of a queue
+
+pub errors-drop : (errors : List OwnError) → errors_of (drop 1 errors) ≡ drop 1 (errors_of errors)
+errors-drop [] = refl
+errors-drop (e ∷ errors) = refl
+
+pub errors-push : (errors : List OwnError) (e : OwnError) → errors_of (errors ++ e ∷ []) ≡ errors_of errors ++ e.error ∷ []
+errors-push [] e = refl
+errors-push (x ∷ errors) e = ap (λ xs. x.error ∷ xs) (errors-push errors e)
+
+-- ---- what happens to the queue of one slot
+
+module _ (slot : Slot) (m : BTreeMap Slot Queue) where
+  -- where there is none
+  pub none-planned : (n : BTreeMap Slot Queue) → None ≡ get_by (slot_cmp slot) m → n ≡ m → plan_in n ≡ without_first slot.op (slot_key slot) (plan_in m)
+  none-planned n none same = ap plan_in same ∙ sym (without-none slot.op (slot_key slot) (plan_in m) (ap (λ queue. slice_get (errors_in queue) 0) (sym none)))
+
+  pub plan-begun : (before w : Queue) (e : OwnError) (same n : BTreeMap Slot Queue) → None ≡ get_by (slot_cmp slot) m → same ≡ m → UpdatesBy slot_cmp (slot_cmp slot) same n (Some w)
+      → before.items ≡ [] → w.items ≡ before.items ++ e ∷ []
+      → plan_in n ≡ with_last slot.op (slot_key slot) e.error (plan_in m)
+  plan-begun before w e same n none is u empty one =
+      plan-set slot (Some w) same n u
+      ∙ ap (λ old. with_errors slot.op (slot_key slot) (errors_of w.items) (plan_in old)) is
+      ∙ ap (λ errors. with_errors slot.op (slot_key slot) errors (plan_in m)) (ap errors_of one ∙ ap (λ es. errors_of (es ++ e ∷ [])) empty ∙ ap (λ queue. errors_in queue ++ e.error ∷ []) none)
+
+  -- where this one is lent, and another written in its place
+  module _ (queue w : Queue) (n : BTreeMap Slot Queue) (found : Some queue ≡ get_by (slot_cmp slot) m) (written : WritesThrough slot_cmp (slot_cmp slot) m w n) where
+    updated : UpdatesBy slot_cmp (slot_cmp slot) m n (Some w)
+    updated = written.3 (subst IsSome found refl)
+
+    now-planned : (errors : List FsError) → errors_of w.items ≡ errors → plan_in n ≡ with_errors slot.op (slot_key slot) errors (plan_in m)
+    now-planned errors is = plan-set slot (Some w) m n updated ∙ ap (λ es. with_errors slot.op (slot_key slot) es (plan_in m)) is
+
+    pub plan-kept : w.items ≡ queue.items → plan_in n ≡ plan_in m
+    plan-kept is = now-planned (errors_of queue.items) (ap errors_of is) ∙ with_errors-same slot.op (slot_key slot) (errors_of queue.items) (plan_in m) (ap errors_in (sym found))
+
+    pub plan-pushed : (e : OwnError) → w.items ≡ queue.items ++ e ∷ [] → plan_in n ≡ with_last slot.op (slot_key slot) e.error (plan_in m)
+    plan-pushed e is = now-planned (plan_in m slot.op (slot_key slot) ++ e.error ∷ []) (ap errors_of is ∙ errors-push queue.items e ∙ ap (λ q. errors_in q ++ e.error ∷ []) found)
+
+    pub plan-taken : w.items ≡ drop 1 queue.items → plan_in n ≡ without_first slot.op (slot_key slot) (plan_in m)
+    plan-taken is = now-planned (drop 1 (plan_in m slot.op (slot_key slot))) (ap errors_of is ∙ errors-drop queue.items ∙ ap (λ q. drop 1 (errors_in q)) found)
+
+    -- a queue without errors may go
+    pub plan-removed : (o : BTreeMap Slot Queue) → w.items ≡ drop 1 queue.items → (is_empty : Bool) → is_empty ≡ (deque_len w == 0) → is_empty ≡ true → UpdatesBy slot_cmp (slot_cmp slot) n o None → plan_in o ≡ without_first slot.op (slot_key slot) (plan_in m)
+    plan-removed o is is_empty tested empty removed =
+        plan-set slot None n o removed
+        ∙ with_errors-same slot.op (slot_key slot) [] (plan_in n) (ap errors_in updated.1 ∙ ap errors_of (nil_from_length w.items (sym w.ok.0 ∙ eqb-true (deque_len w) 0 (sym tested ∙ empty))))
+        ∙ plan-taken is
+
+-- ---- the errors are the store's own
+
+pub own_first_of : (errors : List OwnError) (e : FsError) → slice_get (errors_of errors) 0 ≡ Some e → IsOwn e
+own_first_of [] e is = absurd cc
+own_first_of (x ∷ errors) e is = let same : x.error ≡ e = cc in subst IsOwn same x.own
+
+-- each refusal of the plan is with an error of the store's own
+pub own_planned : (queues : BTreeMap Slot Queue) (op : Op) (key : Key) (e : FsError) → refusal_for op key (plan_in queues) ≡ Some e → IsOwn e
+own_planned queues op key = by_queue (get slot_cmp queues (slot_at op key))
+  where
+    by_queue : (queue : Option Queue) (e : FsError) → slice_get (errors_in queue) 0 ≡ Some e → IsOwn e
+    by_queue None e is = absurd cc
+    by_queue (Some queue) e is = own_first_of queue.items e is

@@ -1,0 +1,52 @@
+-- A plan of refusals as the code keeps it: this project's own choice.
+use Rattle.std.specs.Prelude.{List, [], map, Option, Some, None}
+use Rattle.std.specs.declared.collections.VecDeque.{VecDeque}
+use Rattle.std.specs.declared.alloc.Global.{Global}
+use Rattle.std.specs.declared.cmp.Ordering.{Ordering}
+use Rattle.std.specs.Ordering.{nat_cmp, on, then_cmp}
+use Rattle.std.specs.Cmp.{IsTotalOrder, nat_cmp_total, on_total, then_total}
+use Rattle.std.specs.BTreeMap.{BTreeMap, get}
+use Rattle.dav_resource.specs.Key.{Key, key_cmp, key_cmp_total}
+use Rattle.dav_resource.specs.PathText.{PathValue}
+use Rattle.dav_resource.specs.PathForms.{root_path}
+use Rattle.dav_resource.specs.declared.record.Op.{Op}
+use Rattle.dav_resource.specs.declared.error.FsError.{FsError}
+use Rattle.dav_refusing.specs.Plans.{Plan, Call, place_of_op}
+use Rattle.dav_refusing.specs.declared.refusing.slot.Slot.{Slot}
+use Rattle.dav_refusing.specs.declared.refusing.plan.OwnError.{OwnError}
+
+-- a path's key; where there is no path, the root's
+abbrev pub path_key : Option PathValue → Key
+path_key None = []
+path_key (Some path) = path.key
+
+abbrev pub slot_key : Slot → Key
+slot_key slot = path_key slot.path
+
+abbrev pub slot_call : Slot → Call
+slot_call slot = (slot.op, slot_key slot)
+
+-- by the kind of call, and then by the key
+abbrev pub slot_cmp : Slot → Slot → Ordering
+slot_cmp = then_cmp (on (λ (s : Slot). place_of_op s.op) nat_cmp) (on slot_key key_cmp)
+
+pub slot_cmp_total : IsTotalOrder slot_cmp
+slot_cmp_total = then_total (on_total (λ (s : Slot). place_of_op s.op) nat_cmp_total) (on_total slot_key key_cmp_total)
+
+-- the slot of the calls of one kind on one key
+abbrev pub slot_at : Op → Key → Slot
+slot_at op key = record { op = op; path = Some (record root_path { key = key }) }
+
+abbrev pub Queue : Type 0
+Queue = VecDeque OwnError Global
+
+abbrev pub errors_of : List OwnError → List FsError
+errors_of errors = map (λ (e : OwnError). e.error) errors
+
+-- the errors of a queue, where there is one
+abbrev pub errors_in : Option Queue → List FsError
+errors_in None = []
+errors_in (Some queue) = errors_of queue.items
+
+abbrev pub plan_in : BTreeMap Slot Queue → Plan
+plan_in queues op key = errors_in (get slot_cmp queues (slot_at op key))

@@ -1,0 +1,95 @@
+//! The calls of a store that go by the same refusals of a plan.
+ghost use Rattle.std.specs.Prelude.{◌≡◌, IfOk, refl};
+ghost use Rattle.std.specs.Ordering.{eq_by_cmp, as_partial_cmp};
+ghost use Rattle.std.specs.Cmp.{eq_by_cmp_equiv, partial_equiv_from_equiv, partial_order_from_total};
+ghost use Rattle.dav_resource.specs.Texts.{texts};
+ghost use Rattle.dav_refusing.specs.Plans.{first_key, planned_key};
+ghost use Rattle.dav_refusing.specs.Slots.{slot_call, slot_cmp, slot_cmp_total, slot_key};
+
+use dav_resource::{DavPath, Op};
+use std::alloc::AllocError;
+use std::cmp::Ordering;
+
+/// The calls of one kind whose first paths have one key. Those of `Op::GetQuota` have no path.
+///
+/// Slots are ordered by the kinds of calls and then by the keys; nothing else of a path counts.
+#[derive(Debug, Drop)]
+pub(super) struct Slot {
+    op: Op,
+    path: Option<DavPath>,
+}
+
+impl Slot {
+    /// The slot of a call of this kind on these paths. It takes no memory, as both have the path's segments in common;
+    /// the error stands for more copies of a path at once than a `usize` counts.
+    pub(super) fn of_call(op: Op, paths: &[DavPath]) -> Result<Slot, AllocError>
+        ensures { IfOk result (λ slot. slot_call slot ≡ (op, first_key paths.now)) }
+    {
+        let path = match paths.first() {
+            Some(path) => Some(path.clone()?),
+            None => None,
+        };
+        Ok(Slot { op, path })
+    }
+
+    /// The slot of the calls that a refusal of this kind at this path is for.
+    pub(super) fn of_refusal(op: Op, path: DavPath) -> Slot
+        ensures { slot_call result ≡ (op, planned_key op path.key) }
+    {
+        let path = match op {
+            Op::GetQuota => None,
+            _ => Some(path),
+        };
+        Slot { op, path }
+    }
+
+    /// The segments of the key, first to last; where there is no path, none.
+    fn key(&self) -> &[String]
+        ensures { texts result.now ≡ slot_key self.now }
+    {
+        match &self.path {
+            Some(path) => path.segments(),
+            None => &[],
+        }
+    }
+}
+
+impl PartialEq for Slot {
+    ghost eq = { eq_by_cmp slot_cmp };
+
+    ghost laws = { partial_equiv_from_equiv (eq_by_cmp_equiv slot_cmp_total) };
+
+    fn eq(&self, other: &Slot) -> bool {
+        self.cmp(other).is_eq()
+    }
+}
+
+impl Eq for Slot {
+    ghost laws = { eq_by_cmp_equiv slot_cmp_total };
+}
+
+impl PartialOrd for Slot {
+    ghost partial_cmp = { as_partial_cmp slot_cmp };
+
+    ghost laws = { partial_order_from_total slot_cmp_total };
+
+    fn partial_cmp(&self, other: &Slot) -> Option<Ordering> {
+        Some(self.cmp(other))
+    }
+}
+
+impl Ord for Slot {
+    ghost cmp = { slot_cmp };
+
+    ghost total = { slot_cmp_total };
+
+    ghost matches_partial_cmp = { λ a b. refl };
+
+    ghost matches_eq = { λ a b. refl };
+
+    fn cmp(&self, other: &Slot) -> Ordering {
+        (self.op as u8)
+            .cmp(&(other.op as u8))
+            .then(self.key().cmp(other.key()))
+    }
+}
