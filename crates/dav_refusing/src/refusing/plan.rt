@@ -86,7 +86,7 @@ impl Plan {
         }
     }
 
-    /// Whether nothing is to be refused.
+    /// Whether there is no queue, so that nothing is to be refused.
     pub(super) fn is_empty(&self) -> bool
         ensures { IsTrue result → plan_in self.now.queues ≡ no_refusals }
     {
