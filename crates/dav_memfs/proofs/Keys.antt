@@ -1,5 +1,5 @@
 -- Keys in the code.
-use Rattle.std.proofs.Common.{not, ◌≡◌, ◌≢◌, ◌∙◌, ◌==◌, length, arith, sym, List, [], ◌∷◌, ◌&&◌, Bool, true, false, refl, ap}
+use Rattle.std.proofs.Common.{not, ◌≡◌, ◌≢◌, ◌∙◌, ◌==◌, length, arith, sym, List, [], ◌∷◌, ◌&&◌, Bool, true, false, ap}
 use Rattle.std.specs.Prelude.{String}
 use Rattle.std.specs.declared.alloc.Global.{Global}
 use Rattle.std.specs.Bool.{Decides}

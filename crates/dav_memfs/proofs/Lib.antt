@@ -6,6 +6,7 @@ pub mod Answering
 pub mod MemoryListings
 pub mod OrderedKeys
 pub mod PropertyMaps
+pub mod Patching
 pub mod OwnKeys
 pub mod Counting
 pub mod Changing

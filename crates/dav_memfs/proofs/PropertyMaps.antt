@@ -1,6 +1,6 @@
 -- How what contracts see of dead properties follows the ordered map that a store in memory keeps them in.
-use Rattle.std.specs.Prelude.{◌≡◌, Bool, true, false, cond, List, [], ◌∷◌, Option, Some, None, String, string_bytes, string_cmp}
-use Rattle.std.proofs.Common.{ap, sym, subst, refl, ◌∙◌, ℕ, ◌==◌, ◌↔◌, IsTrue, length, arith, eq-eqb}
+use Rattle.std.specs.Prelude.{◌≡◌, Bool, true, false, cond, if◌then◌else◌, List, [], ◌∷◌, Option, Some, None, is_some, String, string_bytes, string_cmp}
+use Rattle.std.proofs.Common.{ap, sym, refl, ◌∙◌, ℕ, ◌==◌, ◌↔◌, IsTrue, length, arith, eq-eqb}
 use Rattle.std.proofs.lemmas.Bool.Decides.{nat_tests}
 use Rattle.std.proofs.lemmas.List.{length-map}
 use Rattle.std.specs.declared.alloc.Global.{Global}
@@ -19,6 +19,7 @@ use Rattle.dav_memfs.specs.EachLaws.{find_below, both_parts, or_none}
 use Rattle.dav_memfs.specs.OrderedMaps.{seen_entries, OrdersAs}
 use Rattle.dav_store.specs.Store.{PropertyMap, property_key}
 use Rattle.dav_memfs.specs.PropertyNames.{key_of, name_cmp, properties_of}
+use Rattle.dav_memfs.specs.Patching.{ArePut}
 use Rattle.dav_memfs.specs.declared.memory.properties.PropertyName.{PropertyName}
 use Rattle.dav_memfs.proofs.OrderedKeys.{get-seen, insert-map, remove-map, entries-map}
 use lib.Dec.{T}
@@ -93,12 +94,36 @@ get-put_all m (e ∷ es) q sorted =
     ∙ ap (option_or (find key_cmp q es)) (fin.get-insert key_cmp_total m e.0 e.1 q)
     ∙ put_step m q e es (eq_by_cmp key_cmp q e.0) refl p.0
 
--- all properties put into an empty map give the properties again
-pub put_all-properties_of : (m : BTreeMap PropertyName Tree) → IsOrdered name_cmp m → put_all fin.empty (seen_entries key_of m.entries) ≡ properties_of m
-put_all-properties_of m ordered =
-    let es = seen_entries key_of m.entries in
-    let sorted : T (is_sorted key_cmp es) = subst (λ fs. T (is_sorted key_cmp fs)) (entries-properties_of m ordered) (fin.entries_sorted (properties_of m)) in
-    fin.same_map key_cmp_total key_cmp_exact _ _ (λ q. get-put_all fin.empty es q sorted
-    ∙ ap (option_or (find key_cmp q es)) (fin.get-empty key_cmp q)
-    ∙ or_none (find key_cmp q es)
-    ∙ sym (fin.get-from_entries key_cmp_total es q))
+-- all entries of one map are put into another
+pub are-put : (these old new : PropertyMap) → new ≡ put_all old (fin.entries these) → ArePut these old new
+are-put these old new is q =
+    ap (λ m. fin.get m q) is
+    ∙ get-put_all old (fin.entries these) q (fin.entries_sorted these)
+    ∙ ap (λ o. option_or o (fin.get old q)) (sym (fin.get-entries these q))
+
+-- properties put into an empty map give the properties again
+pub put-into-none : (these new : PropertyMap) → ArePut these fin.empty new → new ≡ these
+put-into-none these new put = fin.same_map key_cmp_total key_cmp_exact _ _ (λ q. put q ∙ ap (option_or (fin.get these q)) (fin.get-empty key_cmp q) ∙ or_none (fin.get these q))
+
+-- the entry that is put isn't at a name that none of the entries has
+pub kept-step : (m : PropertyMap) (q : Key) (e : Key × Tree) (es : List (Key × Tree)) (was : Option Tree) → (find key_cmp q (e ∷ es) ≡ None) × (fin.get m q ≡ was)
+    → (find key_cmp q es ≡ None) × (fin.get (fin.insert m e.0 e.1) q ≡ was)
+kept-step m q e es was (none, same) = by (eq_by_cmp key_cmp q e.0) none (fin.get-insert key_cmp_total m e.0 e.1 q)
+  where
+    by : (b : Bool) → cond b (Some e.1) (find key_cmp q es) ≡ None → fin.get (fin.insert m e.0 e.1) q ≡ cond b (Some e.1) (fin.get m q) → (find key_cmp q es ≡ None) × (fin.get (fin.insert m e.0 e.1) q ≡ was)
+    by true n is = absurd cc
+    by false n is = (n, is ∙ same)
+
+-- ---- properties that are taken out of a map one after another
+
+-- what a name has once the names of these entries are taken out
+abbrev pub but : {X : Type 0} → List (Key × X) → Key → Option Tree → Option Tree
+but es q there = if is_some (find key_cmp q es) then None else there
+
+pub taken-step : {X : Type 0} (m : PropertyMap) (q : Key) (e : Key × X) (es : List (Key × X)) → but es q (fin.get (fin.remove m e.0) q) ≡ but (e ∷ es) q (fin.get m q)
+taken-step {X} m q e es = ap (but es q) (fin.get-remove key_cmp_total m e.0 q) ∙ by (eq_by_cmp key_cmp q e.0) (find key_cmp q es)
+  where
+    by : (b : Bool) (found : Option X) → cond (is_some found) None (cond b None (fin.get m q)) ≡ cond (is_some (cond b (Some e.1) found)) None (fin.get m q)
+    by true None = refl
+    by true (Some x) = refl
+    by false found = refl

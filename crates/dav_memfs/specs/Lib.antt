@@ -3,6 +3,7 @@ pub mod EachLaws
 pub mod MemoryCalls
 pub mod OrderedMaps
 pub mod PropertyNames
+pub mod Patching
 pub mod Codes
 pub mod Entries
 pub mod Hop

@@ -279,7 +279,8 @@ impl<C> GuardedFileSystem<C> for MemFs {
         self.end_record(Op::GetProps, paths, answer)
     }
 
-    /// Costs the properties of the path, before and after.
+    /// Costs for each change at most two copies of its property, and a few lookups among the path's properties and
+    /// among the changes. A property that isn't changed costs nothing.
     fn patch_props(
         &mut self,
         path: &DavPath,

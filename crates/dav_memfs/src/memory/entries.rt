@@ -4,13 +4,14 @@ ghost use Rattle.std.specs.Option.{option_copied};
 ghost use Rattle.std.specs.FinMap as map;
 ghost use Rattle.dav_resource.specs.Texts.{texts};
 ghost use Rattle.dav_store.specs.Calls.{bytes_at, written_at};
+ghost use Rattle.dav_store.specs.PropertyCalls.{patched};
 ghost use Rattle.dav_memfs.specs.Memory.{Stored, used_by, is_directory, change_at, with_bytes, with_properties};
 
 mod listing;
 mod renaming;
 
 use super::entry::Entry;
-use super::properties::Properties;
+use dav_resource::DavProp;
 use std::alloc::{AllocError, Global};
 use std::collections::BTreeMap;
 use std::marker::Model;
@@ -142,12 +143,15 @@ impl Entries {
         Ok(())
     }
 
-    /// Gives what is kept at a key these properties in the place of its own. One lookup.
-    pub fn set_properties(&mut self, key: &[String], properties: Properties)
-        ensures { self.new ≡ change_at (texts key.now) (with_properties properties) self.old }
+    /// Sets and removes properties of what is kept at a key, in order. Only memory can be lacking, and then
+    /// nothing changes. One lookup, and what `Properties::patch` costs.
+    pub fn patch(&mut self, key: &[String], patches: &[(bool, DavProp)]) -> Result<(), AllocError>
+        ensures ok { OnOk result (self.new ≡ change_at (texts key.now) (λ s. with_properties (patched patches.now s.properties) s) self.old) }
+        ensures err { OnErr result (self.new ≡ self.old) }
     {
         if let Some(entry) = self.map.get_mut(key) {
-            entry.set_properties(properties);
+            entry.patch(patches)?;
         }
+        Ok(())
     }
 }

@@ -3,11 +3,12 @@ ghost use Rattle.std.specs.Prelude.{◌≡◌, ◌<◌, ◌+◌, ◌^◌, IfOk, 
 ghost use Rattle.std.specs.Option.{option_copied, option_map};
 ghost use Rattle.dav_store.specs.Store.{File, Directory};
 ghost use Rattle.dav_store.specs.Calls.{bytes_at, written_at};
+ghost use Rattle.dav_store.specs.PropertyCalls.{patched};
 ghost use Rattle.dav_memfs.specs.Memory.{is_directory, size_of, tag_text, meta_of, fresh, with_bytes, with_properties};
 ghost use Rattle.dav_memfs.specs.Dump.{node_of};
 
 use super::properties::Properties;
-use dav_resource::{Meta, Text};
+use dav_resource::{DavProp, Meta, Text};
 use std::alloc::{AllocError, Global};
 use std::marker::Model;
 
@@ -102,11 +103,12 @@ impl Entry {
         &self.properties
     }
 
-    /// Gives it these properties in the place of its own.
-    pub fn set_properties(&mut self, properties: Properties)
-        ensures { self.new ≡ with_properties properties self.old }
+    /// Changes its properties, as `Properties::patch` does.
+    pub fn patch(&mut self, patches: &[(bool, DavProp)]) -> Result<(), AllocError>
+        ensures ok { OnOk result (self.new ≡ with_properties (patched patches.now self.old.properties) self.old) }
+        ensures err { OnErr result (self.new ≡ self.old) }
     {
-        self.properties = properties;
+        self.properties.patch(patches)
     }
 
     /// What is known of it. Only memory can be lacking.

@@ -38,8 +38,8 @@ impl MemFs {
         }
     }
 
-    /// Sets and removes properties, in order. The changed properties are made apart, and put in the place of
-    /// the others once nothing can fail.
+    /// Sets and removes properties, in order. Only memory can be lacking, and then nothing changes. Costs what
+    /// `Properties::patch` does.
     pub(super) fn patch(
         &mut self,
         path: &DavPath,
@@ -49,12 +49,11 @@ impl MemFs {
         ensures statuses { IfOk result (λ statuses. statuses.items ≡ replicate (length patches.now) 200) }
         ensures patched { Gives (properties_error path.now.key (memory_of self.old)) (with_patches path.now.key patches.now) (memory_of self.old) result (memory_of self.new) }
     {
-        let Some(entry) = self.entries.get(path.segments()) else {
+        if self.entries.get(path.segments()).is_none() {
             return Err(FsError::NotFound);
-        };
-        let properties = entry.properties().patched(patches)?;
+        }
         let statuses = all_ok(*self.log.allocator(), patches.len())?;
-        self.entries.set_properties(path.segments(), properties);
+        self.entries.patch(path.segments(), patches)?;
         Ok(statuses)
     }
 }

@@ -1,10 +1,14 @@
 //! The dead properties of a resource that a store in memory keeps.
-ghost use Rattle.std.specs.Prelude.{◌≡◌, ◌==◌, Some, IfOk, OnOk, string_bytes};
+ghost use Rattle.std.specs.Prelude.{◌≡◌, ◌==◌, Some, IfOk, OnOk, OnErr, is_some, string_bytes};
 ghost use Rattle.std.specs.Option.{option_copied, option_map};
 ghost use Rattle.std.specs.FinMap as map;
-ghost use Rattle.dav_store.specs.PropertyCalls.{name_of, named_element, patch, patched};
+ghost use Rattle.dav_store.specs.Below.{put_at};
+ghost use Rattle.dav_store.specs.PropertyCalls.{name_of, named_element};
 ghost use Rattle.dav_memfs.specs.PropertyNames.{key_of};
+ghost use Rattle.dav_memfs.specs.Patching.{ArePut, AreKept, AreTaken, replaced_by};
 ghost use Rattle.dav_memfs.specs.MemoryCalls.{IsPropertyList};
+
+mod patching;
 
 use dav_resource::{DavProp, Element, Text};
 use std::alloc::{AllocError, Global};
@@ -74,23 +78,8 @@ impl Properties {
         ensures { IfOk result (λ copy. copy ≡ self.now) }
     {
         let mut copy = Properties::new(self.alloc);
-        for (name, element) in &self.map {
-            copy.insert(name.clone()?, element.clone()?)?;
-        }
+        self.put_into(&mut copy)?;
         Ok(copy)
-    }
-
-    /// A copy of the properties with these set (`true`) or removed (`false`), in order: a property that is set
-    /// has the element that is given with it, and without one it is removed. Only memory can be lacking. Costs
-    /// a copy of each property, and a lookup for each change.
-    pub fn patched(&self, patches: &[(bool, DavProp)]) -> Result<Properties, AllocError>
-        ensures { IfOk result (λ properties. properties ≡ patched patches.now self.now) }
-    {
-        let mut properties = self.clone()?;
-        for (set, prop) in patches {
-            properties.patch(*set, prop)?;
-        }
-        Ok(properties)
     }
 
     /// Each property with its element, whose prefix is the property's: those without a namespace first, then by
@@ -105,32 +94,56 @@ impl Properties {
         Ok(props)
     }
 
-    /// Sets a property to its element, where it is to be set and has one, or else removes it. Only memory can be
-    /// lacking.
-    fn patch(&mut self, set: bool, prop: &DavProp) -> Result<(), AllocError>
-        ensures { OnOk result (self.new ≡ patch self.old (set, prop.now)) }
+    /// Whether there is one of this name.
+    fn has(&self, name: &PropertyName) -> bool
+        ensures { result ≡ is_some (map.get self.now (key_of name.now)) }
     {
-        let name = PropertyName::of(prop)?;
-        if set && let Some(element) = &prop.element {
-            return self.insert(name, element.clone()?);
+        self.map.contains_key(name)
+    }
+
+    /// Puts copies of these properties into others. Only memory can be lacking, and then some are put.
+    fn put_into(&self, others: &mut Properties) -> Result<(), AllocError>
+        ensures ok { OnOk result (ArePut self.now others.old others.new) }
+        ensures rest { AreKept self.now others.old others.new }
+    {
+        for (name, element) in &self.map {
+            others.insert(name.clone()?, element.clone()?)?;
         }
-        let _ = self.remove(&name);
         Ok(())
     }
 
-    /// Puts an element at a name. Only memory can be lacking.
+    /// Takes what has the names of these properties out of others.
+    fn take_out_of(&self, others: &mut Properties)
+        ensures { AreTaken self.now others.old others.new }
+    {
+        for (name, _) in &self.map {
+            others.remove(name);
+        }
+    }
+
+    /// Puts an element at a name. Only memory can be lacking, and then nothing changes.
     fn insert(&mut self, name: PropertyName, element: Element) -> Result<(), AllocError>
-        ensures { OnOk result (self.new ≡ map.insert self.old (key_of name) element) }
+        ensures ok { OnOk result (self.new ≡ map.insert self.old (key_of name) element) }
+        ensures err { OnErr result (self.new ≡ self.old) }
     {
         self.map.insert(name, element)?;
         Ok(())
     }
 
     /// Takes out what is at a name.
-    fn remove(&mut self, name: &PropertyName) -> Option<Element>
+    fn remove(&mut self, name: &PropertyName)
         ensures { self.new ≡ map.remove self.old (key_of name.now) }
     {
-        self.map.remove(name)
+        let _ = self.map.remove(name);
+    }
+
+    /// Gives the property of a name, where there is one, this element.
+    fn replace(&mut self, name: &PropertyName, element: Element)
+        ensures { self.new ≡ put_at self.old (key_of name.now) (replaced_by (Some (Some element)) (map.get self.old (key_of name.now))) }
+    {
+        if let Some(place) = self.map.get_mut(name) {
+            *place = element;
+        }
     }
 }
 
