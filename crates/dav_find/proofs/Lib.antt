@@ -1,6 +1,7 @@
 pub mod Answering
-pub mod AskedOnce
+pub mod NameSets
 pub mod Each
 pub mod Kept
 pub mod Responses
 pub mod Visits
+pub mod Tellings

@@ -1,5 +1,5 @@
 pub mod Asked
-pub mod AskedNames
+pub mod Names
 pub mod Searching
 pub mod Declaring
 pub mod Finding

@@ -1,6 +1,6 @@
 -- How what was found is told, each property by its status (RFC 4918, sections 9.1, 14.2, 14.18, 14.21 and 14.22).
-use Rattle.std.specs.Prelude.{ℕ, Bool, false, ◌||◌, not, if◌then◌else◌, List, [], ◌∷◌, ◌++◌, map, filter, Result, Ok, Err}
-use Rattle.std.specs.List.{list_any, flat_map}
+use Rattle.std.specs.Prelude.{ℕ, ◌||◌, not, if◌then◌else◌, List, [], ◌∷◌, ◌++◌, map, filter, filter_map, Option, Some, None, Result, Ok, Err}
+use Rattle.std.specs.List.{flat_map}
 use Rattle.dav_resource.specs.Tree.{Tree}
 use Rattle.dav_props.specs.Live.{is_kept}
 use Rattle.dav_props.specs.Property.{bare}
@@ -9,7 +9,7 @@ use Rattle.dav_find.specs.declared.search.FindKind.{FindKind}
 use Rattle.dav_find.specs.declared.search.FindKind.TheVariants.{AllProp, PropName, Prop}
 use Rattle.dav_find.specs.declared.search.AskedProperty.{AskedProperty}
 use Rattle.dav_find.specs.declared.finding.Found.{Found}
-use Rattle.dav_find.specs.Asked.{is_same, is_among}
+use Rattle.dav_find.specs.Asked.{is_among}
 
 -- what the store told that it keeps
 abbrev pub kept_in : Result (List Tree) ℕ → List Tree
@@ -30,17 +30,17 @@ tell_by stored asked (Err status) =
 abbrev pub tell_one : Result (List Tree) ℕ → Found → List Told
 tell_one stored found = tell_by stored found.asked found.told
 
--- one that was found, and has the element's name
-abbrev pub gives_by : Tree → AskedProperty → Result Tree ℕ → Bool
-gives_by element asked (Ok told) = is_same element asked.element
-gives_by element asked (Err status) = false
+-- the properties that were found
+abbrev pub given_by : AskedProperty → Result Tree ℕ → Option Tree
+given_by asked (Ok told) = Some asked.element
+given_by asked (Err status) = None
 
-abbrev pub gives : Tree → Found → Bool
-gives element found = gives_by element found.asked found.told
+abbrev pub given_in : List Found → List Tree
+given_in found = filter_map (λ (one : Found). given_by one.asked one.told) found
 
 -- what the store keeps, without what is told already; or by names alone
 abbrev pub tell_kept : FindKind → List Found → List Tree → List Told
-tell_kept AllProp found kept = map (λ element. (200, element)) (filter (λ element. not (list_any (gives element) found)) kept)
+tell_kept AllProp found kept = map (λ element. (200, element)) (filter (λ element. not (is_among element (given_in found))) kept)
 tell_kept PropName found kept = map (λ element. (200, bare element)) kept
 tell_kept Prop found kept = []
 

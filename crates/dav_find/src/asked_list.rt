@@ -1,82 +1,55 @@
 //! Properties that are sought, each once.
-ghost use Rattle.std.specs.Prelude.{◌≡◌, [], IfOk, string_bytes};
-ghost use Rattle.std.specs.Option.{option_copied, option_map};
+ghost use Rattle.std.specs.Prelude.{◌≡◌, [], IfOk};
 ghost use Rattle.std.proofs.Props.{props};
 ghost use Rattle.dav_find.specs.Asked.{ask_once as ask_once_more};
-ghost use Rattle.dav_find.specs.AskedNames.{HasNames};
+ghost use Rattle.dav_find.specs.Names.{AreNamesOf, elements_in};
 
+use crate::names::PropertyNames;
 use crate::search::AskedProperty;
 use dav_resource::Element;
 use std::alloc::{AllocError, Global};
-use std::collections::BTreeSet;
 
-/// The name of a property: its namespace, where it has one, and its local name (Namespaces in XML 1.0, section 2.1).
-#[derive(Drop, Debug, PartialEq, Eq, PartialOrd, Ord)]
-pub(crate) struct PropertyName {
-    namespace: Option<String>,
-    name: String,
-}
-
-impl PropertyName {
-    /// The name of the property that an element names. Only memory can be lacking.
-    fn of(element: &Element) -> Result<PropertyName, AllocError>
-        ensures namespace { IfOk result (λ own. option_map string_bytes own.namespace ≡ element.now.tag.namespace) }
-        ensures name { IfOk result (λ own. string_bytes own.name ≡ element.now.tag.name) }
-    {
-        Ok(PropertyName {
-            namespace: copy_of(element.namespace.as_ref())?,
-            name: element.name.clone()?,
-        })
-    }
-}
-
-/// The same text, where there is one. Only memory can be lacking.
-fn copy_of(text: Option<&String>) -> Result<Option<String>, AllocError>
-    ensures { IfOk result (λ copy. option_map string_bytes copy ≡ option_map string_bytes (option_copied text.entry)) }
-{
-    match text {
-        Some(text) => Ok(Some(text.clone()?)),
-        None => Ok(None),
-    }
-}
-
-/// Properties that are sought, in order, each once. The set of their names tells which are among them, by as many
-/// comparisons as the logarithm of their number.
+/// Properties that are sought, in order, each once, beside the set of their names.
 #[derive(Drop, Debug)]
-pub(crate) struct AskedList {
+pub(crate) struct AskedList<'e> {
     asked: Vec<AskedProperty>,
-    names: BTreeSet<PropertyName>,
-    ghost named: { HasNames names asked.items } by { Prim.hlevel props },
+    names: PropertyNames<'e>,
+    ghost named: { AreNamesOf names.names (elements_in asked.items) } by { Prim.hlevel props },
 }
 
-impl AskedList {
+impl<'e> AskedList<'e> {
     /// None.
-    pub(crate) fn new(alloc: Global) -> AskedList
+    pub(crate) fn new(alloc: Global) -> AskedList<'e>
         ensures { result.asked.items ≡ [] }
     {
         AskedList {
             asked: Vec::new(alloc),
-            names: BTreeSet::new(alloc),
+            names: PropertyNames::new(alloc),
         }
     }
 
-    /// With one more, unless it is asked already.
-    pub(crate) fn ask_once(self, more: AskedProperty) -> Result<AskedList, AllocError>
-        ensures { IfOk result (λ all. all.asked.items ≡ ask_once_more self.asked.items more) }
+    /// With a copy of one more, unless it is asked already; `listed` says that the server's own list names it.
+    pub(crate) fn ask_once(
+        self,
+        element: &'e Element,
+        listed: bool,
+    ) -> Result<AskedList<'e>, AllocError>
+        ensures { IfOk result (λ all. all.asked.items ≡ ask_once_more self.entry.asked.items (record { element = element.now; listed = listed })) }
     {
         let AskedList {
             mut asked,
             mut names,
         } = self;
-        if names.insert(PropertyName::of(&more.element)?)? {
-            asked.push(more)?;
+        if names.insert(element)? {
+            let element = element.clone()?;
+            asked.push(AskedProperty { element, listed })?;
         }
         Ok(AskedList { asked, names })
     }
 
     /// The properties, in order.
     pub(crate) fn into_vec(self) -> Vec<AskedProperty>
-        ensures { result ≡ self.asked }
+        ensures { result ≡ self.entry.asked }
     {
         self.asked
     }

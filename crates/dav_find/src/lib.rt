@@ -5,6 +5,7 @@ mod asked_list;
 mod declaring;
 mod finding;
 mod listed;
+mod names;
 mod refusal;
 mod responding;
 mod search;

@@ -1,11 +1,11 @@
 //! What a PROPFIND asks for (RFC 4918, sections 9.1 and 14.20).
-ghost use Rattle.std.specs.Prelude.{◌≡◌, [], map, codes, true, bytes_eq, string_bytes, IfOk};
+ghost use Rattle.std.specs.Prelude.{◌≡◌, [], map, codes, true, IfOk};
 ghost use Rattle.std.specs.List.{fold, find};
-ghost use Rattle.std.specs.Option.{option_copied, option_eq, option_map};
+ghost use Rattle.std.specs.Option.{option_copied};
 ghost use Rattle.dav_resource.specs.Gives.{GivesBy};
 ghost use Rattle.dav_resource.specs.Tree.{elements_of};
 ghost use Rattle.dav_parts.specs.DavElement.{is_named as is_named_tree};
-ghost use Rattle.dav_find.specs.Asked.{is_of, names_only, named_only, is_same as is_same_tree, ask_once, asked_by_request, asked_by_server, says_kind as says_kind_tree, is_propfind as is_propfind_tree, named_in, asking, asking_by, asking_in, asking_of};
+ghost use Rattle.dav_find.specs.Asked.{is_of, names_only, named_only, ask_once, asked_by_request, asked_by_server, says_kind as says_kind_tree, is_propfind as is_propfind_tree, named_in, asking, asking_by, asking_in, asking_of};
 ghost use Rattle.dav_find.specs.Searching.{asking_for};
 
 use crate::asked_list::AskedList;
@@ -179,8 +179,8 @@ fn search_for(
 ) -> Result<Search, AllocError>
     ensures { IfOk result (λ search. asking_for search ≡ asking kind (named_in (option_copied own.entry)) (option_copied user_agent.entry)) }
 {
-    let asked = ask_own(alloc, own)?;
-    let asked = ask_listed(asked, server_properties(alloc, kind, user_agent)?)?;
+    let listed = server_properties(alloc, kind, user_agent)?;
+    let asked = ask_listed(ask_own(alloc, own)?, &listed)?;
     Ok(Search {
         kind,
         asked: asked.into_vec(),
@@ -188,7 +188,7 @@ fn search_for(
 }
 
 /// The properties that stand in an element, where there is one, each once.
-fn ask_own(alloc: Global, own: Option<&Element>) -> Result<AskedList, AllocError>
+fn ask_own<'e>(alloc: Global, own: Option<&'e Element>) -> Result<AskedList<'e>, AllocError>
     ensures { IfOk result (λ list. list.asked.items ≡ fold ask_once [] (map asked_by_request (named_in (option_copied own.entry)))) }
 {
     let mut list = AskedList::new(alloc);
@@ -196,43 +196,20 @@ fn ask_own(alloc: Global, own: Option<&Element>) -> Result<AskedList, AllocError
         return Ok(list);
     };
     for element in part.child_elems_iter() {
-        let element = element.clone()?;
-        list = list.ask_once(AskedProperty {
-            element,
-            listed: false,
-        })?;
+        list = list.ask_once(element, false)?;
     }
     Ok(list)
 }
 
 /// With the server's own properties, each that isn't asked already.
-fn ask_listed(mut list: AskedList, elements: Vec<Element>) -> Result<AskedList, AllocError>
-    ensures { IfOk result (λ more. more.asked.items ≡ fold ask_once list.asked.items (map asked_by_server elements.items)) }
+fn ask_listed<'e>(
+    mut list: AskedList<'e>,
+    elements: &'e [Element],
+) -> Result<AskedList<'e>, AllocError>
+    ensures { IfOk result (λ more. more.asked.items ≡ fold ask_once list.entry.asked.items (map asked_by_server elements.now)) }
 {
     for element in elements {
-        list = list.ask_once(AskedProperty {
-            element,
-            listed: true,
-        })?;
+        list = list.ask_once(element, true)?;
     }
     Ok(list)
-}
-
-/// Whether both elements name one property: by the namespace and the name.
-pub(crate) fn is_same(one: &Element, other: &Element) -> bool
-    ensures { result ≡ is_same_tree one.now other.now }
-{
-    is_same_text(one.namespace.as_ref(), other.namespace.as_ref())
-        && one.name.as_str() == other.name.as_str()
-}
-
-/// Whether both are none, or one text.
-fn is_same_text(one: Option<&String>, other: Option<&String>) -> bool
-    ensures { result ≡ option_eq bytes_eq (option_map string_bytes (option_copied one.entry)) (option_map string_bytes (option_copied other.entry)) }
-{
-    match (one, other) {
-        (Some(one), Some(other)) => one.as_str() == other.as_str(),
-        (None, None) => true,
-        _ => false,
-    }
 }

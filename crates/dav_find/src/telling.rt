@@ -1,12 +1,14 @@
 //! How what was found is told.
 ghost use Rattle.std.specs.Prelude.{◌≡◌, ◌++◌, ◌∷◌, [], not, map, filter, IfOk};
-ghost use Rattle.std.specs.List.{list_any, flat_map};
+ghost use Rattle.std.specs.List.{flat_map};
 ghost use Rattle.dav_props.specs.Property.{bare};
-ghost use Rattle.dav_find.specs.Asked.{is_among as is_among_trees};
-ghost use Rattle.dav_find.specs.Telling.{kept_in as kept_of, missing_status as status_of_missing, tell_one as told_of_one, gives as gives_found, tell_kept as told_of_kept, told_of};
+ghost use Rattle.dav_find.specs.Asked.{is_among};
+ghost use Rattle.dav_find.specs.Names.{AreNamesOf};
+ghost use Rattle.dav_find.specs.Telling.{kept_in as kept_of, missing_status as status_of_missing, tell_one as told_of_one, given_in, tell_kept as told_of_kept, told_of};
 
 use crate::finding::Found;
-use crate::search::{FindKind, is_same};
+use crate::names::PropertyNames;
+use crate::search::FindKind;
 use dav_props::{bare_element, is_kept};
 use dav_resource::{Element, Items};
 use http::StatusCode;
@@ -30,27 +32,30 @@ pub(crate) fn tell(
 }
 
 /// What is told of the properties that were sought.
-fn tell_found(
+fn tell_found<'e>(
     alloc: Global,
-    found: &[Found],
-    stored: &Result<Items<Element>, StatusCode>,
+    found: &'e [Found],
+    stored: &'e Result<Items<Element>, StatusCode>,
 ) -> Result<Vec<Told>, AllocError>
     ensures { IfOk result (λ told. told.items ≡ flat_map (told_of_one stored.now) found.now) }
 {
+    let kept = names_of(alloc, kept_in(stored))?;
     let mut told = Vec::new(alloc);
     for one in found {
-        told = tell_one(alloc, told, one, stored)?;
+        told = tell_one(alloc, told, one, stored, &kept)?;
     }
     Ok(told)
 }
 
-/// With what is told of one that was sought.
-fn tell_one(
+/// With what is told of one that was sought; `kept` has the names of what the store told that it keeps.
+fn tell_one<'e>(
     alloc: Global,
     mut told: Vec<Told>,
-    one: &Found,
+    one: &'e Found,
     stored: &Result<Items<Element>, StatusCode>,
+    kept: &PropertyNames<'e>,
 ) -> Result<Vec<Told>, AllocError>
+    requires { AreNamesOf kept.now.names (kept_of stored.now) }
     ensures { IfOk result (λ more. more.items ≡ told.items ++ told_of_one stored.now one.now) }
 {
     match &one.told {
@@ -59,7 +64,7 @@ fn tell_one(
             Ok(told)
         }
         Err(status) => {
-            if one.asked.listed || is_among(&one.asked.element, kept_in(stored)) {
+            if one.asked.listed || kept.has(&one.asked.element) {
                 return Ok(told);
             }
             let status = missing_status(stored, &one.asked.element, *status);
@@ -104,22 +109,24 @@ fn tell_kept(
     ensures { IfOk result (λ more. more.items ≡ told.items ++ told_of_kept kind found.now kept.now) }
 {
     match kind {
-        FindKind::AllProp => tell_values(told, found, kept),
+        FindKind::AllProp => tell_values(alloc, told, found, kept),
         FindKind::PropName => tell_names(alloc, told, kept),
         FindKind::Prop => Ok(told),
     }
 }
 
 /// With each that isn't told already.
-fn tell_values(
+fn tell_values<'e>(
+    alloc: Global,
     mut told: Vec<Told>,
-    found: &[Found],
-    kept: &[Element],
+    found: &'e [Found],
+    kept: &'e [Element],
 ) -> Result<Vec<Told>, AllocError>
-    ensures { IfOk result (λ more. more.items ≡ told.items ++ map (λ element. (200, element)) (filter (λ element. not (list_any (gives_found element) found.now)) kept.now)) }
+    ensures { IfOk result (λ more. more.items ≡ told.items ++ map (λ element. (200, element)) (filter (λ element. not (is_among element (given_in found.now))) kept.now)) }
 {
+    let given = names_given(alloc, found)?;
     for element in kept {
-        if !is_given(found, element) {
+        if !given.has(element) {
             told.push((StatusCode::OK, element.clone()?))?;
         }
     }
@@ -136,25 +143,26 @@ fn tell_names(alloc: Global, mut told: Vec<Told>, kept: &[Element]) -> Result<Ve
     Ok(told)
 }
 
-/// Whether one that was found has the element's name.
-fn is_given(found: &[Found], element: &Element) -> bool
-    ensures { result ≡ list_any (gives_found element.now) found.now }
+/// The names of these properties.
+fn names_of<'e>(alloc: Global, elements: &'e [Element]) -> Result<PropertyNames<'e>, AllocError>
+    ensures { IfOk result (λ names. AreNamesOf names.names elements.now) }
 {
-    found.iter().any(|one| gives(one, element))
-}
-
-fn gives(one: &Found, element: &Element) -> bool
-    ensures { result ≡ gives_found element.now one.now }
-{
-    match &one.told {
-        Ok(_) => is_same(element, &one.asked.element),
-        Err(_) => false,
+    let mut names = PropertyNames::new(alloc);
+    for element in elements {
+        names.insert(element)?;
     }
+    Ok(names)
 }
 
-/// Whether one of the elements has the same name.
-fn is_among(element: &Element, elements: &[Element]) -> bool
-    ensures { result ≡ is_among_trees element.now elements.now }
+/// The names of those that were found.
+fn names_given<'e>(alloc: Global, found: &'e [Found]) -> Result<PropertyNames<'e>, AllocError>
+    ensures { IfOk result (λ names. AreNamesOf names.names (given_in found.now)) }
 {
-    elements.iter().any(|other| is_same(element, other))
+    let mut names = PropertyNames::new(alloc);
+    for one in found {
+        if one.told.is_ok() {
+            names.insert(&one.asked.element)?;
+        }
+    }
+    Ok(names)
 }

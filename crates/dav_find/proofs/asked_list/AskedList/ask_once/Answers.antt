@@ -1,34 +1,36 @@
-use Rattle.std.proofs.Common.{ap, sym, subst, ◌∙◌}
-use Rattle.std.specs.Bool.{OnFalse}
-use Rattle.std.specs.List.{list_any}
-use Rattle.std.specs.BTreeMap.{is_at}
-use Rattle.std.specs.BTreeSet.{IsUnchanged}
-use Rattle.dav_find.specs.AskedNames.{name_cmp, HasNames}
-use Rattle.dav_find.proofs.AskedOnce.{asks, has_names}
+use Rattle.std.proofs.Common.{◌++◌, ◌∷◌, List, [], ap, sym, subst, true, false, ◌∙◌}
+use Rattle.dav_resource.specs.Tree.{Tree}
+use Rattle.dav_find.specs.Names.{AreNamesOf, elements_in}
+use Rattle.dav_find.specs.declared.search.AskedProperty.{AskedProperty}
+use Rattle.dav_find.proofs.NameSets.{as_before, asks, is_there, with_one_more}
 use Rattle.dav_find.proofs.asked_list.AskedList.ask_once.Goals as goal
-use Rattle.dav_find.proofs.asked_list.AskedList.ask_once.Goals.{then-branch+in_ok-push, else-branch}
+use Rattle.dav_find.proofs.asked_list.AskedList.ask_once.Goals.{then-branch+in_ok-element+in_ok-push, else-branch}
 
--- where the name is added the property is, and else both are as before
+-- where the name is a new one the property is kept, and else the properties are as before
 pub invariant_of-result : goal.invariant_of-result
 invariant_of-result c =
-    let name = c.in_ok-of.field-0 in
-    let of = c.in_ok-of.ensures in
-    let inserted = c.in_ok-insert.ensures in
     let asked = c.args.self.asked.items in
+    let names = c.insert.new.self.names in
+    let told = c.in_ok-insert.ensures.added (elements_in asked) c.args.self.named in
+    let are = c.in_ok-insert.ensures.names (elements_in asked) c.args.self.named in
     elim c.if-branch.branch [
-      | then-branch+in_ok-push w ↦ record {
-        named = subst (HasNames c.insert.new.self) (sym (ap (λ v. v.items) w.asked-is ∙ w.in_ok-push.ensures.items))
-            (has_names c.args.self.names c.insert.new.self asked name c.args.more of.namespace of.name c.args.self.named inserted.updates);
+      | then-branch+in_ok-element+in_ok-push w ↦ record {
+        named = subst (λ (items : List AskedProperty). AreNamesOf names (elements_in items)) (sym (ap (λ v. v.items) w.asked-is ∙ w.in_ok-push.ensures.items))
+            (with_one_more names asked (record { element = w.in_ok-element.element; listed = c.args.listed }) (rw (w.in_ok-element.ensures) are));
       }
-      | else-branch w ↦
-          let same = subst (λ added. OnFalse added (IsUnchanged c.args.self.names c.insert.new.self)) w.if-branch.false inserted.unchanged in
-          record { named = subst (HasNames c.insert.new.self) (sym (ap (λ v. v.items) w.asked-is)) (λ other. ap (λ keys. list_any (is_at (name_cmp other)) keys) same ∙ c.args.self.named other) }
+      | else-branch w ↦ record {
+        named = subst (λ (items : List AskedProperty). AreNamesOf names (elements_in items)) (sym (ap (λ v. v.items) w.asked-is))
+            (as_before names (elements_in asked) c.args.element.now (is_there _ _ told w.if-branch.false) are);
+      }
     ]
 
 pub returns : goal.returns
 returns c =
-    let told = asks c.args.self.names c.args.self.asked.items c.in_ok-of.field-0 c.args.more c.in_ok-of.ensures.namespace c.in_ok-of.ensures.name c.args.self.named in
+    let asked = c.args.self.asked.items in
+    let more : Tree → AskedProperty = λ element. record { element = element; listed = c.args.listed } in
+    let told = c.in_ok-insert.ensures.added (elements_in asked) c.args.self.named in
     elim c.if-branch.branch [
-      | then-branch+in_ok-push w ↦ ap (λ v. v.items) w.asked-is ∙ w.in_ok-push.ensures.items ∙ sym (told _ (sym w.if-branch.true ∙ c.in_ok-insert.ensures.added))
-      | else-branch w ↦ ap (λ v. v.items) w.asked-is ∙ sym (told _ (sym w.if-branch.false ∙ c.in_ok-insert.ensures.added))
+      | then-branch+in_ok-element+in_ok-push w ↦
+          ap (λ v. v.items) w.asked-is ∙ w.in_ok-push.ensures.items ∙ ap (λ element. asked ++ more element ∷ []) w.in_ok-element.ensures ∙ sym (asks asked (more c.args.element.now) true (sym w.if-branch.true ∙ told))
+      | else-branch w ↦ ap (λ v. v.items) w.asked-is ∙ sym (asks asked (more c.args.element.now) false (sym w.if-branch.false ∙ told))
     ]

@@ -1,0 +1,8 @@
+use Rattle.std.proofs.Common.{take}
+use Rattle.dav_find.specs.Names.{AreNamesOf}
+use Rattle.dav_find.specs.Telling.{given_in}
+use Rattle.dav_find.proofs.telling.names_given.Given as goal
+
+-- those so far
+abbrev pub invariant-loop-one : goal.invariant-loop-one
+invariant-loop-one l = AreNamesOf l.names.names (given_in (take l.one-index l.found))

@@ -1,0 +1,62 @@
+//! Names of properties.
+ghost use Rattle.std.specs.Prelude.{◌≡◌, ◌++◌, ◌∷◌, List, [], not, IfOk, OnOk};
+ghost use Rattle.std.specs.Option.{option_copied};
+ghost use Rattle.dav_resource.specs.Tree.{Tree};
+ghost use Rattle.dav_find.specs.Asked.{is_among};
+ghost use Rattle.dav_find.specs.Names.{AreNamesOf};
+
+use dav_resource::Element;
+use std::alloc::{AllocError, Global};
+use std::collections::BTreeSet;
+
+/// The name of a property: its namespace, where it has one, and its local name (Namespaces in XML 1.0, section 2.1).
+#[derive(Clone, Copy, Debug, PartialEq, Eq, PartialOrd, Ord)]
+pub(crate) struct PropertyName<'e> {
+    namespace: Option<&'e str>,
+    name: &'e str,
+}
+
+impl<'e> PropertyName<'e> {
+    /// The name of the property that an element names.
+    fn of(element: &'e Element) -> PropertyName<'e>
+        ensures namespace { option_copied result.namespace ≡ element.now.tag.namespace }
+        ensures name { result.name.now ≡ element.now.tag.name }
+    {
+        PropertyName {
+            namespace: element.namespace.as_deref(),
+            name: element.name.as_str(),
+        }
+    }
+}
+
+/// The names of some properties, each once. A look takes as many comparisons as the logarithm of their number.
+#[derive(Drop, Debug)]
+pub(crate) struct PropertyNames<'e> {
+    names: BTreeSet<PropertyName<'e>>,
+}
+
+impl<'e> PropertyNames<'e> {
+    /// None.
+    pub(crate) fn new(alloc: Global) -> PropertyNames<'e>
+        ensures { AreNamesOf result.names [] }
+    {
+        PropertyNames {
+            names: BTreeSet::new(alloc),
+        }
+    }
+
+    /// Adds the name of the property that an element names, and says whether it is a new one. Only memory can be lacking.
+    pub(crate) fn insert(&mut self, element: &'e Element) -> Result<bool, AllocError>
+        ensures added { (elements : List Tree) → AreNamesOf self.old.names elements → IfOk result (λ added. added ≡ not (is_among element.now elements)) }
+        ensures names { (elements : List Tree) → AreNamesOf self.old.names elements → OnOk result (AreNamesOf self.new.names (elements ++ element.now ∷ [])) }
+    {
+        Ok(self.names.insert(PropertyName::of(element))?)
+    }
+
+    /// Whether the property that an element names has one of these names.
+    pub(crate) fn has(&self, element: &'e Element) -> bool
+        ensures { (elements : List Tree) → AreNamesOf self.now.names elements → result ≡ is_among element.now elements }
+    {
+        self.names.contains(&PropertyName::of(element))
+    }
+}
