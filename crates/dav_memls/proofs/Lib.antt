@@ -7,3 +7,4 @@ pub mod Indexing
 pub mod CoveringNumbers
 pub mod LockLooks
 pub mod LockLists
+pub mod TokenSets

@@ -3,3 +3,5 @@ pub mod KeyEntries
 pub mod ByKey
 pub mod LockIndex
 pub mod MemLs
+pub mod Tokens
+pub mod Submitted

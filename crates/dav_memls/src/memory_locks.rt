@@ -11,19 +11,22 @@ mod index;
 mod indexed;
 mod list;
 mod numbers;
+mod submitted;
 
 use dav_resource::{DavPath, Element, Items, Text};
 use dav_store::{DavLock, DavLockSystem, LockError, clone_owner, timeout_end};
 use indexed::IndexedLocks;
 use std::alloc::{AllocError, Global};
+use submitted::Submitted;
 
 /// A lock system in memory. It is dependable, and `unlock` and `delete` take no memory.
 ///
 /// A call looks at the locks at its path, above it or below it alone, however many are held elsewhere: hash
 /// maps lead from a token and from keys to the locks. `check`, `lock` and `discover` take a look for the path and
 /// for each above it, down to the first without a lock at or below it, and then the time to judge the locks
-/// found; `unlock` and `refresh` a look for the token. `unlock`, and `delete` for each lock, newest first, move
-/// those newer than the lock by a place. `lock` takes memory for the lock, for its token and a number once more,
+/// found, in which `check` takes memory to put many tokens in order, and is only slower without it; `unlock` and
+/// `refresh` a look for the token. `unlock`, and `delete` for each lock, newest first, move those newer than the
+/// lock by a place. `lock` takes memory for the lock, for its token and a number once more,
 /// and for the key of its path and of each above it, where no lock stands there or below. Where the newest lock
 /// has the greatest `u64` as its number (each is one above that of the newest held), `lock` answers `Memory`.
 #[derive(Debug, Drop)]
@@ -70,9 +73,9 @@ impl DavLockSystem for MemLs {
         deep: bool,
         tokens: &[Text],
     ) -> bool {
-        list::permits_at(&self.locks, path, principal, ignore_principal, tokens)
-            && (!deep
-                || list::permits_below(&self.locks, path, principal, ignore_principal, tokens))
+        let submitted = Submitted::new(self.locks.allocator(), principal, ignore_principal, tokens);
+        list::permits_at(&self.locks, path, &submitted)
+            && (!deep || list::permits_below(&self.locks, path, &submitted))
     }
 
     fn lock(

@@ -1,77 +1,46 @@
 //! What is asked of the locks.
 ghost use Rattle.std.specs.Prelude.{◌≡◌, ◌||◌};
 ghost use Rattle.std.specs.List.{list_all, list_any};
-ghost use Rattle.std.specs.Option.{option_copied};
-ghost use Rattle.dav_store.specs.Locks.{covers, covering, at_or_below, is_submitted, permits_at, conflicts, grants};
+ghost use Rattle.dav_store.specs.Locks.{covers, covering, at_or_below, permits_at, conflicts, grants};
+ghost use Rattle.dav_memls.specs.Submitted.{passes};
 
 use super::indexed::IndexedLocks;
-use dav_resource::{DavPath, Text};
+use super::submitted::Submitted;
+use dav_resource::DavPath;
 use dav_store::DavLock;
 
 // ---- whether a request may go on
 
 /// Whether the locks that cover the path let a request go on.
-pub fn permits_at(
-    locks: &IndexedLocks,
-    path: &DavPath,
-    principal: Option<&str>,
-    ignore_principal: bool,
-    tokens: &[Text],
-) -> bool
-    ensures { result ≡ permits_at (covering locks.now.locks.items path.now.key) (is_submitted (option_copied principal.entry) ignore_principal tokens.now) }
+pub fn permits_at(locks: &IndexedLocks, path: &DavPath, submitted: &Submitted) -> bool
+    ensures { result ≡ permits_at (covering locks.now.locks.items path.now.key) (passes submitted.now) }
 {
-    exclusive_are_submitted(locks, path, principal, ignore_principal, tokens)
-        && (!is_covered(locks, path)
-            || one_is_submitted(locks, path, principal, ignore_principal, tokens))
+    exclusive_are_submitted(locks, path, submitted)
+        && (!is_covered(locks, path) || one_is_submitted(locks, path, submitted))
 }
 
 /// Whether each lock at the path or below it is submitted.
-pub fn permits_below(
-    locks: &IndexedLocks,
-    path: &DavPath,
-    principal: Option<&str>,
-    ignore_principal: bool,
-    tokens: &[Text],
-) -> bool
-    ensures { result ≡ list_all (is_submitted (option_copied principal.entry) ignore_principal tokens.now) (at_or_below locks.now.locks.items path.now.key) }
+pub fn permits_below(locks: &IndexedLocks, path: &DavPath, submitted: &Submitted) -> bool
+    ensures { result ≡ list_all (passes submitted.now) (at_or_below locks.now.locks.items path.now.key) }
 {
-    !locks.any_below(
-        path,
-        |lock| !lock.is_submitted(principal, ignore_principal, tokens),
-    )
+    !locks.any_below(path, |lock| !submitted.has(lock))
 }
 
 /// Whether each lock that covers the path is shared or submitted.
-fn exclusive_are_submitted(
-    locks: &IndexedLocks,
-    path: &DavPath,
-    principal: Option<&str>,
-    ignore_principal: bool,
-    tokens: &[Text],
-) -> bool
-    ensures { result ≡ list_all (λ lock. lock.shared || is_submitted (option_copied principal.entry) ignore_principal tokens.now lock) (covering locks.now.locks.items path.now.key) }
+fn exclusive_are_submitted(locks: &IndexedLocks, path: &DavPath, submitted: &Submitted) -> bool
+    ensures { result ≡ list_all (λ lock. lock.shared || passes submitted.now lock) (covering locks.now.locks.items path.now.key) }
 {
     !locks.any_above(
         path,
-        |lock| lock.covers(path)
-            && !(lock.shared || lock.is_submitted(principal, ignore_principal, tokens)),
+        |lock| lock.covers(path) && !(lock.shared || submitted.has(lock)),
     )
 }
 
 /// Whether a lock that covers the path is submitted.
-fn one_is_submitted(
-    locks: &IndexedLocks,
-    path: &DavPath,
-    principal: Option<&str>,
-    ignore_principal: bool,
-    tokens: &[Text],
-) -> bool
-    ensures { result ≡ list_any (is_submitted (option_copied principal.entry) ignore_principal tokens.now) (covering locks.now.locks.items path.now.key) }
+fn one_is_submitted(locks: &IndexedLocks, path: &DavPath, submitted: &Submitted) -> bool
+    ensures { result ≡ list_any (passes submitted.now) (covering locks.now.locks.items path.now.key) }
 {
-    locks.any_above(
-        path,
-        |lock| lock.covers(path) && lock.is_submitted(principal, ignore_principal, tokens),
-    )
+    locks.any_above(path, |lock| lock.covers(path) && submitted.has(lock))
 }
 
 /// Whether a lock covers the path.
