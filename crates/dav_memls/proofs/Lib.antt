@@ -8,3 +8,6 @@ pub mod CoveringNumbers
 pub mod LockLooks
 pub mod LockLists
 pub mod TokenSets
+pub mod SharedLocks
+pub mod OneLook
+pub mod TokenLocks

@@ -24,11 +24,12 @@ use submitted::Submitted;
 /// A call looks at the locks at its path, above it or below it alone, however many are held elsewhere: hash
 /// maps lead from a token and from keys to the locks. `check`, `lock` and `discover` take a look for the path and
 /// for each above it, down to the first without a lock at or below it, and then the time to judge the locks
-/// found, in which `check` takes memory to put many tokens in order, and is only slower without it; `unlock` and
-/// `refresh` a look for the token. `unlock`, and `delete` for each lock, newest first, move those newer than the
-/// lock by a place. `lock` takes memory for the lock, for its token and a number once more,
-/// and for the key of its path and of each above it, where no lock stands there or below. Where the newest lock
-/// has the greatest `u64` as its number (each is one above that of the newest held), `lock` answers `Memory`.
+/// found, at each path the first alone where it tells of the others, as it does whether they are shared. `check`
+/// takes memory to put many tokens in order, and is only slower without it. `unlock` and `refresh` take a look
+/// for the token. `unlock`, and `delete` for each lock, newest first, move those newer than the lock by a place.
+/// `lock` takes memory for the lock, for its token and a number once more, and for the key of its path and of
+/// each above it, where no lock stands there or below. Where the newest lock has the greatest `u64` as its number
+/// (each is one above that of the newest held), `lock` answers `Memory`.
 #[derive(Debug, Drop)]
 pub struct MemLs {
     locks: IndexedLocks,

@@ -1,12 +1,13 @@
 //! Locks with an index.
-ghost use Rattle.std.specs.Prelude.{◌≡◌, ◌<◌, false, [], ◌∷◌, ◌++◌, length, IfOk, MatchOption, OnOk, OnErr, Bool, slice_set, slice_index_or};
-ghost use Rattle.std.specs.List.{filter, list_any, position, remove, zip};
-ghost use Rattle.std.specs.Option.{option_copied};
+ghost use Rattle.std.specs.Prelude.{◌≡◌, ◌<◌, false, [], ◌∷◌, ◌++◌, length, IfOk, MatchOption, OnOk, OnErr, Bool, not, ◌&&◌, slice_set, slice_index_or};
+ghost use Rattle.std.specs.List.{filter, find, list_any, position, remove, zip};
+ghost use Rattle.std.specs.Option.{option_copied, option_to_list};
 ghost use Rattle.std.proofs.Props.{props};
+ghost use Rattle.dav_resource.specs.Texts.{texts};
 ghost use Rattle.dav_store.specs.declared.lock.DavLock.{DavLock};
-ghost use Rattle.dav_store.specs.Locks.{has_token, covers, covering, at_or_below};
+ghost use Rattle.dav_store.specs.Locks.{has_token, covers, covering, at_or_below, AreCompatible};
 ghost use Rattle.dav_store.specs.LockCalls.{is_named, refreshed};
-ghost use Rattle.dav_memls.specs.LockIndex.{IsIndexed, is_above, lock_of, locks_of_numbers, numbers_of, Computes, StandsBelow, HasNumbers, AddsNumbers, number_passes};
+ghost use Rattle.dav_memls.specs.LockIndex.{IsIndexed, is_of_key, is_above, lock_of, locks_of_numbers, numbers_of, Computes, StandsBelow, HasNumbers, AddsNumbers, number_passes};
 
 use super::index::LockIndex;
 use super::numbers::Numbers;
@@ -72,6 +73,22 @@ impl IndexedLocks {
         }
     }
 
+    /// The lock with this token: a look into the index.
+    pub fn with_token(&self, token: &str) -> Option<&DavLock>
+        ensures { option_to_list (option_copied result) ≡ filter (has_token token.now) self.now.locks.items }
+    {
+        let number = self.index.number(token)?;
+        self.of_number(number)
+    }
+
+    /// The oldest lock whose own key is this one: a look into the index.
+    pub fn first_at(&self, key: &[String]) -> Option<&DavLock>
+        ensures { option_copied result ≡ find (is_of_key (texts key.now)) self.now.locks.items }
+    {
+        let number = self.index.at(key).first()?;
+        self.of_number(*number)
+    }
+
     /// Whether a lock at the path or above it passes the test: a look into the index for the path and each
     /// above it that has a lock at or below it, and the test of the locks there.
     pub fn any_above<F: Fn(&DavLock) -> bool>(&self, path: &DavPath, test: F) -> bool
@@ -85,6 +102,27 @@ impl IndexedLocks {
             }
             if self.any_of(self.index.at(&key[..depth]), &test) {
                 return true;
+            }
+        }
+        false
+    }
+
+    /// Whether an exclusive lock at the path or above it passes the test: looks into the index as `any_above`
+    /// takes them, and at the first lock of each key, since an exclusive one stands there alone.
+    pub fn any_exclusive_above<F: Fn(&DavLock) -> bool>(&self, path: &DavPath, test: F) -> bool
+        requires callable { F.IsAlwaysCallable test }
+        requires compatible { AreCompatible self.now.locks.items }
+        ensures { (p : DavLock → Bool) → Computes (F.post test) p → result ≡ list_any (λ lock. not lock.shared && p lock) (filter (is_above path.now.key) self.now.locks.items) }
+    {
+        let key = path.segments();
+        for depth in 0..key.len() + 1 {
+            if self.index.below(&key[..depth]).is_empty() {
+                return false;
+            }
+            if let Some(lock) = self.first_at(&key[..depth]) {
+                if !lock.shared && test(lock) {
+                    return true;
+                }
             }
         }
         false

@@ -1,8 +1,8 @@
 //! What is asked of the locks.
-ghost use Rattle.std.specs.Prelude.{◌≡◌, ◌||◌};
-ghost use Rattle.std.specs.List.{list_all, list_any};
-ghost use Rattle.dav_store.specs.Locks.{covers, covering, at_or_below, permits_at, conflicts, grants};
-ghost use Rattle.dav_memls.specs.Submitted.{passes};
+ghost use Rattle.std.specs.Prelude.{◌≡◌, ◌&&◌, ◌||◌};
+ghost use Rattle.std.specs.List.{filter, list_all, list_any};
+ghost use Rattle.dav_store.specs.Locks.{covers, covering, at_or_below, has_token, permits_at, conflicts, grants, AreCompatible};
+ghost use Rattle.dav_memls.specs.Submitted.{is_from, passes};
 
 use super::indexed::IndexedLocks;
 use super::submitted::Submitted;
@@ -13,6 +13,7 @@ use dav_store::DavLock;
 
 /// Whether the locks that cover the path let a request go on.
 pub fn permits_at(locks: &IndexedLocks, path: &DavPath, submitted: &Submitted) -> bool
+    requires { AreCompatible locks.now.locks.items }
     ensures { result ≡ permits_at (covering locks.now.locks.items path.now.key) (passes submitted.now) }
 {
     exclusive_are_submitted(locks, path, submitted)
@@ -28,19 +29,30 @@ pub fn permits_below(locks: &IndexedLocks, path: &DavPath, submitted: &Submitted
 
 /// Whether each lock that covers the path is shared or submitted.
 fn exclusive_are_submitted(locks: &IndexedLocks, path: &DavPath, submitted: &Submitted) -> bool
+    requires { AreCompatible locks.now.locks.items }
     ensures { result ≡ list_all (λ lock. lock.shared || passes submitted.now lock) (covering locks.now.locks.items path.now.key) }
 {
-    !locks.any_above(
-        path,
-        |lock| lock.covers(path) && !(lock.shared || submitted.has(lock)),
-    )
+    !locks.any_exclusive_above(path, |lock| lock.covers(path) && !submitted.has(lock))
 }
 
-/// Whether a lock that covers the path is submitted.
+/// Whether a lock that covers the path is submitted: a look for each token, however many the locks are.
 fn one_is_submitted(locks: &IndexedLocks, path: &DavPath, submitted: &Submitted) -> bool
     ensures { result ≡ list_any (passes submitted.now) (covering locks.now.locks.items path.now.key) }
 {
-    locks.any_above(path, |lock| lock.covers(path) && submitted.has(lock))
+    submitted
+        .tokens()
+        .iter()
+        .any(|token| lets_on(locks, path, submitted, token.as_str()))
+}
+
+/// Whether the lock with this token covers the path and its principal is the request's, unless that is ignored.
+fn lets_on(locks: &IndexedLocks, path: &DavPath, submitted: &Submitted, token: &str) -> bool
+    ensures { result ≡ list_any (λ lock. covers lock path.now.key && is_from submitted.now lock) (filter (has_token token.now) locks.now.locks.items) }
+{
+    match locks.with_token(token) {
+        Some(lock) => lock.covers(path) && submitted.is_from(lock),
+        None => false,
+    }
 }
 
 /// Whether a lock covers the path.
@@ -54,6 +66,7 @@ fn is_covered(locks: &IndexedLocks, path: &DavPath) -> bool
 
 /// Whether the lock may stand beside these.
 pub fn grants(locks: &IndexedLocks, lock: &DavLock) -> bool
+    requires { AreCompatible locks.now.locks.items }
     ensures { result ≡ grants locks.now.locks.items lock.now }
 {
     !locks.has_token(lock.token.as_str())
@@ -63,17 +76,26 @@ pub fn grants(locks: &IndexedLocks, lock: &DavLock) -> bool
 
 /// Whether the lock conflicts with one that covers its path.
 fn conflicts_above(locks: &IndexedLocks, lock: &DavLock) -> bool
+    requires { AreCompatible locks.now.locks.items }
     ensures { result ≡ list_any (conflicts lock.now) (covering locks.now.locks.items lock.now.path.key) }
 {
-    locks.any_above(
-        &lock.path,
-        |other| other.covers(&lock.path) && lock.conflicts(other),
-    )
+    if lock.shared {
+        locks.any_exclusive_above(&lock.path, |other| other.covers(&lock.path))
+    } else {
+        is_covered(locks, &lock.path)
+    }
 }
 
-/// Whether the lock conflicts with one at its path or below it.
+/// Whether the lock conflicts with one at its path or below it. Where the first lock at its path is a deep shared
+/// one, each there and below is shared.
 fn conflicts_below(locks: &IndexedLocks, lock: &DavLock) -> bool
+    requires { AreCompatible locks.now.locks.items }
     ensures { result ≡ list_any (conflicts lock.now) (at_or_below locks.now.locks.items lock.now.path.key) }
 {
+    if let Some(first) = locks.first_at(lock.path.segments()) {
+        if lock.shared && first.shared && first.deep {
+            return false;
+        }
+    }
     locks.any_below(&lock.path, |other| lock.conflicts(other))
 }

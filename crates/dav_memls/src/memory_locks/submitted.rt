@@ -1,7 +1,7 @@
 //! What a request submits.
-ghost use Rattle.std.specs.Prelude.{◌≡◌, ◌||◌, IfOk, bytes_eq};
+ghost use Rattle.std.specs.Prelude.{◌≡◌, IfOk, bytes_eq};
 ghost use Rattle.std.specs.List.{list_any};
-ghost use Rattle.std.specs.Option.{IfSome, option_copied, option_eq};
+ghost use Rattle.std.specs.Option.{IfSome, option_copied};
 ghost use Rattle.std.proofs.Props.{props};
 ghost use Rattle.dav_store.specs.Locks.{is_submitted};
 ghost use Rattle.dav_memls.specs.Tokens.{HasTokens};
@@ -27,7 +27,7 @@ pub struct Submitted<'a> {
 }
 
 impl<'a> Submitted<'a> {
-    ghost use Rattle.dav_memls.specs.Submitted.{passes};
+    ghost use Rattle.dav_memls.specs.Submitted.{is_from, passes};
 
     /// What these tokens and this principal submit.
     pub fn new(
@@ -51,6 +51,13 @@ impl<'a> Submitted<'a> {
         }
     }
 
+    /// The tokens, in the request's order.
+    pub fn tokens(&self) -> &[Text]
+        ensures { result.now ≡ self.now.tokens.now }
+    {
+        self.tokens
+    }
+
     /// Whether the lock is submitted: its token is among the tokens and, unless that is ignored, its principal
     /// is the request's.
     pub fn has(&self, lock: &DavLock) -> bool
@@ -70,8 +77,8 @@ impl<'a> Submitted<'a> {
     }
 
     /// Whether the lock's principal is the request's, unless that is ignored.
-    fn is_from(&self, lock: &DavLock) -> bool
-        ensures { result ≡ (self.now.ignore_principal || option_eq bytes_eq lock.now.principal (option_copied self.now.principal)) }
+    pub fn is_from(&self, lock: &DavLock) -> bool
+        ensures { result ≡ is_from self.now lock.now }
     {
         if self.ignore_principal {
             return true;

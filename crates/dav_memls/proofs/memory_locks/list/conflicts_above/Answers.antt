@@ -1,9 +1,12 @@
-use Rattle.std.proofs.Common.{◌∙◌, ◌&&◌, rules}
-use Rattle.dav_store.specs.Locks.{covers, conflicts}
-use Rattle.dav_memls.proofs.LockFound.{covering_any}
+use Rattle.std.proofs.Common.{◌∙◌, rules}
+use Rattle.dav_store.specs.Locks.{covers}
+use Rattle.dav_memls.proofs.SharedLocks.{shared_conflicts, exclusive_conflicts}
 use Rattle.dav_memls.proofs.memory_locks.list.conflicts_above.Goals as goal
 
-pub returns : goal.returns
-returns c =
-    c.any_above.ensures (λ other. covers other c.args.lock.now.path.key && conflicts c.args.lock.now other) (λ other answer h. search rules)
-    ∙ covering_any (conflicts c.args.lock.now) c.args.lock.now.path.key c.args.locks.now.locks.items
+pub returns-then-lock : goal.returns-then-lock
+returns-then-lock c =
+    let lock = c.args.lock.now in
+    c.any_exclusive_above.ensures (λ other. covers other lock.path.key) (λ other answer h. search rules) ∙ shared_conflicts lock lock.path.key c.args.locks.now.locks.items c.if-lock.true
+
+pub returns-else-lock : goal.returns-else-lock
+returns-else-lock c = let lock = c.args.lock.now in c.is_covered.ensures ∙ exclusive_conflicts lock lock.path.key c.args.locks.now.locks.items c.if-lock.false

@@ -1,10 +1,17 @@
-use Rattle.std.proofs.Common.{◌∙◌, ◌&&◌, rules}
-use Rattle.dav_store.specs.Locks.{covers}
-use Rattle.dav_memls.specs.Submitted.{passes}
-use Rattle.dav_memls.proofs.LockFound.{covering_any}
+use Rattle.std.proofs.Common.{◌∙◌, ◌&&◌, rules, tests}
+use Rattle.std.proofs.lemmas.Iterator.{YieldsList-from_slice}
+use Rattle.std.proofs.lemmas.Iterator.Search.{any_from_yields_List}
+use Rattle.std.specs.List.{filter, list_any}
+use Rattle.dav_store.specs.Locks.{covers, has_token}
+use Rattle.dav_memls.specs.Submitted.{is_from}
+use Rattle.dav_memls.proofs.TokenLocks.{one_submitted}
 use Rattle.dav_memls.proofs.memory_locks.list.one_is_submitted.Goals as goal
 
 pub returns : goal.returns
 returns c =
-    c.any_above.ensures (λ lock. covers lock c.args.path.now.key && passes c.args.submitted.now lock) (λ lock answer h. search rules)
-    ∙ covering_any (passes c.args.submitted.now) c.args.path.now.key c.args.locks.now.locks.items
+    let ls = c.args.locks.now.locks.items in
+    let key = c.args.path.now.key in
+    let from = is_from c.args.submitted.now in
+    let tokens = c.args.submitted.now.tokens.now in
+    any_from_yields_List (λ t. list_any (λ l. covers l key && from l) (filter (has_token t) ls)) _ _ c.any.result c.any.ensures.ran (YieldsList-from_slice tokens cc) (λ x b q k. search (rules, tests))
+    ∙ one_submitted from tokens key ls
