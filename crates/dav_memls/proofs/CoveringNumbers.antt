@@ -8,9 +8,9 @@ use Rattle.std.specs.Ordering.{is_eq, nat_cmp}
 use Rattle.dav_resource.specs.Key.{Key}
 use Rattle.dav_store.specs.declared.lock.DavLock.{DavLock}
 use Rattle.dav_store.specs.Locks.{covers, covering}
-use Rattle.dav_memls.specs.LockIndex.{Row, numbers_of, lock_of, locks_of_numbers, number_passes, is_of_key, is_above, is_within, HasNumbers}
+use Rattle.dav_memls.specs.LockIndex.{Row, numbers_of, lock_of, locks_of_numbers, number_passes, is_of_key, is_above, HasNumbers}
 use Rattle.dav_memls.proofs.Ascending.{Rises, rises-head, rises-tail, rises-cons, rises-none, same, not_same, all_weaker}
-use Rattle.dav_memls.proofs.Reached.{reached-more, reached-all, reached-else}
+use Rattle.dav_memls.proofs.Reached.{reached-more, reached-all}
 use Rattle.dav_memls.proofs.LockRows.{all_numbers, each_found, locks_found}
 use Rattle.dav_memls.proofs.LockFound.{is_reached, any-or, covers-above}
 
@@ -124,30 +124,6 @@ within false false h = refl
 pub covering_all_reached : (key : Key) (ns : List ℕ) (ls : List DavLock) (found : BTreeSet ℕ) → HasNumbers found (numbers_of (reached_covers (suc (length key)) key) (zip ns ls)) → HasNumbers found (numbers_of (λ l. covers l key) (zip ns ls))
 covering_all_reached key ns ls found h n =
     h n ∙ ap (list_any (λ m. n == m)) (numbers_agree (reached_covers (suc (length key)) key) (λ l. covers l key) (zip ns ls) (each_row (λ row. ap (λ b. b && covers row.1 key) (reached-all key row.1.path.key) ∙ within (is_above key row.1) (covers row.1 key) (covers-above key row.1)) (zip ns ls)))
-
-no_row : (test : DavLock → Bool) (rows : List Row) → numbers_of test rows ≡ [] → AllByRecursion (λ (row : Row). test row.1 ≡ false) rows
-no_row test [] e = tt
-no_row test (row ∷ rows) e =
-    elim (test row.1) as (λ b. test row.1 ≡ b → map (λ (r : Row). r.0) (cond b (row ∷ filter (λ (r : Row). test r.1) rows) (filter (λ (r : Row). test r.1) rows)) ≡ [] → (test row.1 ≡ false) × AllByRecursion (λ (r : Row). test r.1 ≡ false) rows) [
-      | true ↦ λ is e. absurd cc
-      | false ↦ λ is e. (is, no_row test rows e)
-    ] refl e
-
-each_of : {P Q : Row → Type 0} → ((row : Row) → P row → Q row) → (rows : List Row) → AllByRecursion P rows → AllByRecursion Q rows
-each_of h [] a = tt
-each_of h (row ∷ rows) a = (h row a.0, each_of h rows a.1)
-
--- where no lock stands at the next key or below it, none is left
-pub covering_stops : (d : ℕ) (key : Key) (ns : List ℕ) (ls : List DavLock) (found : BTreeSet ℕ) → numbers_of (is_within (take d key)) (zip ns ls) ≡ [] → HasNumbers found (numbers_of (reached_covers d key) (zip ns ls)) → HasNumbers found (numbers_of (λ l. covers l key) (zip ns ls))
-covering_stops d key ns ls found stop h n =
-    h n ∙ ap (list_any (λ m. n == m)) (numbers_agree (reached_covers d key) (λ l. covers l key) (zip ns ls) (each_of left_out (zip ns ls) (no_row (is_within (take d key)) (zip ns ls) stop)))
-  where
-    left_out : (row : Row) → is_within (take d key) row.1 ≡ false → (is_reached d key row.1 && covers row.1 key) ≡ covers row.1 key
-    left_out row out = within (is_reached d key row.1) (covers row.1 key) (λ c. split (is_reached d key row.1) refl (covers-above key row.1 c))
-      where
-        split : (b : Bool) → is_reached d key row.1 ≡ b → is_above key row.1 ≡ true → b ≡ true
-        split true e above = refl
-        split false e above = absurd (let no : true ≡ false = sym (reached-else d key row.1.path.key e above) ∙ out in cc)
 
 -- ---- the set
 

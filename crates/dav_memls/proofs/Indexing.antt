@@ -14,7 +14,7 @@ use Rattle.dav_store.specs.Locks.{has_token}
 use Rattle.dav_store.specs.LockCalls.{refreshed}
 use Rattle.dav_memls.specs.Numbers.{IsAbove}
 use Rattle.dav_memls.specs.ByKey.{numbers_at, only_if, without_if}
-use Rattle.dav_memls.specs.LockIndex.{IsIndexed, KeepsIndex, EntersIndex, LeavesIndex, by_token, numbers_of, is_of_key, is_within}
+use Rattle.dav_memls.specs.LockIndex.{IsIndexed, KeepsIndex, EntersIndex, LeavesIndex, by_token, numbers_of, is_of_key}
 use Rattle.dav_memls.proofs.Ascending.{Rises, without_push}
 use Rattle.dav_memls.proofs.Reached.{bytes_eq-sym}
 use Rattle.dav_memls.proofs.LockRows.{numbers-push, numbers-remove, numbers-set, number_kept, only_number, none_numbers, all_numbers}
@@ -24,7 +24,6 @@ indexed_kept ns old new ls h keeps = record {
   one_each = h.one_each;
   tokens = λ token. keeps.tokens token ∙ h.tokens token;
   at = λ key. keeps.at key ∙ h.at key;
-  below = λ key. keeps.below key ∙ h.below key;
 }
 
 pub indexed_push : (ns : List ℕ) (old new : LockIndex) (ls : List DavLock) (n : ℕ) (l : DavLock) → IsIndexed ns old ls → EntersIndex l n old new → IsIndexed (ns ++ n ∷ []) new (ls ++ l ∷ [])
@@ -32,7 +31,6 @@ indexed_push ns old new ls n l h enters = record {
   one_each = (let e = h.one_each in simp length-append (omega arith));
   tokens = λ token. enters.tokens token ∙ ap (λ xs. xs ++ only_if (has_token token l) n) (h.tokens token) ∙ sym (numbers-push (has_token token) ns ls n l h.one_each);
   at = λ key. enters.at key ∙ ap (λ xs. xs ++ only_if (is_of_key key l) n) (h.at key) ∙ sym (numbers-push (is_of_key key) ns ls n l h.one_each);
-  below = λ key. enters.below key ∙ ap (λ xs. xs ++ only_if (is_within key l) n) (h.below key) ∙ sym (numbers-push (is_within key) ns ls n l h.one_each);
 }
 
 pub indexed_remove : (ns : List ℕ) (old new : LockIndex) (ls : List DavLock) (i n : ℕ) (l : DavLock) → Rises ns → i < length ls → n ≡ get_or ns i 0 → l ≡ get_or ls i l → IsIndexed ns old ls → LeavesIndex l n old new → IsIndexed (remove ns i) new (remove ls i)
@@ -40,7 +38,6 @@ indexed_remove ns old new ls i n l rises inside is_n is_l h leaves = record {
   one_each = (let e = h.one_each in let a = length-remove ns i (omega arith) in let b = length-remove ls i inside in omega arith);
   tokens = λ token. leaves.tokens token ∙ gone token (has_token token l) refl ∙ sym (removed (has_token token));
   at = λ key. leaves.at key ∙ ap (without_if (is_of_key key l) n) (h.at key) ∙ sym (removed (is_of_key key));
-  below = λ key. leaves.below key ∙ ap (without_if (is_within key l) n) (h.below key) ∙ sym (removed (is_within key));
 }
   where
     removed : (test : DavLock → Bool) → numbers_of test (zip (remove ns i) (remove ls i)) ≡ without_if (test l) n (numbers_of test (zip ns ls))
@@ -60,7 +57,6 @@ indexed_refreshed ns index ls i timeout now l inside is_l h = record {
   one_each = h.one_each ∙ sym (length-set ls i (refreshed timeout now l));
   tokens = λ token. h.tokens token ∙ sym (kept (has_token token) refl);
   at = λ key. h.at key ∙ sym (kept (is_of_key key) refl);
-  below = λ key. h.below key ∙ sym (kept (is_within key) refl);
 }
   where
     kept : (test : DavLock → Bool) → test (refreshed timeout now l) ≡ test l → numbers_of test (zip ns (set ls i (refreshed timeout now l))) ≡ numbers_of test (zip ns ls)
@@ -71,9 +67,6 @@ free_token ns index ls token h free = h.tokens token ∙ none_numbers (has_token
 
 pub above_at : (ns : List ℕ) (index : LockIndex) (ls : List DavLock) (n : ℕ) → IsIndexed ns index ls → IsAbove n ns → (key : Key) → IsAbove n (numbers_at index.at key)
 above_at ns index ls n h above key = subst (IsAbove n) (sym (h.at key)) (all_numbers _ (is_of_key key) ns ls above)
-
-pub above_below : (ns : List ℕ) (index : LockIndex) (ls : List DavLock) (n : ℕ) → IsIndexed ns index ls → IsAbove n ns → (key : Key) → IsAbove n (numbers_at index.below key)
-above_below ns index ls n h above key = subst (IsAbove n) (sym (h.below key)) (all_numbers _ (is_within key) ns ls above)
 
 -- ---- a token
 

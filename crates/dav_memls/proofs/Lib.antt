@@ -10,4 +10,6 @@ pub mod LockLists
 pub mod TokenSets
 pub mod SharedLocks
 pub mod OneLook
+pub mod KeyRuns
+pub mod BelowLooks
 pub mod TokenLocks

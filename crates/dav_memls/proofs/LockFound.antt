@@ -5,8 +5,8 @@ use Rattle.std.specs.List.{filter, list_all, list_any}
 use Rattle.dav_resource.specs.Key.{Key, is_same_key, same_key_decides}
 use Rattle.dav_store.specs.declared.lock.DavLock.{DavLock}
 use Rattle.dav_store.specs.Locks.{is_at_or_below, covers, covering}
-use Rattle.dav_memls.specs.LockIndex.{is_of_key, is_above, is_within}
-use Rattle.dav_memls.proofs.Reached.{reached, reached-more, reached-all, reached-else, reached-below, at_itself}
+use Rattle.dav_memls.specs.LockIndex.{is_of_key, is_above}
+use Rattle.dav_memls.proofs.Reached.{reached, reached-more, reached-all, reached-below, at_itself}
 
 -- the locks at the key or above it whose own keys have fewer than d segments
 abbrev pub is_reached : ℕ → Key → DavLock → Bool
@@ -42,7 +42,7 @@ or_true true = refl
 or_true false = refl
 
 -- what passes among some passes among more
-any_wider : (p a b : DavLock → Bool) → ((l : DavLock) → a l ≡ true → b l ≡ true) → (ls : List DavLock) → list_any p (filter a ls) ≡ true → list_any p (filter b ls) ≡ true
+pub any_wider : (p a b : DavLock → Bool) → ((l : DavLock) → a l ≡ true → b l ≡ true) → (ls : List DavLock) → list_any p (filter a ls) ≡ true → list_any p (filter b ls) ≡ true
 any_wider p a b wider [] e = e
 any_wider p a b wider (l ∷ ls) e = split (a l) (b l) (wider l) (any_wider p a b wider ls) e
   where
@@ -77,27 +77,6 @@ some_here p d key ls here =
 
 pub none_at_all : (p : DavLock → Bool) (key : Key) (ls : List DavLock) → list_any p (filter (is_reached (suc (length key)) key) ls) ≡ false → list_any p (filter (is_above key) ls) ≡ false
 none_at_all p key ls h = sym (ap (list_any p) (filter_agree (is_reached (suc (length key)) key) (is_above key) (λ l. reached-all key l.path.key) ls)) ∙ h
-
--- where no lock stands at the next key or below it, none is left
-pub reached_all : (d : ℕ) (key : Key) (ls : List DavLock) → filter (is_within (take d key)) ls ≡ [] → filter (is_above key) ls ≡ filter (is_reached d key) ls
-reached_all d key [] e = refl
-reached_all d key (l ∷ ls) e =
-    let out = head_out (is_within (take d key) l) l (filter (is_within (take d key)) ls) e in
-    split (is_above key l) (is_reached d key l) out.0 (reached-else d key l.path.key) (reached-below d key l.path.key) (reached_all d key ls out.1)
-  where
-    head_out : (b : Bool) (l : DavLock) (rest : List DavLock) → cond b (l ∷ rest) rest ≡ [] → (b ≡ false) × (rest ≡ [])
-    head_out true l rest e = absurd cc
-    head_out false l rest e = (refl, e)
-
-    split : (above so_far : Bool) → is_within (take d key) l ≡ false → (so_far ≡ false → above ≡ true → is_within (take d key) l ≡ true) → (so_far ≡ true → above ≡ true) → filter (is_above key) ls ≡ filter (is_reached d key) ls
-        → cond above (l ∷ filter (is_above key) ls) (filter (is_above key) ls) ≡ cond so_far (l ∷ filter (is_reached d key) ls) (filter (is_reached d key) ls)
-    split true true out more wide rest = ap (λ xs. l ∷ xs) rest
-    split true false out more wide rest = absurd (let no : true ≡ false = sym (more refl refl) ∙ out in cc)
-    split false true out more wide rest = absurd (let no : false ≡ true = wide refl in cc)
-    split false false out more wide rest = rest
-
-pub none_left : (p : DavLock → Bool) (d : ℕ) (key : Key) (ls : List DavLock) → filter (is_within (take d key)) ls ≡ [] → list_any p (filter (is_reached d key) ls) ≡ false → list_any p (filter (is_above key) ls) ≡ false
-none_left p d key ls stop before = ap (list_any p) (reached_all d key ls stop) ∙ before
 
 -- ---- the locks that cover a key
 

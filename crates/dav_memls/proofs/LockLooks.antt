@@ -9,16 +9,16 @@ use Rattle.std.specs.Slice.{IsItemAt}
 use Rattle.std.specs.Prelude.{String}
 use Rattle.std.specs.declared.alloc.Global.{Global}
 use denote.Ref.{Bor}
-use Rattle.dav_resource.specs.Key.{Key}
+use Rattle.dav_resource.specs.Key.{Key, same_key_decides}
 use Rattle.dav_resource.specs.Texts.{texts}
 use Rattle.dav_store.specs.declared.lock.DavLock.{DavLock}
-use Rattle.dav_store.specs.Locks.{has_token, at_or_below}
+use Rattle.dav_store.specs.Locks.{has_token, is_at_or_below}
 use Rattle.dav_store.specs.LockCalls.{is_named}
 use Rattle.dav_memls.specs.declared.memory_locks.index.LockIndex.{LockIndex}
 use Rattle.dav_memls.specs.ByKey.{numbers_at}
-use Rattle.dav_memls.specs.LockIndex.{IsIndexed, numbers_of, lock_of, locks_of_numbers, is_of_key, is_within, StandsBelow}
+use Rattle.dav_memls.specs.LockIndex.{IsIndexed, numbers_of, lock_of, locks_of_numbers, is_of_key, StandsBelow}
 use Rattle.dav_memls.proofs.Ascending.{Rises}
-use Rattle.dav_memls.proofs.ByKeys.{texts-take, empty}
+use Rattle.dav_memls.proofs.ByKeys.{texts-take}
 use Rattle.dav_memls.proofs.LockRows.{no_lock, lock_there, locks_found, IsPlaceOf, places, named_one}
 
 -- ---- a place in a list
@@ -82,26 +82,21 @@ named_somewhere key token ns ls n h e one none =
     let found = named_one key token zero n ns ls h e one in
     (let clash : None ≡ Some (0 + found.place) = none ∙ position_from-zero (λ m. m == n) ns ∙ found.found in cc)
 
--- ---- the locks at a key or below it
-
-pub no_below : (key : Key) (ns : List ℕ) (ls : List DavLock) → Rises ns → length ns ≡ length ls → numbers_of (is_within key) (zip ns ls) ≡ [] → at_or_below ls key ≡ []
-no_below key ns ls h e none = sym (locks_found (is_within key) ns ls h e) ∙ ap (λ xs. locks_of_numbers xs (zip ns ls)) none
-
-pub nothing_last : (xs : List ℕ) → length xs ≤ 0 → xs ≡ []
-nothing_last [] e = refl
-nothing_last (x ∷ xs) e = absurd (omega arith)
+-- ---- a lock at a key or below it
 
 read_all : (P : ℕ → Type 0) (xs : List ℕ) (i d : ℕ) → AllByRecursion P xs → i < length xs → P (get_or xs i d)
 read_all P [] i d a inside = absurd (omega arith)
 read_all P (x ∷ xs) zero d a inside = a.0
 read_all P (x ∷ xs) (suc i) d a inside = read_all P xs i d a.1 (omega arith)
 
-pub last_stands : (key : Key) (ns xs : List ℕ) (ls : List DavLock) (n : ℕ) (r : Option ℕ) (P : Type 0) → Rises ns → xs ≡ numbers_of (is_within key) (zip ns ls) → 0 < length xs → ((d : ℕ) → n ≡ get_or xs (length xs - 1) d) → r ≡ position (λ m. m == n) ns → MatchOption r P (StandsBelow ls key)
-last_stands key ns xs ls n r P h is some last at =
-    let all = subst (AllByRecursion (λ m. IsPlaceOf (is_within key) ns ls zero m)) (sym is) (places (is_within key) zero ns ls h) in
-    let place = subst (IsPlaceOf (is_within key) ns ls zero) (sym (last n)) (read_all (IsPlaceOf (is_within key) ns ls zero) xs (length xs - 1) n all (omega arith)) in
+-- the first number at a key that is the given one or below it leads to a lock there
+pub some_stands : (key own : Key) (ns xs : List ℕ) (ls : List DavLock) (n : ℕ) (r : Option ℕ) (P : Type 0) → Rises ns → xs ≡ numbers_of (is_of_key own) (zip ns ls) → is_at_or_below own key ≡ true → 0 < length xs → ((d : ℕ) → n ≡ get_or xs 0 d) → r ≡ position (λ m. m == n) ns → MatchOption r P (StandsBelow ls key)
+some_stands key own ns xs ls n r P h is below some first at =
+    let all = subst (AllByRecursion (λ m. IsPlaceOf (is_of_key own) ns ls zero m)) (sym is) (places (is_of_key own) zero ns ls h) in
+    let place = subst (IsPlaceOf (is_of_key own) ns ls zero) (sym (first n)) (read_all (IsPlaceOf (is_of_key own) ns ls zero) xs 0 n all some) in
     let found : r ≡ Some place.place = at ∙ position_from-zero (λ m. m == n) ns ∙ place.found ∙ ap Some (omega arith) in
-    subst (λ o. MatchOption o P (StandsBelow ls key)) (sym found) (record { inside = place.inside; below = λ d. place.passes d })
+    subst (λ o. MatchOption o P (StandsBelow ls key)) (sym found)
+    (record { inside = place.inside; below = λ d. subst (λ k. is_at_or_below k key ≡ true) ((same_key_decides own (get_or ls place.place d).path.key).0 (place.passes d)) below })
 
 -- ---- a look at a key on the way along the segments
 
@@ -110,15 +105,6 @@ here_found ns index ls d segments key xs r h same is = is ∙ ap (numbers_at ind
 
 pub here_locks : (ns : List ℕ) (index : LockIndex) (ls : List DavLock) (d : ℕ) (segments : List (String Global)) (key : Key) (xs : List ℕ) → Rises ns → IsIndexed ns index ls → texts segments ≡ key → xs ≡ numbers_at index.at (texts (take d segments)) → locks_of_numbers xs (zip ns ls) ≡ filter (is_of_key (take d key)) ls
 here_locks ns index ls d segments key xs r h same is = ap (λ ys. locks_of_numbers ys (zip ns ls)) (here_found ns index ls d segments key xs r h same is) ∙ locks_found (is_of_key (take d key)) ns ls r h.one_each
-
-pub none_here : (ns : List ℕ) (index : LockIndex) (ls : List DavLock) (d : ℕ) (segments : List (String Global)) (key : Key) (xs : List ℕ) → IsIndexed ns index ls → texts segments ≡ key → xs ≡ numbers_at index.below (texts (take d segments)) → (length xs == 0) ≡ true → numbers_of (is_within (take d key)) (zip ns ls) ≡ []
-none_here ns index ls d segments key xs h same is none = sym (h.below (take d key)) ∙ sym (is ∙ ap (numbers_at index.below) (texts-take d segments ∙ ap (take d) same)) ∙ empty xs none
-
-pub below_found : (ns : List ℕ) (index : LockIndex) (ls : List DavLock) (segments : List (String Global)) (key : Key) (xs : List ℕ) → IsIndexed ns index ls → texts segments ≡ key → xs ≡ numbers_at index.below (texts segments) → xs ≡ numbers_of (is_within key) (zip ns ls)
-below_found ns index ls segments key xs h same is = is ∙ ap (numbers_at index.below) same ∙ h.below key
-
-pub below_locks : (ns : List ℕ) (index : LockIndex) (ls : List DavLock) (segments : List (String Global)) (key : Key) (xs : List ℕ) → Rises ns → IsIndexed ns index ls → texts segments ≡ key → xs ≡ numbers_at index.below (texts segments) → locks_of_numbers xs (zip ns ls) ≡ at_or_below ls key
-below_locks ns index ls segments key xs r h same is = ap (λ ys. locks_of_numbers ys (zip ns ls)) (below_found ns index ls segments key xs h same is) ∙ locks_found (is_within key) ns ls r h.one_each
 
 -- one more number
 passes_none : (p : DavLock → Bool) (xs : List DavLock) (o : Option DavLock) → list_any p xs ≡ false → MatchOption o (Unit {0}) (λ l. p l ≡ false) → list_any p (xs ++ cons_option o []) ≡ false

@@ -58,15 +58,6 @@ reached-next (suc d) (s ∷ key) [] fits e = absurd cc
 reached-next (suc d) (s ∷ key) (t ∷ above) fits e =
     ap (λ b. bytes_eq t s && b) (reached-next d key above (omega arith) (and_parts (bytes_eq s t) _ e).1) ∙ and_false (bytes_eq t s)
 
--- what isn't reached yet stands at the next one or below it
-pub reached-else : (d : ℕ) (key above : Key) → reached d key above ≡ false → is_at_or_below key above ≡ true → is_at_or_below above (take d key) ≡ true
-reached-else zero key above not_yet e = refl
-reached-else (suc d) key [] not_yet e = absurd cc
-reached-else (suc d) [] (t ∷ above) not_yet e = absurd cc
-reached-else (suc d) (s ∷ key) (t ∷ above) not_yet e =
-    let both = and_parts (bytes_eq t s) _ e in
-    and_from _ _ (bytes_eq-sym s t ∙ both.0) (reached-else d key above (sym (ap (λ b. b && reached d key above) both.0) ∙ not_yet) both.1)
-
 -- what is reached is the key or above it
 pub reached-below : (d : ℕ) (key above : Key) → reached d key above ≡ true → is_at_or_below key above ≡ true
 reached-below zero key above e = absurd cc

@@ -1,8 +1,14 @@
 -- Numbers by keys: this project's own choice.
-use Rattle.std.specs.Prelude.{◌≡◌, ℕ, Bool, List, [], ◌∷◌, ◌++◌, if◌then◌else◌}
+use Rattle.std.specs.Prelude.{◌≡◌, ℕ, Bool, true, List, [], ◌∷◌, ◌++◌, if◌then◌else◌}
+use Rattle.std.specs.List.{AllByRecursion}
+use Rattle.std.specs.List.Sorted.{IsStrictlySortedBy}
+use Rattle.std.specs.Map.{keys_of}
 use Rattle.dav_resource.specs.Key.{Key}
+use Rattle.dav_resource.specs.Texts.{texts}
+use Rattle.dav_store.specs.Locks.{is_at_or_below}
+use Rattle.dav_memls.specs.declared.memory_locks.numbers.Numbers.{Numbers}
 use Rattle.dav_memls.specs.Numbers.{without}
-use Rattle.dav_memls.specs.KeyEntries.{numbers_in}
+use Rattle.dav_memls.specs.KeyEntries.{OwnKey, own_cmp, numbers_in}
 use Rattle.dav_memls.specs.declared.memory_locks.by_key.ByKey.{ByKey}
 
 -- the numbers at a key, none where the register has no entry of it
@@ -28,3 +34,9 @@ JoinsNumber test n old new = (key : Key) → numbers_at new key ≡ numbers_at o
 -- it leaves each key that passes the test
 abbrev pub LeavesNumber : (Key → Bool) → ℕ → ByKey → ByKey → Type 0
 LeavesNumber test n old new = (key : Key) → numbers_at new key ≡ without_if (test key) n (numbers_at old key)
+
+-- entries of it in the order of their keys, among them each at a key and below it
+pub record HasRun (key : Key) (register : ByKey) (run : List (OwnKey × Numbers)) : Type 0 where
+  pub ordered : IsStrictlySortedBy own_cmp (keys_of run)
+  pub own : AllByRecursion (λ e. numbers_at register (texts e.0.items) ≡ e.1.items.items) run
+  pub all : (k : Key) → is_at_or_below k key ≡ true → numbers_in run k ≡ numbers_at register k

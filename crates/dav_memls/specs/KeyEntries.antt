@@ -1,6 +1,9 @@
 -- What a map from keys to numbers has: this project's own choice.
 use Rattle.std.specs.Prelude.{◌≢◌, ℕ, List, [], Option, Some, Vec, String}
 use Rattle.std.specs.declared.alloc.Global.{Global}
+use Rattle.std.specs.declared.cmp.Ordering.{Ordering}
+use Rattle.std.specs.Cmp.Lexicographic.{slice_cmp}
+use Rattle.std.specs.String.{string_cmp}
 use Rattle.std.specs.Map.{lookup}
 use Rattle.std.specs.Option.{option_map, option_map_or}
 use Rattle.dav_resource.specs.Key.{Key, is_same_key}
@@ -9,6 +12,10 @@ use Rattle.dav_memls.specs.declared.memory_locks.numbers.Numbers.{Numbers}
 
 abbrev pub OwnKey : Type 0
 OwnKey = Vec (String Global) Global
+
+-- as `Vec` and `String` compare: segment by segment
+abbrev pub own_cmp : OwnKey → OwnKey → Ordering
+own_cmp a b = slice_cmp string_cmp a.items b.items
 
 -- what these entries have at a key, if there is one of it
 abbrev pub found_in : List (OwnKey × Numbers) → Key → Option Numbers

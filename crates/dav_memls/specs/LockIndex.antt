@@ -51,25 +51,21 @@ pub record IsIndexed (numbers : List ℕ) (index : LockIndex) (locks : List DavL
   pub one_each : length numbers ≡ length locks
   pub tokens : (token : List ℕ) → by_token index token ≡ numbers_of (has_token token) (zip numbers locks)
   pub at : (key : Key) → numbers_at index.at key ≡ numbers_of (is_of_key key) (zip numbers locks)
-  pub below : (key : Key) → numbers_at index.below key ≡ numbers_of (is_within key) (zip numbers locks)
 
 -- the index finds what it found
 pub record KeepsIndex (old new : LockIndex) : Type 0 where
   pub tokens : (token : List ℕ) → by_token new token ≡ by_token old token
   pub at : (key : Key) → numbers_at new.at key ≡ numbers_at old.at key
-  pub below : (key : Key) → numbers_at new.below key ≡ numbers_at old.below key
 
 -- it finds the number of a lock too
 pub record EntersIndex (lock : DavLock) (n : ℕ) (old new : LockIndex) : Type 0 where
   pub tokens : (token : List ℕ) → by_token new token ≡ by_token old token ++ only_if (has_token token lock) n
   pub at : (key : Key) → numbers_at new.at key ≡ numbers_at old.at key ++ only_if (is_of_key key lock) n
-  pub below : (key : Key) → numbers_at new.below key ≡ numbers_at old.below key ++ only_if (is_within key lock) n
 
 -- it finds the number of the lock no more
 pub record LeavesIndex (lock : DavLock) (n : ℕ) (old new : LockIndex) : Type 0 where
   pub tokens : (token : List ℕ) → by_token new token ≡ (if has_token token lock then [] else by_token old token)
   pub at : (key : Key) → numbers_at new.at key ≡ without_if (is_of_key key lock) n (numbers_at old.at key)
-  pub below : (key : Key) → numbers_at new.below key ≡ without_if (is_within key lock) n (numbers_at old.below key)
 
 -- the lock at this place stands at the key or below it
 pub record StandsBelow (locks : List DavLock) (key : Key) (place : ℕ) : Type 0 where

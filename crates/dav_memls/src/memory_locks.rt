@@ -19,17 +19,19 @@ use indexed::IndexedLocks;
 use std::alloc::{AllocError, Global};
 use submitted::Submitted;
 
-/// A lock system in memory. It is dependable, and `unlock` and `delete` take no memory.
+/// A lock system in memory. It is dependable, and `check`, `unlock` and `delete` need no memory.
 ///
-/// A call looks at the locks at its path, above it or below it alone, however many are held elsewhere: hash
-/// maps lead from a token and from keys to the locks. `check`, `lock` and `discover` take a look for the path and
-/// for each above it, down to the first without a lock at or below it, and then the time to judge the locks
-/// found, at each path the first alone where it tells of the others, as it does whether they are shared. `check`
-/// takes memory to put many tokens in order, and is only slower without it. `unlock` and `refresh` take a look
-/// for the token. `unlock`, and `delete` for each lock, newest first, move those newer than the lock by a place.
-/// `lock` takes memory for the lock, for its token and a number once more, and for the key of its path and of
-/// each above it, where no lock stands there or below. Where the newest lock has the greatest `u64` as its number
-/// (each is one above that of the newest held), `lock` answers `Memory`.
+/// A call looks at the locks at its path, above it or below it alone, however many are held elsewhere: a hash map
+/// leads from a token to its lock, and a map ordered by their paths, segment by segment, to the locks at a path. A
+/// look at a path takes as many comparisons of paths as the logarithm of the number of locked ones. `check`, `lock`
+/// and `discover` take a look for the path and for each above it, and then the time to judge the locks found, at each
+/// path the first alone where it tells of the others, as it does whether they are shared. What stands below the path
+/// is found from a copy of it on; without memory for the copy, by going through all locked paths, which is only
+/// slower. `check` takes memory to put many tokens in order, and is only slower without it. `unlock` and `refresh`
+/// take a look for the token. `delete` takes a look below the path for each lock, in no promised order. It, and
+/// `unlock`, move those newer than the lock by a place. `lock` takes memory for the lock, for its token and a number
+/// once more, and for one copy of its path where no lock stands there. Where the newest lock has the greatest `u64`
+/// as its number (each is one above that of the newest held), `lock` answers `Memory`.
 #[derive(Debug, Drop)]
 pub struct MemLs {
     locks: IndexedLocks,
@@ -146,8 +148,8 @@ impl DavLockSystem for MemLs {
         ensures removed { RemovesLocks path.now.key (locks_of self.old) (locks_of self.new) }
         ensures ok { result ≡ Ok tt }
     {
-        while let Some(last) = self.locks.last_below(path) {
-            self.locks.remove(last);
+        while let Some(below) = self.locks.some_below(path) {
+            self.locks.remove(below);
         }
         Ok(())
     }

@@ -1,34 +1,35 @@
 //! Numbers by keys.
-ghost use Rattle.std.specs.Prelude.{◌≡◌, [], IfOk, OnOk, OnErr};
+ghost use Rattle.std.specs.Prelude.{◌≡◌, [], OnOk, OnErr};
 ghost use Rattle.std.proofs.Props.{props};
 ghost use Rattle.dav_resource.specs.Key.{Key, is_same_key};
 ghost use Rattle.dav_resource.specs.Texts.{texts};
-ghost use Rattle.dav_store.specs.Locks.{is_at_or_below};
 ghost use Rattle.dav_memls.specs.Numbers.{IsAbove};
 ghost use Rattle.dav_memls.specs.KeyEntries.{IsTidy};
 
 use super::numbers::Numbers;
 use std::alloc::{AllocError, Global};
-use std::collections::HashMap;
+use std::collections::BTreeMap;
+use std::collections::btree_map::Range;
 
-/// Ascending numbers for each key, which has an entry only while it has numbers. A look takes the key's hash,
-/// however many keys there are; its seed is fixed, so among keys that were picked for one hash a look goes
-/// through them all.
+/// Ascending numbers for each key, which has an entry only while it has numbers. The entries are ordered by their
+/// keys, segment by segment, so that those at a key and below it stand together. A look takes as many comparisons
+/// of keys as the logarithm of the number of entries, and each of them goes no further than to the first segment
+/// in which the two differ.
 #[derive(Debug, Drop)]
 pub struct ByKey {
-    map: HashMap<Vec<String>, Numbers>,
+    map: BTreeMap<Vec<String>, Numbers>,
     ghost tidy: { IsTidy map.entries } by { Prim.hlevel props },
 }
 
 impl ByKey {
-    ghost use Rattle.dav_memls.specs.ByKey.{numbers_at, KeepsNumbers, JoinsNumber, LeavesNumber};
+    ghost use Rattle.dav_memls.specs.ByKey.{numbers_at, HasRun, KeepsNumbers, JoinsNumber, LeavesNumber};
 
     /// No numbers for any key.
     pub fn new(alloc: Global) -> ByKey
         ensures { (key : Key) → numbers_at result key ≡ [] }
     {
         ByKey {
-            map: HashMap::new(alloc),
+            map: BTreeMap::new(alloc),
         }
     }
 
@@ -39,6 +40,17 @@ impl ByKey {
         match self.map.get(key) {
             Some(numbers) => numbers.as_slice(),
             None => &[],
+        }
+    }
+
+    /// Entries in the order of their keys, among them all at a key and below it: those from this key on, for which
+    /// the key is copied, and all entries where memory for the copy is lacking.
+    pub fn run(&self, alloc: Global, key: &[String]) -> Range<'_, Vec<String>, Numbers>
+        ensures { HasRun (texts key.now) self.now result }
+    {
+        match key.to_vec(alloc) {
+            Ok(start) => self.map.range(&start..),
+            Err(_) => self.map.range(..),
         }
     }
 
@@ -54,29 +66,8 @@ impl ByKey {
         }
         let mut numbers = Numbers::new(alloc);
         numbers.push(number)?;
-        let key = copy_key(alloc, key)?;
+        let key = key.to_vec(alloc)?;
         self.map.insert(key, numbers)?;
-        Ok(())
-    }
-
-    /// Puts a number behind those of a key and of each above it. Only memory can be lacking, and then
-    /// nothing changes.
-    pub fn join_above(
-        &mut self,
-        alloc: Global,
-        key: &[String],
-        number: u64,
-    ) -> Result<(), AllocError>
-        requires { (k : Key) → IsAbove number (numbers_at self.old k) }
-        ensures ok { OnOk result (JoinsNumber (λ k. is_at_or_below (texts key.now) k) number self.old self.new) }
-        ensures err { OnErr result (KeepsNumbers self.old self.new) }
-    {
-        for depth in 0..key.len() + 1 {
-            if let Err(lacking) = self.join(alloc, &key[..depth], number) {
-                self.leave_above(key, number);
-                return Err(lacking);
-            }
-        }
         Ok(())
     }
 
@@ -92,24 +83,4 @@ impl ByKey {
             self.map.remove(key);
         }
     }
-
-    /// Takes a number from those of a key and of each above it.
-    pub fn leave_above(&mut self, key: &[String], number: u64)
-        ensures { LeavesNumber (λ k. is_at_or_below (texts key.now) k) number self.old self.new }
-    {
-        for depth in 0..key.len() + 1 {
-            self.leave(&key[..depth], number);
-        }
-    }
-}
-
-/// The same segments once more.
-fn copy_key(alloc: Global, segments: &[String]) -> Result<Vec<String>, AllocError>
-    ensures { IfOk result (λ copy. texts copy.items ≡ texts segments.now) }
-{
-    let mut copy = Vec::with_capacity(alloc, segments.len())?;
-    for segment in segments {
-        copy.push(segment.clone()?)?;
-    }
-    Ok(copy)
 }

@@ -1,23 +1,24 @@
-//! An index of locks, by their tokens and by keys.
+//! An index of locks, by their tokens and by their keys.
 ghost use Rattle.std.specs.Prelude.{◌≡◌, [], OnOk, OnErr};
 ghost use Rattle.std.specs.HashMap.{get_by_text};
 ghost use Rattle.dav_resource.specs.Key.{Key};
 ghost use Rattle.dav_resource.specs.Texts.{texts};
 ghost use Rattle.dav_memls.specs.Numbers.{IsAbove};
-ghost use Rattle.dav_memls.specs.ByKey.{numbers_at};
+ghost use Rattle.dav_memls.specs.ByKey.{numbers_at, HasRun};
 ghost use Rattle.dav_memls.specs.LockIndex.{IsIndexed, by_token, KeepsIndex, EntersIndex, LeavesIndex};
 
 use super::by_key::ByKey;
+use super::numbers::Numbers;
 use dav_store::DavLock;
 use std::alloc::{AllocError, Global};
 use std::collections::HashMap;
+use std::collections::btree_map::Range;
 
-/// What finds the numbers of locks: by a token, by a lock's own key, and by that key and each above it.
+/// What finds the numbers of locks: by a token, and by a lock's own key.
 #[derive(Debug, Drop)]
 pub struct LockIndex {
     tokens: HashMap<String, u64>,
     at: ByKey,
-    below: ByKey,
 }
 
 impl LockIndex {
@@ -28,7 +29,6 @@ impl LockIndex {
         LockIndex {
             tokens: HashMap::new(alloc),
             at: ByKey::new(alloc),
-            below: ByKey::new(alloc),
         }
     }
 
@@ -46,31 +46,26 @@ impl LockIndex {
         self.at.get(key)
     }
 
-    /// The numbers of the locks whose own key is this one or below it, the oldest first.
-    pub fn below(&self, key: &[String]) -> &[u64]
-        ensures { result.now ≡ numbers_at self.now.below (texts key.now) }
+    /// The numbers of the locks by their own keys, in the order of these, among them all at a key and below it:
+    /// those from this key on, for which the key is copied, and all where memory for the copy is lacking.
+    pub fn run(&self, alloc: Global, key: &[String]) -> Range<'_, Vec<String>, Numbers>
+        ensures { HasRun (texts key.now) self.now.at result }
     {
-        self.below.get(key)
+        self.at.run(alloc, key)
     }
 
     /// Has a lock be found by this number, which is above those that are. Only memory can be lacking, and
     /// then nothing changes.
     pub fn enter(&mut self, alloc: Global, lock: &DavLock, number: u64) -> Result<(), AllocError>
         requires token { by_token self.old lock.now.token ≡ [] }
-        requires above_at { (key : Key) → IsAbove number (numbers_at self.old.at key) }
-        requires above_below { (key : Key) → IsAbove number (numbers_at self.old.below key) }
+        requires above { (key : Key) → IsAbove number (numbers_at self.old.at key) }
         ensures ok { OnOk result (EntersIndex lock.now number self.old self.new) }
         ensures err { OnErr result (KeepsIndex self.old self.new) }
     {
         let key = lock.path.segments();
         let token = String::from_str(alloc, lock.token.as_str())?;
         self.at.join(alloc, key, number)?;
-        if let Err(lacking) = self.below.join_above(alloc, key, number) {
-            self.at.leave(key, number);
-            return Err(lacking);
-        }
         if let Err(_) = self.tokens.insert(token, number) {
-            self.below.leave_above(key, number);
             self.at.leave(key, number);
             return Err(AllocError);
         }
@@ -84,6 +79,5 @@ impl LockIndex {
         let key = lock.path.segments();
         self.tokens.remove(lock.token.as_str());
         self.at.leave(key, number);
-        self.below.leave_above(key, number);
     }
 }

@@ -90,16 +90,13 @@ impl IndexedLocks {
     }
 
     /// Whether a lock at the path or above it passes the test: a look into the index for the path and each
-    /// above it that has a lock at or below it, and the test of the locks there.
+    /// above it, and the test of the locks there.
     pub fn any_above<F: Fn(&DavLock) -> bool>(&self, path: &DavPath, test: F) -> bool
         requires { F.IsAlwaysCallable test }
         ensures { (p : DavLock → Bool) → Computes (F.post test) p → result ≡ list_any p (filter (is_above path.now.key) self.now.locks.items) }
     {
         let key = path.segments();
         for depth in 0..key.len() + 1 {
-            if self.index.below(&key[..depth]).is_empty() {
-                return false;
-            }
             if self.any_of(self.index.at(&key[..depth]), &test) {
                 return true;
             }
@@ -116,9 +113,6 @@ impl IndexedLocks {
     {
         let key = path.segments();
         for depth in 0..key.len() + 1 {
-            if self.index.below(&key[..depth]).is_empty() {
-                return false;
-            }
             if let Some(lock) = self.first_at(&key[..depth]) {
                 if !lock.shared && test(lock) {
                     return true;
@@ -128,21 +122,42 @@ impl IndexedLocks {
         false
     }
 
-    /// Whether a lock at the path or below it passes the test: a look into the index, and the test of these
-    /// locks.
+    /// Whether a lock at the path or below it passes the test: a look into the index, for which the path is
+    /// copied, and the test of these locks. Where memory for the copy is lacking, the keys of all locks are gone
+    /// through.
     pub fn any_below<F: Fn(&DavLock) -> bool>(&self, path: &DavPath, test: F) -> bool
         requires { F.IsAlwaysCallable test }
         ensures { (p : DavLock → Bool) → Computes (F.post test) p → result ≡ list_any p (at_or_below self.now.locks.items path.now.key) }
     {
-        self.any_of(self.index.below(path.segments()), &test)
+        let key = path.segments();
+        for (own, numbers) in self.index.run(self.allocator(), key) {
+            if own.starts_with(key) {
+                if self.any_of(numbers.as_slice(), &test) {
+                    return true;
+                }
+            } else if key.cmp(own.as_slice()).is_lt() {
+                break;
+            }
+        }
+        false
     }
 
-    /// The place of a lock at the path or below it. It is the newest one, which no contract promises.
-    pub fn last_below(&self, path: &DavPath) -> Option<usize>
+    /// The place of a lock at the path or below it, found as `any_below` finds them. It is the oldest of those at
+    /// the first key that has some, which no contract promises.
+    pub fn some_below(&self, path: &DavPath) -> Option<usize>
         ensures { MatchOption result (at_or_below self.now.locks.items path.now.key ≡ []) (λ place. StandsBelow self.now.locks.items path.now.key place) }
     {
-        let number = self.index.below(path.segments()).last()?;
-        self.numbers.place(*number)
+        let key = path.segments();
+        for (own, numbers) in self.index.run(self.allocator(), key) {
+            if own.starts_with(key) {
+                if let Some(number) = numbers.as_slice().first() {
+                    return self.numbers.place(*number);
+                }
+            } else if key.cmp(own.as_slice()).is_lt() {
+                break;
+            }
+        }
+        None
     }
 
     /// Whether a lock of one of these numbers passes the test.
@@ -192,9 +207,6 @@ impl IndexedLocks {
         let key = path.segments();
         let mut found = BTreeSet::new(self.allocator());
         for depth in 0..key.len() + 1 {
-            if self.index.below(&key[..depth]).is_empty() {
-                break;
-            }
             self.add_covering(&mut found, self.index.at(&key[..depth]), path)?;
         }
         Ok(found)

@@ -1,11 +1,11 @@
-use Rattle.std.proofs.Common.{◌∙◌, ◌++◌, ◌∷◌, [], sym, ap, subst, Some, None, is_some}
+use Rattle.std.proofs.Common.{◌≡◌, ◌∙◌, ◌++◌, ◌∷◌, [], sym, ap, subst, Some, None, is_some}
 use Rattle.std.proofs.lemmas.Result.{err_from_is_err_and}
 use Rattle.dav_resource.specs.Key.{is_same_key}
 use Rattle.dav_resource.specs.Texts.{texts}
 use Rattle.dav_memls.specs.Numbers.{IsAbove}
 use Rattle.dav_memls.specs.KeyEntries.{numbers_in, IsTidy}
 use Rattle.dav_memls.specs.ByKey.{only_if}
-use Rattle.dav_memls.proofs.ByKeys.{got, joined, kept, found_some, pushed_some, entered_some, from_either, some_tidy, tidy_set}
+use Rattle.dav_memls.proofs.ByKeys.{texts-clone, got, joined, kept, found_some, pushed_some, entered_some, from_either, some_tidy, tidy_set}
 use Rattle.dav_memls.proofs.memory_locks.by_key.ByKey.join.Goals as goal
 
 pub push-requires : goal.push-requires
@@ -51,13 +51,14 @@ returns-in-Some-clause-ok c =
 pub returns : goal.returns
 returns c =
     let copy = c.in_ok-key.key.items in
+    let copied : texts copy ≡ texts c.args.key.now = texts-clone c.args.key.now copy c.in_ok-key.ensures.ok in
     let found = got c.args.key.now c.args.self.now.map.entries None c.in_default.ensures.value in
     let m = c.get_mut.follows.lender-at-none in
     let u = c.in_ok-insert.ensures.updates in
     record {
       ok = λ k.
-          joined copy m.entries c.insert.new.self.entries c.push-2.new.self c.args.number (c.in_ok-push-2.ensures.ok ∙ ap (λ xs. xs ++ c.args.number ∷ []) (c.new-numbers.ensures ∙ found ∙ ap (λ q. numbers_in c.args.self.now.map.entries q) (sym c.in_ok-key.ensures) ∙ ap (λ n. numbers_in n.entries (texts copy)) (sym c.get_mut.follows.holds-at-none))) u.1 u.3 k
-          ∙ ap (λ q. numbers_in m.entries k ++ only_if (is_same_key k q) c.args.number) c.in_ok-key.ensures
+          joined copy m.entries c.insert.new.self.entries c.push-2.new.self c.args.number (c.in_ok-push-2.ensures.ok ∙ ap (λ xs. xs ++ c.args.number ∷ []) (c.new-numbers.ensures ∙ found ∙ ap (λ q. numbers_in c.args.self.now.map.entries q) (sym copied) ∙ ap (λ n. numbers_in n.entries (texts copy)) (sym c.get_mut.follows.holds-at-none))) u.1 u.3 k
+          ∙ ap (λ q. numbers_in m.entries k ++ only_if (is_same_key k q) c.args.number) copied
           ∙ ap (λ n. numbers_in n.entries k ++ only_if (is_same_key k (texts c.args.key.now)) c.args.number) c.get_mut.follows.holds-at-none;
       err = tt;
     }

@@ -1,8 +1,8 @@
-use Rattle.std.proofs.Common.{◌≡◌, ◌∙◌, sym, ap, filter, length, take, arith, suc, add-one, string_bytes}
+use Rattle.std.proofs.Common.{◌≡◌, ◌∙◌, sym, ap, filter, length, arith, suc, add-one, string_bytes}
 use Rattle.std.proofs.lemmas.List.{length-map}
 use Rattle.std.specs.List.{list_any}
-use Rattle.dav_memls.proofs.LockLooks.{here_locks, none_here, no_below}
-use Rattle.dav_memls.proofs.LockFound.{is_reached, none_yet, none_more, some_here, none_at_all, none_left}
+use Rattle.dav_memls.proofs.LockLooks.{here_locks}
+use Rattle.dav_memls.proofs.LockFound.{is_reached, none_yet, none_more, some_here, none_at_all}
 use Rattle.dav_memls.proofs.memory_locks.indexed.IndexedLocks.any_above.Goals as goal
 
 pub loop-depth-init : goal.loop-depth-init
@@ -14,13 +14,6 @@ loop-depth-preserved g c = λ p computes.
     let key = c.args.path.now.key in
     ap (λ m. list_any p (filter (is_reached m key) self.locks.items)) (add-one c.loop-depth.depth)
     ∙ none_more p c.loop-depth.depth key self.locks.items (c.loop-depth.invariant p computes) (sym (ap (list_any p) (here_locks self.numbers.items.items self.index self.locks.items c.loop-depth.depth c.segments-key.result.now key c.at.result.now self.numbers.rising self.indexed c.segments-key.ensures.value c.at.ensures)) ∙ sym (c.any_of.ensures p computes) ∙ c.if-any_of.false)
-
-pub returns-then-is_empty : goal.returns-then-is_empty
-returns-then-is_empty g c = λ p computes.
-    let self = c.args.self.now in
-    let key = c.args.path.now.key in
-    let stop = no_below (take c.loop-depth.depth key) self.numbers.items.items self.locks.items self.numbers.rising self.indexed.one_each (none_here self.numbers.items.items self.index self.locks.items c.loop-depth.depth c.segments-key.result.now key c.below.result.now self.indexed c.segments-key.ensures.value c.below.ensures (sym c.is_empty.ensures ∙ c.if-is_empty.true)) in
-    sym (none_left p c.loop-depth.depth key self.locks.items stop (c.loop-depth.invariant p computes))
 
 pub returns-then-any_of : goal.returns-then-any_of
 returns-then-any_of g c = λ p computes.

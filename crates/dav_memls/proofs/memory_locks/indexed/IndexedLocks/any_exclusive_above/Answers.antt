@@ -1,9 +1,8 @@
-use Rattle.std.proofs.Common.{◌≡◌, ◌∙◌, not, sym, ap, refl, filter, length, take, arith, suc, add-one, string_bytes}
+use Rattle.std.proofs.Common.{◌≡◌, ◌∙◌, not, sym, ap, refl, filter, length, arith, suc, add-one, string_bytes}
 use Rattle.std.proofs.lemmas.Bool.{and_from}
 use Rattle.std.proofs.lemmas.List.{length-map}
 use Rattle.std.specs.List.{list_any}
-use Rattle.dav_memls.proofs.LockLooks.{none_here, no_below}
-use Rattle.dav_memls.proofs.LockFound.{is_reached, none_yet, none_more, some_here, none_at_all, none_left}
+use Rattle.dav_memls.proofs.LockFound.{is_reached, none_yet, none_more, some_here, none_at_all}
 use Rattle.dav_memls.proofs.OneLook.{first_here}
 use Rattle.dav_memls.proofs.SharedLocks.{exclusive_passes, not_exclusive, not_passed}
 use Rattle.dav_memls.proofs.memory_locks.indexed.IndexedLocks.any_exclusive_above.Goals.{in-Some+else-not-lock, else-not-lock-via-then-not-lock+else-test, else-not-lock-via-else-not-lock, in_default}
@@ -26,13 +25,6 @@ loop-depth-preserved g c = λ p computes.
       ])
       | in_default w ↦ here _ c.requires.compatible c.segments-key.ensures.value w.in_default.ensures refl
     ])
-
-pub returns-then-is_empty : goal.returns-then-is_empty
-returns-then-is_empty g c = λ p computes.
-    let self = c.args.self.now in
-    let key = c.args.path.now.key in
-    let stop = no_below (take c.loop-depth.depth key) self.numbers.items.items self.locks.items self.numbers.rising self.indexed.one_each (none_here self.numbers.items.items self.index self.locks.items c.loop-depth.depth c.segments-key.result.now key c.below.result.now self.indexed c.segments-key.ensures.value c.below.ensures (sym c.is_empty.ensures ∙ c.if-is_empty.true)) in
-    sym (none_left (exclusive_passes p) c.loop-depth.depth key self.locks.items stop (c.loop-depth.invariant p computes))
 
 pub returns-then-test : goal.returns-then-test
 returns-then-test g c = λ p computes.

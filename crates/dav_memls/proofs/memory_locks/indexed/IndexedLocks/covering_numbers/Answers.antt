@@ -4,9 +4,8 @@ use Rattle.std.specs.BTreeSet.{contains}
 use Rattle.std.specs.List.{list_any, zip}
 use Rattle.dav_store.specs.Locks.{covers}
 use Rattle.dav_memls.specs.LockIndex.{HasNumbers, numbers_of, number_passes}
-use Rattle.dav_memls.proofs.LockLooks.{here_found, none_here}
-use Rattle.dav_memls.proofs.CoveringNumbers.{reached_covers, covering_none, covering_more, covering_all_reached, covering_stops}
-use Rattle.dav_memls.proofs.memory_locks.indexed.IndexedLocks.covering_numbers.Goals.{else-loop-depth-test, then-loop-depth-test+then-is_empty}
+use Rattle.dav_memls.proofs.LockLooks.{here_found}
+use Rattle.dav_memls.proofs.CoveringNumbers.{reached_covers, covering_none, covering_more, covering_all_reached}
 use Rattle.dav_memls.proofs.memory_locks.indexed.IndexedLocks.covering_numbers.Goals as goal
 
 pub loop-depth-init : goal.loop-depth-init
@@ -25,10 +24,5 @@ pub returns : goal.returns
 returns c =
     let self = c.args.self.now in
     let key = c.args.path.now.key in
-    elim c.loop-depth-test.branch [
-      | else-loop-depth-test w ↦
-          let end : c.loop-depth.depth ≡ suc (length key) = (let out = w.loop-depth-test.false in omega (arith, length-map c.segments-key.result.now string_bytes, ap length c.segments-key.ensures.value)) in
-          covering_all_reached key self.numbers.items.items self.locks.items c.loop-depth.found (subst (λ m. HasNumbers c.loop-depth.found (numbers_of (reached_covers m key) (zip self.numbers.items.items self.locks.items))) end c.loop-depth.invariant)
-      | then-loop-depth-test+then-is_empty w ↦
-          covering_stops c.loop-depth.depth key self.numbers.items.items self.locks.items c.loop-depth.found (none_here self.numbers.items.items self.index self.locks.items c.loop-depth.depth c.segments-key.result.now key w.below.result.now self.indexed c.segments-key.ensures.value w.below.ensures (sym w.is_empty.ensures ∙ w.if-is_empty.true)) c.loop-depth.invariant
-    ]
+    let end : c.loop-depth.depth ≡ suc (length key) = omega (arith, length-map c.segments-key.result.now string_bytes, ap length c.segments-key.ensures.value) in
+    covering_all_reached key self.numbers.items.items self.locks.items c.loop-depth.found (subst (λ m. HasNumbers c.loop-depth.found (numbers_of (reached_covers m key) (zip self.numbers.items.items self.locks.items))) end c.loop-depth.invariant)

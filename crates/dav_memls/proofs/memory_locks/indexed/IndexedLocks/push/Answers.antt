@@ -1,17 +1,14 @@
 use Rattle.std.proofs.Common.{◌≡◌, ◌∙◌, ◌++◌, ◌∷◌, [], ap, cond, arith, IsOk}
 use Rattle.dav_memls.specs.Numbers.{without}
 use Rattle.dav_memls.proofs.Ascending.{without_push}
-use Rattle.dav_memls.proofs.Indexing.{free_token, above_at, above_below, indexed_kept, indexed_push}
+use Rattle.dav_memls.proofs.Indexing.{free_token, above_at, indexed_kept, indexed_push}
 use Rattle.dav_memls.proofs.memory_locks.indexed.IndexedLocks.push.Goals as goal
 
 pub enter-requires-clause-token : goal.enter-requires-clause-token
 enter-requires-clause-token c = let self = c.args.self.now in free_token self.numbers.items.items self.index self.locks.items c.args.lock.token self.indexed c.requires
 
-pub enter-requires-clause-above_at : goal.enter-requires-clause-above_at
-enter-requires-clause-above_at c = let self = c.args.self.now in above_at self.numbers.items.items self.index self.locks.items c.in-Some.number self.indexed c.in-Some.ensures.above
-
-pub enter-requires-clause-above_below : goal.enter-requires-clause-above_below
-enter-requires-clause-above_below c = let self = c.args.self.now in above_below self.numbers.items.items self.index self.locks.items c.in-Some.number self.indexed c.in-Some.ensures.above
+pub enter-requires-clause-above : goal.enter-requires-clause-above
+enter-requires-clause-above c = let self = c.args.self.now in above_at self.numbers.items.items self.index self.locks.items c.in-Some.number self.indexed c.in-Some.ensures.above
 
 pub invariant_of-self-in-Err : goal.invariant_of-self-in-Err
 invariant_of-self-in-Err c =

@@ -1,0 +1,205 @@
+-- The look for locks at a key and below it: through the entries of the index from that key on.
+use Rattle.std.proofs.Common.{◌≡◌, ◌∙◌, ◌≤◌, ◌&&◌, ◌||◌, ℕ, arith, Bool, true, false, cond, List, [], ◌∷◌, Some, refl, sym, ap, ap₂, subst, length, String}
+use Rattle.std.proofs.lemmas.Map.Keys.{sorted_head, sorted_tail}
+use Rattle.std.specs.declared.alloc.Global.{Global}
+use Rattle.std.specs.declared.cmp.Ordering.{Ordering}
+use Rattle.std.specs.declared.cmp.Ordering.TheVariants.{Less, Equal, Greater}
+use Rattle.std.specs.Cmp.Lexicographic.{slice_cmp}
+use Rattle.std.specs.List.{AllByRecursion, filter, list_any, starts_with, zip}
+use Rattle.std.specs.List.Sorted.{IsStrictlySortedBy}
+use Rattle.std.specs.Map.{keys_of}
+use Rattle.std.specs.Ordering.{is_le, is_lt}
+use Rattle.std.specs.String.{string_cmp, string_eq}
+use Rattle.dav_resource.specs.Key.{Key, key_cmp, is_same_key, same_key_decides}
+use Rattle.dav_resource.specs.Texts.{texts}
+use Rattle.dav_store.specs.declared.lock.DavLock.{DavLock}
+use Rattle.dav_store.specs.Locks.{is_at_or_below, at_or_below}
+use Rattle.dav_memls.specs.declared.memory_locks.index.LockIndex.{LockIndex}
+use Rattle.dav_memls.specs.declared.memory_locks.numbers.Numbers.{Numbers}
+use Rattle.dav_memls.specs.ByKey.{HasRun, numbers_at}
+use Rattle.dav_memls.specs.KeyEntries.{OwnKey, own_cmp, found_in, numbers_in}
+use Rattle.dav_memls.specs.LockIndex.{IsIndexed, is_of_key, is_within, locks_of_numbers, numbers_of}
+use Rattle.dav_memls.proofs.Ascending.{Rises}
+use Rattle.dav_memls.proofs.ByKeys.{listed, texts_cmp}
+use Rattle.dav_memls.proofs.KeyRuns.{none_behind, starts-texts}
+use Rattle.dav_memls.proofs.LockFound.{any_wider}
+use Rattle.dav_memls.proofs.LockRows.{locks_found}
+
+-- whether the entry's key is the given one or below it, and a lock of its numbers passes
+abbrev pub meets : (DavLock → Bool) → Key → List ℕ → List DavLock → OwnKey × Numbers → Bool
+meets p key ns ls e = is_at_or_below (texts e.0.items) key && list_any p (locks_of_numbers e.1.items.items (zip ns ls))
+
+-- the entries that are left tell whether a lock at the key or below it passes
+pub record Tells (p : DavLock → Bool) (key : Key) (ns : List ℕ) (ls : List DavLock) (left : List (OwnKey × Numbers)) : Type 0 where
+  pub ordered : IsStrictlySortedBy own_cmp (keys_of left)
+  pub own : AllByRecursion (λ e. e.1.items.items ≡ numbers_of (is_of_key (texts e.0.items)) (zip ns ls)) left
+  pub answer : list_any (meets p key ns ls) left ≡ list_any p (at_or_below ls key)
+
+or_true : (b : Bool) → (b || true) ≡ true
+or_true true = refl
+or_true false = refl
+
+-- ---- the start
+
+-- a lock that passes, and that passes at its own key
+witness : (p t : DavLock → Bool) (ls : List DavLock) → list_any p (filter t ls) ≡ true → (l : DavLock) × (t l ≡ true) × ((s : DavLock → Bool) → s l ≡ true → list_any p (filter s ls) ≡ true)
+witness p t [] e = absurd cc
+witness p t (l ∷ ls) e = split (t l) (p l) refl refl e (witness p t ls)
+  where
+    behind : (y : DavLock) → ((s : DavLock → Bool) → s y ≡ true → list_any p (filter s ls) ≡ true) → (s : DavLock → Bool) → s y ≡ true → list_any p (filter s (l ∷ ls)) ≡ true
+    behind y found s at = more (s l) (found s at)
+      where
+        more : (b : Bool) → list_any p (filter s ls) ≡ true → list_any p (cond b (l ∷ filter s ls) (filter s ls)) ≡ true
+        more true is = ap (λ x. p l || x) is ∙ or_true (p l)
+        more false is = is
+
+    later : (list_any p (filter t ls) ≡ true → (y : DavLock) × (t y ≡ true) × ((s : DavLock → Bool) → s y ≡ true → list_any p (filter s ls) ≡ true)) → list_any p (filter t ls) ≡ true → (y : DavLock) × (t y ≡ true) × ((s : DavLock → Bool) → s y ≡ true → list_any p (filter s (l ∷ ls)) ≡ true)
+    later more is = let (y, at, found) = more is in (y, at, behind y found)
+
+    split : (a b : Bool) → t l ≡ a → p l ≡ b → list_any p (cond a (l ∷ filter t ls) (filter t ls)) ≡ true
+        → (list_any p (filter t ls) ≡ true → (y : DavLock) × (t y ≡ true) × ((s : DavLock → Bool) → s y ≡ true → list_any p (filter s ls) ≡ true))
+        → (y : DavLock) × (t y ≡ true) × ((s : DavLock → Bool) → s y ≡ true → list_any p (filter s (l ∷ ls)) ≡ true)
+    split true true at passes e more = (l, at, λ s here. ap (λ b. list_any p (cond b (l ∷ filter s ls) (filter s ls))) here ∙ ap (λ b. b || list_any p (filter s ls)) passes)
+    split true false at passes e more = later more (ap (λ b. b || list_any p (filter t ls)) (sym passes) ∙ e)
+    split false b at passes e more = later more e
+
+-- the numbers at a key, by the first entry
+numbers_first : (k : Key) (e : OwnKey × Numbers) (run : List (OwnKey × Numbers)) (b : Bool) → is_same_key k (texts e.0.items) ≡ b → numbers_in (e ∷ run) k ≡ cond b e.1.items.items (numbers_in run k)
+numbers_first k e run b at = ap (λ c. listed (cond c (Some e.1) (found_in run k))) at ∙ either b
+  where
+    either : (c : Bool) → listed (cond c (Some e.1) (found_in run k)) ≡ cond c e.1.items.items (numbers_in run k)
+    either true = refl
+    either false = refl
+
+-- the entry at a key tells of the locks there
+told : (p : DavLock → Bool) (key k : Key) (ns : List ℕ) (ls : List DavLock) (run : List (OwnKey × Numbers)) → is_at_or_below k key ≡ true → list_any p (locks_of_numbers (numbers_in run k) (zip ns ls)) ≡ true → list_any (meets p key ns ls) run ≡ true
+told p key k ns ls [] below e = absurd cc
+told p key k ns ls (e ∷ run) below passes = split (is_same_key k (texts e.0.items)) refl (told p key k ns ls run below)
+  where
+    known : (b : Bool) → is_same_key k (texts e.0.items) ≡ b → list_any p (locks_of_numbers (cond b e.1.items.items (numbers_in run k)) (zip ns ls)) ≡ true
+    known b at = ap (λ xs. list_any p (locks_of_numbers xs (zip ns ls))) (sym (numbers_first k e run b at)) ∙ passes
+
+    split : (b : Bool) → is_same_key k (texts e.0.items) ≡ b → (list_any p (locks_of_numbers (numbers_in run k) (zip ns ls)) ≡ true → list_any (meets p key ns ls) run ≡ true) → list_any (meets p key ns ls) (e ∷ run) ≡ true
+    split true at more =
+        let at_below : is_at_or_below (texts e.0.items) key ≡ true = subst (λ x. is_at_or_below x key ≡ true) ((same_key_decides k (texts e.0.items)).0 at) below in
+        ap₂ (λ a b. (a && b) || list_any (meets p key ns ls) run) at_below (known true at)
+    split false at more = ap (λ b. meets p key ns ls e || b) (more (known false at)) ∙ or_true (meets p key ns ls e)
+
+-- an entry that passes has a lock that does
+sound : (p : DavLock → Bool) (key : Key) (ns : List ℕ) (ls : List DavLock) (run : List (OwnKey × Numbers)) → Rises ns → length ns ≡ length ls → AllByRecursion (λ e. e.1.items.items ≡ numbers_of (is_of_key (texts e.0.items)) (zip ns ls)) run → list_any (meets p key ns ls) run ≡ true → list_any p (at_or_below ls key) ≡ true
+sound p key ns ls [] r h a e = absurd cc
+sound p key ns ls (e ∷ run) r h a is = split (is_at_or_below (texts e.0.items) key) (list_any p (locks_of_numbers e.1.items.items (zip ns ls))) refl refl (sound p key ns ls run r h a.1) is
+  where
+    at_lock : is_at_or_below (texts e.0.items) key ≡ true → (l : DavLock) → is_of_key (texts e.0.items) l ≡ true → is_within key l ≡ true
+    at_lock below l same = subst (λ x. is_at_or_below x key ≡ true) ((same_key_decides (texts e.0.items) l.path.key).0 same) below
+
+    split : (x y : Bool) → is_at_or_below (texts e.0.items) key ≡ x → list_any p (locks_of_numbers e.1.items.items (zip ns ls)) ≡ y → (list_any (meets p key ns ls) run ≡ true → list_any p (at_or_below ls key) ≡ true) → ((x && y) || list_any (meets p key ns ls) run) ≡ true → list_any p (at_or_below ls key) ≡ true
+    split true true below passes more i =
+        any_wider p (is_of_key (texts e.0.items)) (is_within key) (at_lock below) ls
+        (sym (ap (list_any p) (ap (λ xs. locks_of_numbers xs (zip ns ls)) a.0 ∙ locks_found (is_of_key (texts e.0.items)) ns ls r h)) ∙ passes)
+    split true false below passes more i = more i
+    split false y below passes more i = more i
+
+same_answer : (a b : Bool) → (a ≡ true → b ≡ true) → (b ≡ true → a ≡ true) → a ≡ b
+same_answer true b f g = sym (f refl)
+same_answer false true f g = g refl
+same_answer false false f g = refl
+
+each_indexed : (ns : List ℕ) (index : LockIndex) (ls : List DavLock) (run : List (OwnKey × Numbers)) → IsIndexed ns index ls → AllByRecursion (λ e. numbers_at index.at (texts e.0.items) ≡ e.1.items.items) run → AllByRecursion (λ e. e.1.items.items ≡ numbers_of (is_of_key (texts e.0.items)) (zip ns ls)) run
+each_indexed ns index ls [] h a = tt
+each_indexed ns index ls (e ∷ run) h a = (sym a.0 ∙ h.at (texts e.0.items), each_indexed ns index ls run h a.1)
+
+pub tells-start : (p : DavLock → Bool) (key : Key) (segments : List (String Global)) (ns : List ℕ) (index : LockIndex) (ls : List DavLock) (run left : List (OwnKey × Numbers)) → Rises ns → IsIndexed ns index ls → texts segments ≡ key → HasRun (texts segments) index.at run → left ≡ run → Tells p key ns ls left
+tells-start p key segments ns index ls run left r h same has is = subst (Tells p key ns ls) (sym is) (record {
+  ordered = has.ordered;
+  own = owns;
+  answer = same_answer _ _ (sound p key ns ls run r h.one_each owns) complete;
+})
+  where
+    owns : AllByRecursion (λ e. e.1.items.items ≡ numbers_of (is_of_key (texts e.0.items)) (zip ns ls)) run
+    owns = each_indexed ns index ls run h has.own
+
+    complete : list_any p (at_or_below ls key) ≡ true → list_any (meets p key ns ls) run ≡ true
+    complete e =
+        let (l, below, found) = witness p (is_within key) ls e in
+        let at : numbers_in run l.path.key ≡ numbers_of (is_of_key l.path.key) (zip ns ls) = has.all l.path.key (subst (λ k. is_at_or_below l.path.key k ≡ true) (sym same) below) ∙ h.at l.path.key in
+        told p key l.path.key ns ls run below
+        (ap (list_any p) (ap (λ xs. locks_of_numbers xs (zip ns ls)) at ∙ locks_found (is_of_key l.path.key) ns ls r h.one_each) ∙ found (is_of_key l.path.key) ((same_key_decides l.path.key l.path.key).1 refl))
+
+-- ---- one entry
+
+-- it doesn't pass
+pub tells-more : (p : DavLock → Bool) (key : Key) (ns : List ℕ) (ls : List DavLock) (left : List (OwnKey × Numbers)) (e : OwnKey × Numbers) (more : List (OwnKey × Numbers)) → left ≡ e ∷ more → meets p key ns ls e ≡ false → Tells p key ns ls left → Tells p key ns ls more
+tells-more p key ns ls left e more is fails tells =
+    let here = subst (Tells p key ns ls) is tells in
+    record {
+      ordered = sorted_tail own_cmp e.0 (keys_of more) here.ordered;
+      own = here.own.1;
+      answer = ap (λ b. b || list_any (meets p key ns ls) more) (sym fails) ∙ here.answer;
+    }
+
+-- it passes
+pub tells-some : (p : DavLock → Bool) (key : Key) (ns : List ℕ) (ls : List DavLock) (left : List (OwnKey × Numbers)) (e : OwnKey × Numbers) (more : List (OwnKey × Numbers)) → left ≡ e ∷ more → meets p key ns ls e ≡ true → Tells p key ns ls left → list_any p (at_or_below ls key) ≡ true
+tells-some p key ns ls left e more is passes tells =
+    let here = subst (Tells p key ns ls) is tells in
+    sym here.answer ∙ ap (λ b. b || list_any (meets p key ns ls) more) passes
+
+-- its key is past those below
+all_past : (p : DavLock → Bool) (key first : Key) (own : OwnKey) (ns : List ℕ) (ls : List DavLock) (more : List (OwnKey × Numbers)) → texts own.items ≡ first → is_le (key_cmp key first) ≡ true → is_at_or_below first key ≡ false → AllByRecursion (λ k. own_cmp own k ≡ Less) (keys_of more) → list_any (meets p key ns ls) more ≡ false
+all_past p key first own ns ls [] same le out a = refl
+all_past p key first own ns ls (e ∷ more) same le out a =
+    ap₂ (λ x y. (x && list_any p (locks_of_numbers e.1.items.items (zip ns ls))) || y)
+    (none_behind key first (texts e.0.items) le out (ap (λ k. key_cmp k (texts e.0.items)) (sym same) ∙ sym (texts_cmp own.items e.0.items) ∙ a.0))
+    (all_past p key first own ns ls more same le out a.1)
+
+pub tells-past : (p : DavLock → Bool) (key : Key) (ns : List ℕ) (ls : List DavLock) (left : List (OwnKey × Numbers)) (e : OwnKey × Numbers) (more : List (OwnKey × Numbers)) → left ≡ e ∷ more → is_at_or_below (texts e.0.items) key ≡ false → is_le (key_cmp key (texts e.0.items)) ≡ true → Tells p key ns ls left → list_any p (at_or_below ls key) ≡ false
+tells-past p key ns ls left e more is out le tells =
+    let here = subst (Tells p key ns ls) is tells in
+    sym here.answer
+    ∙ ap₂ (λ x y. (x && list_any p (locks_of_numbers e.1.items.items (zip ns ls))) || y) out (all_past p key (texts e.0.items) e.0 ns ls more refl le out (sorted_head own_cmp e.0 (keys_of more) here.ordered))
+
+-- ---- none is left
+
+pub tells-none : (p : DavLock → Bool) (key : Key) (ns : List ℕ) (ls : List DavLock) (left : List (OwnKey × Numbers)) → left ≡ [] → Tells p key ns ls left → list_any p (at_or_below ls key) ≡ false
+tells-none p key ns ls left is tells = sym tells.answer ∙ ap (list_any (meets p key ns ls)) is
+
+pub none_there : (ls : List DavLock) → list_any (λ l. true) ls ≡ false → ls ≡ []
+none_there [] e = refl
+none_there (l ∷ ls) e = absurd cc
+
+-- ---- what a look at an entry answers
+
+-- whether its key is at the given one or below it
+pub below_is : (b answer : Bool) (own : OwnKey) (xs segments : List (String Global)) (key : Key) → texts segments ≡ key → xs ≡ own.items → answer ≡ starts_with string_eq xs segments → answer ≡ b → is_at_or_below (texts own.items) key ≡ b
+below_is b answer own xs segments key same is value e = ap₂ (λ k q. is_at_or_below (texts k) q) (sym is) (sym same) ∙ sym (starts-texts xs segments) ∙ sym value ∙ e
+
+less_le : (order : Ordering) → is_lt order ≡ true → is_le order ≡ true
+less_le Less e = refl
+less_le Equal e = refl
+less_le Greater e = absurd cc
+
+-- whether it is behind the given one
+pub behind_is : (answer : Bool) (order : Ordering) (own : OwnKey) (xs segments : List (String Global)) (key : Key) → texts segments ≡ key → xs ≡ own.items → order ≡ slice_cmp string_cmp segments xs → answer ≡ is_lt order → answer ≡ true → is_le (key_cmp key (texts own.items)) ≡ true
+behind_is answer order own xs segments key same is compared value e =
+    less_le (key_cmp key (texts own.items))
+    (ap₂ (λ q k. is_lt (key_cmp q (texts k))) (sym same) (sym is) ∙ sym (ap is_lt (texts_cmp segments xs)) ∙ sym (ap is_lt compared) ∙ sym value ∙ e)
+
+-- whether it passes
+
+pub not_below : (p : DavLock → Bool) (key : Key) (ns : List ℕ) (ls : List DavLock) (e : OwnKey × Numbers) → is_at_or_below (texts e.0.items) key ≡ false → meets p key ns ls e ≡ false
+not_below p key ns ls e out = ap (λ b. b && list_any p (locks_of_numbers e.1.items.items (zip ns ls))) out
+
+pub below_passes : (b answer : Bool) (p : DavLock → Bool) (key : Key) (ns xs : List ℕ) (ls : List DavLock) (e : OwnKey × Numbers) → is_at_or_below (texts e.0.items) key ≡ true → xs ≡ e.1.items.items → answer ≡ list_any p (locks_of_numbers xs (zip ns ls)) → answer ≡ b → meets p key ns ls e ≡ b
+below_passes b answer p key ns xs ls e below is value at =
+    ap (λ c. c && list_any p (locks_of_numbers e.1.items.items (zip ns ls))) below
+    ∙ ap (λ ys. list_any p (locks_of_numbers ys (zip ns ls))) (sym is)
+    ∙ sym value
+    ∙ at
+
+pub no_numbers : (p : DavLock → Bool) (xs ns : List ℕ) (ls : List DavLock) → length xs ≤ 0 → false ≡ list_any p (locks_of_numbers xs (zip ns ls))
+no_numbers p [] ns ls e = refl
+no_numbers p (x ∷ xs) ns ls e = absurd (omega arith)
+
+-- its numbers are those of the locks at its key
+pub numbers_own : (p : DavLock → Bool) (key : Key) (ns xs : List ℕ) (ls : List DavLock) (left : List (OwnKey × Numbers)) (e : OwnKey × Numbers) (more : List (OwnKey × Numbers)) → left ≡ e ∷ more → xs ≡ e.1.items.items → Tells p key ns ls left → xs ≡ numbers_of (is_of_key (texts e.0.items)) (zip ns ls)
+numbers_own p key ns xs ls left e more is same tells = same ∙ (subst (Tells p key ns ls) is tells).own.0
