@@ -108,9 +108,6 @@ without_absent x (y ∷ ys) a = ap (λ b. cond (not b) (y ∷ without x ys) (wit
 pub without_above : (x : ℕ) (xs : List ℕ) → AllByRecursion (λ y. x < y) xs → without x xs ≡ xs
 without_above x xs a = without_absent x xs (all_weaker (λ y h. not_same_above x y h) xs a)
 
-pub without_below : (n : ℕ) (xs : List ℕ) → IsAbove n xs → without n xs ≡ xs
-without_below n xs a = without_absent n xs (all_weaker (λ y h. not_same y n h) xs a)
-
 pub without_none_at : (n x : ℕ) (xs : List ℕ) → position_from (λ m. m == x) n xs ≡ None → without x xs ≡ xs
 without_none_at n x [] e = refl
 without_none_at n x (y ∷ ys) e =

@@ -1,5 +1,5 @@
 -- Entries of a map of keys from a key on: in the keys' order those at that key and below it stand together.
-use Rattle.std.proofs.Common.{◌≡◌, ◌∙◌, ◌&&◌, ◌<◌, ℕ, Bool, true, false, cond, bytes_eq, List, [], ◌∷◌, Some, refl, sym, ap, subst, length, take, String}
+use Rattle.std.proofs.Common.{◌≡◌, ◌∙◌, ◌&&◌, ℕ, Bool, true, false, cond, bytes_eq, List, [], ◌∷◌, Some, refl, sym, ap, subst, String}
 use Rattle.std.proofs.lemmas.List.Elements.{recursion_from_All}
 use Rattle.std.proofs.lemmas.List.Kept.{IsStrictlySortedBy-filter}
 use Rattle.std.specs.declared.alloc.Global.{Global}
@@ -16,13 +16,13 @@ use Rattle.std.specs.List.{All, AllByRecursion, filter, starts_with}
 use Rattle.std.specs.List.Sorted.{IsStrictlySortedBy}
 use Rattle.std.specs.Map.{keys_of}
 use Rattle.std.specs.Ordering.{nat_cmp, is_le, ordering_then, ordering_reverse}
-use Rattle.std.specs.String.{string_eq, string_cmp}
+use Rattle.std.specs.String.{string_eq}
 use Rattle.dav_resource.specs.Key.{Key, key_cmp, is_same_key, same_key_decides}
 use Rattle.dav_resource.specs.Texts.{texts}
 use Rattle.dav_store.specs.Locks.{is_at_or_below}
 use Rattle.dav_memls.specs.declared.memory_locks.by_key.ByKey.{ByKey}
 use Rattle.dav_memls.specs.declared.memory_locks.numbers.Numbers.{Numbers}
-use Rattle.dav_memls.specs.ByKey.{numbers_at, HasRun}
+use Rattle.dav_memls.specs.ByKey.{HasRun}
 use Rattle.dav_memls.specs.KeyEntries.{OwnKey, own_cmp, numbers_in}
 use Rattle.dav_memls.proofs.ByKeys.{texts_cmp, got}
 

@@ -1,5 +1,5 @@
 -- What the looks into the index of locks answer.
-use Rattle.std.proofs.Common.{◌≡◌, ◌∙◌, ◌==◌, ◌<◌, ◌≤◌, ◌+◌, ◌-◌, ℕ, zero, suc, Bool, true, false, cond, ◌||◌, List, [], ◌∷◌, ◌++◌, Option, Some, None, refl, sym, ap, subst, length, get_or, take, arith}
+use Rattle.std.proofs.Common.{◌≡◌, ◌∙◌, ◌==◌, ◌<◌, ◌≤◌, ◌-◌, ◌+◌, ℕ, zero, suc, Bool, true, false, cond, ◌||◌, List, [], ◌∷◌, ◌++◌, Option, Some, None, refl, sym, ap, subst, length, get_or, take, arith}
 use Rattle.std.proofs.lemmas.Iterator.Adapters.{position_from-zero}
 use Rattle.std.proofs.lemmas.List.{take_more}
 use Rattle.std.proofs.lemmas.List.Elements.{filter_map-append}
@@ -89,11 +89,11 @@ read_all P [] i d a inside = absurd (omega arith)
 read_all P (x ∷ xs) zero d a inside = a.0
 read_all P (x ∷ xs) (suc i) d a inside = read_all P xs i d a.1 (omega arith)
 
--- the first number at a key that is the given one or below it leads to a lock there
-pub some_stands : (key own : Key) (ns xs : List ℕ) (ls : List DavLock) (n : ℕ) (r : Option ℕ) (P : Type 0) → Rises ns → xs ≡ numbers_of (is_of_key own) (zip ns ls) → is_at_or_below own key ≡ true → 0 < length xs → ((d : ℕ) → n ≡ get_or xs 0 d) → r ≡ position (λ m. m == n) ns → MatchOption r P (StandsBelow ls key)
-some_stands key own ns xs ls n r P h is below some first at =
+-- the last number at a key that is the given one or below it leads to a lock there
+pub some_stands : (key own : Key) (ns xs : List ℕ) (ls : List DavLock) (n : ℕ) (r : Option ℕ) (P : Type 0) → Rises ns → xs ≡ numbers_of (is_of_key own) (zip ns ls) → is_at_or_below own key ≡ true → 0 < length xs → ((d : ℕ) → n ≡ get_or xs (length xs - 1) d) → r ≡ position (λ m. m == n) ns → MatchOption r P (StandsBelow ls key)
+some_stands key own ns xs ls n r P h is below some last at =
     let all = subst (AllByRecursion (λ m. IsPlaceOf (is_of_key own) ns ls zero m)) (sym is) (places (is_of_key own) zero ns ls h) in
-    let place = subst (IsPlaceOf (is_of_key own) ns ls zero) (sym (first n)) (read_all (IsPlaceOf (is_of_key own) ns ls zero) xs 0 n all some) in
+    let place = subst (IsPlaceOf (is_of_key own) ns ls zero) (sym (last n)) (read_all (IsPlaceOf (is_of_key own) ns ls zero) xs (length xs - 1) n all (omega arith)) in
     let found : r ≡ Some place.place = at ∙ position_from-zero (λ m. m == n) ns ∙ place.found ∙ ap Some (omega arith) in
     subst (λ o. MatchOption o P (StandsBelow ls key)) (sym found)
     (record { inside = place.inside; below = λ d. subst (λ k. is_at_or_below k key ≡ true) ((same_key_decides own (get_or ls place.place d).path.key).0 (place.passes d)) below })

@@ -1,9 +1,9 @@
 -- A key and those above it, gone through by their length.
-use Rattle.std.proofs.Common.{◌≡◌, ◌∙◌, ◌≤◌, ℕ, zero, suc, Bool, true, false, ◌&&◌, ◌||◌, List, [], ◌∷◌, refl, sym, ap, take, length, bytes_eq, arith}
+use Rattle.std.proofs.Common.{◌≡◌, ◌∙◌, ℕ, zero, suc, Bool, true, false, ◌&&◌, ◌||◌, List, [], ◌∷◌, refl, sym, ap, take, length, bytes_eq}
 use Rattle.std.proofs.lemmas.Bool.{and_parts, and_from}
 use Rattle.std.proofs.lemmas.Slice.Eq.{bytes_eq-Decides}
 use Rattle.std.specs.Bool.{Decides}
-use Rattle.dav_resource.specs.Key.{Key, is_same_key, same_key_decides}
+use Rattle.dav_resource.specs.Key.{Key, is_same_key}
 use Rattle.dav_store.specs.Locks.{is_at_or_below}
 
 -- the key is the given one or above it, and of fewer than d segments
@@ -20,9 +20,6 @@ turned false false x y d e = refl
 
 pub bytes_eq-sym : (s t : List ℕ) → bytes_eq s t ≡ bytes_eq t s
 bytes_eq-sym s t = turned _ _ s t (bytes_eq-Decides s t) (bytes_eq-Decides t s)
-
-pub same_key-sym : (a b : Key) → is_same_key a b ≡ is_same_key b a
-same_key-sym a b = turned _ _ a b (same_key_decides a b) (same_key_decides b a)
 
 and_false : (b : Bool) → (b && false) ≡ false
 and_false true = refl
@@ -49,14 +46,6 @@ pub reached-all : (key above : Key) → reached (suc (length key)) key above ≡
 reached-all key [] = refl
 reached-all [] (t ∷ above) = refl
 reached-all (s ∷ key) (t ∷ above) = ap (λ b. bytes_eq t s && b) (reached-all key above)
-
--- the next one isn't among those reached
-pub reached-next : (d : ℕ) (key above : Key) → d ≤ length key → is_same_key (take d key) above ≡ true → reached d key above ≡ false
-reached-next zero key above fits e = refl
-reached-next (suc d) [] above fits e = absurd (omega arith)
-reached-next (suc d) (s ∷ key) [] fits e = absurd cc
-reached-next (suc d) (s ∷ key) (t ∷ above) fits e =
-    ap (λ b. bytes_eq t s && b) (reached-next d key above (omega arith) (and_parts (bytes_eq s t) _ e).1) ∙ and_false (bytes_eq t s)
 
 -- what is reached is the key or above it
 pub reached-below : (d : ℕ) (key above : Key) → reached d key above ≡ true → is_at_or_below key above ≡ true

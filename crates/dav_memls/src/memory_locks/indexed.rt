@@ -142,7 +142,7 @@ impl IndexedLocks {
         false
     }
 
-    /// The place of a lock at the path or below it, found as `any_below` finds them. It is the oldest of those at
+    /// The place of a lock at the path or below it, found as `any_below` finds them. It is the newest of those at
     /// the first key that has some, which no contract promises.
     pub fn some_below(&self, path: &DavPath) -> Option<usize>
         ensures { MatchOption result (at_or_below self.now.locks.items path.now.key ≡ []) (λ place. StandsBelow self.now.locks.items path.now.key place) }
@@ -150,7 +150,7 @@ impl IndexedLocks {
         let key = path.segments();
         for (own, numbers) in self.index.run(self.allocator(), key) {
             if own.starts_with(key) {
-                if let Some(number) = numbers.as_slice().first() {
+                if let Some(number) = numbers.as_slice().last() {
                     return self.numbers.place(*number);
                 }
             } else if key.cmp(own.as_slice()).is_lt() {

@@ -1,4 +1,4 @@
-use Rattle.std.proofs.Common.{◌∙◌, ◌++◌, ap, refl, Some, bytes_eq, string_bytes}
+use Rattle.std.proofs.Common.{◌∙◌, ◌++◌, ap, Some, bytes_eq, string_bytes}
 use Rattle.std.proofs.lemmas.Map.Text.{hash_map_updates_text}
 use Rattle.std.specs.HashMap.{get_by_text}
 use Rattle.std.specs.Map.{lookup}

@@ -1,4 +1,4 @@
-use Rattle.std.proofs.Common.{◌∙◌, true, false, sym, ap}
+use Rattle.std.proofs.Common.{true, false, sym}
 use Rattle.dav_memls.specs.declared.memory_locks.numbers.Numbers.{Numbers}
 use Rattle.dav_memls.specs.KeyEntries.{OwnKey}
 use Rattle.dav_memls.proofs.BelowLooks.{tells-start, tells-more, tells-some, tells-past, tells-none, below_is, behind_is, not_below, below_passes}

@@ -40,14 +40,14 @@ loop-own-preserved-in_default c =
       left = tells-more (λ lock. true) key self.numbers.items.items self.locks.items c.loop-own.own-iterator entry c.next.new.self c.in-Some.ensures.steps (below_passes false false (λ lock. true) key self.numbers.items.items c.as_slice.result.now self.locks.items entry below c.as_slice.ensures (no_numbers (λ lock. true) c.as_slice.result.now self.numbers.items.items self.locks.items c.in_default.ensures.item.3) refl) c.loop-own.invariant.left;
     }
 
-pub returns-in-Some-first : goal.returns-in-Some-first
-returns-in-Some-first c =
+pub returns-in-Some-last : goal.returns-in-Some-last
+returns-in-Some-last c =
     let self = c.args.self.now in
     let key = c.args.path.now.key in
     let entry : OwnKey × Numbers = (c.in-Some.own.now, c.in-Some.numbers.now) in
     let below = below_is true c.starts_with.result c.in-Some.own.now c.deref.result.now c.segments-key.result.now key c.segments-key.ensures.value c.deref.ensures.value c.starts_with.ensures.value c.if-starts_with.true in
     let is = numbers_own (λ lock. true) key self.numbers.items.items c.as_slice.result.now self.locks.items c.loop-own.own-iterator entry c.next.new.self c.in-Some.ensures.steps c.as_slice.ensures c.loop-own.invariant.left in
-    some_stands key (texts c.in-Some.own.now.items) self.numbers.items.items c.as_slice.result.now self.locks.items c.in-Some-first.number.now c.place.result (at_or_below self.locks.items key ≡ []) self.numbers.rising is below c.in-Some-first.ensures.item.3.0 c.in-Some-first.ensures.item.3.1 c.place.ensures
+    some_stands key (texts c.in-Some.own.now.items) self.numbers.items.items c.as_slice.result.now self.locks.items c.in-Some-last.number.now c.place.result (at_or_below self.locks.items key ≡ []) self.numbers.rising is below c.in-Some-last.ensures.item.3.0 c.in-Some-last.ensures.item.3.1 c.place.ensures
 
 pub returns-then-is_lt : goal.returns-then-is_lt
 returns-then-is_lt c =
