@@ -8,11 +8,11 @@ use Rattle.std.proofs.lemmas.List.Elements.{recursion_from_All, All-from_recursi
 use Rattle.std.proofs.lemmas.List.Quantifiers.{position-Some}
 use Rattle.std.proofs.lemmas.List.Sorted.{searched}
 use Rattle.std.proofs.lemmas.Map.Keys.{below_from_sorted, non_decreasing_from_sorted}
-use Rattle.std.specs.declared.cmp.Ordering.TheVariants.{Less}
+use Rattle.std.specs.declared.cmp.Ordering.TheVariants.{Less, Greater}
 use Rattle.std.specs.List.{All, AllByRecursion, position, position_from, remove}
 use Rattle.std.specs.List.Sorted.{IsStrictlySortedBy, IsBinarySearchResult}
 use Rattle.std.specs.Option.{IfSome, SomeIff}
-use Rattle.std.specs.Ordering.{nat_cmp}
+use Rattle.std.specs.Ordering.{is_eq, nat_cmp}
 use Rattle.dav_memls.specs.Numbers.{IsAbove, without}
 
 abbrev pub Rises : List ℕ → Type 0
@@ -32,6 +32,22 @@ not_same_above x y h = grind (arith, nat_tests)
 
 pub same : (x : ℕ) → (x == x) ≡ true
 same x = grind (arith, nat_tests)
+
+pub greater : (x y : ℕ) → x < y → nat_cmp y x ≡ Greater
+greater x y h = grind (arith, nat_tests)
+
+-- whether a number is found at another, as a map does by its keys
+pub is_eq-same : (n k : ℕ) → is_eq (nat_cmp n k) ≡ (n == k)
+is_eq-same n k = grind (arith, nat_tests)
+
+pub at_number : (n k : ℕ) → is_eq (nat_cmp n k) ≡ true → n ≡ k
+at_number n k at = let is : (n == k) ≡ true = sym (is_eq-same n k) ∙ at in grind (arith, nat_tests)
+
+pub finds_itself : (n : ℕ) → is_eq (nat_cmp n n) ≡ true
+finds_itself n = is_eq-same n n ∙ same n
+
+pub not_at_less : (x y : ℕ) → x < y → is_eq (nat_cmp y x) ≡ false
+not_at_less x y h = is_eq-same y x ∙ not_same_above x y h
 
 pub all_weaker : {X : Type 0} {P Q : X → Type 0} → ((x : X) → P x → Q x) → (xs : List X) → AllByRecursion P xs → AllByRecursion Q xs
 all_weaker h [] a = tt
@@ -63,17 +79,6 @@ pub rises-push : (n : ℕ) (xs : List ℕ) → Rises xs → IsAbove n xs → Ris
 unfolding IsStrictlySortedBy
 rises-push n [] h a = (tt, tt)
 rises-push n (x ∷ xs) h a = (all_push (λ y. nat_cmp x y ≡ Less) n xs h.0 (less x n a.0), rises-push n xs h.1 a.1)
-
--- one more than the last is above all
-pub above_last : (xs : List ℕ) (last : ℕ) → Rises xs → ((d : ℕ) → get_or xs (length xs - 1) d ≡ last) → IsAbove (last + 1) xs
-above_last xs last h is = recursion_from_All (λ x. x < last + 1) xs each
-  where
-    each : All (λ x. x < last + 1) xs
-    each k d inside =
-        ⊎_elim
-        (λ lt. let below = below_from_sorted xs k (length xs - 1) d h lt (omega arith) in let e = is d in omega arith)
-        (λ ge. let at : k ≡ length xs - 1 = omega arith in let e = ap (λ j. get_or xs j d) at ∙ is d in omega arith)
-        (cases_lt k (length xs - 1))
 
 -- ---- the place of a number
 
@@ -135,19 +140,6 @@ without_push n (x ∷ xs) a =
     ∙ ap (λ zs. x ∷ zs) (without_push n xs a.1)
 
 -- ---- what is found
-
-pub next_above : (xs : List ℕ) (last : ℕ) (r : Option ℕ) (P : Type 0) → Rises xs → ((d : ℕ) → last ≡ get_or xs (length xs - 1) d) → SomeIff r P (last + 1) → IfSome r (λ n. IsAbove n xs)
-next_above xs last None P h is iff = tt
-next_above xs last (Some n) P h is iff = subst (λ m. IsAbove m xs) (sym iff.1) (above_last xs last h (λ d. sym (is d)))
-
-last_below : (n last : ℕ) (xs : List ℕ) → ((d : ℕ) → last ≡ get_or xs (length xs - 1) d) → IsAbove n xs → last < n
-last_below n last [] is above = let no : last ≡ suc last = is (suc last) in absurd (omega (arith, no))
-last_below n last (x ∷ xs) is above = subst (λ m. m < n) (sym (is 0)) (All-from_recursion (λ m. m < n) (x ∷ xs) above (length (x ∷ xs) - 1) 0 (omega arith))
-
--- where none is given no number of so many bits is above them
-pub next_full : (xs : List ℕ) (last bound : ℕ) (r : Option ℕ) → ((d : ℕ) → last ≡ get_or xs (length xs - 1) d) → SomeIff r (last + 1 < bound) (last + 1) → r ≡ None → (n : ℕ) → IsAbove n xs → bound ≤ n
-next_full xs last bound None is iff none n above = let least : last < n = last_below n last xs is above in ⊎_elim (λ lt. absurd (iff (omega (arith, lt, least)))) (λ ge. ge) (cases_lt n bound)
-next_full xs last bound (Some m) is iff none n above = absurd (let no : Some m ≡ None = none in cc)
 
 pub rises-pushed : (pushed : Bool) (n : ℕ) (xs : List ℕ) → Rises xs → IsAbove n xs → Rises (cond pushed (xs ++ n ∷ []) xs)
 rises-pushed true n xs h a = rises-push n xs h a

@@ -5,9 +5,9 @@ use Rattle.std.specs.declared.alloc.Global.{Global}
 use Rattle.std.specs.declared.cmp.Ordering.{Ordering}
 use Rattle.std.specs.declared.cmp.Ordering.TheVariants.{Less, Equal, Greater}
 use Rattle.std.specs.Cmp.Lexicographic.{slice_cmp}
-use Rattle.std.specs.List.{AllByRecursion, filter, list_any, starts_with, zip}
+use Rattle.std.specs.List.{AllByRecursion, filter, list_any, starts_with}
 use Rattle.std.specs.List.Sorted.{IsStrictlySortedBy}
-use Rattle.std.specs.Map.{keys_of}
+use Rattle.std.specs.Map.{keys_of, values_of}
 use Rattle.std.specs.Ordering.{is_le, is_lt}
 use Rattle.std.specs.String.{string_cmp, string_eq}
 use Rattle.dav_resource.specs.Key.{Key, key_cmp, is_same_key, same_key_decides}
@@ -18,7 +18,7 @@ use Rattle.dav_memls.specs.declared.memory_locks.index.LockIndex.{LockIndex}
 use Rattle.dav_memls.specs.declared.memory_locks.numbers.Numbers.{Numbers}
 use Rattle.dav_memls.specs.ByKey.{HasRun, numbers_at}
 use Rattle.dav_memls.specs.KeyEntries.{OwnKey, own_cmp, found_in, numbers_in}
-use Rattle.dav_memls.specs.LockIndex.{IsIndexed, is_of_key, is_within, locks_of_numbers, numbers_of}
+use Rattle.dav_memls.specs.LockIndex.{Row, IsIndexed, is_of_key, is_within, locks_of_numbers, numbers_of}
 use Rattle.dav_memls.proofs.Ascending.{Rises}
 use Rattle.dav_memls.proofs.ByKeys.{listed, texts_cmp}
 use Rattle.dav_memls.proofs.KeyRuns.{none_behind, starts-texts}
@@ -26,14 +26,14 @@ use Rattle.dav_memls.proofs.LockFound.{any_wider}
 use Rattle.dav_memls.proofs.LockRows.{locks_found}
 
 -- whether the entry's key is the given one or below it, and a lock of its numbers passes
-abbrev pub meets : (DavLock → Bool) → Key → List ℕ → List DavLock → OwnKey × Numbers → Bool
-meets p key ns ls e = is_at_or_below (texts e.0.items) key && list_any p (locks_of_numbers e.1.items.items (zip ns ls))
+abbrev pub meets : (DavLock → Bool) → Key → List Row → OwnKey × Numbers → Bool
+meets p key rows e = is_at_or_below (texts e.0.items) key && list_any p (locks_of_numbers e.1.items.items rows)
 
 -- the entries that are left tell whether a lock at the key or below it passes
-pub record Tells (p : DavLock → Bool) (key : Key) (ns : List ℕ) (ls : List DavLock) (left : List (OwnKey × Numbers)) : Type 0 where
+pub record Tells (p : DavLock → Bool) (key : Key) (rows : List Row) (left : List (OwnKey × Numbers)) : Type 0 where
   pub ordered : IsStrictlySortedBy own_cmp (keys_of left)
-  pub own : AllByRecursion (λ e. e.1.items.items ≡ numbers_of (is_of_key (texts e.0.items)) (zip ns ls)) left
-  pub answer : list_any (meets p key ns ls) left ≡ list_any p (at_or_below ls key)
+  pub own : AllByRecursion (λ e. e.1.items.items ≡ numbers_of (is_of_key (texts e.0.items)) rows) left
+  pub answer : list_any (meets p key rows) left ≡ list_any p (at_or_below (values_of rows) key)
 
 or_true : (b : Bool) → (b || true) ≡ true
 or_true true = refl
@@ -72,31 +72,31 @@ numbers_first k e run b at = ap (λ c. listed (cond c (Some e.1) (found_in run k
     either false = refl
 
 -- the entry at a key tells of the locks there
-told : (p : DavLock → Bool) (key k : Key) (ns : List ℕ) (ls : List DavLock) (run : List (OwnKey × Numbers)) → is_at_or_below k key ≡ true → list_any p (locks_of_numbers (numbers_in run k) (zip ns ls)) ≡ true → list_any (meets p key ns ls) run ≡ true
-told p key k ns ls [] below e = absurd cc
-told p key k ns ls (e ∷ run) below passes = split (is_same_key k (texts e.0.items)) refl (told p key k ns ls run below)
+told : (p : DavLock → Bool) (key k : Key) (rows : List Row) (run : List (OwnKey × Numbers)) → is_at_or_below k key ≡ true → list_any p (locks_of_numbers (numbers_in run k) rows) ≡ true → list_any (meets p key rows) run ≡ true
+told p key k rows [] below e = absurd cc
+told p key k rows (e ∷ run) below passes = split (is_same_key k (texts e.0.items)) refl (told p key k rows run below)
   where
-    known : (b : Bool) → is_same_key k (texts e.0.items) ≡ b → list_any p (locks_of_numbers (cond b e.1.items.items (numbers_in run k)) (zip ns ls)) ≡ true
-    known b at = ap (λ xs. list_any p (locks_of_numbers xs (zip ns ls))) (sym (numbers_first k e run b at)) ∙ passes
+    known : (b : Bool) → is_same_key k (texts e.0.items) ≡ b → list_any p (locks_of_numbers (cond b e.1.items.items (numbers_in run k)) rows) ≡ true
+    known b at = ap (λ xs. list_any p (locks_of_numbers xs rows)) (sym (numbers_first k e run b at)) ∙ passes
 
-    split : (b : Bool) → is_same_key k (texts e.0.items) ≡ b → (list_any p (locks_of_numbers (numbers_in run k) (zip ns ls)) ≡ true → list_any (meets p key ns ls) run ≡ true) → list_any (meets p key ns ls) (e ∷ run) ≡ true
+    split : (b : Bool) → is_same_key k (texts e.0.items) ≡ b → (list_any p (locks_of_numbers (numbers_in run k) rows) ≡ true → list_any (meets p key rows) run ≡ true) → list_any (meets p key rows) (e ∷ run) ≡ true
     split true at more =
         let at_below : is_at_or_below (texts e.0.items) key ≡ true = subst (λ x. is_at_or_below x key ≡ true) ((same_key_decides k (texts e.0.items)).0 at) below in
-        ap₂ (λ a b. (a && b) || list_any (meets p key ns ls) run) at_below (known true at)
-    split false at more = ap (λ b. meets p key ns ls e || b) (more (known false at)) ∙ or_true (meets p key ns ls e)
+        ap₂ (λ a b. (a && b) || list_any (meets p key rows) run) at_below (known true at)
+    split false at more = ap (λ b. meets p key rows e || b) (more (known false at)) ∙ or_true (meets p key rows e)
 
 -- an entry that passes has a lock that does
-sound : (p : DavLock → Bool) (key : Key) (ns : List ℕ) (ls : List DavLock) (run : List (OwnKey × Numbers)) → Rises ns → length ns ≡ length ls → AllByRecursion (λ e. e.1.items.items ≡ numbers_of (is_of_key (texts e.0.items)) (zip ns ls)) run → list_any (meets p key ns ls) run ≡ true → list_any p (at_or_below ls key) ≡ true
-sound p key ns ls [] r h a e = absurd cc
-sound p key ns ls (e ∷ run) r h a is = split (is_at_or_below (texts e.0.items) key) (list_any p (locks_of_numbers e.1.items.items (zip ns ls))) refl refl (sound p key ns ls run r h a.1) is
+sound : (p : DavLock → Bool) (key : Key) (rows : List Row) (run : List (OwnKey × Numbers)) → Rises (keys_of rows) → AllByRecursion (λ e. e.1.items.items ≡ numbers_of (is_of_key (texts e.0.items)) rows) run → list_any (meets p key rows) run ≡ true → list_any p (at_or_below (values_of rows) key) ≡ true
+sound p key rows [] r a e = absurd cc
+sound p key rows (e ∷ run) r a is = split (is_at_or_below (texts e.0.items) key) (list_any p (locks_of_numbers e.1.items.items rows)) refl refl (sound p key rows run r a.1) is
   where
     at_lock : is_at_or_below (texts e.0.items) key ≡ true → (l : DavLock) → is_of_key (texts e.0.items) l ≡ true → is_within key l ≡ true
     at_lock below l same = subst (λ x. is_at_or_below x key ≡ true) ((same_key_decides (texts e.0.items) l.path.key).0 same) below
 
-    split : (x y : Bool) → is_at_or_below (texts e.0.items) key ≡ x → list_any p (locks_of_numbers e.1.items.items (zip ns ls)) ≡ y → (list_any (meets p key ns ls) run ≡ true → list_any p (at_or_below ls key) ≡ true) → ((x && y) || list_any (meets p key ns ls) run) ≡ true → list_any p (at_or_below ls key) ≡ true
+    split : (x y : Bool) → is_at_or_below (texts e.0.items) key ≡ x → list_any p (locks_of_numbers e.1.items.items rows) ≡ y → (list_any (meets p key rows) run ≡ true → list_any p (at_or_below (values_of rows) key) ≡ true) → ((x && y) || list_any (meets p key rows) run) ≡ true → list_any p (at_or_below (values_of rows) key) ≡ true
     split true true below passes more i =
-        any_wider p (is_of_key (texts e.0.items)) (is_within key) (at_lock below) ls
-        (sym (ap (list_any p) (ap (λ xs. locks_of_numbers xs (zip ns ls)) a.0 ∙ locks_found (is_of_key (texts e.0.items)) ns ls r h)) ∙ passes)
+        any_wider p (is_of_key (texts e.0.items)) (is_within key) (at_lock below) (values_of rows)
+        (sym (ap (list_any p) (ap (λ xs. locks_of_numbers xs rows) a.0 ∙ locks_found (is_of_key (texts e.0.items)) rows r)) ∙ passes)
     split true false below passes more i = more i
     split false y below passes more i = more i
 
@@ -105,63 +105,63 @@ same_answer true b f g = sym (f refl)
 same_answer false true f g = g refl
 same_answer false false f g = refl
 
-each_indexed : (ns : List ℕ) (index : LockIndex) (ls : List DavLock) (run : List (OwnKey × Numbers)) → IsIndexed ns index ls → AllByRecursion (λ e. numbers_at index.at (texts e.0.items) ≡ e.1.items.items) run → AllByRecursion (λ e. e.1.items.items ≡ numbers_of (is_of_key (texts e.0.items)) (zip ns ls)) run
-each_indexed ns index ls [] h a = tt
-each_indexed ns index ls (e ∷ run) h a = (sym a.0 ∙ h.at (texts e.0.items), each_indexed ns index ls run h a.1)
+each_indexed : (index : LockIndex) (rows : List Row) (run : List (OwnKey × Numbers)) → IsIndexed index rows → AllByRecursion (λ e. numbers_at index.at (texts e.0.items) ≡ e.1.items.items) run → AllByRecursion (λ e. e.1.items.items ≡ numbers_of (is_of_key (texts e.0.items)) rows) run
+each_indexed index rows [] h a = tt
+each_indexed index rows (e ∷ run) h a = (sym a.0 ∙ h.at (texts e.0.items), each_indexed index rows run h a.1)
 
-pub tells-start : (p : DavLock → Bool) (key : Key) (segments : List (String Global)) (ns : List ℕ) (index : LockIndex) (ls : List DavLock) (run left : List (OwnKey × Numbers)) → Rises ns → IsIndexed ns index ls → texts segments ≡ key → HasRun (texts segments) index.at run → left ≡ run → Tells p key ns ls left
-tells-start p key segments ns index ls run left r h same has is = subst (Tells p key ns ls) (sym is) (record {
+pub tells-start : (p : DavLock → Bool) (key : Key) (segments : List (String Global)) (index : LockIndex) (rows : List Row) (run left : List (OwnKey × Numbers)) → Rises (keys_of rows) → IsIndexed index rows → texts segments ≡ key → HasRun (texts segments) index.at run → left ≡ run → Tells p key rows left
+tells-start p key segments index rows run left r h same has is = subst (Tells p key rows) (sym is) (record {
   ordered = has.ordered;
   own = owns;
-  answer = same_answer _ _ (sound p key ns ls run r h.one_each owns) complete;
+  answer = same_answer _ _ (sound p key rows run r owns) complete;
 })
   where
-    owns : AllByRecursion (λ e. e.1.items.items ≡ numbers_of (is_of_key (texts e.0.items)) (zip ns ls)) run
-    owns = each_indexed ns index ls run h has.own
+    owns : AllByRecursion (λ e. e.1.items.items ≡ numbers_of (is_of_key (texts e.0.items)) rows) run
+    owns = each_indexed index rows run h has.own
 
-    complete : list_any p (at_or_below ls key) ≡ true → list_any (meets p key ns ls) run ≡ true
+    complete : list_any p (at_or_below (values_of rows) key) ≡ true → list_any (meets p key rows) run ≡ true
     complete e =
-        let (l, below, found) = witness p (is_within key) ls e in
-        let at : numbers_in run l.path.key ≡ numbers_of (is_of_key l.path.key) (zip ns ls) = has.all l.path.key (subst (λ k. is_at_or_below l.path.key k ≡ true) (sym same) below) ∙ h.at l.path.key in
-        told p key l.path.key ns ls run below
-        (ap (list_any p) (ap (λ xs. locks_of_numbers xs (zip ns ls)) at ∙ locks_found (is_of_key l.path.key) ns ls r h.one_each) ∙ found (is_of_key l.path.key) ((same_key_decides l.path.key l.path.key).1 refl))
+        let (l, below, found) = witness p (is_within key) (values_of rows) e in
+        let at : numbers_in run l.path.key ≡ numbers_of (is_of_key l.path.key) rows = has.all l.path.key (subst (λ k. is_at_or_below l.path.key k ≡ true) (sym same) below) ∙ h.at l.path.key in
+        told p key l.path.key rows run below
+        (ap (list_any p) (ap (λ xs. locks_of_numbers xs rows) at ∙ locks_found (is_of_key l.path.key) rows r) ∙ found (is_of_key l.path.key) ((same_key_decides l.path.key l.path.key).1 refl))
 
 -- ---- one entry
 
 -- it doesn't pass
-pub tells-more : (p : DavLock → Bool) (key : Key) (ns : List ℕ) (ls : List DavLock) (left : List (OwnKey × Numbers)) (e : OwnKey × Numbers) (more : List (OwnKey × Numbers)) → left ≡ e ∷ more → meets p key ns ls e ≡ false → Tells p key ns ls left → Tells p key ns ls more
-tells-more p key ns ls left e more is fails tells =
-    let here = subst (Tells p key ns ls) is tells in
+pub tells-more : (p : DavLock → Bool) (key : Key) (rows : List Row) (left : List (OwnKey × Numbers)) (e : OwnKey × Numbers) (more : List (OwnKey × Numbers)) → left ≡ e ∷ more → meets p key rows e ≡ false → Tells p key rows left → Tells p key rows more
+tells-more p key rows left e more is fails tells =
+    let here = subst (Tells p key rows) is tells in
     record {
       ordered = sorted_tail own_cmp e.0 (keys_of more) here.ordered;
       own = here.own.1;
-      answer = ap (λ b. b || list_any (meets p key ns ls) more) (sym fails) ∙ here.answer;
+      answer = ap (λ b. b || list_any (meets p key rows) more) (sym fails) ∙ here.answer;
     }
 
 -- it passes
-pub tells-some : (p : DavLock → Bool) (key : Key) (ns : List ℕ) (ls : List DavLock) (left : List (OwnKey × Numbers)) (e : OwnKey × Numbers) (more : List (OwnKey × Numbers)) → left ≡ e ∷ more → meets p key ns ls e ≡ true → Tells p key ns ls left → list_any p (at_or_below ls key) ≡ true
-tells-some p key ns ls left e more is passes tells =
-    let here = subst (Tells p key ns ls) is tells in
-    sym here.answer ∙ ap (λ b. b || list_any (meets p key ns ls) more) passes
+pub tells-some : (p : DavLock → Bool) (key : Key) (rows : List Row) (left : List (OwnKey × Numbers)) (e : OwnKey × Numbers) (more : List (OwnKey × Numbers)) → left ≡ e ∷ more → meets p key rows e ≡ true → Tells p key rows left → list_any p (at_or_below (values_of rows) key) ≡ true
+tells-some p key rows left e more is passes tells =
+    let here = subst (Tells p key rows) is tells in
+    sym here.answer ∙ ap (λ b. b || list_any (meets p key rows) more) passes
 
 -- its key is past those below
-all_past : (p : DavLock → Bool) (key first : Key) (own : OwnKey) (ns : List ℕ) (ls : List DavLock) (more : List (OwnKey × Numbers)) → texts own.items ≡ first → is_le (key_cmp key first) ≡ true → is_at_or_below first key ≡ false → AllByRecursion (λ k. own_cmp own k ≡ Less) (keys_of more) → list_any (meets p key ns ls) more ≡ false
-all_past p key first own ns ls [] same le out a = refl
-all_past p key first own ns ls (e ∷ more) same le out a =
-    ap₂ (λ x y. (x && list_any p (locks_of_numbers e.1.items.items (zip ns ls))) || y)
+all_past : (p : DavLock → Bool) (key first : Key) (own : OwnKey) (rows : List Row) (more : List (OwnKey × Numbers)) → texts own.items ≡ first → is_le (key_cmp key first) ≡ true → is_at_or_below first key ≡ false → AllByRecursion (λ k. own_cmp own k ≡ Less) (keys_of more) → list_any (meets p key rows) more ≡ false
+all_past p key first own rows [] same le out a = refl
+all_past p key first own rows (e ∷ more) same le out a =
+    ap₂ (λ x y. (x && list_any p (locks_of_numbers e.1.items.items rows)) || y)
     (none_behind key first (texts e.0.items) le out (ap (λ k. key_cmp k (texts e.0.items)) (sym same) ∙ sym (texts_cmp own.items e.0.items) ∙ a.0))
-    (all_past p key first own ns ls more same le out a.1)
+    (all_past p key first own rows more same le out a.1)
 
-pub tells-past : (p : DavLock → Bool) (key : Key) (ns : List ℕ) (ls : List DavLock) (left : List (OwnKey × Numbers)) (e : OwnKey × Numbers) (more : List (OwnKey × Numbers)) → left ≡ e ∷ more → is_at_or_below (texts e.0.items) key ≡ false → is_le (key_cmp key (texts e.0.items)) ≡ true → Tells p key ns ls left → list_any p (at_or_below ls key) ≡ false
-tells-past p key ns ls left e more is out le tells =
-    let here = subst (Tells p key ns ls) is tells in
+pub tells-past : (p : DavLock → Bool) (key : Key) (rows : List Row) (left : List (OwnKey × Numbers)) (e : OwnKey × Numbers) (more : List (OwnKey × Numbers)) → left ≡ e ∷ more → is_at_or_below (texts e.0.items) key ≡ false → is_le (key_cmp key (texts e.0.items)) ≡ true → Tells p key rows left → list_any p (at_or_below (values_of rows) key) ≡ false
+tells-past p key rows left e more is out le tells =
+    let here = subst (Tells p key rows) is tells in
     sym here.answer
-    ∙ ap₂ (λ x y. (x && list_any p (locks_of_numbers e.1.items.items (zip ns ls))) || y) out (all_past p key (texts e.0.items) e.0 ns ls more refl le out (sorted_head own_cmp e.0 (keys_of more) here.ordered))
+    ∙ ap₂ (λ x y. (x && list_any p (locks_of_numbers e.1.items.items rows)) || y) out (all_past p key (texts e.0.items) e.0 rows more refl le out (sorted_head own_cmp e.0 (keys_of more) here.ordered))
 
 -- ---- none is left
 
-pub tells-none : (p : DavLock → Bool) (key : Key) (ns : List ℕ) (ls : List DavLock) (left : List (OwnKey × Numbers)) → left ≡ [] → Tells p key ns ls left → list_any p (at_or_below ls key) ≡ false
-tells-none p key ns ls left is tells = sym tells.answer ∙ ap (list_any (meets p key ns ls)) is
+pub tells-none : (p : DavLock → Bool) (key : Key) (rows : List Row) (left : List (OwnKey × Numbers)) → left ≡ [] → Tells p key rows left → list_any p (at_or_below (values_of rows) key) ≡ false
+tells-none p key rows left is tells = sym tells.answer ∙ ap (list_any (meets p key rows)) is
 
 pub none_there : (ls : List DavLock) → list_any (λ l. true) ls ≡ false → ls ≡ []
 none_there [] e = refl
@@ -186,20 +186,20 @@ behind_is answer order own xs segments key same is compared value e =
 
 -- whether it passes
 
-pub not_below : (p : DavLock → Bool) (key : Key) (ns : List ℕ) (ls : List DavLock) (e : OwnKey × Numbers) → is_at_or_below (texts e.0.items) key ≡ false → meets p key ns ls e ≡ false
-not_below p key ns ls e out = ap (λ b. b && list_any p (locks_of_numbers e.1.items.items (zip ns ls))) out
+pub not_below : (p : DavLock → Bool) (key : Key) (rows : List Row) (e : OwnKey × Numbers) → is_at_or_below (texts e.0.items) key ≡ false → meets p key rows e ≡ false
+not_below p key rows e out = ap (λ b. b && list_any p (locks_of_numbers e.1.items.items rows)) out
 
-pub below_passes : (b answer : Bool) (p : DavLock → Bool) (key : Key) (ns xs : List ℕ) (ls : List DavLock) (e : OwnKey × Numbers) → is_at_or_below (texts e.0.items) key ≡ true → xs ≡ e.1.items.items → answer ≡ list_any p (locks_of_numbers xs (zip ns ls)) → answer ≡ b → meets p key ns ls e ≡ b
-below_passes b answer p key ns xs ls e below is value at =
-    ap (λ c. c && list_any p (locks_of_numbers e.1.items.items (zip ns ls))) below
-    ∙ ap (λ ys. list_any p (locks_of_numbers ys (zip ns ls))) (sym is)
+pub below_passes : (b answer : Bool) (p : DavLock → Bool) (key : Key) (rows : List Row) (xs : List ℕ) (e : OwnKey × Numbers) → is_at_or_below (texts e.0.items) key ≡ true → xs ≡ e.1.items.items → answer ≡ list_any p (locks_of_numbers xs rows) → answer ≡ b → meets p key rows e ≡ b
+below_passes b answer p key rows xs e below is value at =
+    ap (λ c. c && list_any p (locks_of_numbers e.1.items.items rows)) below
+    ∙ ap (λ ys. list_any p (locks_of_numbers ys rows)) (sym is)
     ∙ sym value
     ∙ at
 
-pub no_numbers : (p : DavLock → Bool) (xs ns : List ℕ) (ls : List DavLock) → length xs ≤ 0 → false ≡ list_any p (locks_of_numbers xs (zip ns ls))
-no_numbers p [] ns ls e = refl
-no_numbers p (x ∷ xs) ns ls e = absurd (omega arith)
+pub no_numbers : (p : DavLock → Bool) (xs : List ℕ) (rows : List Row) → length xs ≤ 0 → false ≡ list_any p (locks_of_numbers xs rows)
+no_numbers p [] rows e = refl
+no_numbers p (x ∷ xs) rows e = absurd (omega arith)
 
 -- its numbers are those of the locks at its key
-pub numbers_own : (p : DavLock → Bool) (key : Key) (ns xs : List ℕ) (ls : List DavLock) (left : List (OwnKey × Numbers)) (e : OwnKey × Numbers) (more : List (OwnKey × Numbers)) → left ≡ e ∷ more → xs ≡ e.1.items.items → Tells p key ns ls left → xs ≡ numbers_of (is_of_key (texts e.0.items)) (zip ns ls)
-numbers_own p key ns xs ls left e more is same tells = same ∙ (subst (Tells p key ns ls) is tells).own.0
+pub numbers_own : (p : DavLock → Bool) (key : Key) (rows : List Row) (xs : List ℕ) (left : List (OwnKey × Numbers)) (e : OwnKey × Numbers) (more : List (OwnKey × Numbers)) → left ≡ e ∷ more → xs ≡ e.1.items.items → Tells p key rows left → xs ≡ numbers_of (is_of_key (texts e.0.items)) rows
+numbers_own p key rows xs left e more is same tells = same ∙ (subst (Tells p key rows) is tells).own.0

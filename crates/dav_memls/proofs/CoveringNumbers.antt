@@ -1,15 +1,17 @@
 -- The numbers of the locks that cover a key, found from the root on, in order.
-use Rattle.std.proofs.Common.{◌≡◌, ◌∙◌, ◌==◌, ◌<◌, ℕ, zero, suc, Bool, true, false, cond, ◌&&◌, ◌||◌, List, [], ◌∷◌, map, Option, Some, refl, sym, ap, ap₂, subst, length, take, arith}
+use Rattle.std.proofs.Common.{◌≡◌, ◌∙◌, ◌==◌, ◌<◌, ◌+◌, ℕ, zero, suc, Bool, true, false, cond, ◌&&◌, ◌||◌, List, [], ◌∷◌, ◌++◌, map, Option, Some, refl, sym, ap, ap₂, subst, length, get_or, take, arith}
+use Rattle.std.proofs.lemmas.List.{take_more}
 use Rattle.std.proofs.lemmas.Bool.Decides.{nat_tests}
 use Rattle.std.specs.BTreeSet.{BTreeSet, contains}
-use Rattle.std.specs.List.{AllByRecursion, filter, list_any, zip}
+use Rattle.std.specs.List.{AllByRecursion, filter, list_any}
+use Rattle.std.specs.Map.{keys_of, values_of}
 use Rattle.std.specs.Option.{option_map_or}
 use Rattle.std.specs.Ordering.{is_eq, nat_cmp}
 use Rattle.dav_resource.specs.Key.{Key}
 use Rattle.dav_store.specs.declared.lock.DavLock.{DavLock}
 use Rattle.dav_store.specs.Locks.{covers, covering}
-use Rattle.dav_memls.specs.LockIndex.{Row, numbers_of, lock_of, locks_of_numbers, number_passes, is_of_key, is_above, HasNumbers}
-use Rattle.dav_memls.proofs.Ascending.{Rises, rises-head, rises-tail, rises-cons, rises-none, same, not_same, all_weaker}
+use Rattle.dav_memls.specs.LockIndex.{Row, numbers_of, lock_of, locks_of_numbers, number_passes, is_of_key, is_above, HasNumbers, AddsNumbers}
+use Rattle.dav_memls.proofs.Ascending.{Rises, rises-head, rises-tail, rises-cons, rises-none, same, not_same, is_eq-same, all_weaker}
 use Rattle.dav_memls.proofs.Reached.{reached-more, reached-all}
 use Rattle.dav_memls.proofs.LockRows.{all_numbers, each_found, locks_found}
 use Rattle.dav_memls.proofs.LockFound.{is_reached, any-or, covers-above}
@@ -54,13 +56,12 @@ same_numbers (x ∷ xs) (y ∷ ys) r s h = ap₂ (λ n ns. n ∷ ns) first (same
 
 -- ---- the numbers of locks
 
-pub rises-numbers : (test : DavLock → Bool) (ns : List ℕ) (ls : List DavLock) → Rises ns → Rises (numbers_of test (zip ns ls))
-rises-numbers test [] ls r = rises-none
-rises-numbers test (n ∷ ns) [] r = rises-none
-rises-numbers test (n ∷ ns) (l ∷ ls) r =
-    elim (test l) as (λ b. Rises (map (λ (row : Row). row.0) (cond b ((n, l) ∷ filter (λ (row : Row). test row.1) (zip ns ls)) (filter (λ (row : Row). test row.1) (zip ns ls))))) [
-      | true ↦ rises-cons n (numbers_of test (zip ns ls)) (all_numbers (λ y. n < y) test ns ls (rises-head n ns r)) (rises-numbers test ns ls (rises-tail n ns r))
-      | false ↦ rises-numbers test ns ls (rises-tail n ns r)
+pub rises-numbers : (test : DavLock → Bool) (rows : List Row) → Rises (keys_of rows) → Rises (numbers_of test rows)
+rises-numbers test [] r = rises-none
+rises-numbers test (row ∷ rows) r =
+    elim (test row.1) as (λ b. Rises (map (λ (k : Row). k.0) (cond b (row ∷ filter (λ (k : Row). test k.1) rows) (filter (λ (k : Row). test k.1) rows)))) [
+      | true ↦ rises-cons row.0 (numbers_of test rows) (all_numbers (λ y. row.0 < y) test rows (rises-head row.0 (keys_of rows) r)) (rises-numbers test rows (rises-tail row.0 (keys_of rows) r))
+      | false ↦ rises-numbers test rows (rises-tail row.0 (keys_of rows) r)
     ]
 
 kept_numbers : (find : ℕ → Option DavLock) (s t : DavLock → Bool) (rows : List Row) → AllByRecursion (λ (row : Row). find row.0 ≡ Some row.1) rows → filter (λ n. option_map_or t (find n) false) (numbers_of s rows) ≡ numbers_of (λ l. s l && t l) rows
@@ -106,44 +107,85 @@ and_or true true false = refl
 and_or true false false = refl
 and_or false y c = refl
 
-pub covering_more : (d : ℕ) (key : Key) (ns : List ℕ) (ls : List DavLock) (old new : BTreeSet ℕ) → Rises ns
-    → HasNumbers old (numbers_of (reached_covers d key) (zip ns ls))
-    → ((n : ℕ) → contains nat_cmp new n ≡ (contains nat_cmp old n || list_any (λ m. n == m) (filter (number_passes (λ l. covers l key) (zip ns ls)) (numbers_of (is_of_key (take d key)) (zip ns ls)))))
-    → HasNumbers new (numbers_of (reached_covers (suc d) key) (zip ns ls))
-covering_more d key ns ls old new r was is n =
+pub covering_more : (d : ℕ) (key : Key) (rows : List Row) (old new : BTreeSet ℕ) → Rises (keys_of rows)
+    → HasNumbers old (numbers_of (reached_covers d key) rows)
+    → ((n : ℕ) → contains nat_cmp new n ≡ (contains nat_cmp old n || list_any (λ m. n == m) (filter (number_passes (λ l. covers l key) rows) (numbers_of (is_of_key (take d key)) rows))))
+    → HasNumbers new (numbers_of (reached_covers (suc d) key) rows)
+covering_more d key rows old new r was is n =
     is n
-    ∙ ap₂ (λ x y. x || list_any (λ m. n == m) y) (was n) (kept_numbers (λ k. lock_of k (zip ns ls)) (is_of_key (take d key)) (λ l. covers l key) (zip ns ls) (each_found ns ls r))
-    ∙ sym (any_numbers_or n (reached_covers d key) (λ l. is_of_key (take d key) l && covers l key) (zip ns ls))
-    ∙ ap (list_any (λ m. n == m)) (numbers_agree _ (reached_covers (suc d) key) (zip ns ls) (each_row (λ row. sym (ap (λ b. b && covers row.1 key) (reached-more d key row.1.path.key) ∙ and_or (is_reached d key row.1) (is_of_key (take d key) row.1) (covers row.1 key))) (zip ns ls)))
+    ∙ ap₂ (λ x y. x || list_any (λ m. n == m) y) (was n) (kept_numbers (λ k. lock_of k rows) (is_of_key (take d key)) (λ l. covers l key) rows (each_found rows r))
+    ∙ sym (any_numbers_or n (reached_covers d key) (λ l. is_of_key (take d key) l && covers l key) rows)
+    ∙ ap (list_any (λ m. n == m)) (numbers_agree _ (reached_covers (suc d) key) rows (each_row (λ row. sym (ap (λ b. b && covers row.1 key) (reached-more d key row.1.path.key) ∙ and_or (is_reached d key row.1) (is_of_key (take d key) row.1) (covers row.1 key))) rows))
 
 within : (a c : Bool) → (c ≡ true → a ≡ true) → (a && c) ≡ c
 within true c h = refl
 within false true h = h refl
 within false false h = refl
 
-pub covering_all_reached : (key : Key) (ns : List ℕ) (ls : List DavLock) (found : BTreeSet ℕ) → HasNumbers found (numbers_of (reached_covers (suc (length key)) key) (zip ns ls)) → HasNumbers found (numbers_of (λ l. covers l key) (zip ns ls))
-covering_all_reached key ns ls found h n =
-    h n ∙ ap (list_any (λ m. n == m)) (numbers_agree (reached_covers (suc (length key)) key) (λ l. covers l key) (zip ns ls) (each_row (λ row. ap (λ b. b && covers row.1 key) (reached-all key row.1.path.key) ∙ within (is_above key row.1) (covers row.1 key) (covers-above key row.1)) (zip ns ls)))
+pub covering_all_reached : (key : Key) (rows : List Row) (found : BTreeSet ℕ) → HasNumbers found (numbers_of (reached_covers (suc (length key)) key) rows) → HasNumbers found (numbers_of (λ l. covers l key) rows)
+covering_all_reached key rows found h n =
+    h n ∙ ap (list_any (λ m. n == m)) (numbers_agree (reached_covers (suc (length key)) key) (λ l. covers l key) rows (each_row (λ row. ap (λ b. b && covers row.1 key) (reached-all key row.1.path.key) ∙ within (is_above key row.1) (covers row.1 key) (covers-above key row.1)) rows))
 
 -- ---- the set
-
-is_eq-same : (n k : ℕ) → is_eq (nat_cmp n k) ≡ (n == k)
-is_eq-same n k = grind (arith, nat_tests)
 
 any_agree : (p q : ℕ → Bool) → ((n : ℕ) → p n ≡ q n) → (xs : List ℕ) → list_any p xs ≡ list_any q xs
 any_agree p q h [] = refl
 any_agree p q h (x ∷ xs) = ap₂ (λ a b. a || b) (h x) (any_agree p q h xs)
 
 -- in order, its numbers are those of the locks that cover the key
-pub covering_listed : (key : Key) (ns : List ℕ) (ls : List DavLock) (found : BTreeSet ℕ) → Rises ns → Rises found.keys → length ns ≡ length ls → HasNumbers found (numbers_of (λ l. covers l key) (zip ns ls)) → locks_of_numbers found.keys (zip ns ls) ≡ covering ls key
-covering_listed key ns ls found r s e h =
-    ap (λ xs. locks_of_numbers xs (zip ns ls)) (same_numbers found.keys (numbers_of (λ l. covers l key) (zip ns ls)) s (rises-numbers _ ns ls r) (λ n. sym (any_agree _ (λ m. n == m) (λ k. is_eq-same n k) found.keys) ∙ h n))
-    ∙ locks_found (λ l. covers l key) ns ls r e
+pub covering_listed : (key : Key) (rows : List Row) (found : BTreeSet ℕ) → Rises (keys_of rows) → Rises found.keys → HasNumbers found (numbers_of (λ l. covers l key) rows) → locks_of_numbers found.keys rows ≡ covering (values_of rows) key
+covering_listed key rows found r s h =
+    ap (λ xs. locks_of_numbers xs rows) (same_numbers found.keys (numbers_of (λ l. covers l key) rows) s (rises-numbers _ rows r) (λ n. sym (any_agree _ (λ m. n == m) (λ k. is_eq-same n k) found.keys) ∙ h n))
+    ∙ locks_found (λ l. covers l key) rows r
 
 -- at first none is reached
 nothing_reached : (key : Key) (rows : List Row) → numbers_of (reached_covers zero key) rows ≡ []
 nothing_reached key [] = refl
 nothing_reached key (row ∷ rows) = nothing_reached key rows
 
-pub covering_none : (key : Key) (ns : List ℕ) (ls : List DavLock) (found : BTreeSet ℕ) → found.keys ≡ [] → HasNumbers found (numbers_of (reached_covers zero key) (zip ns ls))
-covering_none key ns ls found e n = ap (list_any (λ k. is_eq (nat_cmp n k))) e ∙ ap (list_any (λ m. n == m)) (sym (nothing_reached key (zip ns ls)))
+pub covering_none : (key : Key) (rows : List Row) (found : BTreeSet ℕ) → found.keys ≡ [] → HasNumbers found (numbers_of (reached_covers zero key) rows)
+covering_none key rows found e n = ap (list_any (λ k. is_eq (nat_cmp n k))) e ∙ ap (list_any (λ m. n == m)) (sym (nothing_reached key rows))
+
+-- ---- one number
+
+or_assoc : (x y z : Bool) → ((x || y) || z) ≡ (x || (y || z))
+or_assoc true y z = refl
+or_assoc false y z = refl
+
+or_false : (x : Bool) → (x || false) ≡ x
+or_false true = refl
+or_false false = refl
+
+passed_more : (n x : ℕ) (b : Bool) (p : ℕ → Bool) (xs : List ℕ) → p x ≡ b → list_any (λ m. n == m) (filter p (xs ++ x ∷ [])) ≡ (list_any (λ m. n == m) (filter p xs) || (b && (n == x)))
+passed_more n x b p [] is = ap (λ c. list_any (λ m. n == m) (cond c (x ∷ []) [])) is ∙ one b
+  where
+    one : (c : Bool) → list_any (λ m. n == m) (cond c (x ∷ []) []) ≡ (c && (n == x))
+    one true = or_false (n == x)
+    one false = refl
+passed_more n x b p (y ∷ xs) is =
+    elim (p y) as (λ c. list_any (λ m. n == m) (cond c (y ∷ filter p (xs ++ x ∷ [])) (filter p (xs ++ x ∷ []))) ≡ (list_any (λ m. n == m) (cond c (y ∷ filter p xs) (filter p xs)) || (b && (n == x)))) [
+      | true ↦ ap (λ c. (n == y) || c) (passed_more n x b p xs is) ∙ sym (or_assoc (n == y) _ _)
+      | false ↦ passed_more n x b p xs is
+    ]
+
+-- the next number goes in where it passes
+pub adds_next : (p : ℕ → Bool) (xs : List ℕ) (i : ℕ) (b : Bool) (old mid new : BTreeSet ℕ) → i < length xs → p (get_or xs i 0) ≡ b → AddsNumbers p (take i xs) old mid → ((n : ℕ) → contains nat_cmp new n ≡ (contains nat_cmp mid n || (b && (n == get_or xs i 0)))) → AddsNumbers p (take (i + 1) xs) old new
+adds_next p xs i b old mid new inside is was adds n =
+    adds n
+    ∙ ap (λ c. c || (b && (n == get_or xs i 0))) (was n)
+    ∙ or_assoc (contains nat_cmp old n) _ _
+    ∙ ap (λ c. contains nat_cmp old n || c) (sym (ap (λ ys. list_any (λ m. n == m) (filter p ys)) (take_more xs i 0 inside) ∙ passed_more n (get_or xs i 0) b p (take i xs) is))
+
+pub adds_none : (old new : BTreeSet ℕ) → new ≡ old → (n : ℕ) → contains nat_cmp new n ≡ (contains nat_cmp old n || false)
+adds_none old new same n = ap (λ s. contains nat_cmp s n) same ∙ sym (or_false (contains nat_cmp old n))
+
+same_turned : (x n : ℕ) → is_eq (nat_cmp x n) ≡ (n == x)
+same_turned x n = grind (arith, nat_tests)
+
+pub adds_some : (old mid new : BTreeSet ℕ) (x : ℕ) → new ≡ mid → ((n : ℕ) → contains nat_cmp mid n ≡ cond (is_eq (nat_cmp x n)) true (contains nat_cmp old n)) → (n : ℕ) → contains nat_cmp new n ≡ (contains nat_cmp old n || (n == x))
+adds_some old mid new x same puts n = ap (λ s. contains nat_cmp s n) same ∙ puts n ∙ ap (λ b. cond b true (contains nat_cmp old n)) (same_turned x n) ∙ either (n == x) (contains nat_cmp old n)
+  where
+    either : (b c : Bool) → cond b true c ≡ (c || b)
+    either true true = refl
+    either true false = refl
+    either false c = sym (or_false c)

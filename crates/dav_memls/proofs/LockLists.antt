@@ -1,21 +1,25 @@
--- Lists of locks: what a filter and a new lock leave of their distinct tokens, what a new lock and a refreshed one leave of their standing together, and the place of a lock that is named.
-use Rattle.std.proofs.Common.{◌≡◌, ◌∙◌, ℕ, Bool, true, false, cond, not, List, [], ◌∷◌, ◌++◌, map, Option, Some, None, Result, Ok, Err, OnOk, OnErr, refl, sym, ap, subst, ◌&&◌, ◌||◌, ◌==◌, ◌<◌, ◌+◌, length, get_or, zero, suc, arith, bytes_eq}
-use Rattle.std.proofs.Math.ListN.{set}
+-- Lists of locks: what a filter and a new lock leave of their distinct tokens, what a new lock and a refreshed one leave of their standing together, and what the number of a lock that is named tells.
+use Rattle.std.proofs.Common.{◌≡◌, ◌∙◌, ℕ, Bool, true, false, cond, not, List, [], ◌∷◌, ◌++◌, map, Option, Some, None, Result, Ok, Err, OnOk, OnErr, refl, sym, ap, ap₂, subst, ◌&&◌, ◌||◌, ◌==◌, ◌<◌, length, arith, bytes_eq, nat_cmp}
+use Rattle.std.proofs.lemmas.Bool.{and_from}
 use Rattle.std.proofs.lemmas.List.{map-append}
-use Rattle.std.proofs.lemmas.Iterator.Adapters.{position_from-zero}
 use Rattle.std.proofs.lemmas.Map.Keys.{IsDistinct-head, IsDistinct-tail, IsDistinct-cons, IsDistinct-push}
 use Rattle.std.proofs.lemmas.Slice.Eq.{bytes_eq-Decides}
 use Rattle.std.proofs.lemmas.Bool.Decides.{nat_tests}
 use Rattle.std.proofs.lemmas.Cmp.{nat_list_eq_equiv}
-use Rattle.std.specs.Option.{option_map}
-use Rattle.std.specs.List.{IsDistinct, AllByRecursion, filter, find, list_any, position, position_from, remove}
+use Rattle.std.specs.BTreeMap.{is_at}
+use Rattle.std.specs.List.{IsDistinct, AllByRecursion, filter, find, list_any}
+use Rattle.std.specs.Map.{keys_of, values_of, remove_entry}
+use Rattle.std.specs.Option.{IsSomeAnd, option_map}
+use Rattle.std.specs.Ordering.{is_eq}
 use Rattle.dav_resource.specs.Key.{Key}
 use Rattle.dav_store.specs.declared.lock.DavLock.{DavLock}
 use Rattle.dav_store.specs.Locks.{is_at_or_below, at_or_below, elsewhere, has_token, grants, AreCompatible}
 use Rattle.dav_store.specs.LockCalls.{HasDistinctTokens, is_named, has_named, without_named, refreshed, with_refreshed}
-use Rattle.dav_store.specs.LockLaws.{compatible_filtered, compatible_granted, compatible_with_refreshed}
-use Rattle.dav_memls.specs.LockIndex.{StandsBelow}
-use Rattle.dav_memls.proofs.Reached.{bytes_eq-sym}
+use Rattle.dav_store.specs.LockLaws.{compatible_without, compatible_granted, compatible_with_refreshed}
+use Rattle.dav_memls.specs.LockIndex.{Row, lock_of, locks_without, locks_refreshed, is_within, StandsBelow}
+use Rattle.dav_memls.proofs.Ascending.{Rises, rises-head, rises-tail, is_eq-same, at_number}
+use Rattle.dav_memls.proofs.LockRows.{refreshed_none}
+use Rattle.dav_memls.proofs.Reached.{bytes_eq-sym, at_itself}
 
 -- ---- filters
 
@@ -104,144 +108,128 @@ has_it token lock at named = (bytes_eq-Decides token lock.token).0 (first_true (
     first_true true e = refl
     first_true false e = absurd cc
 
--- what the place of a named lock says: it is the first one found, and the one that a refreshing changes
-pub record IsNamedPlace (key : Key) (token : List ℕ) (locks : List DavLock) (i : ℕ) : Type 0 where
-  pub inside : i < length locks
-  pub found : (d : DavLock) → find (is_named key token) locks ≡ Some (get_or locks i d)
-  pub changed : (timeout : Option ℕ) (now : ℕ) (d : DavLock) → with_refreshed key token timeout now locks ≡ set locks i (refreshed timeout now (get_or locks i d))
-
-place_from : (key : Key) (token : List ℕ) (locks : List DavLock) → HasDistinctTokens locks → (n i : ℕ) → position_from (is_named key token) n locks ≡ Some i → (j : ℕ) × (i ≡ n + j) × IsNamedPlace key token locks j
-place_from key token [] distinct n i e = absurd cc
-place_from key token (lock ∷ locks) distinct n i is =
-    elim (is_named key token lock) as (λ b. is_named key token lock ≡ b → cond b (Some n) (position_from (is_named key token) (n + 1) locks) ≡ Some i → (j : ℕ) × (i ≡ n + j) × IsNamedPlace key token (lock ∷ locks) j) [
-      | true ↦ λ t e. (
-        zero,
-        (let same : n ≡ i = cc in omega arith),
-        record {
-          inside = omega arith;
-          found = λ d. ap (λ b. cond b (Some lock) (find (is_named key token) locks)) t;
-          changed = λ timeout now d.
-              ap (λ b. cond b (refreshed timeout now lock) lock ∷ with_refreshed key token timeout now locks) t
-              ∙ ap (λ more. refreshed timeout now lock ∷ more) (others_kept key token timeout now locks (
-              let P : List ℕ → Type 0 = λ k. AllByRecursion (λ other. bytes_eq k other ≡ false) (map token_of locks) in
-              subst P (sym (has_it token lock (is_at_or_below key lock.path.key) t)) (IsDistinct-head bytes_eq lock.token (map token_of locks) distinct)));
-        },
-      )
-      | false ↦ λ t e. later t (place_from key token locks (IsDistinct-tail bytes_eq lock.token (map token_of locks) distinct) (n + 1) i e)
-    ] refl is
-  where
-    later : is_named key token lock ≡ false → (j : ℕ) × (i ≡ n + 1 + j) × IsNamedPlace key token locks j → (j : ℕ) × (i ≡ n + j) × IsNamedPlace key token (lock ∷ locks) j
-    later t (j, at, place) = (
-      suc j,
-      omega arith,
-      record {
-        inside = let h = place.inside in omega arith;
-        found = λ d. ap (λ b. cond b (Some lock) (find (is_named key token) locks)) t ∙ place.found d;
-        changed = λ timeout now d. ap (λ b. cond b (refreshed timeout now lock) lock ∷ with_refreshed key token timeout now locks) t ∙ ap (λ more. lock ∷ more) (place.changed timeout now d);
-      },
-    )
-
-pub named_place : (key : Key) (token : List ℕ) (locks : List DavLock) (r : Option ℕ) (i : ℕ) → HasDistinctTokens locks → r ≡ position (is_named key token) locks → r ≡ Some i → IsNamedPlace key token locks i
-named_place key token locks r i distinct is e =
-    let (j, at, place) = place_from key token locks distinct zero i (sym (position_from-zero (is_named key token) locks) ∙ sym is ∙ e) in
-    subst (IsNamedPlace key token locks) (let back : j ≡ i = omega arith in back) place
-
--- no place: no lock is named
-pub none_named : (key : Key) (token : List ℕ) (locks : List DavLock) → position (is_named key token) locks ≡ None → has_named key token locks ≡ false
-none_named key token locks e = none_from locks zero (sym (position_from-zero (is_named key token) locks) ∙ e)
-  where
-    none_from : (locks : List DavLock) (n : ℕ) → position_from (is_named key token) n locks ≡ None → list_any (is_named key token) locks ≡ false
-    none_from [] n e = refl
-    none_from (lock ∷ locks) n is =
-        elim (is_named key token lock) as (λ b. cond b (Some n) (position_from (is_named key token) (n + 1) locks) ≡ None → (b || list_any (is_named key token) locks) ≡ false) [
-          | true ↦ λ e. absurd cc
-          | false ↦ λ e. none_from locks (n + 1) e
-        ] is
-
--- the lock at that place is refreshed, with a lock that is refreshed from the one that stood there
-pub refreshed-set : (key : Key) (token : List ℕ) (timeout : Option ℕ) (now : ℕ) (locks : List DavLock) (i : ℕ) (d new : DavLock) → IsNamedPlace key token locks i → d ≡ get_or locks i d → new ≡ refreshed timeout now d
-    → set locks i new ≡ with_refreshed key token timeout now locks
-refreshed-set key token timeout now locks i d new place read is = ap (set locks i) (is ∙ ap (refreshed timeout now) read) ∙ sym (place.changed timeout now d)
-
-pub distinct-refreshed : (key : Key) (token : List ℕ) (timeout : Option ℕ) (now : ℕ) (old new : List DavLock) → HasDistinctTokens old → new ≡ with_refreshed key token timeout now old → HasDistinctTokens new
-distinct-refreshed key token timeout now old new distinct is = subst (IsDistinct bytes_eq) (sym (ap (map token_of) is ∙ tokens-refreshed key token timeout now old)) distinct
-
-pub found-refreshed : (key : Key) (token : List ℕ) (timeout : Option ℕ) (now : ℕ) (locks : List DavLock) (i : ℕ) (d copy lock : DavLock) → IsNamedPlace key token locks i → d ≡ get_or locks i d → copy ≡ d → lock ≡ refreshed timeout now copy
-    → option_map (refreshed timeout now) (find (is_named key token) locks) ≡ Some lock
-found-refreshed key token timeout now locks i d copy lock place read same is =
-    ap (option_map (refreshed timeout now)) (place.found d) ∙ ap (λ l. Some (refreshed timeout now l)) (sym read ∙ sym same) ∙ ap Some (sym is)
-
--- ---- a lock that is removed
-
-other_token : (P : List ℕ → Type 0) (locks : List DavLock) (i : ℕ) (d : DavLock) → AllByRecursion P (map token_of locks) → i < length locks → P (token_of (get_or locks i d))
-other_token P [] i d a inside = absurd (omega arith)
-other_token P (lock ∷ locks) zero d a inside = a.0
-other_token P (lock ∷ locks) (suc i) d a inside = other_token P locks i d a.1 (omega arith)
-
-kept_all : (token : List ℕ) (locks : List DavLock) → AllByRecursion (λ t. bytes_eq token t ≡ false) (map token_of locks) → filter (λ l. not (has_token token l)) locks ≡ locks
-kept_all token [] a = refl
-kept_all token (lock ∷ locks) a = ap (λ b. cond (not b) (lock ∷ filter (λ l. not (has_token token l)) locks) (filter (λ l. not (has_token token l)) locks)) a.0 ∙ ap (λ more. lock ∷ more) (kept_all token locks a.1)
-
-remove_filter : (locks : List DavLock) (i : ℕ) (d : DavLock) → HasDistinctTokens locks → i < length locks → remove locks i ≡ filter (λ l. not (has_token (token_of (get_or locks i d)) l)) locks
-remove_filter [] i d distinct inside = absurd (omega arith)
-remove_filter (lock ∷ locks) zero d distinct inside =
-    sym (ap (λ b. cond (not b) (lock ∷ filter (λ l. not (has_token lock.token l)) locks) (filter (λ l. not (has_token lock.token l)) locks)) ((bytes_eq-Decides lock.token lock.token).1 refl) ∙ kept_all lock.token locks (IsDistinct-head bytes_eq lock.token (map token_of locks) distinct))
-remove_filter (lock ∷ locks) (suc i) d distinct inside =
-    let token : List ℕ = token_of (get_or locks i d) in
-    let apart : bytes_eq token lock.token ≡ false = bytes_eq-sym token lock.token ∙ other_token (λ t. bytes_eq lock.token t ≡ false) locks i d (IsDistinct-head bytes_eq lock.token (map token_of locks) distinct) (omega arith) in
-    ap (λ more. lock ∷ more) (remove_filter locks i d (IsDistinct-tail bytes_eq lock.token (map token_of locks) distinct) (omega arith))
-    ∙ sym (ap (λ b. cond (not b) (lock ∷ filter (λ l. not (has_token token l)) locks) (filter (λ l. not (has_token token l)) locks)) apart)
-
-pub distinct-remove : (locks : List DavLock) (i : ℕ) → HasDistinctTokens locks → i < length locks → HasDistinctTokens (remove locks i)
-distinct-remove [] i distinct inside = absurd (omega arith)
-distinct-remove (lock ∷ locks) i distinct inside = subst HasDistinctTokens (sym (remove_filter (lock ∷ locks) i lock distinct inside)) (distinct-filter (λ l. not (has_token (token_of (get_or (lock ∷ locks) i lock)) l)) (lock ∷ locks) distinct)
-
-pub compatible-remove : (locks : List DavLock) (i : ℕ) → HasDistinctTokens locks → i < length locks → AreCompatible locks → AreCompatible (remove locks i)
-compatible-remove [] i distinct inside together = absurd (omega arith)
-compatible-remove (lock ∷ locks) i distinct inside together = subst AreCompatible (sym (remove_filter (lock ∷ locks) i lock distinct inside)) (compatible_filtered (λ l. not (has_token (token_of (get_or (lock ∷ locks) i lock)) l)) (lock ∷ locks) together)
-
 others_stay : (key : Key) (token : List ℕ) (locks : List DavLock) → AllByRecursion (λ t. bytes_eq token t ≡ false) (map token_of locks) → without_named key token locks ≡ locks
 others_stay key token [] h = refl
 others_stay key token (lock ∷ locks) h =
     ap (λ b. cond (not (b && is_at_or_below key lock.path.key)) (lock ∷ without_named key token locks) (without_named key token locks)) h.0
     ∙ ap (λ more. lock ∷ more) (others_stay key token locks h.1)
 
--- what the place of a named lock says: without the lock, none is left that is named
-without_from : (key : Key) (token : List ℕ) (locks : List DavLock) → HasDistinctTokens locks → (n i : ℕ) → position_from (is_named key token) n locks ≡ Some i
-    → (j : ℕ) × (i ≡ n + j) × (j < length locks) × (without_named key token locks ≡ remove locks j) × (has_named key token locks ≡ true)
-without_from key token [] distinct n i e = absurd cc
-without_from key token (lock ∷ locks) distinct n i e =
-    elim (is_named key token lock) as (λ b. is_named key token lock ≡ b → cond b (Some n) (position_from (is_named key token) (n + 1) locks) ≡ Some i → (j : ℕ) × (i ≡ n + j) × (j < length (lock ∷ locks)) × (cond (not b) (lock ∷ without_named key token locks) (without_named key token locks) ≡ remove (lock ∷ locks) j) × ((b || has_named key token locks) ≡ true)) [
-      | true ↦ λ t e. (
-        zero,
-        (let same : n ≡ i = cc in omega arith),
-        omega arith,
-        others_stay key token locks (let P : List ℕ → Type 0 = λ k. AllByRecursion (λ other. bytes_eq k other ≡ false) (map token_of locks) in
-            subst P (sym (has_it token lock (is_at_or_below key lock.path.key) t)) (IsDistinct-head bytes_eq lock.token (map token_of locks) distinct)),
-        refl,
-      )
-      | false ↦ λ t e. one_on (without_from key token locks (IsDistinct-tail bytes_eq lock.token (map token_of locks) distinct) (n + 1) i e)
-    ] refl e
+held_token : (P : List ℕ → Type 0) (rows : List Row) (n : ℕ) (lock : DavLock) → AllByRecursion P (map token_of (values_of rows)) → lock_of n rows ≡ Some lock → P lock.token
+held_token P [] n lock a held = absurd cc
+held_token P (row ∷ rows) n lock a held =
+    elim (is_eq (nat_cmp n row.0)) as (λ b. cond b (Some row.1) (lock_of n rows) ≡ Some lock → P lock.token) [
+      | true ↦ λ e. subst (λ l. P (token_of l)) (let one : row.1 ≡ lock = cc in one) a.0
+      | false ↦ λ e. held_token P rows n lock a.1 e
+    ] held
+
+-- where tokens are distinct, the lock that is named is the only one: what its number tells of the others
+pub record IsOnlyNamed (key : Key) (token : List ℕ) (rows : List Row) (n : ℕ) (lock : DavLock) : Type 0 where
+  pub found : find (is_named key token) (values_of rows) ≡ Some lock
+  pub has : has_named key token (values_of rows) ≡ true
+  pub rest : locks_without n rows ≡ without_named key token (values_of rows)
+  pub changed : (timeout : Option ℕ) (now : ℕ) → locks_refreshed n timeout now rows ≡ with_refreshed key token timeout now (values_of rows)
+
+pub only_named : (key : Key) (token : List ℕ) (rows : List Row) (n : ℕ) (lock : DavLock) → HasDistinctTokens (values_of rows) → Rises (keys_of rows) → lock_of n rows ≡ Some lock → is_named key token lock ≡ true → IsOnlyNamed key token rows n lock
+only_named key token [] n lock distinct rises held named = absurd cc
+only_named key token (row ∷ rows) n lock distinct rises held named =
+    elim (is_eq (nat_cmp n row.0)) as (λ b. is_eq (nat_cmp n row.0) ≡ b → cond b (Some row.1) (lock_of n rows) ≡ Some lock → IsOnlyNamed key token (row ∷ rows) n lock) [
+      | true ↦ λ at e. first at (let one : row.1 ≡ lock = cc in one)
+      | false ↦ λ at e. later at (other e) (only_named key token rows n lock (IsDistinct-tail bytes_eq (token_of row.1) (map token_of (values_of rows)) distinct) (rises-tail row.0 (keys_of rows) rises) e named)
+    ] refl held
   where
-    one_on : (j : ℕ) × (i ≡ n + 1 + j) × (j < length locks) × (without_named key token locks ≡ remove locks j) × (has_named key token locks ≡ true) → (j : ℕ) × (i ≡ n + j) × (j < length (lock ∷ locks)) × (lock ∷ without_named key token locks ≡ remove (lock ∷ locks) j) × (has_named key token locks ≡ true)
-    one_on (j, at, inside, rest, has) = (suc j, omega arith, omega arith, ap (λ more. lock ∷ more) rest, has)
+    apart : AllByRecursion (λ t. bytes_eq (token_of row.1) t ≡ false) (map token_of (values_of rows))
+    apart = IsDistinct-head bytes_eq (token_of row.1) (map token_of (values_of rows)) distinct
 
-pub record LeavesOthers (key : Key) (token : List ℕ) (locks : List DavLock) (i : ℕ) : Type 0 where
-  pub inside : i < length locks
-  pub rest : without_named key token locks ≡ remove locks i
-  pub has : has_named key token locks ≡ true
+    first : is_eq (nat_cmp n row.0) ≡ true → row.1 ≡ lock → IsOnlyNamed key token (row ∷ rows) n lock
+    first at one =
+        let is : is_named key token row.1 ≡ true = ap (is_named key token) one ∙ named in
+        let others : AllByRecursion (λ t. bytes_eq token t ≡ false) (map token_of (values_of rows)) = (
+            let P : List ℕ → Type 0 = λ k. AllByRecursion (λ other. bytes_eq k other ≡ false) (map token_of (values_of rows)) in
+            subst P (sym (has_it token row.1 (is_at_or_below key row.1.path.key) is)) apart) in
+        record {
+          found = ap (λ b. cond b (Some row.1) (find (is_named key token) (values_of rows))) is ∙ ap Some one;
+          has = ap (λ b. b || has_named key token (values_of rows)) is;
+          rest =
+              ap (λ b. values_of (cond b rows (row ∷ remove_entry (is_at (nat_cmp n)) rows))) at
+              ∙ sym (others_stay key token (values_of rows) others)
+              ∙ sym (ap (λ b. cond (not b) (row.1 ∷ without_named key token (values_of rows)) (without_named key token (values_of rows))) is);
+          changed = λ timeout now.
+              ap₂ (λ b more. cond b (refreshed timeout now row.1) row.1 ∷ more) (sym (is_eq-same n row.0) ∙ at ∙ sym is)
+              (refreshed_none n timeout now rows (subst (λ m. AllByRecursion (λ k. m < k) (keys_of rows)) (sym (at_number n row.0 at)) (rises-head row.0 (keys_of rows) rises))
+              ∙ sym (others_kept key token timeout now (values_of rows) others));
+        }
 
-pub named_removed : (key : Key) (token : List ℕ) (locks : List DavLock) (r : Option ℕ) (i : ℕ) → HasDistinctTokens locks → r ≡ position (is_named key token) locks → r ≡ Some i → LeavesOthers key token locks i
-named_removed key token locks r i distinct is e =
-    let (j, at, inside, rest, has) = without_from key token locks distinct zero i (sym (position_from-zero (is_named key token) locks) ∙ sym is ∙ e) in
-    subst (LeavesOthers key token locks) (let back : j ≡ i = omega arith in back) (record { inside = inside; rest = rest; has = has })
+    -- the first lock has another token
+    other : lock_of n rows ≡ Some lock → is_named key token row.1 ≡ false
+    other e =
+        ap (λ b. b && is_at_or_below key row.1.path.key)
+        (ap (λ t. bytes_eq t (token_of row.1)) (has_it token lock (is_at_or_below key lock.path.key) named) ∙ bytes_eq-sym (token_of lock) (token_of row.1) ∙ held_token (λ t. bytes_eq (token_of row.1) t ≡ false) rows n lock apart e)
+
+    later : is_eq (nat_cmp n row.0) ≡ false → is_named key token row.1 ≡ false → IsOnlyNamed key token rows n lock → IsOnlyNamed key token (row ∷ rows) n lock
+    later at fails only = record {
+      found = ap (λ b. cond b (Some row.1) (find (is_named key token) (values_of rows))) fails ∙ only.found;
+      has = ap (λ b. b || has_named key token (values_of rows)) fails ∙ only.has;
+      rest =
+          ap (λ b. values_of (cond b rows (row ∷ remove_entry (is_at (nat_cmp n)) rows))) at
+          ∙ ap (λ more. row.1 ∷ more) only.rest
+          ∙ sym (ap (λ b. cond (not b) (row.1 ∷ without_named key token (values_of rows)) (without_named key token (values_of rows))) fails);
+      changed = λ timeout now. ap₂ (λ b more. cond b (refreshed timeout now row.1) row.1 ∷ more) (sym (is_eq-same n row.0) ∙ at ∙ sym fails) (only.changed timeout now);
+    }
+
+pub distinct-refreshed : (key : Key) (token : List ℕ) (timeout : Option ℕ) (now : ℕ) (old new : List DavLock) → HasDistinctTokens old → new ≡ with_refreshed key token timeout now old → HasDistinctTokens new
+distinct-refreshed key token timeout now old new distinct is = subst (IsDistinct bytes_eq) (sym (ap (map token_of) is ∙ tokens-refreshed key token timeout now old)) distinct
+
+pub found-refreshed : (key : Key) (token : List ℕ) (timeout : Option ℕ) (now : ℕ) (rows : List Row) (n : ℕ) (held copy lock : DavLock) → IsOnlyNamed key token rows n held → copy ≡ held → lock ≡ refreshed timeout now copy
+    → option_map (refreshed timeout now) (find (is_named key token) (values_of rows)) ≡ Some lock
+found-refreshed key token timeout now rows n held copy lock only same is = ap (option_map (refreshed timeout now)) only.found ∙ ap (λ l. Some (refreshed timeout now l)) (sym same) ∙ ap Some (sym is)
+
+-- ---- a lock that is removed
+
+pub distinct-without : (key : Key) (token : List ℕ) (old new : List DavLock) → HasDistinctTokens old → new ≡ without_named key token old → HasDistinctTokens new
+distinct-without key token old new distinct is = subst HasDistinctTokens (sym is) (distinct-filter (λ l. not (is_named key token l)) old distinct)
+
+pub compatible-without : (key : Key) (token : List ℕ) (old new : List DavLock) → AreCompatible old → new ≡ without_named key token old → AreCompatible new
+compatible-without key token old new together is = subst AreCompatible (sym is) (compatible_without key token old together)
 
 -- ---- the locks at a key or below it
 
-pub elsewhere-remove : (key : Key) (locks : List DavLock) (i : ℕ) (d : DavLock) → i < length locks → is_at_or_below (get_or locks i d).path.key key ≡ true → elsewhere (remove locks i) key ≡ elsewhere locks key
-elsewhere-remove key [] i d inside below = absurd (omega arith)
-elsewhere-remove key (lock ∷ locks) zero d inside below = sym (ap (λ b. cond (not b) (lock ∷ elsewhere locks key) (elsewhere locks key)) below)
-elsewhere-remove key (lock ∷ locks) (suc i) d inside below = ap (λ more. cond (not (is_at_or_below lock.path.key key)) (lock ∷ more) more) (elsewhere-remove key locks i d (omega arith) below)
+elsewhere-removed : (key : Key) (rows : List Row) (n : ℕ) (lock : DavLock) → lock_of n rows ≡ Some lock → is_within key lock ≡ true → elsewhere (locks_without n rows) key ≡ elsewhere (values_of rows) key
+elsewhere-removed key [] n lock held below = absurd cc
+elsewhere-removed key (row ∷ rows) n lock held below =
+    elim (is_eq (nat_cmp n row.0)) as (λ b. cond b (Some row.1) (lock_of n rows) ≡ Some lock → elsewhere (values_of (cond b rows (row ∷ remove_entry (is_at (nat_cmp n)) rows))) key ≡ elsewhere (values_of (row ∷ rows)) key) [
+      | true ↦ λ e. sym (ap (λ b. cond (not b) (row.1 ∷ elsewhere (values_of rows) key) (elsewhere (values_of rows) key)) (ap (is_within key) (let one : row.1 ≡ lock = cc in one) ∙ below))
+      | false ↦ λ e. ap (λ more. cond (not (is_within key row.1)) (row.1 ∷ more) more) (elsewhere-removed key rows n lock e below)
+    ] held
+
+fewer : (rows : List Row) (n : ℕ) (lock : DavLock) → lock_of n rows ≡ Some lock → length (locks_without n rows) < length (values_of rows)
+fewer [] n lock held = absurd cc
+fewer (row ∷ rows) n lock held =
+    elim (is_eq (nat_cmp n row.0)) as (λ b. cond b (Some row.1) (lock_of n rows) ≡ Some lock → length (values_of (cond b rows (row ∷ remove_entry (is_at (nat_cmp n)) rows))) < length (values_of (row ∷ rows))) [
+      | true ↦ λ e. omega arith
+      | false ↦ λ e. let h = fewer rows n lock e in omega arith
+    ] held
+
+-- what a number of a lock there tells of the locks without it
+pub record IsGone (key : Key) (rows : List Row) (n : ℕ) : Type 0 where
+  pub fewer : length (locks_without n rows) < length (values_of rows)
+  pub elsewhere : elsewhere (locks_without n rows) key ≡ elsewhere (values_of rows) key
+  pub distinct : HasDistinctTokens (locks_without n rows)
+  pub compatible : AreCompatible (locks_without n rows)
+
+pub is_gone : (key : Key) (rows : List Row) (n : ℕ) → HasDistinctTokens (values_of rows) → AreCompatible (values_of rows) → Rises (keys_of rows) → StandsBelow key rows n → IsGone key rows n
+is_gone key rows n distinct together rises at = held (lock_of n rows) refl at
+  where
+    held : (o : Option DavLock) → lock_of n rows ≡ o → IsSomeAnd o (λ lock. is_within key lock ≡ true) → IsGone key rows n
+    held None e below = absurd below
+    held (Some lock) e below =
+        let named : is_named lock.path.key lock.token lock ≡ true = and_from _ _ ((bytes_eq-Decides lock.token lock.token).1 refl) (at_itself lock.path.key) in
+        let only = only_named lock.path.key lock.token rows n lock distinct rises e named in
+        record {
+          fewer = fewer rows n lock e;
+          elsewhere = elsewhere-removed key rows n lock e below;
+          distinct = distinct-without lock.path.key lock.token (values_of rows) (locks_without n rows) distinct only.rest;
+          compatible = compatible-without lock.path.key lock.token (values_of rows) (locks_without n rows) together only.rest;
+        }
 
 pub elsewhere-all : (key : Key) (locks : List DavLock) → at_or_below locks key ≡ [] → elsewhere locks key ≡ locks
 elsewhere-all key [] none = refl
@@ -250,10 +238,6 @@ elsewhere-all key (lock ∷ locks) none =
       | true ↦ λ e. absurd cc
       | false ↦ λ e. ap (λ more. lock ∷ more) (elsewhere-all key locks e)
     ] none
-
-pub removed_below : (key : Key) (locks : List DavLock) (i : ℕ) → StandsBelow locks key i → elsewhere (remove locks i) key ≡ elsewhere locks key
-removed_below key [] i at = absurd (let h = at.inside in omega arith)
-removed_below key (lock ∷ locks) i at = elsewhere-remove key (lock ∷ locks) i lock at.inside (at.below lock)
 
 -- ---- a call that may lack memory
 

@@ -1,51 +1,23 @@
 -- What the looks into the index of locks answer.
-use Rattle.std.proofs.Common.{◌≡◌, ◌∙◌, ◌==◌, ◌<◌, ◌≤◌, ◌-◌, ◌+◌, ℕ, zero, suc, Bool, true, false, cond, ◌||◌, List, [], ◌∷◌, ◌++◌, Option, Some, None, refl, sym, ap, subst, length, get_or, take, arith}
-use Rattle.std.proofs.lemmas.Iterator.Adapters.{position_from-zero}
+use Rattle.std.proofs.Common.{◌≡◌, ◌∙◌, ◌<◌, ◌-◌, ◌+◌, ℕ, zero, suc, Bool, true, false, cond, ◌&&◌, ◌||◌, List, [], ◌∷◌, ◌++◌, Option, Some, None, refl, sym, ap, subst, length, get_or, take, arith}
 use Rattle.std.proofs.lemmas.List.{take_more}
 use Rattle.std.proofs.lemmas.List.Elements.{filter_map-append}
-use Rattle.std.specs.List.{AllByRecursion, filter, filter_map, list_any, position, slice_get, zip, cons_option}
-use Rattle.std.specs.Option.{MatchOption, option_copied}
-use Rattle.std.specs.Slice.{IsItemAt}
+use Rattle.std.specs.List.{AllByRecursion, filter, filter_map, list_any, cons_option}
+use Rattle.std.specs.Map.{keys_of, values_of}
+use Rattle.std.specs.Option.{IsSomeAnd, MatchOption, option_to_list}
 use Rattle.std.specs.Prelude.{String}
 use Rattle.std.specs.declared.alloc.Global.{Global}
-use denote.Ref.{Bor}
 use Rattle.dav_resource.specs.Key.{Key, same_key_decides}
 use Rattle.dav_resource.specs.Texts.{texts}
 use Rattle.dav_store.specs.declared.lock.DavLock.{DavLock}
 use Rattle.dav_store.specs.Locks.{has_token, is_at_or_below}
-use Rattle.dav_store.specs.LockCalls.{is_named}
+use Rattle.dav_store.specs.LockCalls.{is_named, has_named}
 use Rattle.dav_memls.specs.declared.memory_locks.index.LockIndex.{LockIndex}
 use Rattle.dav_memls.specs.ByKey.{numbers_at}
-use Rattle.dav_memls.specs.LockIndex.{IsIndexed, numbers_of, lock_of, locks_of_numbers, is_of_key, StandsBelow}
+use Rattle.dav_memls.specs.LockIndex.{Row, IsIndexed, numbers_of, lock_of, locks_of_numbers, is_of_key, is_within, StandsBelow}
 use Rattle.dav_memls.proofs.Ascending.{Rises}
 use Rattle.dav_memls.proofs.ByKeys.{texts-take}
-use Rattle.dav_memls.proofs.LockRows.{no_lock, lock_there, locks_found, IsPlaceOf, places, named_one}
-
--- ---- a place in a list
-
-get_none : (ls : List DavLock) (i : ℕ) → length ls ≤ i → slice_get ls i ≡ None
-get_none [] i out = refl
-get_none (l ∷ ls) zero out = absurd (omega arith)
-get_none (l ∷ ls) (suc i) out = get_none ls i (omega arith)
-
-get_some : (ls : List DavLock) (i : ℕ) (l : DavLock) → i < length ls → ((d : DavLock) → l ≡ get_or ls i d) → slice_get ls i ≡ Some l
-get_some [] i l inside is = absurd (omega arith)
-get_some (y ∷ ls) zero l inside is = ap Some (sym (is y))
-get_some (y ∷ ls) (suc i) l inside is = get_some ls i l (omega arith) is
-
-copied_get : (ls : List DavLock) (i : ℕ) (r : Option (Bor DavLock)) → IsItemAt ls i r → option_copied r ≡ slice_get ls i
-copied_get ls i None at = sym (get_none ls i at.3)
-copied_get ls i (Some l) at = sym (get_some ls i l.now at.3.0 (λ d. at.3.1 d))
-
--- ---- the lock of a number
-
-pub of_none : (n : ℕ) (ns : List ℕ) (ls : List DavLock) → None ≡ position (λ m. m == n) ns → None ≡ lock_of n (zip ns ls)
-of_none n ns ls e = sym (no_lock (λ m. m == n) zero ns ls (sym (position_from-zero (λ m. m == n) ns) ∙ sym e))
-
-pub of_some : (n p : ℕ) (ns : List ℕ) (ls ys : List DavLock) (r : Option (Bor DavLock)) → Some p ≡ position (λ m. m == n) ns → ys ≡ ls → IsItemAt ys p r → option_copied r ≡ lock_of n (zip ns ls)
-of_some n p ns ls ys r e is at =
-    let (j, same, found) = lock_there (λ m. m == n) zero p ns ls (sym (position_from-zero (λ m. m == n) ns) ∙ sym e) in
-    copied_get ys p r at ∙ ap (λ zs. slice_get zs p) is ∙ ap (slice_get ls) (let back : p ≡ j = omega arith in back) ∙ sym found
+use Rattle.dav_memls.proofs.LockRows.{locks_found, all_held}
 
 -- ---- the locks of numbers, one after another
 
@@ -64,23 +36,22 @@ any_at find p (x ∷ xs) (suc i) l inside found passes = behind (find x) (any_at
 
 -- ---- the lock that is named
 
-pub named_is : (key : Key) (token : List ℕ) (ns : List ℕ) (ls : List DavLock) (n p : ℕ) (l : DavLock) (b : Bool) → Rises ns → length ns ≡ length ls → numbers_of (has_token token) (zip ns ls) ≡ n ∷ [] → Some p ≡ position (λ m. m == n) ns → ((d : DavLock) → l ≡ get_or ls p d) → is_named key token l ≡ b
-    → position (is_named key token) ls ≡ cond b (Some p) None
-named_is key token ns ls n p l b h e one at read is =
-    let found = named_one key token zero n ns ls h e one in
-    let there : Some p ≡ Some (0 + found.place) = at ∙ position_from-zero (λ m. m == n) ns ∙ found.found in
-    let same : p ≡ found.place = (let same_zero : p ≡ 0 + found.place = cc in omega arith) in
-    position_from-zero (is_named key token) ls
-    ∙ found.named l
-    ∙ ap (λ k. cond (is_named key token (get_or ls k l)) (Some (0 + found.place)) None) (sym same)
-    ∙ ap (λ k. cond (is_named key token k) (Some (0 + found.place)) None) (sym (read l))
-    ∙ ap (λ k. cond k (Some (0 + found.place)) None) is
-    ∙ ap (λ o. cond b o None) (sym there)
+-- whether one is named is whether one with the token is
+pub named_token : (key : Key) (token : List ℕ) (ls : List DavLock) → has_named key token ls ≡ list_any (is_named key token) (filter (has_token token) ls)
+named_token key token [] = refl
+named_token key token (l ∷ ls) =
+    elim (has_token token l) as (λ b. has_token token l ≡ b → (is_named key token l || has_named key token ls) ≡ list_any (is_named key token) (cond b (l ∷ filter (has_token token) ls) (filter (has_token token) ls))) [
+      | true ↦ λ e. ap (λ b. is_named key token l || b) (named_token key token ls)
+      | false ↦ λ e. ap (λ b. (b && is_at_or_below key l.path.key) || has_named key token ls) e ∙ named_token key token ls
+    ] refl
 
-pub named_somewhere : (key : Key) (token : List ℕ) (ns : List ℕ) (ls : List DavLock) (n : ℕ) → Rises ns → length ns ≡ length ls → numbers_of (has_token token) (zip ns ls) ≡ n ∷ [] → None ≡ position (λ m. m == n) ns → ⊥
-named_somewhere key token ns ls n h e one none =
-    let found = named_one key token zero n ns ls h e one in
-    (let clash : None ≡ Some (0 + found.place) = none ∙ position_from-zero (λ m. m == n) ns ∙ found.found in cc)
+-- none with the token is, or the one with it isn't
+pub not_named : (key : Key) (token : List ℕ) (ls : List DavLock) (o : Option DavLock) → option_to_list o ≡ filter (has_token token) ls → MatchOption o (Unit {0}) (λ l. is_named key token l ≡ false) → has_named key token ls ≡ false
+not_named key token ls o is fails = named_token key token ls ∙ ap (list_any (is_named key token)) (sym is) ∙ none o fails
+  where
+    none : (o : Option DavLock) → MatchOption o (Unit {0}) (λ l. is_named key token l ≡ false) → list_any (is_named key token) (option_to_list o) ≡ false
+    none None e = refl
+    none (Some l) e = ap (λ b. b || false) e
 
 -- ---- a lock at a key or below it
 
@@ -89,22 +60,24 @@ read_all P [] i d a inside = absurd (omega arith)
 read_all P (x ∷ xs) zero d a inside = a.0
 read_all P (x ∷ xs) (suc i) d a inside = read_all P xs i d a.1 (omega arith)
 
--- the last number at a key that is the given one or below it leads to a lock there
-pub some_stands : (key own : Key) (ns xs : List ℕ) (ls : List DavLock) (n : ℕ) (r : Option ℕ) (P : Type 0) → Rises ns → xs ≡ numbers_of (is_of_key own) (zip ns ls) → is_at_or_below own key ≡ true → 0 < length xs → ((d : ℕ) → n ≡ get_or xs (length xs - 1) d) → r ≡ position (λ m. m == n) ns → MatchOption r P (StandsBelow ls key)
-some_stands key own ns xs ls n r P h is below some last at =
-    let all = subst (AllByRecursion (λ m. IsPlaceOf (is_of_key own) ns ls zero m)) (sym is) (places (is_of_key own) zero ns ls h) in
-    let place = subst (IsPlaceOf (is_of_key own) ns ls zero) (sym (last n)) (read_all (IsPlaceOf (is_of_key own) ns ls zero) xs (length xs - 1) n all (omega arith)) in
-    let found : r ≡ Some place.place = at ∙ position_from-zero (λ m. m == n) ns ∙ place.found ∙ ap Some (omega arith) in
-    subst (λ o. MatchOption o P (StandsBelow ls key)) (sym found)
-    (record { inside = place.inside; below = λ d. subst (λ k. is_at_or_below k key ≡ true) ((same_key_decides own (get_or ls place.place d).path.key).0 (place.passes d)) below })
+-- the last number at a key that is the given one or below it is that of a lock there
+pub some_stands : (key own : Key) (rows : List Row) (xs : List ℕ) (n : ℕ) → Rises (keys_of rows) → xs ≡ numbers_of (is_of_key own) rows → is_at_or_below own key ≡ true → 0 < length xs → ((d : ℕ) → n ≡ get_or xs (length xs - 1) d) → StandsBelow key rows n
+some_stands key own rows xs n h is below some last =
+    within (lock_of n rows)
+    (subst (λ m. IsSomeAnd (lock_of m rows) (λ l. is_of_key own l ≡ true)) (sym (last n))
+    (read_all (λ m. IsSomeAnd (lock_of m rows) (λ l. is_of_key own l ≡ true)) xs (length xs - 1) n (subst (AllByRecursion (λ m. IsSomeAnd (lock_of m rows) (λ l. is_of_key own l ≡ true))) (sym is) (all_held (is_of_key own) rows h)) (omega arith)))
+  where
+    within : (o : Option DavLock) → IsSomeAnd o (λ l. is_of_key own l ≡ true) → IsSomeAnd o (λ l. is_within key l ≡ true)
+    within None e = e
+    within (Some l) e = subst (λ k. is_at_or_below k key ≡ true) ((same_key_decides own l.path.key).0 e) below
 
 -- ---- a look at a key on the way along the segments
 
-pub here_found : (ns : List ℕ) (index : LockIndex) (ls : List DavLock) (d : ℕ) (segments : List (String Global)) (key : Key) (xs : List ℕ) → Rises ns → IsIndexed ns index ls → texts segments ≡ key → xs ≡ numbers_at index.at (texts (take d segments)) → xs ≡ numbers_of (is_of_key (take d key)) (zip ns ls)
-here_found ns index ls d segments key xs r h same is = is ∙ ap (numbers_at index.at) (texts-take d segments ∙ ap (take d) same) ∙ h.at (take d key)
+pub here_found : (index : LockIndex) (rows : List Row) (d : ℕ) (segments : List (String Global)) (key : Key) (xs : List ℕ) → IsIndexed index rows → texts segments ≡ key → xs ≡ numbers_at index.at (texts (take d segments)) → xs ≡ numbers_of (is_of_key (take d key)) rows
+here_found index rows d segments key xs h same is = is ∙ ap (numbers_at index.at) (texts-take d segments ∙ ap (take d) same) ∙ h.at (take d key)
 
-pub here_locks : (ns : List ℕ) (index : LockIndex) (ls : List DavLock) (d : ℕ) (segments : List (String Global)) (key : Key) (xs : List ℕ) → Rises ns → IsIndexed ns index ls → texts segments ≡ key → xs ≡ numbers_at index.at (texts (take d segments)) → locks_of_numbers xs (zip ns ls) ≡ filter (is_of_key (take d key)) ls
-here_locks ns index ls d segments key xs r h same is = ap (λ ys. locks_of_numbers ys (zip ns ls)) (here_found ns index ls d segments key xs r h same is) ∙ locks_found (is_of_key (take d key)) ns ls r h.one_each
+pub here_locks : (index : LockIndex) (rows : List Row) (d : ℕ) (segments : List (String Global)) (key : Key) (xs : List ℕ) → Rises (keys_of rows) → IsIndexed index rows → texts segments ≡ key → xs ≡ numbers_at index.at (texts (take d segments)) → locks_of_numbers xs rows ≡ filter (is_of_key (take d key)) (values_of rows)
+here_locks index rows d segments key xs r h same is = ap (λ ys. locks_of_numbers ys rows) (here_found index rows d segments key xs h same is) ∙ locks_found (is_of_key (take d key)) rows r
 
 -- one more number
 passes_none : (p : DavLock → Bool) (xs : List DavLock) (o : Option DavLock) → list_any p xs ≡ false → MatchOption o (Unit {0}) (λ l. p l ≡ false) → list_any p (xs ++ cons_option o []) ≡ false

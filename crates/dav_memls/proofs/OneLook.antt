@@ -1,7 +1,9 @@
 -- What one look into the index finds: the lock of a token, and the first lock at a key.
-use Rattle.std.proofs.Common.{◌≡◌, ◌∙◌, ◌==◌, ◌<◌, ◌≤◌, ℕ, Bool, true, false, cond, List, [], ◌∷◌, map, Option, Some, None, refl, sym, ap, subst, length, get_or, take, arith}
-use Rattle.std.specs.List.{AllByRecursion, filter, find, list_any, zip, cons_option}
+use Rattle.std.proofs.Common.{◌≡◌, ◌∙◌, ◌<◌, ◌≤◌, ℕ, Bool, true, false, cond, List, [], ◌∷◌, map, Option, Some, None, refl, sym, ap, subst, length, get_or, take, arith, nat_cmp}
+use Rattle.std.specs.List.{AllByRecursion, filter, find, list_any, cons_option}
+use Rattle.std.specs.Map.{keys_of, values_of}
 use Rattle.std.specs.Option.{option_map_or, option_to_list}
+use Rattle.std.specs.Ordering.{is_eq}
 use Rattle.std.specs.Prelude.{String}
 use Rattle.std.specs.declared.alloc.Global.{Global}
 use Rattle.dav_resource.specs.Key.{Key}
@@ -9,7 +11,7 @@ use Rattle.dav_resource.specs.Texts.{texts}
 use Rattle.dav_store.specs.declared.lock.DavLock.{DavLock}
 use Rattle.dav_store.specs.Locks.{AreCompatible}
 use Rattle.dav_memls.specs.LockIndex.{Row, is_of_key, numbers_of, lock_of, locks_of_numbers}
-use Rattle.dav_memls.proofs.Ascending.{Rises, rises-head, rises-tail, same, not_same}
+use Rattle.dav_memls.proofs.Ascending.{Rises, rises-head, rises-tail, finds_itself, not_at_less}
 use Rattle.dav_memls.proofs.ByKeys.{texts-take}
 use Rattle.dav_memls.proofs.LockRows.{all_numbers, locks_found}
 use Rattle.dav_memls.proofs.SharedLocks.{exclusive_passes, first_tells}
@@ -19,11 +21,11 @@ cons_one None = refl
 cons_one (Some l) = refl
 
 -- where one number at most is found, the locks that pass are that number's
-pub found_one : (test : DavLock → Bool) (ns : List ℕ) (ls : List DavLock) (n : ℕ) → Rises ns → length ns ≡ length ls → numbers_of test (zip ns ls) ≡ n ∷ [] → option_to_list (lock_of n (zip ns ls)) ≡ filter test ls
-found_one test ns ls n h e one = sym (cons_one (lock_of n (zip ns ls))) ∙ ap (λ xs. locks_of_numbers xs (zip ns ls)) (sym one) ∙ locks_found test ns ls h e
+pub found_one : (test : DavLock → Bool) (rows : List Row) (n : ℕ) → Rises (keys_of rows) → numbers_of test rows ≡ n ∷ [] → option_to_list (lock_of n rows) ≡ filter test (values_of rows)
+found_one test rows n h one = sym (cons_one (lock_of n rows)) ∙ ap (λ xs. locks_of_numbers xs rows) (sym one) ∙ locks_found test rows h
 
-pub found_no : (test : DavLock → Bool) (ns : List ℕ) (ls : List DavLock) → Rises ns → length ns ≡ length ls → numbers_of test (zip ns ls) ≡ [] → [] ≡ filter test ls
-found_no test ns ls h e none = ap (λ xs. locks_of_numbers xs (zip ns ls)) (sym none) ∙ locks_found test ns ls h e
+pub found_no : (test : DavLock → Bool) (rows : List Row) → Rises (keys_of rows) → numbers_of test rows ≡ [] → [] ≡ filter test (values_of rows)
+found_no test rows h none = ap (λ xs. locks_of_numbers xs rows) (sym none) ∙ locks_found test rows h
 
 none_first : (test : DavLock → Bool) (ls : List DavLock) → [] ≡ filter test ls → None ≡ find test ls
 none_first test [] e = refl
@@ -33,22 +35,21 @@ none_first test (l ∷ ls) e = elim (test l) as (λ b. [] ≡ cond b (l ∷ filt
 ] e
 
 -- the first number of those that pass is the first lock's
-first_of : (test : DavLock → Bool) (n : ℕ) (more ns : List ℕ) (ls : List DavLock) → Rises ns → length ns ≡ length ls → numbers_of test (zip ns ls) ≡ n ∷ more → lock_of n (zip ns ls) ≡ find test ls
-first_of test n more [] ls h e is = absurd cc
-first_of test n more (m ∷ ns) [] h e is = absurd cc
-first_of test n more (m ∷ ns) (l ∷ ls) h e is =
-    elim (test l) as (λ b. map (λ (r : Row). r.0) (cond b ((m, l) ∷ filter (λ (r : Row). test r.1) (zip ns ls)) (filter (λ (r : Row). test r.1) (zip ns ls))) ≡ n ∷ more → lock_of n (zip (m ∷ ns) (l ∷ ls)) ≡ cond b (Some l) (find test ls)) [
-      | true ↦ λ is. (let at : m ≡ n = cc in ap (λ b. cond b (Some l) (lock_of n (zip ns ls))) (ap (λ k. m == k) (sym at) ∙ same m))
-      | false ↦ λ is. ap (λ b. cond b (Some l) (lock_of n (zip ns ls))) (not_same m n (subst (AllByRecursion (λ y. m < y)) is (all_numbers (λ y. m < y) test ns ls (rises-head m ns h))).0) ∙ first_of test n more ns ls (rises-tail m ns h) (omega arith) is
+first_of : (test : DavLock → Bool) (n : ℕ) (more : List ℕ) (rows : List Row) → Rises (keys_of rows) → numbers_of test rows ≡ n ∷ more → lock_of n rows ≡ find test (values_of rows)
+first_of test n more [] h is = absurd cc
+first_of test n more (row ∷ rows) h is =
+    elim (test row.1) as (λ b. map (λ (r : Row). r.0) (cond b (row ∷ filter (λ (r : Row). test r.1) rows) (filter (λ (r : Row). test r.1) rows)) ≡ n ∷ more → lock_of n (row ∷ rows) ≡ cond b (Some row.1) (find test (values_of rows))) [
+      | true ↦ λ is. (let at : row.0 ≡ n = cc in ap (λ b. cond b (Some row.1) (lock_of n rows)) (ap (λ k. is_eq (nat_cmp k row.0)) (sym at) ∙ finds_itself row.0))
+      | false ↦ λ is. ap (λ b. cond b (Some row.1) (lock_of n rows)) (not_at_less row.0 n (subst (AllByRecursion (λ y. row.0 < y)) is (all_numbers (λ y. row.0 < y) test rows (rises-head row.0 (keys_of rows) h))).0) ∙ first_of test n more rows (rises-tail row.0 (keys_of rows) h) is
     ] is
 
-pub first_found : (test : DavLock → Bool) (n : ℕ) (xs ns : List ℕ) (ls : List DavLock) → Rises ns → length ns ≡ length ls → xs ≡ numbers_of test (zip ns ls) → 0 < length xs → ((d : ℕ) → n ≡ get_or xs 0 d) → lock_of n (zip ns ls) ≡ find test ls
-first_found test n [] ns ls h e is some first = absurd (omega arith)
-first_found test n (x ∷ xs) ns ls h e is some first = first_of test n xs ns ls h e (sym is ∙ ap (λ k. k ∷ xs) (sym (first x)))
+pub first_found : (test : DavLock → Bool) (n : ℕ) (xs : List ℕ) (rows : List Row) → Rises (keys_of rows) → xs ≡ numbers_of test rows → 0 < length xs → ((d : ℕ) → n ≡ get_or xs 0 d) → lock_of n rows ≡ find test (values_of rows)
+first_found test n [] rows h is some first = absurd (omega arith)
+first_found test n (x ∷ xs) rows h is some first = first_of test n xs rows h (sym is ∙ ap (λ k. k ∷ xs) (sym (first x)))
 
-pub no_first : (test : DavLock → Bool) (xs ns : List ℕ) (ls : List DavLock) → Rises ns → length ns ≡ length ls → xs ≡ numbers_of test (zip ns ls) → length xs ≤ 0 → None ≡ find test ls
-no_first test [] ns ls h e is none = none_first test ls (found_no test ns ls h e (sym is))
-no_first test (x ∷ xs) ns ls h e is none = absurd (omega arith)
+pub no_first : (test : DavLock → Bool) (xs : List ℕ) (rows : List Row) → Rises (keys_of rows) → xs ≡ numbers_of test rows → length xs ≤ 0 → None ≡ find test (values_of rows)
+no_first test [] rows h is none = none_first test (values_of rows) (found_no test rows h (sym is))
+no_first test (x ∷ xs) rows h is none = absurd (omega arith)
 
 -- what the first lock at a key on the way tells of the others there
 pub first_here : (p : DavLock → Bool) (b : Bool) (d : ℕ) (segments : List (String Global)) (key : Key) (ls : List DavLock) (first : Option DavLock) → AreCompatible ls → texts segments ≡ key → first ≡ find (is_of_key (texts (take d segments))) ls → option_map_or (exclusive_passes p) first false ≡ b

@@ -1,16 +1,18 @@
 -- The index of the locks in memory: each lock has a number, later ones greater ones, and these are found by the lock's token and by keys. This project's own choice.
-use Rattle.std.specs.Prelude.{◌≡◌, ◌==◌, ◌<◌, ◌||◌, ◌++◌, ℕ, Bool, true, false, List, [], length, map, Option, if◌then◌else◌}
+use Rattle.std.specs.Prelude.{◌≡◌, ◌==◌, ◌||◌, ◌++◌, ℕ, Bool, true, false, List, [], map, Option, Some, if◌then◌else◌}
+use Rattle.std.specs.BTreeMap.{is_at}
 use Rattle.std.specs.BTreeSet.{BTreeSet, contains}
-use Rattle.std.specs.List.{filter, filter_map, list_any, slice_index_or, zip}
-use Rattle.std.specs.Map.{lookup}
+use Rattle.std.specs.List.{filter, filter_map, list_any}
+use Rattle.std.specs.Map.{lookup, remove_entry, values_of}
 use Rattle.std.specs.HashMap.{get_by_text}
-use Rattle.std.specs.Option.{option_map_or, option_to_list}
+use Rattle.std.specs.Option.{IsSomeAnd, option_map_or, option_to_list}
 use Rattle.std.specs.Ordering.{nat_cmp}
 use denote.Ref.{Bor}
 use Rattle.dav_resource.specs.Key.{Key, is_same_key}
 use Rattle.dav_store.specs.declared.lock.DavLock.{DavLock}
 use Rattle.dav_memls.specs.declared.memory_locks.index.LockIndex.{LockIndex}
 use Rattle.dav_store.specs.Locks.{is_at_or_below, has_token}
+use Rattle.dav_store.specs.LockCalls.{is_named, refreshed}
 use Rattle.dav_memls.specs.ByKey.{numbers_at, only_if, without_if}
 
 -- a lock's number, and the lock
@@ -23,10 +25,17 @@ numbers_of test rows = map (λ (row : Row). row.0) (filter (λ (row : Row). test
 
 -- the lock of a number, and the locks of these
 abbrev pub lock_of : ℕ → List Row → Option DavLock
-lock_of n rows = lookup (λ m. m == n) rows
+lock_of n rows = lookup (is_at (nat_cmp n)) rows
 
 abbrev pub locks_of_numbers : List ℕ → List Row → List DavLock
 locks_of_numbers numbers rows = filter_map (λ n. lock_of n rows) numbers
+
+-- the locks without that of a number, and with it refreshed
+abbrev pub locks_without : ℕ → List Row → List DavLock
+locks_without n rows = values_of (remove_entry (is_at (nat_cmp n)) rows)
+
+abbrev pub locks_refreshed : ℕ → Option ℕ → ℕ → List Row → List DavLock
+locks_refreshed n timeout now rows = map (λ (row : Row). if n == row.0 then refreshed timeout now row.1 else row.1) rows
 
 -- whether there is a lock of the number, and it passes the test
 abbrev pub number_passes : (DavLock → Bool) → List Row → ℕ → Bool
@@ -47,10 +56,9 @@ abbrev pub by_token : LockIndex → List ℕ → List ℕ
 by_token index token = option_to_list (get_by_text index.tokens token)
 
 -- the index finds the numbers of the locks
-pub record IsIndexed (numbers : List ℕ) (index : LockIndex) (locks : List DavLock) : Type 0 where
-  pub one_each : length numbers ≡ length locks
-  pub tokens : (token : List ℕ) → by_token index token ≡ numbers_of (has_token token) (zip numbers locks)
-  pub at : (key : Key) → numbers_at index.at key ≡ numbers_of (is_of_key key) (zip numbers locks)
+pub record IsIndexed (index : LockIndex) (rows : List Row) : Type 0 where
+  pub tokens : (token : List ℕ) → by_token index token ≡ numbers_of (has_token token) rows
+  pub at : (key : Key) → numbers_at index.at key ≡ numbers_of (is_of_key key) rows
 
 -- the index finds what it found
 pub record KeepsIndex (old new : LockIndex) : Type 0 where
@@ -67,10 +75,14 @@ pub record LeavesIndex (lock : DavLock) (n : ℕ) (old new : LockIndex) : Type 0
   pub tokens : (token : List ℕ) → by_token new token ≡ (if has_token token lock then [] else by_token old token)
   pub at : (key : Key) → numbers_at new.at key ≡ without_if (is_of_key key lock) n (numbers_at old.at key)
 
--- the lock at this place stands at the key or below it
-pub record StandsBelow (locks : List DavLock) (key : Key) (place : ℕ) : Type 0 where
-  pub inside : place < length locks
-  pub below : (d : DavLock) → is_within key (slice_index_or locks place d) ≡ true
+-- the lock of this number, which is named by the token at the key or above it
+pub record IsNamedLock (key : Key) (token : List ℕ) (rows : List Row) (n : ℕ) (lock : DavLock) : Type 0 where
+  pub held : lock_of n rows ≡ Some lock
+  pub named : is_named key token lock ≡ true
+
+-- the number has a lock, which stands at the key or below it
+abbrev pub StandsBelow : Key → List Row → ℕ → Type 0
+StandsBelow key rows n = IsSomeAnd (lock_of n rows) (λ lock. is_within key lock ≡ true)
 
 -- each call, at a lock, answers what the test does
 abbrev pub Computes : (Bor DavLock → Bool → Type 0) → (DavLock → Bool) → Type 0

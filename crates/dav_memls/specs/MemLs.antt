@@ -3,10 +3,11 @@ use Rattle.std.specs.Prelude.{List, true}
 use Rattle.dav_store.specs.Locks.{Locks}
 use Rattle.dav_store.specs.declared.lock.DavLock.{DavLock}
 use Rattle.dav_memls.specs.declared.memory_locks.MemLs.{MemLs}
+use Rattle.dav_memls.specs.IndexedLocks.{locks_in}
 
 -- its locks, the oldest first
 abbrev pub list_of : MemLs → List DavLock
-list_of system = system.locks.locks.items
+list_of system = locks_in system.locks
 
 -- as the engine sees it
 abbrev pub locks_of : MemLs → Locks

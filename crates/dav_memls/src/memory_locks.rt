@@ -1,6 +1,7 @@
 //! A lock system in memory.
 ghost use Rattle.std.specs.Prelude.{◌≡◌, false, [], IfOk, IfErr, OnOk, OnErr};
 ghost use Rattle.std.specs.Option.{option_copied};
+ghost use Rattle.dav_memls.specs.IndexedLocks.{locks_in};
 ghost use Rattle.dav_store.specs.Locks.{AreCompatible};
 ghost use Rattle.dav_store.specs.LockCalls.{HasDistinctTokens, RemovesLock, has_named, RemovesLocks};
 ghost use Rattle.std.proofs.Props.{props};
@@ -17,26 +18,29 @@ use dav_resource::{DavPath, Element, Items, Text};
 use dav_store::{DavLock, DavLockSystem, LockError, clone_owner, timeout_end};
 use indexed::IndexedLocks;
 use std::alloc::{AllocError, Global};
+use std::collections::btree_map::Values;
 use submitted::Submitted;
 
 /// A lock system in memory. It is dependable, and `check`, `unlock` and `delete` need no memory.
 ///
 /// A call looks at the locks at its path, above it or below it alone, however many are held elsewhere: a hash map
-/// leads from a token to its lock, and a map ordered by their paths, segment by segment, to the locks at a path. A
-/// look at a path takes as many comparisons of paths as the logarithm of the number of locked ones. `check`, `lock`
-/// and `discover` take a look for the path and for each above it, and then the time to judge the locks found, at each
-/// path the first alone where it tells of the others, as it does whether they are shared. What stands below the path
-/// is found from a copy of it on; without memory for the copy, by going through all locked paths, which is only
-/// slower. `check` takes memory to put many tokens in order, and is only slower without it. `unlock` and `refresh`
-/// take a look for the token. `delete` takes a look below the path for each lock, in no promised order. It, and
-/// `unlock`, move those newer than the lock by a place. `lock` takes memory for the lock, for its token and a number
-/// once more, and for one copy of its path where no lock stands there. Where the newest lock has the greatest `u64`
-/// as its number (each is one above that of the newest held), `lock` answers `Memory`.
+/// leads from a token to its lock's number, a map ordered by the locks' paths, segment by segment, to the numbers of
+/// the locks at a path, and a map ordered by the numbers to a lock. A look at a path takes as many comparisons of paths
+/// as the logarithm of the number of locked ones, and a look at a number as many of numbers as the logarithm of the
+/// number of locks. `check`, `lock` and `discover` take a look for the path and for each above it, and then the time to
+/// judge the locks found, at each path the first alone where it tells of the others, as it does whether they are
+/// shared. What stands below the path is found from a copy of it on; without memory for the copy, by going through all
+/// locked paths, which is only slower. `check` takes memory to put many tokens in order, and is only slower without
+/// it. `unlock` and `refresh` take a look for the token. `delete` takes a look below the path for each lock, in no
+/// promised order. It and `unlock` move no other lock, and of the numbers at the lock's own path the newer ones by a
+/// place. `lock` takes memory for the lock, for a number in each of these three maps, for its token once more, and for
+/// one copy of its path where no lock stands there. Where the newest lock has the greatest `u64` as its number (each is
+/// one above that of the newest held), `lock` answers `Memory`.
 #[derive(Debug, Drop)]
 pub struct MemLs {
     locks: IndexedLocks,
-    ghost distinct_tokens: { HasDistinctTokens locks.locks.items } by { Prim.hlevel (props, IsDistinct-prop) },
-    ghost compatible: { AreCompatible locks.locks.items } by { Prim.hlevel props },
+    ghost distinct_tokens: { HasDistinctTokens (locks_in locks) } by { Prim.hlevel (props, IsDistinct-prop) },
+    ghost compatible: { AreCompatible (locks_in locks) } by { Prim.hlevel props },
 }
 
 impl MemLs {
@@ -53,11 +57,11 @@ impl MemLs {
 
     /// The locks, the oldest first. Of any two, one of which covers the other's path, both are shared
     /// (RFC 4918, section 6.2).
-    pub fn locks(&self) -> &[DavLock]
-        ensures value { result.now ≡ list_of self.now }
+    pub fn locks(&self) -> Values<'_, u64, DavLock>
+        ensures value { result ≡ list_of self.now }
         ensures compatible { AreCompatible (list_of self.now) }
     {
-        self.locks.as_slice()
+        self.locks.values()
     }
 }
 
@@ -116,10 +120,10 @@ impl DavLockSystem for MemLs {
         ensures err { OnErr result (locks_of self.new ≡ locks_of self.old) }
         ensures cause { IfErr result (λ e. (e ≡ LockError.NotFound) × (has_named path.now.key token.now (list_of self.old) ≡ false)) }
     {
-        let Some(place) = self.locks.named(path, token) else {
+        let Some((number, _)) = self.locks.named(path, token) else {
             return Err(LockError::NotFound);
         };
-        self.locks.remove(place);
+        self.locks.remove(number);
         Ok(())
     }
 
@@ -130,12 +134,12 @@ impl DavLockSystem for MemLs {
         timeout: Option<u64>,
         now: u64,
     ) -> Result<DavLock, LockError> {
-        let Some(place) = self.locks.named(path, token) else {
+        let Some((number, lock)) = self.locks.named(path, token) else {
             return Err(LockError::NotFound);
         };
-        let mut copy = self.locks.as_slice()[place].clone()?;
+        let mut copy = lock.clone()?;
         copy.refresh(timeout, now);
-        self.locks.refresh(place, timeout, now);
+        self.locks.refresh(number, timeout, now);
         Ok(copy)
     }
 

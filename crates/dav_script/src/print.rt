@@ -87,7 +87,7 @@ pub fn print_end<O: Write>(
 /// Prints a line for each lock, by their tokens.
 fn print_locks<O: Write>(alloc: Global, output: &mut O, locks: &MemLs) -> Result<(), Stopped> {
     output.write_all(b"locks\n")?;
-    let mut locks: Vec<&DavLock> = locks.locks().iter().collect(alloc)?;
+    let mut locks: Vec<&DavLock> = locks.locks().collect(alloc)?;
     locks.sort_by(|one, other| one.token.as_str().cmp(other.token.as_str()))?;
     for lock in &locks {
         let text = lock_text(alloc, lock)?;

@@ -84,7 +84,7 @@ impl LockCall {
                 print_lock(alloc, output, locks.refresh(&path, &token, timeout, now))
             }
             LockCall::Discover(path) => match locks.discover(&path) {
-                Ok(found) => print_locks(alloc, output, found.as_slice()),
+                Ok(found) => print_locks(alloc, output, found.as_slice().iter()),
                 Err(error) => print_done(output, Err(error)),
             },
             LockCall::Delete(path) => print_done(output, locks.delete(&path)),
@@ -223,7 +223,11 @@ fn print_lock<O: Write>(
 }
 
 /// Prints a line for each lock, in order.
-fn print_locks<O: Write>(alloc: Global, output: &mut O, locks: &[DavLock]) -> Result<(), Stopped> {
+fn print_locks<'l, O: Write>(
+    alloc: Global,
+    output: &mut O,
+    locks: impl Iterator<Item = &'l DavLock>,
+) -> Result<(), Stopped> {
     for lock in locks {
         print_held(alloc, output, lock)?;
     }

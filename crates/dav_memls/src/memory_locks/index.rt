@@ -24,7 +24,7 @@ pub struct LockIndex {
 impl LockIndex {
     /// The index of no lock.
     pub fn new(alloc: Global) -> LockIndex
-        ensures { IsIndexed [] result [] }
+        ensures { IsIndexed result [] }
     {
         LockIndex {
             tokens: HashMap::new(alloc),

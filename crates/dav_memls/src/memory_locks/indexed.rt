@@ -1,73 +1,81 @@
 //! Locks with an index.
-ghost use Rattle.std.specs.Prelude.{◌≡◌, ◌<◌, false, [], ◌∷◌, ◌++◌, length, IfOk, MatchOption, OnOk, OnErr, Bool, not, ◌&&◌, slice_set, slice_index_or};
-ghost use Rattle.std.specs.List.{filter, find, list_any, position, remove, zip};
+ghost use Rattle.std.specs.Prelude.{◌≡◌, ◌≤◌, ◌^◌, ℕ, false, [], ◌∷◌, ◌++◌, None, IfOk, IfSome, MatchOption, OnOk, OnErr, Bool, not, ◌&&◌};
+ghost use Rattle.std.specs.BTreeMap.{IsOrdered};
+ghost use Rattle.std.specs.List.{filter, find, list_any};
+ghost use Rattle.std.specs.List.Sorted.{IsStrictlySortedBy-prop};
+ghost use Rattle.std.specs.Map.{keys_of};
 ghost use Rattle.std.specs.Option.{option_copied, option_to_list};
+ghost use Rattle.std.specs.Ordering.{nat_cmp};
 ghost use Rattle.std.proofs.Props.{props};
 ghost use Rattle.dav_resource.specs.Texts.{texts};
 ghost use Rattle.dav_store.specs.declared.lock.DavLock.{DavLock};
 ghost use Rattle.dav_store.specs.Locks.{has_token, covers, covering, at_or_below, AreCompatible};
-ghost use Rattle.dav_store.specs.LockCalls.{is_named, refreshed};
-ghost use Rattle.dav_memls.specs.LockIndex.{IsIndexed, is_of_key, is_above, lock_of, locks_of_numbers, numbers_of, Computes, StandsBelow, HasNumbers, AddsNumbers, number_passes};
+ghost use Rattle.dav_store.specs.LockCalls.{has_named};
+ghost use Rattle.dav_memls.specs.Numbers.{IsAbove};
+ghost use Rattle.dav_memls.specs.LockIndex.{IsIndexed, is_of_key, is_above, lock_of, locks_of_numbers, numbers_of, locks_without, locks_refreshed, Computes, IsNamedLock, StandsBelow, HasNumbers, AddsNumbers, number_passes};
 
 use super::index::LockIndex;
-use super::numbers::Numbers;
 use dav_resource::DavPath;
 use dav_store::DavLock;
 use std::alloc::{AllocError, Global};
-use std::collections::BTreeSet;
+use std::collections::btree_map::Values;
+use std::collections::{BTreeMap, BTreeSet};
 
-/// Locks, the oldest first, each with a number that it keeps while it is held. An index finds the numbers by
-/// a token and by keys, and the place of a number is found by a search that halves.
+/// Locks by their numbers. A newer lock has a greater number, and keeps it while it is held. An index finds the
+/// numbers by a token and by keys. A look at a number, to find its lock, to change it or to take it out, takes as many
+/// comparisons of numbers as the logarithm of how many locks there are, and moves no other lock.
 #[derive(Debug, Drop)]
 pub struct IndexedLocks {
-    locks: Vec<DavLock>,
-    numbers: Numbers,
+    locks: BTreeMap<u64, DavLock>,
     index: LockIndex,
-    ghost indexed: { IsIndexed numbers.items.items index locks.items } by { Prim.hlevel props },
+    alloc: Global,
+    ghost ordered: { IsOrdered nat_cmp locks } by { Prim.hlevel (props, IsStrictlySortedBy-prop) },
+    ghost indexed: { IsIndexed index locks.entries } by { Prim.hlevel props },
 }
 
 impl IndexedLocks {
+    ghost use Rattle.dav_memls.specs.IndexedLocks.{locks_in};
+
     /// No locks.
     pub fn new(alloc: Global) -> IndexedLocks
-        ensures { result.locks.items ≡ [] }
+        ensures { locks_in result ≡ [] }
     {
         IndexedLocks {
-            locks: Vec::new(alloc),
-            numbers: Numbers::new(alloc),
+            locks: BTreeMap::new(alloc),
             index: LockIndex::new(alloc),
+            alloc,
         }
     }
 
     /// The locks, the oldest first.
-    pub fn as_slice(&self) -> &[DavLock]
-        ensures { result.now ≡ self.now.locks.items }
+    pub fn values(&self) -> Values<'_, u64, DavLock>
+        ensures { result ≡ locks_in self.now }
     {
-        &self.locks
+        self.locks.values()
     }
 
     /// The allocator that the locks are kept by.
     pub fn allocator(&self) -> Global {
-        *self.locks.allocator()
+        self.alloc
     }
 
     // ---- what is found
 
     /// Whether a lock has this token: a look into the index.
     pub fn has_token(&self, token: &str) -> bool
-        ensures { result ≡ list_any (has_token token.now) self.now.locks.items }
+        ensures { result ≡ list_any (has_token token.now) (locks_in self.now) }
     {
         self.index.number(token).is_some()
     }
 
-    /// The place of the lock with this token that stands at the path or above it: a look into the index.
-    pub fn named(&self, path: &DavPath, token: &str) -> Option<usize>
-        ensures { result ≡ position (is_named path.now.key token.now) self.now.locks.items }
+    /// The lock with this token, if it stands at the path or above it, and its number: a look into the index.
+    pub fn named(&self, path: &DavPath, token: &str) -> Option<(u64, &DavLock)>
+        ensures { MatchOption result (has_named path.now.key token.now (locks_in self.now) ≡ false) (λ found. IsNamedLock path.now.key token.now self.now.locks.entries found.0 found.1.now) }
     {
         let number = self.index.number(token)?;
-        let place = self.numbers.place(number)?;
-        let lock = self.locks.get(place)?;
+        let lock = self.of_number(number)?;
         if lock.is_named(path, token) {
-            Some(place)
+            Some((number, lock))
         } else {
             None
         }
@@ -75,7 +83,7 @@ impl IndexedLocks {
 
     /// The lock with this token: a look into the index.
     pub fn with_token(&self, token: &str) -> Option<&DavLock>
-        ensures { option_to_list (option_copied result) ≡ filter (has_token token.now) self.now.locks.items }
+        ensures { option_to_list (option_copied result) ≡ filter (has_token token.now) (locks_in self.now) }
     {
         let number = self.index.number(token)?;
         self.of_number(number)
@@ -83,7 +91,7 @@ impl IndexedLocks {
 
     /// The oldest lock whose own key is this one: a look into the index.
     pub fn first_at(&self, key: &[String]) -> Option<&DavLock>
-        ensures { option_copied result ≡ find (is_of_key (texts key.now)) self.now.locks.items }
+        ensures { option_copied result ≡ find (is_of_key (texts key.now)) (locks_in self.now) }
     {
         let number = self.index.at(key).first()?;
         self.of_number(*number)
@@ -93,7 +101,7 @@ impl IndexedLocks {
     /// above it, and the test of the locks there.
     pub fn any_above<F: Fn(&DavLock) -> bool>(&self, path: &DavPath, test: F) -> bool
         requires { F.IsAlwaysCallable test }
-        ensures { (p : DavLock → Bool) → Computes (F.post test) p → result ≡ list_any p (filter (is_above path.now.key) self.now.locks.items) }
+        ensures { (p : DavLock → Bool) → Computes (F.post test) p → result ≡ list_any p (filter (is_above path.now.key) (locks_in self.now)) }
     {
         let key = path.segments();
         for depth in 0..key.len() + 1 {
@@ -108,8 +116,8 @@ impl IndexedLocks {
     /// takes them, and at the first lock of each key, since an exclusive one stands there alone.
     pub fn any_exclusive_above<F: Fn(&DavLock) -> bool>(&self, path: &DavPath, test: F) -> bool
         requires callable { F.IsAlwaysCallable test }
-        requires compatible { AreCompatible self.now.locks.items }
-        ensures { (p : DavLock → Bool) → Computes (F.post test) p → result ≡ list_any (λ lock. not lock.shared && p lock) (filter (is_above path.now.key) self.now.locks.items) }
+        requires compatible { AreCompatible (locks_in self.now) }
+        ensures { (p : DavLock → Bool) → Computes (F.post test) p → result ≡ list_any (λ lock. not lock.shared && p lock) (filter (is_above path.now.key) (locks_in self.now)) }
     {
         let key = path.segments();
         for depth in 0..key.len() + 1 {
@@ -127,7 +135,7 @@ impl IndexedLocks {
     /// through.
     pub fn any_below<F: Fn(&DavLock) -> bool>(&self, path: &DavPath, test: F) -> bool
         requires { F.IsAlwaysCallable test }
-        ensures { (p : DavLock → Bool) → Computes (F.post test) p → result ≡ list_any p (at_or_below self.now.locks.items path.now.key) }
+        ensures { (p : DavLock → Bool) → Computes (F.post test) p → result ≡ list_any p (at_or_below (locks_in self.now) path.now.key) }
     {
         let key = path.segments();
         for (own, numbers) in self.index.run(self.allocator(), key) {
@@ -142,16 +150,16 @@ impl IndexedLocks {
         false
     }
 
-    /// The place of a lock at the path or below it, found as `any_below` finds them. It is the newest of those at
+    /// The number of a lock at the path or below it, found as `any_below` finds them. It is the newest of those at
     /// the first key that has some, which no contract promises.
-    pub fn some_below(&self, path: &DavPath) -> Option<usize>
-        ensures { MatchOption result (at_or_below self.now.locks.items path.now.key ≡ []) (λ place. StandsBelow self.now.locks.items path.now.key place) }
+    pub fn some_below(&self, path: &DavPath) -> Option<u64>
+        ensures { MatchOption result (at_or_below (locks_in self.now) path.now.key ≡ []) (StandsBelow path.now.key self.now.locks.entries) }
     {
         let key = path.segments();
         for (own, numbers) in self.index.run(self.allocator(), key) {
             if own.starts_with(key) {
                 if let Some(number) = numbers.as_slice().last() {
-                    return self.numbers.place(*number);
+                    return Some(*number);
                 }
             } else if key.cmp(own.as_slice()).is_lt() {
                 break;
@@ -163,7 +171,7 @@ impl IndexedLocks {
     /// Whether a lock of one of these numbers passes the test.
     fn any_of<F: Fn(&DavLock) -> bool>(&self, numbers: &[u64], test: &F) -> bool
         requires { F.IsAlwaysCallable test.now }
-        ensures { (p : DavLock → Bool) → Computes (F.post test.now) p → result ≡ list_any p (locks_of_numbers numbers.now (zip self.now.numbers.items.items self.now.locks.items)) }
+        ensures { (p : DavLock → Bool) → Computes (F.post test.now) p → result ≡ list_any p (locks_of_numbers numbers.now self.now.locks.entries) }
     {
         for number in numbers {
             if let Some(lock) = self.of_number(*number) {
@@ -177,10 +185,9 @@ impl IndexedLocks {
 
     /// The lock of this number.
     fn of_number(&self, number: u64) -> Option<&DavLock>
-        ensures { option_copied result ≡ lock_of number (zip self.now.numbers.items.items self.now.locks.items) }
+        ensures { option_copied result ≡ lock_of number self.now.locks.entries }
     {
-        let place = self.numbers.place(number)?;
-        self.locks.get(place)
+        self.locks.get(&number)
     }
 
     // ---- the locks that cover a path
@@ -188,7 +195,7 @@ impl IndexedLocks {
     /// Copies of the locks that cover the path, in order: looks into the index as `any_above` takes them, and
     /// the time to put those found in order.
     pub fn covering(&self, path: &DavPath) -> Result<Vec<DavLock>, AllocError>
-        ensures { IfOk result (λ copies. copies.items ≡ covering self.now.locks.items path.now.key) }
+        ensures { IfOk result (λ copies. copies.items ≡ covering (locks_in self.now) path.now.key) }
     {
         let found = self.covering_numbers(path)?;
         let mut copies = Vec::new(self.allocator());
@@ -202,7 +209,7 @@ impl IndexedLocks {
 
     /// The numbers of the locks that cover the path.
     fn covering_numbers(&self, path: &DavPath) -> Result<BTreeSet<u64>, AllocError>
-        ensures { IfOk result (λ found. HasNumbers found (numbers_of (λ lock. covers lock path.now.key) (zip self.now.numbers.items.items self.now.locks.items))) }
+        ensures { IfOk result (λ found. HasNumbers found (numbers_of (λ lock. covers lock path.now.key) self.now.locks.entries)) }
     {
         let key = path.segments();
         let mut found = BTreeSet::new(self.allocator());
@@ -219,7 +226,7 @@ impl IndexedLocks {
         numbers: &[u64],
         path: &DavPath,
     ) -> Result<(), AllocError>
-        ensures { OnOk result (AddsNumbers (number_passes (λ lock. covers lock path.now.key) (zip self.now.numbers.items.items self.now.locks.items)) numbers.now found.old found.new) }
+        ensures { OnOk result (AddsNumbers (number_passes (λ lock. covers lock path.now.key) self.now.locks.entries) numbers.now found.old found.new) }
     {
         for number in numbers {
             if let Some(lock) = self.of_number(*number) {
@@ -235,39 +242,49 @@ impl IndexedLocks {
 
     /// Puts a lock behind the others. Only memory can be lacking, numbers included, and then nothing changes.
     pub fn push(&mut self, lock: DavLock) -> Result<(), AllocError>
-        requires { list_any (has_token lock.token) self.old.locks.items ≡ false }
-        ensures ok { OnOk result (self.new.locks.items ≡ self.old.locks.items ++ lock ∷ []) }
-        ensures err { OnErr result (self.new.locks.items ≡ self.old.locks.items) }
+        requires { list_any (has_token lock.token) (locks_in self.old) ≡ false }
+        ensures ok { OnOk result (locks_in self.new ≡ locks_in self.old ++ lock ∷ []) }
+        ensures err { OnErr result (locks_in self.new ≡ locks_in self.old) }
     {
         let alloc = self.allocator();
-        let Some(number) = self.numbers.next() else {
+        let Some(number) = self.next_number() else {
             return Err(AllocError);
         };
-        self.locks.reserve(1)?;
-        self.numbers.push(number)?;
-        if let Err(lacking) = self.index.enter(alloc, &lock, number) {
-            self.numbers.remove(number);
-            return Err(lacking);
+        self.index.enter(alloc, &lock, number)?;
+        if let Err(refused) = self.locks.insert(number, lock) {
+            let (_, lock) = refused.value;
+            self.index.leave(&lock, number);
+            return Err(AllocError);
         }
-        self.locks.push(lock).unwrap();
         Ok(())
     }
 
-    /// Takes the lock at a place out.
-    pub fn remove(&mut self, place: usize)
-        requires { place < length self.old.locks.items }
-        ensures { self.new.locks.items ≡ remove self.old.locks.items place }
+    /// A number above those of all locks; `None` where no `u64` is.
+    fn next_number(&self) -> Option<u64>
+        ensures above { IfSome result (λ n. IsAbove n (keys_of self.now.locks.entries)) }
+        ensures full { result ≡ None → (n : ℕ) → IsAbove n (keys_of self.now.locks.entries) → 2 ^ 64 ≤ n }
     {
-        let number = self.numbers.take(place);
-        let lock = self.locks.remove(place);
-        self.index.leave(&lock, number);
+        match self.locks.last_key_value() {
+            Some((last, _)) => last.checked_add(1),
+            None => Some(0),
+        }
     }
 
-    /// Gives the lock at a place a timeout that begins now.
-    pub fn refresh(&mut self, place: usize, timeout: Option<u64>, now: u64)
-        requires { place < length self.old.locks.items }
-        ensures { (d : DavLock) → self.new.locks.items ≡ slice_set self.old.locks.items place (refreshed timeout now (slice_index_or self.old.locks.items place d)) }
+    /// Takes the lock of a number out, where there is one.
+    pub fn remove(&mut self, number: u64)
+        ensures { locks_in self.new ≡ locks_without number self.old.locks.entries }
     {
-        self.locks[place].refresh(timeout, now);
+        if let Some(lock) = self.locks.remove(&number) {
+            self.index.leave(&lock, number);
+        }
+    }
+
+    /// Gives the lock of a number, where there is one, a timeout that begins now.
+    pub fn refresh(&mut self, number: u64, timeout: Option<u64>, now: u64)
+        ensures { locks_in self.new ≡ locks_refreshed number timeout now self.old.locks.entries }
+    {
+        if let Some(lock) = self.locks.get_mut(&number) {
+            lock.refresh(timeout, now);
+        }
     }
 }

@@ -2,6 +2,7 @@
 ghost use Rattle.std.specs.Prelude.{◌≡◌, ◌&&◌, ◌||◌};
 ghost use Rattle.std.specs.List.{filter, list_all, list_any};
 ghost use Rattle.dav_store.specs.Locks.{covers, covering, at_or_below, has_token, permits_at, conflicts, grants, AreCompatible};
+ghost use Rattle.dav_memls.specs.IndexedLocks.{locks_in};
 ghost use Rattle.dav_memls.specs.Submitted.{is_from, passes};
 
 use super::indexed::IndexedLocks;
@@ -13,8 +14,8 @@ use dav_store::DavLock;
 
 /// Whether the locks that cover the path let a request go on.
 pub fn permits_at(locks: &IndexedLocks, path: &DavPath, submitted: &Submitted) -> bool
-    requires { AreCompatible locks.now.locks.items }
-    ensures { result ≡ permits_at (covering locks.now.locks.items path.now.key) (passes submitted.now) }
+    requires { AreCompatible (locks_in locks.now) }
+    ensures { result ≡ permits_at (covering (locks_in locks.now) path.now.key) (passes submitted.now) }
 {
     exclusive_are_submitted(locks, path, submitted)
         && (!is_covered(locks, path) || one_is_submitted(locks, path, submitted))
@@ -22,22 +23,22 @@ pub fn permits_at(locks: &IndexedLocks, path: &DavPath, submitted: &Submitted) -
 
 /// Whether each lock at the path or below it is submitted.
 pub fn permits_below(locks: &IndexedLocks, path: &DavPath, submitted: &Submitted) -> bool
-    ensures { result ≡ list_all (passes submitted.now) (at_or_below locks.now.locks.items path.now.key) }
+    ensures { result ≡ list_all (passes submitted.now) (at_or_below (locks_in locks.now) path.now.key) }
 {
     !locks.any_below(path, |lock| !submitted.has(lock))
 }
 
 /// Whether each lock that covers the path is shared or submitted.
 fn exclusive_are_submitted(locks: &IndexedLocks, path: &DavPath, submitted: &Submitted) -> bool
-    requires { AreCompatible locks.now.locks.items }
-    ensures { result ≡ list_all (λ lock. lock.shared || passes submitted.now lock) (covering locks.now.locks.items path.now.key) }
+    requires { AreCompatible (locks_in locks.now) }
+    ensures { result ≡ list_all (λ lock. lock.shared || passes submitted.now lock) (covering (locks_in locks.now) path.now.key) }
 {
     !locks.any_exclusive_above(path, |lock| lock.covers(path) && !submitted.has(lock))
 }
 
 /// Whether a lock that covers the path is submitted: a look for each token, however many the locks are.
 fn one_is_submitted(locks: &IndexedLocks, path: &DavPath, submitted: &Submitted) -> bool
-    ensures { result ≡ list_any (passes submitted.now) (covering locks.now.locks.items path.now.key) }
+    ensures { result ≡ list_any (passes submitted.now) (covering (locks_in locks.now) path.now.key) }
 {
     submitted
         .tokens()
@@ -47,7 +48,7 @@ fn one_is_submitted(locks: &IndexedLocks, path: &DavPath, submitted: &Submitted)
 
 /// Whether the lock with this token covers the path and its principal is the request's, unless that is ignored.
 fn lets_on(locks: &IndexedLocks, path: &DavPath, submitted: &Submitted, token: &str) -> bool
-    ensures { result ≡ list_any (λ lock. covers lock path.now.key && is_from submitted.now lock) (filter (has_token token.now) locks.now.locks.items) }
+    ensures { result ≡ list_any (λ lock. covers lock path.now.key && is_from submitted.now lock) (filter (has_token token.now) (locks_in locks.now)) }
 {
     match locks.with_token(token) {
         Some(lock) => lock.covers(path) && submitted.is_from(lock),
@@ -57,7 +58,7 @@ fn lets_on(locks: &IndexedLocks, path: &DavPath, submitted: &Submitted, token: &
 
 /// Whether a lock covers the path.
 fn is_covered(locks: &IndexedLocks, path: &DavPath) -> bool
-    ensures { result ≡ list_any (λ lock. covers lock path.now.key) locks.now.locks.items }
+    ensures { result ≡ list_any (λ lock. covers lock path.now.key) (locks_in locks.now) }
 {
     locks.any_above(path, |lock| lock.covers(path))
 }
@@ -66,8 +67,8 @@ fn is_covered(locks: &IndexedLocks, path: &DavPath) -> bool
 
 /// Whether the lock may stand beside these.
 pub fn grants(locks: &IndexedLocks, lock: &DavLock) -> bool
-    requires { AreCompatible locks.now.locks.items }
-    ensures { result ≡ grants locks.now.locks.items lock.now }
+    requires { AreCompatible (locks_in locks.now) }
+    ensures { result ≡ grants (locks_in locks.now) lock.now }
 {
     !locks.has_token(lock.token.as_str())
         && !conflicts_above(locks, lock)
@@ -76,8 +77,8 @@ pub fn grants(locks: &IndexedLocks, lock: &DavLock) -> bool
 
 /// Whether the lock conflicts with one that covers its path.
 fn conflicts_above(locks: &IndexedLocks, lock: &DavLock) -> bool
-    requires { AreCompatible locks.now.locks.items }
-    ensures { result ≡ list_any (conflicts lock.now) (covering locks.now.locks.items lock.now.path.key) }
+    requires { AreCompatible (locks_in locks.now) }
+    ensures { result ≡ list_any (conflicts lock.now) (covering (locks_in locks.now) lock.now.path.key) }
 {
     if lock.shared {
         locks.any_exclusive_above(&lock.path, |other| other.covers(&lock.path))
@@ -89,8 +90,8 @@ fn conflicts_above(locks: &IndexedLocks, lock: &DavLock) -> bool
 /// Whether the lock conflicts with one at its path or below it. Where the first lock at its path is a deep shared
 /// one, each there and below is shared.
 fn conflicts_below(locks: &IndexedLocks, lock: &DavLock) -> bool
-    requires { AreCompatible locks.now.locks.items }
-    ensures { result ≡ list_any (conflicts lock.now) (at_or_below locks.now.locks.items lock.now.path.key) }
+    requires { AreCompatible (locks_in locks.now) }
+    ensures { result ≡ list_any (conflicts lock.now) (at_or_below (locks_in locks.now) lock.now.path.key) }
 {
     if let Some(first) = locks.first_at(lock.path.segments()) {
         if lock.shared && first.shared && first.deep {

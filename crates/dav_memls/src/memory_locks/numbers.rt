@@ -1,5 +1,5 @@
 //! Ascending numbers.
-ghost use Rattle.std.specs.Prelude.{◌≡◌, ◌==◌, ◌<◌, ◌≤◌, ◌^◌, ℕ, [], ◌∷◌, ◌++◌, None, IfSome, OnOk, OnErr, length, slice_index};
+ghost use Rattle.std.specs.Prelude.{◌≡◌, ◌==◌, ◌<◌, [], ◌∷◌, ◌++◌, OnOk, OnErr, length, slice_index};
 ghost use Rattle.std.specs.List.{position, remove};
 ghost use Rattle.std.specs.List.Sorted.{IsStrictlySortedBy, IsStrictlySortedBy-prop};
 ghost use Rattle.std.specs.Ordering.{nat_cmp};
@@ -32,19 +32,8 @@ impl Numbers {
         &self.items
     }
 
-    /// A number above all of them; `None` where no `u64` is.
-    pub fn next(&self) -> Option<u64>
-        ensures above { IfSome result (λ n. IsAbove n self.now.items.items) }
-        ensures full { result ≡ None → (n : ℕ) → IsAbove n self.now.items.items → 2 ^ 64 ≤ n }
-    {
-        match self.items.last() {
-            Some(last) => last.checked_add(1),
-            None => Some(0),
-        }
-    }
-
     /// The place of a number, by a search that halves.
-    pub fn place(&self, number: u64) -> Option<usize>
+    fn place(&self, number: u64) -> Option<usize>
         ensures { result ≡ position (λ n. n == number) self.now.items.items }
     {
         match self.items.binary_search(&number) {
@@ -64,7 +53,7 @@ impl Numbers {
     }
 
     /// Takes the number at a place out.
-    pub fn take(&mut self, place: usize) -> u64
+    fn take(&mut self, place: usize) -> u64
         requires { place < length self.old.items.items }
         ensures value { result ≡ slice_index self.old.items.items place }
         ensures rest { self.new.items.items ≡ remove self.old.items.items place }

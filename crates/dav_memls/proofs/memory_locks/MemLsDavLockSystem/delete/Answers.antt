@@ -1,23 +1,26 @@
 use Rattle.std.proofs.Common.{◌∙◌, sym, ap, length, arith, true}
-use Rattle.std.proofs.lemmas.List.Edits.{length-remove}
 use Rattle.dav_store.specs.Locks.{elsewhere}
-use Rattle.dav_memls.proofs.LockLists.{distinct-remove, compatible-remove, removed_below, elsewhere-all}
+use Rattle.dav_memls.specs.IndexedLocks.{locks_in}
+use Rattle.dav_memls.proofs.LockLists.{is_gone, elsewhere-all}
 use Rattle.dav_memls.proofs.memory_locks.MemLsDavLockSystem.delete.Goals as goal
 
 pub invariant_of-self : goal.invariant_of-self
-invariant_of-self c = record {
-  distinct_tokens = rw c.remove.ensures (distinct-remove c.loop-below.self.locks.locks.items c.in-Some.below c.loop-below.self.distinct_tokens c.in-Some.ensures.inside);
-  compatible = rw c.remove.ensures (compatible-remove c.loop-below.self.locks.locks.items c.in-Some.below c.loop-below.self.distinct_tokens c.in-Some.ensures.inside c.loop-below.self.compatible);
-}
-
-pub remove-requires : goal.remove-requires
-remove-requires c = c.in-Some.ensures.inside
+invariant_of-self c =
+    let self = c.loop-below.self in
+    let gone = is_gone c.args.path.now.key self.locks.locks.entries c.in-Some.below self.distinct_tokens self.compatible self.locks.ordered c.in-Some.ensures in
+    record { distinct_tokens = rw c.remove.ensures gone.distinct; compatible = rw c.remove.ensures gone.compatible }
 
 pub loop-below-smaller : goal.loop-below-smaller
-loop-below-smaller c = omega (arith, ap length c.remove.ensures, length-remove c.loop-below.self.locks.locks.items c.in-Some.below c.in-Some.ensures.inside)
+loop-below-smaller c =
+    let self = c.loop-below.self in
+    let gone = is_gone c.args.path.now.key self.locks.locks.entries c.in-Some.below self.distinct_tokens self.compatible self.locks.ordered c.in-Some.ensures in
+    omega (arith, ap length c.remove.ensures, gone.fewer)
 
 pub loop-below-preserved : goal.loop-below-preserved
-loop-below-preserved c = ap (λ ls. elsewhere ls c.args.path.now.key) c.remove.ensures ∙ removed_below c.args.path.now.key c.loop-below.self.locks.locks.items c.in-Some.below c.in-Some.ensures ∙ c.loop-below.invariant
+loop-below-preserved c =
+    let self = c.loop-below.self in
+    let gone = is_gone c.args.path.now.key self.locks.locks.entries c.in-Some.below self.distinct_tokens self.compatible self.locks.ordered c.in-Some.ensures in
+    ap (λ ls. elsewhere ls c.args.path.now.key) c.remove.ensures ∙ gone.elsewhere ∙ c.loop-below.invariant
 
 pub returns-clause-removed : goal.returns-clause-removed
-returns-clause-removed c = ap (λ list. record { list = list; dependable = true }) (sym (elsewhere-all c.args.path.now.key c.loop-below.self.locks.locks.items c.in_default.ensures) ∙ c.loop-below.invariant)
+returns-clause-removed c = ap (λ list. record { list = list; dependable = true }) (sym (elsewhere-all c.args.path.now.key (locks_in c.loop-below.self.locks) c.in_default.ensures) ∙ c.loop-below.invariant)

@@ -1,23 +1,23 @@
-use Rattle.std.proofs.Common.{◌∙◌, sym, ap, refl, true}
-use Rattle.dav_memls.proofs.LockLists.{named_removed, none_named, distinct-remove, compatible-remove}
+use Rattle.std.proofs.Common.{◌∙◌, ap, true}
+use Rattle.dav_memls.specs.IndexedLocks.{locks_in}
+use Rattle.dav_memls.specs.MemLs.{list_of}
+use Rattle.dav_memls.proofs.LockLists.{only_named, distinct-without, compatible-without}
 use Rattle.dav_memls.proofs.memory_locks.MemLsDavLockSystem.unlock.Goals as goal
-
-pub returns-in_default-clause-cause : goal.returns-in_default-clause-cause
-returns-in_default-clause-cause c = (refl, none_named c.args.path.now.key c.args.token.now c.args.self.now.locks.locks.items (sym c.named.ensures ∙ c.in_default.is))
-
-pub remove-requires : goal.remove-requires
-remove-requires c = (named_removed c.args.path.now.key c.args.token.now c.args.self.now.locks.locks.items c.named.result c.in-Some.place c.args.self.now.distinct_tokens c.named.ensures c.in-Some.is).inside
 
 pub invariant_of-self : goal.invariant_of-self
 invariant_of-self c =
-    let locks = c.args.self.now.locks.locks.items in
-    let gone = named_removed c.args.path.now.key c.args.token.now locks c.named.result c.in-Some.place c.args.self.now.distinct_tokens c.named.ensures c.in-Some.is in
+    let self = c.args.self.now in
+    let key = c.args.path.now.key in
+    let token = c.args.token.now in
+    let only = only_named key token self.locks.locks.entries c.in-Some.number c.in-Some.field-0-1.now self.distinct_tokens self.locks.ordered c.in-Some.ensures.held c.in-Some.ensures.named in
+    let rest = c.remove.ensures ∙ only.rest in
     record {
-      distinct_tokens = rw c.remove.ensures (distinct-remove locks c.in-Some.place c.args.self.now.distinct_tokens gone.inside);
-      compatible = rw c.remove.ensures (compatible-remove locks c.in-Some.place c.args.self.now.distinct_tokens gone.inside c.args.self.now.compatible);
+      distinct_tokens = distinct-without key token (list_of self) (locks_in c.remove.new.self) self.distinct_tokens rest;
+      compatible = compatible-without key token (list_of self) (locks_in c.remove.new.self) self.compatible rest;
     }
 
 pub returns-clause-removed : goal.returns-clause-removed
 returns-clause-removed c =
-    let gone = named_removed c.args.path.now.key c.args.token.now c.args.self.now.locks.locks.items c.named.result c.in-Some.place c.args.self.now.distinct_tokens c.named.ensures c.in-Some.is in
-    record { named = gone.has; removed = ap (λ list. record { list = list; dependable = true }) (c.remove.ensures ∙ sym gone.rest) }
+    let self = c.args.self.now in
+    let only = only_named c.args.path.now.key c.args.token.now self.locks.locks.entries c.in-Some.number c.in-Some.field-0-1.now self.distinct_tokens self.locks.ordered c.in-Some.ensures.held c.in-Some.ensures.named in
+    record { named = only.has; removed = ap (λ list. record { list = list; dependable = true }) (c.remove.ensures ∙ only.rest) }

@@ -10,11 +10,11 @@ returns-in_err-number c =
     let self = c.args.self.now in
     let key = texts c.args.key.now in
     ap option_copied c.from_residual.ensures
-    ∙ no_first (is_of_key key) c.at.result.now self.numbers.items.items self.locks.items self.numbers.rising self.indexed.one_each (c.at.ensures ∙ self.indexed.at key) c.in_err-number.ensures.item.3
+    ∙ no_first (is_of_key key) c.at.result.now self.locks.entries self.ordered (c.at.ensures ∙ self.indexed.at key) c.in_err-number.ensures.item.3
 
 pub returns : goal.returns
 returns c =
     let self = c.args.self.now in
     let key = texts c.args.key.now in
     c.of_number.ensures
-    ∙ first_found (is_of_key key) c.in_ok-number.number.now c.at.result.now self.numbers.items.items self.locks.items self.numbers.rising self.indexed.one_each (c.at.ensures ∙ self.indexed.at key) c.in_ok-number.ensures.item.3.0 c.in_ok-number.ensures.item.3.1
+    ∙ first_found (is_of_key key) c.in_ok-number.number.now c.at.result.now self.locks.entries self.ordered (c.at.ensures ∙ self.indexed.at key) c.in_ok-number.ensures.item.3.0 c.in_ok-number.ensures.item.3.1

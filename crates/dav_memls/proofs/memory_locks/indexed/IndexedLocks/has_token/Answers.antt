@@ -6,4 +6,4 @@ use Rattle.dav_memls.proofs.memory_locks.indexed.IndexedLocks.has_token.Goals as
 pub returns : goal.returns
 returns c =
     let self = c.args.self.now in
-    c.is_some.ensures ∙ ap is_some c.number.ensures ∙ some_number (has_token c.args.token.now) self.numbers.items.items self.locks.items _ self.indexed.one_each (self.indexed.tokens c.args.token.now)
+    c.is_some.ensures ∙ ap is_some c.number.ensures ∙ some_number (has_token c.args.token.now) self.locks.entries _ (self.indexed.tokens c.args.token.now)

@@ -1,25 +1,26 @@
-use Rattle.std.proofs.Common.{◌∙◌, sym, ap, true, false, get_or}
+use Rattle.std.proofs.Common.{◌∙◌, sym, ap, Some, None}
 use Rattle.std.specs.Option.{option_to_list}
-use Rattle.dav_memls.proofs.LockRows.{named_none}
-use Rattle.dav_memls.proofs.LockLooks.{named_is, named_somewhere}
+use Rattle.dav_store.specs.Locks.{has_token}
+use Rattle.dav_memls.specs.IndexedLocks.{locks_in}
+use Rattle.dav_memls.proofs.LockLooks.{not_named}
+use Rattle.dav_memls.proofs.OneLook.{found_one, found_no}
 use Rattle.dav_memls.proofs.memory_locks.indexed.IndexedLocks.named.Goals as goal
 
 pub returns-in_err-number : goal.returns-in_err-number
 returns-in_err-number c =
     let self = c.args.self.now in
-    c.from_residual.ensures ∙ sym (named_none c.args.path.now.key c.args.token.now self.numbers.items.items self.locks.items self.indexed.one_each (sym (self.indexed.tokens c.args.token.now) ∙ ap option_to_list (sym c.in_err-number.ensures)))
+    rw c.from_residual.ensures (not_named c.args.path.now.key c.args.token.now (locks_in self) None
+    (found_no (has_token c.args.token.now) self.locks.entries self.ordered (sym (self.indexed.tokens c.args.token.now) ∙ ap option_to_list (sym c.in_err-number.ensures))) tt)
 
-pub returns-in_err-place : goal.returns-in_err-place
-returns-in_err-place c =
+pub returns-in_err-lock : goal.returns-in_err-lock
+returns-in_err-lock c =
     let self = c.args.self.now in
-    absurd (named_somewhere c.args.path.now.key c.args.token.now self.numbers.items.items self.locks.items c.in_ok-number.number self.numbers.rising self.indexed.one_each (sym (self.indexed.tokens c.args.token.now) ∙ ap option_to_list (sym c.in_ok-number.ensures)) c.in_err-place.ensures)
-
-pub returns-then-is_named : goal.returns-then-is_named
-returns-then-is_named c =
-    let self = c.args.self.now in
-    sym (named_is c.args.path.now.key c.args.token.now self.numbers.items.items self.locks.items c.in_ok-number.number c.in_ok-place.place c.in_ok-lock.lock.now true self.numbers.rising self.indexed.one_each (sym (self.indexed.tokens c.args.token.now) ∙ ap option_to_list (sym c.in_ok-number.ensures)) c.in_ok-place.ensures (λ d. c.in_ok-lock.ensures.lookup.3.1 d ∙ ap (λ ls. get_or ls c.in_ok-place.place d) c.deref.ensures.value) (sym c.is_named.ensures ∙ c.if-is_named.true))
+    rw c.from_residual-in_err-lock.ensures (not_named c.args.path.now.key c.args.token.now (locks_in self) None
+    (ap option_to_list c.in_err-lock.ensures ∙ found_one (has_token c.args.token.now) self.locks.entries c.in_ok-number.number self.ordered (sym (self.indexed.tokens c.args.token.now) ∙ ap option_to_list (sym c.in_ok-number.ensures))) tt)
 
 pub returns-else-is_named : goal.returns-else-is_named
 returns-else-is_named c =
     let self = c.args.self.now in
-    sym (named_is c.args.path.now.key c.args.token.now self.numbers.items.items self.locks.items c.in_ok-number.number c.in_ok-place.place c.in_ok-lock.lock.now false self.numbers.rising self.indexed.one_each (sym (self.indexed.tokens c.args.token.now) ∙ ap option_to_list (sym c.in_ok-number.ensures)) c.in_ok-place.ensures (λ d. c.in_ok-lock.ensures.lookup.3.1 d ∙ ap (λ ls. get_or ls c.in_ok-place.place d) c.deref.ensures.value) (sym c.is_named.ensures ∙ c.if-is_named.false))
+    not_named c.args.path.now.key c.args.token.now (locks_in self) (Some c.in_ok-lock.lock.now)
+    (ap option_to_list c.in_ok-lock.ensures ∙ found_one (has_token c.args.token.now) self.locks.entries c.in_ok-number.number self.ordered (sym (self.indexed.tokens c.args.token.now) ∙ ap option_to_list (sym c.in_ok-number.ensures)))
+    (sym c.if-is_named.ensures)

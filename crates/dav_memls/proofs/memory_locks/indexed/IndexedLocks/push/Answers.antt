@@ -1,28 +1,35 @@
-use Rattle.std.proofs.Common.{◌≡◌, ◌∙◌, ◌++◌, ◌∷◌, [], ap, cond, arith, IsOk}
-use Rattle.dav_memls.specs.Numbers.{without}
-use Rattle.dav_memls.proofs.Ascending.{without_push}
-use Rattle.dav_memls.proofs.Indexing.{free_token, above_at, indexed_kept, indexed_push}
+use Rattle.std.proofs.Common.{◌∙◌, sym, ap, subst}
+use Rattle.std.specs.Map.{values_of}
+use Rattle.dav_memls.specs.LockIndex.{Row, IsIndexed, LeavesIndex}
+use Rattle.dav_memls.proofs.LockRows.{entries-push, values-push}
+use Rattle.dav_memls.proofs.Indexing.{free_token, above_at, indexed_push, indexed_undone}
 use Rattle.dav_memls.proofs.memory_locks.indexed.IndexedLocks.push.Goals as goal
 
 pub enter-requires-clause-token : goal.enter-requires-clause-token
-enter-requires-clause-token c = let self = c.args.self.now in free_token self.numbers.items.items self.index self.locks.items c.args.lock.token self.indexed c.requires
+enter-requires-clause-token c = let self = c.args.self.now in free_token self.index self.locks.entries c.args.lock.token self.indexed c.requires
 
 pub enter-requires-clause-above : goal.enter-requires-clause-above
-enter-requires-clause-above c = let self = c.args.self.now in above_at self.numbers.items.items self.index self.locks.items c.in-Some.number self.indexed c.in-Some.ensures.above
+enter-requires-clause-above c = let self = c.args.self.now in above_at self.index self.locks.entries c.in-Some.number self.indexed c.in-Some.ensures.above
 
 pub invariant_of-self-in-Err : goal.invariant_of-self-in-Err
 invariant_of-self-in-Err c =
     let self = c.args.self.now in
-    let back : c.remove.new.self.items.items ≡ self.numbers.items.items = c.remove.ensures ∙ ap (without c.in-Some.number) c.in_ok-push.ensures.ok ∙ without_push c.in-Some.number self.numbers.items.items c.in-Some.ensures.above in
-    record { indexed = rw (back, c.reserve.ensures.items) (indexed_kept self.numbers.items.items self.index c.enter.new.self self.locks.items self.indexed c.in-Err.ensures.err) }
+    let left = subst (λ (row : Row). LeavesIndex row.1 c.in-Some.number c.enter.new.self c.leave.new.self) c.in-Err.ensures.value_returned c.leave.ensures in
+    record {
+      ordered = c.insert.ensures.ordered;
+      indexed = subst (IsIndexed c.leave.new.self) (sym c.in-Err.ensures.err) (indexed_undone self.index c.enter.new.self c.leave.new.self self.locks.entries c.in-Some.number c.args.lock self.ordered c.in-Some.ensures.above self.indexed c.in_ok-enter.ensures.ok left);
+    }
 
-pub invariant_of-self-2 : goal.invariant_of-self-2
-invariant_of-self-2 c =
+pub invariant_of-self-in_default-insert : goal.invariant_of-self-in_default-insert
+invariant_of-self-in_default-insert c =
     let self = c.args.self.now in
-    let room = c.in_ok-reserve.ensures.ok in
-    let fits : IsOk c.push-2.result = c.push-2.ensures.succeeds (omega arith) in
-    let grown : c.push-2.new.self.items ≡ self.locks.items ++ c.args.lock ∷ [] =
-    c.push-2.ensures.items
-    ∙ ap (λ b. cond b (c.reserve.new.self.items ++ c.args.lock ∷ []) c.reserve.new.self.items) fits
-    ∙ ap (λ ls. ls ++ c.args.lock ∷ []) c.reserve.ensures.items in
-    record { indexed = rw (c.in_ok-push.ensures.ok, grown) (indexed_push self.numbers.items.items self.index c.enter.new.self self.locks.items c.in-Some.number c.args.lock self.indexed c.in_default-enter.ensures.ok) }
+    let grown = c.in_default-insert.ensures.entries ∙ entries-push self.locks.entries c.in-Some.number c.args.lock c.in-Some.ensures.above in
+    record {
+      ordered = c.insert.ensures.ordered;
+      indexed = subst (IsIndexed c.enter.new.self) (sym grown) (indexed_push self.index c.enter.new.self self.locks.entries c.in-Some.number c.args.lock self.indexed c.in_ok-enter.ensures.ok);
+    }
+
+pub returns-clause-ok : goal.returns-clause-ok
+returns-clause-ok c =
+    let rows = c.args.self.now.locks.entries in
+    ap values_of (c.in_default-insert.ensures.entries ∙ entries-push rows c.in-Some.number c.args.lock c.in-Some.ensures.above) ∙ values-push rows c.in-Some.number c.args.lock

@@ -6,5 +6,5 @@ abbrev pub invariant-loop-own : goal.invariant-loop-own
 invariant-loop-own l = record {
   can : (goal.iterator-loop-own).can_next l.own-iterator;
   ends : (goal.iterator-loop-own).is_finite l.own-iterator;
-  left : Tells (λ lock. true) l.path.key l.self.numbers.items.items l.self.locks.items l.own-iterator;
+  left : Tells (λ lock. true) l.path.key l.self.locks.entries l.own-iterator;
 }

@@ -8,10 +8,10 @@ pub returns-in_err-number : goal.returns-in_err-number
 returns-in_err-number c =
     let self = c.args.self.now in
     ap (λ o. option_to_list (option_copied o)) c.from_residual.ensures
-    ∙ found_no (has_token c.args.token.now) self.numbers.items.items self.locks.items self.numbers.rising self.indexed.one_each (sym (self.indexed.tokens c.args.token.now) ∙ ap option_to_list (sym c.in_err-number.ensures))
+    ∙ found_no (has_token c.args.token.now) self.locks.entries self.ordered (sym (self.indexed.tokens c.args.token.now) ∙ ap option_to_list (sym c.in_err-number.ensures))
 
 pub returns : goal.returns
 returns c =
     let self = c.args.self.now in
     ap option_to_list c.of_number.ensures
-    ∙ found_one (has_token c.args.token.now) self.numbers.items.items self.locks.items c.in_ok-number.number self.numbers.rising self.indexed.one_each (sym (self.indexed.tokens c.args.token.now) ∙ ap option_to_list (sym c.in_ok-number.ensures))
+    ∙ found_one (has_token c.args.token.now) self.locks.entries c.in_ok-number.number self.ordered (sym (self.indexed.tokens c.args.token.now) ∙ ap option_to_list (sym c.in_ok-number.ensures))
