@@ -14,16 +14,10 @@ use Rattle.dav_store.specs.Locks.{has_token}
 use Rattle.dav_store.specs.LockCalls.{refreshed}
 use Rattle.dav_memls.specs.Numbers.{IsAbove}
 use Rattle.dav_memls.specs.ByKey.{numbers_at, only_if, without_if}
-use Rattle.dav_memls.specs.LockIndex.{Row, IsIndexed, KeepsIndex, EntersIndex, LeavesIndex, by_token, numbers_of, lock_of, is_of_key}
+use Rattle.dav_memls.specs.LockIndex.{Row, IsIndexed, EntersIndex, LeavesIndex, by_token, numbers_of, lock_of, is_of_key}
 use Rattle.dav_memls.proofs.Ascending.{Rises, rises-push, without_push}
 use Rattle.dav_memls.proofs.Reached.{bytes_eq-sym}
 use Rattle.dav_memls.proofs.LockRows.{pushed_found, pushed_removed, numbers-push, numbers-remove, numbers-set, number_kept, only_number, none_numbers, all_numbers}
-
-pub indexed_kept : (old new : LockIndex) (rows : List Row) → IsIndexed old rows → KeepsIndex old new → IsIndexed new rows
-indexed_kept old new rows h keeps = record {
-  tokens = λ token. keeps.tokens token ∙ h.tokens token;
-  at = λ key. keeps.at key ∙ h.at key;
-}
 
 pub indexed_push : (old new : LockIndex) (rows : List Row) (n : ℕ) (l : DavLock) → IsIndexed old rows → EntersIndex l n old new → IsIndexed new (rows ++ (n, l) ∷ [])
 indexed_push old new rows n l h enters = record {

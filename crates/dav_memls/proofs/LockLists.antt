@@ -144,8 +144,8 @@ only_named key token (row ∷ rows) n lock distinct rises held named =
     first at one =
         let is : is_named key token row.1 ≡ true = ap (is_named key token) one ∙ named in
         let others : AllByRecursion (λ t. bytes_eq token t ≡ false) (map token_of (values_of rows)) = (
-            let P : List ℕ → Type 0 = λ k. AllByRecursion (λ other. bytes_eq k other ≡ false) (map token_of (values_of rows)) in
-            subst P (sym (has_it token row.1 (is_at_or_below key row.1.path.key) is)) apart) in
+        let P : List ℕ → Type 0 = λ k. AllByRecursion (λ other. bytes_eq k other ≡ false) (map token_of (values_of rows)) in
+        subst P (sym (has_it token row.1 (is_at_or_below key row.1.path.key) is)) apart) in
         record {
           found = ap (λ b. cond b (Some row.1) (find (is_named key token) (values_of rows))) is ∙ ap Some one;
           has = ap (λ b. b || has_named key token (values_of rows)) is;

@@ -11,7 +11,7 @@ use Rattle.dav_store.specs.LockCalls.{refreshed}
 use Rattle.dav_memls.specs.Numbers.{IsAbove, without}
 use Rattle.dav_memls.specs.ByKey.{only_if, without_if}
 use Rattle.dav_memls.specs.LockIndex.{Row, numbers_of, lock_of, locks_of_numbers, locks_refreshed}
-use Rattle.dav_memls.proofs.Ascending.{Rises, rises-head, rises-tail, same, not_same, not_same_above, without_above, is_eq-same, at_number, finds_itself, not_at_less, greater}
+use Rattle.dav_memls.proofs.Ascending.{Rises, rises-head, rises-tail, same, not_same, without_above, is_eq-same, at_number, finds_itself, not_at_less, greater}
 
 -- ---- one more
 

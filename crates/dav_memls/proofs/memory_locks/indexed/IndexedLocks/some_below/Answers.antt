@@ -1,4 +1,4 @@
-use Rattle.std.proofs.Common.{◌≡◌, [], true, false, refl}
+use Rattle.std.proofs.Common.{true, false, refl}
 use Rattle.dav_resource.specs.Texts.{texts}
 use Rattle.dav_store.specs.Locks.{at_or_below}
 use Rattle.dav_memls.specs.IndexedLocks.{locks_in}
