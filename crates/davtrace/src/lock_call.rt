@@ -84,11 +84,11 @@ impl LockCall {
                 print_lock(alloc, output, locks.refresh(&path, &token, timeout, now))
             }
             LockCall::Discover(path) => match locks.discover(&path) {
-                Ok(found) => print_locks(alloc, output, found.as_slice().iter()),
+                Ok(found) => print_locks(alloc, output, found.as_slice()),
                 Err(error) => print_done(output, Err(error)),
             },
             LockCall::Delete(path) => print_done(output, locks.delete(&path)),
-            LockCall::Locks => print_locks(alloc, output, locks.locks()),
+            LockCall::Locks => print_all(alloc, output, locks),
         }
     }
 }
@@ -223,12 +223,16 @@ fn print_lock<O: Write>(
 }
 
 /// Prints a line for each lock, in order.
-fn print_locks<'l, O: Write>(
-    alloc: Global,
-    output: &mut O,
-    locks: impl Iterator<Item = &'l DavLock>,
-) -> Result<(), Stopped> {
+fn print_locks<O: Write>(alloc: Global, output: &mut O, locks: &[DavLock]) -> Result<(), Stopped> {
     for lock in locks {
+        print_held(alloc, output, lock)?;
+    }
+    print_done(output, Ok(()))
+}
+
+/// Prints a line for each lock that is held, in order.
+fn print_all<O: Write>(alloc: Global, output: &mut O, locks: &MemLs) -> Result<(), Stopped> {
+    for lock in locks.locks() {
         print_held(alloc, output, lock)?;
     }
     print_done(output, Ok(()))
