@@ -123,6 +123,13 @@ def lock_loads():
     held = lambda n: [put("/f"), *requests("LOCK", ["/f"] * n, *lock_tree("shared"))]
     writes = lambda n: script(*held(n), *[put("/f", "x", f"If: (<urn:lock:{n + 1}>)")] * n)
     yield Load("PUTs of a file with as many shared locks", 500, writes)
+    freed = lambda n: [block("UNLOCK /f", f"Lock-Token: <urn:lock:{it + 2}>") for it in range(n)]
+    yield Load("UNLOCKs of one path, the oldest first", 500, lambda n: script(*held(n), *freed(n)))
+    shallow = lambda n: [make("/d/"), *requests("LOCK", ["/d/"] * n, "Depth: 0", *lock_tree("shared"))]
+    yield Load("PUTs below as many shared locks of Depth 0", 500, lambda n: script(*shallow(n), *[put("/d/f")] * n))
+    above = lambda n: requests("LOCK", ["/d/"] * n, *lock_tree("shared"))
+    inside = lambda n: requests("LOCK", [f"/d/{it}" for it in range(n)], *lock_tree("shared"))
+    yield Load("shared LOCKs above as many", 500, lambda n: script(make("/d/"), *inside(n), *above(n)))
     below = lambda n: script(*chain(n), block(f"LOCK {path_of(n)}", *lock_tree()), block("OPTIONS *"))
     gone = lambda n: block("DELETE /a", f"If: (<urn:lock:{n + 1}>)")
     yield Load("a LOCK below as many directories", 50, lambda n: script(below(n), gone(n)))
