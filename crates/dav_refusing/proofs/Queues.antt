@@ -1,13 +1,15 @@
 -- Plans as the code keeps them: queues of errors by slots.
-use Rattle.std.proofs.Common.{◌≡◌, ◌∙◌, Bool, true, false, cond, List, [], ◌∷◌, ◌++◌, Option, Some, None, String, refl, sym, ap, drop, slice_get, subst, ◌==◌, ◌&&◌}
+use Rattle.std.proofs.Common.{◌≡◌, ◌∙◌, Bool, true, false, cond, List, [], ◌∷◌, ◌++◌, Option, Some, None, Result, Ok, Err, OnOk, OnErr, String, refl, sym, ap, drop, slice_get, subst, length, eq-eqb, ◌≢◌, ◌==◌, ◌&&◌}
 use Rattle.std.specs.declared.alloc.Global.{Global}
 use Rattle.std.specs.Ordering.{nat_cmp, eq_by_cmp, ordering_then}
-use Rattle.std.specs.Cmp.{tied_then, unsigned_tied}
+use Rattle.std.specs.Cmp.{tied_then, unsigned_tied, eq_by_cmp_equiv}
 use Rattle.std.specs.Cmp.Lexicographic.{slice_cmp}
 use Rattle.std.specs.String.{string_cmp}
-use Rattle.std.proofs.lemmas.Bool.{eqb-true}
+use Rattle.std.proofs.lemmas.Bool.{eqb-true, cond_both}
 use Rattle.std.proofs.lemmas.List.{nil_from_length}
-use Rattle.std.specs.Option.{IsSome}
+use Rattle.std.proofs.lemmas.Map.Entries.{lookup_head}
+use Rattle.std.specs.Map.{lookup}
+use Rattle.std.specs.Option.{IsSome, option_map}
 use Rattle.std.specs.VecDeque.{deque_len}
 use Rattle.std.specs.BTreeMap.{BTreeMap, is_at, get, get_by, UpdatesBy, WritesThrough}
 use Rattle.dav_resource.specs.Key.{Key, key_cmp}
@@ -15,10 +17,10 @@ use Rattle.dav_resource.specs.Texts.{texts}
 use Rattle.dav_resource.specs.declared.record.Op.{Op}
 use Rattle.dav_resource.specs.declared.error.FsError.{FsError}
 use Rattle.dav_store.specs.Calls.{IsOwn}
-use Rattle.dav_refusing.specs.Plans.{is_for, place_of_op, refusal_for, with_errors, without_first, with_last}
-use Rattle.dav_refusing.specs.Slots.{Queue, slot_key, slot_cmp, slot_at, errors_of, errors_in, plan_in}
+use Rattle.dav_refusing.specs.Plans.{is_for, no_refusals, place_of_op, refusal_for, with_errors, without_first, with_last}
+use Rattle.dav_refusing.specs.Slots.{Queue, slot_key, slot_cmp, slot_at, errors_of, errors_in, plan_in, slot_cmp_total, HasErrors, HasNoEmptyQueue}
 use Rattle.dav_refusing.specs.declared.refusing.slot.Slot.{Slot}
-use Rattle.dav_refusing.specs.declared.refusing.plan.OwnError.{OwnError}
+use Rattle.dav_refusing.specs.declared.refusing.own_error.OwnError.{OwnError}
 use Rattle.dav_refusing.proofs.Planning.{with_errors-same, without-none}
 
 -- ---- the order of slots
@@ -62,6 +64,52 @@ pub errors-push : (errors : List OwnError) (e : OwnError) → errors_of (errors 
 errors-push [] e = refl
 errors-push (x ∷ errors) e = ap (λ xs. x.error ∷ xs) (errors-push errors e)
 
+-- ---- no queue is empty
+
+-- the items of a queue, where there is one
+abbrev items_in : Option Queue → Option (List OwnError)
+items_in o = option_map (λ (queue : Queue). queue.items) o
+
+-- where there is no queue, none is without errors
+nothing-has_errors : HasErrors None
+nothing-has_errors e = cc
+
+-- nor where there is one that isn't empty
+some-has_errors : (w : Queue) → w.items ≢ [] → HasErrors (Some w)
+some-has_errors w has e = has cc
+
+-- a queue that was tested isn't empty
+pub tested-not_empty : (w : Queue) (is_empty : Bool) → is_empty ≡ (deque_len w == 0) → is_empty ≡ false → w.items ≢ []
+tested-not_empty w is_empty tested not none =
+    let empty : is_empty ≡ true = tested ∙ eq-eqb (deque_len w) 0 (w.ok.0 ∙ ap length none) in
+    cc
+
+-- nor is one behind which an error was put
+pub one_more-not_empty : (before after : List OwnError) (e : OwnError) → after ≡ before ++ e ∷ [] → after ≢ []
+one_more-not_empty [] after e is none = cc
+one_more-not_empty (x ∷ before) after e is none = cc
+
+-- whether there was memory for the error or not
+pushed-not_empty : (pushed : Bool) (before after : List OwnError) (e : OwnError) → before ≢ [] → after ≡ cond pushed (before ++ e ∷ []) before → after ≢ []
+pushed-not_empty true before after e has is = one_more-not_empty before after e is
+pushed-not_empty false before after e has is = λ none. has (sym is ∙ none)
+
+-- one slot has this queue, or none, and the others have those that they had
+abbrev IsSetAt : Slot → Option Queue → BTreeMap Slot Queue → BTreeMap Slot Queue → Type 0
+IsSetAt slot w m n = (q : Slot) → get slot_cmp n q ≡ cond (is_at (slot_cmp slot) q) w (get slot_cmp m q)
+
+-- what is set last counts
+set-twice : (slot : Slot) (v w : Option Queue) (m n o : BTreeMap Slot Queue) → IsSetAt slot v m n → IsSetAt slot w n o → IsSetAt slot w m o
+set-twice slot v w m n o first last q = last q ∙ ap (cond (is_at (slot_cmp slot) q) w) (first q) ∙ cond-cond (is_at (slot_cmp slot) q) (get slot_cmp m q)
+  where
+    cond-cond : (b : Bool) (x : Option Queue) → cond b w (cond b v x) ≡ cond b w x
+    cond-cond true x = refl
+    cond-cond false x = refl
+
+-- a slot may get a queue that has an error, or lose its queue
+no_empty-set : (slot : Slot) (w : Option Queue) (m n : BTreeMap Slot Queue) → HasNoEmptyQueue m → HasErrors w → IsSetAt slot w m n → HasNoEmptyQueue n
+no_empty-set slot w m n tidy has is q = subst HasErrors (sym (is q)) (cond_both (is_at (slot_cmp slot) q) w (get slot_cmp m q) HasErrors (λ _. has) (λ _. tidy q))
+
 -- ---- what happens to the queue of one slot
 
 module _ (slot : Slot) (m : BTreeMap Slot Queue) where
@@ -76,6 +124,11 @@ module _ (slot : Slot) (m : BTreeMap Slot Queue) where
       plan-set slot (Some w) same n u
       ∙ ap (λ old. with_errors slot.op (slot_key slot) (errors_of w.items) (plan_in old)) is
       ∙ ap (λ errors. with_errors slot.op (slot_key slot) errors (plan_in m)) (ap errors_of one ∙ ap (λ es. errors_of (es ++ e ∷ [])) empty ∙ ap (λ queue. errors_in queue ++ e.error ∷ []) none)
+
+  -- there may be one more queue that isn't empty, or no memory for it
+  pub no_empty-begun : {A E : Type 0} (r : Result A E) (w : Queue) (n : BTreeMap Slot Queue) → HasNoEmptyQueue m → w.items ≢ [] → OnOk r (UpdatesBy slot_cmp (slot_cmp slot) m n (Some w)) → OnErr r (n.entries ≡ m.entries) → HasNoEmptyQueue n
+  no_empty-begun (Ok a) w n tidy has updates _ = no_empty-set slot (Some w) m n tidy (some-has_errors w has) updates.0
+  no_empty-begun (Err e) w n tidy has _ same = λ q. subst HasErrors (ap (lookup (is_at (slot_cmp q))) (sym same)) (tidy q)
 
   -- where this one is lent, and another written in its place
   module _ (queue w : Queue) (n : BTreeMap Slot Queue) (found : Some queue ≡ get_by (slot_cmp slot) m) (written : WritesThrough slot_cmp (slot_cmp slot) m w n) where
@@ -101,6 +154,18 @@ module _ (slot : Slot) (m : BTreeMap Slot Queue) where
         ∙ with_errors-same slot.op (slot_key slot) [] (plan_in n) (ap errors_in updated.1 ∙ ap errors_of (nil_from_length w.items (sym w.ok.0 ∙ eqb-true (deque_len w) 0 (sym tested ∙ empty))))
         ∙ plan-taken is
 
+    -- no queue is empty where the one that was written isn't
+    pub no_empty-written : HasNoEmptyQueue m → w.items ≢ [] → HasNoEmptyQueue n
+    no_empty-written tidy has = no_empty-set slot (Some w) m n tidy (some-has_errors w has) updated.0
+
+    -- nor where it has one more error, or memory was lacking for it
+    pub no_empty-pushed : (pushed : Bool) (e : OwnError) → HasNoEmptyQueue m → w.items ≡ cond pushed (queue.items ++ e ∷ []) queue.items → HasNoEmptyQueue n
+    no_empty-pushed pushed e tidy is = no_empty-written tidy (pushed-not_empty pushed queue.items w.items e (λ none. tidy slot (ap items_in (sym found) ∙ ap Some none)) is)
+
+    -- nor where it was removed, whatever was left in it
+    pub no_empty-removed : (o : BTreeMap Slot Queue) → HasNoEmptyQueue m → UpdatesBy slot_cmp (slot_cmp slot) n o None → HasNoEmptyQueue o
+    no_empty-removed o tidy removed = no_empty-set slot None m o tidy nothing-has_errors (set-twice slot (Some w) None m n o updated.0 removed.0)
+
 -- ---- the errors are the store's own
 
 pub own_first_of : (errors : List OwnError) (e : FsError) → slice_get (errors_of errors) 0 ≡ Some e → IsOwn e
@@ -114,3 +179,24 @@ own_planned queues op key = by_queue (get slot_cmp queues (slot_at op key))
     by_queue : (queue : Option Queue) (e : FsError) → slice_get (errors_in queue) 0 ≡ Some e → IsOwn e
     by_queue None e is = absurd cc
     by_queue (Some queue) e is = own_first_of queue.items e is
+
+-- ---- a plan that refuses nothing
+
+-- without queues nothing is refused
+pub empty-refuses_nothing : (queues : BTreeMap Slot Queue) → queues.entries ≡ [] → plan_in queues ≡ no_refusals
+empty-refuses_nothing queues e = λ i op key. errors_in (lookup (is_at (slot_cmp (slot_at op key))) (e i))
+
+-- a queue without errors has no items
+no_errors : (errors : List OwnError) → errors_of errors ≡ [] → errors ≡ []
+no_errors [] e = refl
+no_errors (x ∷ errors) e = absurd cc
+
+-- where nothing is refused, there is no queue
+pub refuses_nothing-empty : (queues : BTreeMap Slot Queue) → HasNoEmptyQueue queues → plan_in queues ≡ no_refusals → queues.entries ≡ []
+refuses_nothing-empty queues tidy none = by_entries queues.entries refl
+  where
+    by_entries : (es : List (Slot × Queue)) → queues.entries ≡ es → queues.entries ≡ []
+    by_entries [] is = is
+    by_entries (e ∷ es) is =
+        let found : get slot_cmp queues e.0 ≡ Some e.1 = ap (lookup (is_at (slot_cmp e.0))) is ∙ lookup_head (is_at (slot_cmp e.0)) e es ((eq_by_cmp_equiv slot_cmp_total).refl e.0) in
+        absurd (tidy e.0 (ap items_in found ∙ ap Some (no_errors e.1.items (sym (ap errors_in found) ∙ (λ i. none i e.0.op (slot_key e.0))))))

@@ -1,8 +1,9 @@
 -- A plan of refusals as the code keeps it: this project's own choice.
-use Rattle.std.specs.Prelude.{List, [], map, Option, Some, None}
+use Rattle.std.specs.Prelude.{◌≢◌, List, [], map, Option, Some, None}
 use Rattle.std.specs.declared.collections.VecDeque.{VecDeque}
 use Rattle.std.specs.declared.alloc.Global.{Global}
 use Rattle.std.specs.declared.cmp.Ordering.{Ordering}
+use Rattle.std.specs.Option.{option_map}
 use Rattle.std.specs.Ordering.{nat_cmp, on, then_cmp}
 use Rattle.std.specs.Cmp.{IsTotalOrder, nat_cmp_total, on_total, then_total}
 use Rattle.std.specs.BTreeMap.{BTreeMap, get}
@@ -13,7 +14,7 @@ use Rattle.dav_resource.specs.declared.record.Op.{Op}
 use Rattle.dav_resource.specs.declared.error.FsError.{FsError}
 use Rattle.dav_refusing.specs.Plans.{Plan, Call, place_of_op}
 use Rattle.dav_refusing.specs.declared.refusing.slot.Slot.{Slot}
-use Rattle.dav_refusing.specs.declared.refusing.plan.OwnError.{OwnError}
+use Rattle.dav_refusing.specs.declared.refusing.own_error.OwnError.{OwnError}
 
 -- a path's key; where there is no path, the root's
 abbrev pub path_key : Option PathValue → Key
@@ -50,3 +51,11 @@ errors_in (Some queue) = errors_of queue.items
 
 abbrev pub plan_in : BTreeMap Slot Queue → Plan
 plan_in queues op key = errors_in (get slot_cmp queues (slot_at op key))
+
+-- the queue, where there is one, has an error
+abbrev pub HasErrors : Option Queue → Type 0
+HasErrors o = option_map (λ (queue : Queue). queue.items) o ≢ Some []
+
+-- no slot has a queue without errors
+abbrev pub HasNoEmptyQueue : BTreeMap Slot Queue → Type 0
+HasNoEmptyQueue queues = (slot : Slot) → HasErrors (get slot_cmp queues slot)

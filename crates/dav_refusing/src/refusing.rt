@@ -12,6 +12,7 @@ ghost use Rattle.dav_refusing.specs.Slots.{slot_call};
 ghost use Rattle.dav_refusing.specs.Refusing.{last_outcome as outcome_of_last};
 
 mod listing;
+mod own_error;
 mod pending;
 mod plan;
 mod slot;

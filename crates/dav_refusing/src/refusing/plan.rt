@@ -1,25 +1,22 @@
 //! The plan of a store that refuses by plan.
-ghost use Rattle.std.specs.Prelude.{◌≡◌, [], IsTrue, OnOk, OnErr, IfSome, map};
+ghost use Rattle.std.specs.Prelude.{◌≡◌, ◌↔◌, [], IsTrue, OnOk, OnErr, IfSome, map};
 ghost use Rattle.std.proofs.Props.{props};
 ghost use Rattle.dav_store.specs.Calls.{IsOwn};
+ghost use Rattle.dav_refusing.specs.Slots.{HasNoEmptyQueue};
 
+use super::own_error::OwnError;
 use super::slot::Slot;
 use dav_resource::{DavPath, FsError, Op};
 use std::alloc::{AllocError, Global};
 use std::collections::{BTreeMap, VecDeque};
 
-/// An error that a store may refuse a call with of its own will.
-#[derive(Clone, Copy, Debug)]
-struct OwnError {
-    error: FsError,
-    ghost own: { IsOwn error } by { Prim.hlevel props },
-}
-
-/// The calls that are to be refused by a plan: for those of each slot their errors, the first planned first.
+/// The calls that are to be refused by a plan: for those of each slot their errors, the first planned first. A slot has a
+/// queue only while it has errors.
 #[derive(Debug, Drop)]
 pub(super) struct Plan {
     alloc: Global,
     queues: BTreeMap<Slot, VecDeque<OwnError>>,
+    ghost tidy: { HasNoEmptyQueue queues } by { Prim.hlevel props },
 }
 
 impl Plan {
@@ -86,9 +83,9 @@ impl Plan {
         }
     }
 
-    /// Whether there is no queue, so that nothing is to be refused.
+    /// Whether there is no queue, and so nothing that is to be refused.
     pub(super) fn is_empty(&self) -> bool
-        ensures { IsTrue result → plan_in self.now.queues ≡ no_refusals }
+        ensures { IsTrue result ↔ (plan_in self.now.queues ≡ no_refusals) }
     {
         self.queues.is_empty()
     }

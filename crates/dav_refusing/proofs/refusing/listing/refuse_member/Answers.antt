@@ -6,5 +6,5 @@ use Rattle.dav_refusing.proofs.refusing.listing.refuse_member.Goals as goal
 
 pub returns-then-is_empty-clause-error : goal.returns-then-is_empty-clause-error
 returns-then-is_empty-clause-error c =
-    let none = c.is_empty.ensures c.if-is_empty.true in
+    let none = c.is_empty.ensures.0 c.if-is_empty.true in
     λ i. refusal_for Entry (member c.args.path.now.key c.args.entry.now.name) (sym none i)

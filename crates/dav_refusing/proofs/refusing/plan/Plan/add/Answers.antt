@@ -1,8 +1,18 @@
-use Rattle.std.proofs.Common.{◌∙◌, ap, rules}
+use Rattle.std.proofs.Common.{◌∙◌, sym, ap, subst, rules}
 use Rattle.dav_refusing.specs.Plans.{with_last}
-use Rattle.dav_refusing.specs.Slots.{plan_in}
-use Rattle.dav_refusing.proofs.Queues.{plan-begun, plan-kept, plan-pushed}
+use Rattle.dav_refusing.specs.Slots.{HasNoEmptyQueue, plan_in}
+use Rattle.dav_refusing.proofs.Queues.{no_empty-begun, no_empty-pushed, one_more-not_empty, plan-begun, plan-kept, plan-pushed}
 use Rattle.dav_refusing.proofs.refusing.plan.Plan.add.Goals as goal
+
+pub invariant_of-self : goal.invariant_of-self
+invariant_of-self c =
+    let w = c.push_back.new.self in
+    record { tidy = no_empty-pushed c.of_refusal-slot.result c.args.self.now.queues c.in-Some.queue.now w (c.get_mut.follows.lender w) c.in-Some.ensures.value (c.get_mut.follows.holds w) _ _ c.args.self.now.tidy c.push_back.ensures.items }
+
+pub invariant_of-self-2 : goal.invariant_of-self-2
+invariant_of-self-2 c =
+    let w = c.push_back-2.new.self in
+    record { tidy = no_empty-begun c.of_refusal-slot.result c.get_mut.follows.lender-at-none c.insert.result w c.insert.new.self (subst HasNoEmptyQueue (sym c.get_mut.follows.holds-at-none) c.args.self.now.tidy) (one_more-not_empty _ w.items _ c.in_ok-push_back-2.ensures.items) c.insert.ensures.updates c.insert.ensures.err }
 
 pub returns-in_err-push_back-clause-err : goal.returns-in_err-push_back-clause-err
 returns-in_err-push_back-clause-err c =
