@@ -1,5 +1,5 @@
 -- The look for locks at a key and below it: through the entries of the index from that key on.
-use Rattle.std.proofs.Common.{◌≡◌, ◌∙◌, ◌≤◌, ◌&&◌, ◌||◌, ℕ, arith, Bool, true, false, cond, List, [], ◌∷◌, Some, refl, sym, ap, ap₂, subst, length, String}
+use Rattle.std.proofs.Common.{◌≡◌, ◌∙◌, ◌&&◌, ◌||◌, ℕ, Bool, true, false, cond, List, [], ◌∷◌, Some, None, refl, sym, ap, ap₂, subst, slice_get, String}
 use Rattle.std.proofs.lemmas.Map.Keys.{sorted_head, sorted_tail}
 use Rattle.std.specs.declared.alloc.Global.{Global}
 use Rattle.std.specs.declared.cmp.Ordering.{Ordering}
@@ -15,25 +15,26 @@ use Rattle.dav_resource.specs.Texts.{texts}
 use Rattle.dav_store.specs.declared.lock.DavLock.{DavLock}
 use Rattle.dav_store.specs.Locks.{is_at_or_below, at_or_below}
 use Rattle.dav_memls.specs.declared.memory_locks.index.LockIndex.{LockIndex}
+use Rattle.dav_memls.specs.declared.memory_locks.index.Register.{Register}
 use Rattle.dav_memls.specs.declared.memory_locks.numbers.Numbers.{Numbers}
-use Rattle.dav_memls.specs.ByKey.{HasRun, numbers_at}
-use Rattle.dav_memls.specs.KeyEntries.{OwnKey, own_cmp, found_in, numbers_in}
-use Rattle.dav_memls.specs.LockIndex.{Row, IsIndexed, is_of_key, is_within, locks_of_numbers, numbers_of}
+use Rattle.dav_memls.specs.ByKey.{HasRun}
+use Rattle.dav_memls.specs.KeyEntries.{OwnKey, own_cmp, found_in, listed, numbers_in}
+use Rattle.dav_memls.specs.LockIndex.{Row, IsIndexed, among, found_at, is_of_key, is_within, locks_of_numbers, numbers_of, register_of}
 use Rattle.dav_memls.proofs.Ascending.{Rises}
-use Rattle.dav_memls.proofs.ByKeys.{listed, texts_cmp}
+use Rattle.dav_memls.proofs.ByKeys.{texts_cmp}
 use Rattle.dav_memls.proofs.KeyRuns.{none_behind, starts-texts}
 use Rattle.dav_memls.proofs.LockFound.{any_wider}
-use Rattle.dav_memls.proofs.LockRows.{locks_found}
+use Rattle.dav_memls.proofs.LockLooks.{at_key}
 
 -- whether the entry's key is the given one or below it, and a lock of its numbers passes
 abbrev pub meets : (DavLock → Bool) → Key → List Row → OwnKey × Numbers → Bool
-meets p key rows e = is_at_or_below (texts e.0.items) key && list_any p (locks_of_numbers e.1.items.items rows)
+meets p key rows e = is_at_or_below (texts e.0.items) key && list_any p (locks_of_numbers e.1.set.keys rows)
 
--- the entries that are left tell whether a lock at the key or below it passes
-pub record Tells (p : DavLock → Bool) (key : Key) (rows : List Row) (left : List (OwnKey × Numbers)) : Type 0 where
+-- the register's entries that are left tell whether a lock of it at the key or below it passes
+pub record Tells (register : Register) (p : DavLock → Bool) (key : Key) (rows : List Row) (left : List (OwnKey × Numbers)) : Type 0 where
   pub ordered : IsStrictlySortedBy own_cmp (keys_of left)
-  pub own : AllByRecursion (λ e. e.1.items.items ≡ numbers_of (is_of_key (texts e.0.items)) rows) left
-  pub answer : list_any (meets p key rows) left ≡ list_any p (at_or_below (values_of rows) key)
+  pub own : AllByRecursion (λ e. e.1.set.keys ≡ numbers_of (among register (is_of_key (texts e.0.items))) rows) left
+  pub answer : list_any (meets p key rows) left ≡ list_any (among register p) (at_or_below (values_of rows) key)
 
 or_true : (b : Bool) → (b || true) ≡ true
 or_true true = refl
@@ -64,10 +65,10 @@ witness p t (l ∷ ls) e = split (t l) (p l) refl refl e (witness p t ls)
     split false b at passes e more = later more e
 
 -- the numbers at a key, by the first entry
-numbers_first : (k : Key) (e : OwnKey × Numbers) (run : List (OwnKey × Numbers)) (b : Bool) → is_same_key k (texts e.0.items) ≡ b → numbers_in (e ∷ run) k ≡ cond b e.1.items.items (numbers_in run k)
+numbers_first : (k : Key) (e : OwnKey × Numbers) (run : List (OwnKey × Numbers)) (b : Bool) → is_same_key k (texts e.0.items) ≡ b → numbers_in (e ∷ run) k ≡ cond b e.1.set.keys (numbers_in run k)
 numbers_first k e run b at = ap (λ c. listed (cond c (Some e.1) (found_in run k))) at ∙ either b
   where
-    either : (c : Bool) → listed (cond c (Some e.1) (found_in run k)) ≡ cond c e.1.items.items (numbers_in run k)
+    either : (c : Bool) → listed (cond c (Some e.1) (found_in run k)) ≡ cond c e.1.set.keys (numbers_in run k)
     either true = refl
     either false = refl
 
@@ -76,7 +77,7 @@ told : (p : DavLock → Bool) (key k : Key) (rows : List Row) (run : List (OwnKe
 told p key k rows [] below e = absurd cc
 told p key k rows (e ∷ run) below passes = split (is_same_key k (texts e.0.items)) refl (told p key k rows run below)
   where
-    known : (b : Bool) → is_same_key k (texts e.0.items) ≡ b → list_any p (locks_of_numbers (cond b e.1.items.items (numbers_in run k)) rows) ≡ true
+    known : (b : Bool) → is_same_key k (texts e.0.items) ≡ b → list_any p (locks_of_numbers (cond b e.1.set.keys (numbers_in run k)) rows) ≡ true
     known b at = ap (λ xs. list_any p (locks_of_numbers xs rows)) (sym (numbers_first k e run b at)) ∙ passes
 
     split : (b : Bool) → is_same_key k (texts e.0.items) ≡ b → (list_any p (locks_of_numbers (numbers_in run k) rows) ≡ true → list_any (meets p key rows) run ≡ true) → list_any (meets p key rows) (e ∷ run) ≡ true
@@ -86,17 +87,17 @@ told p key k rows (e ∷ run) below passes = split (is_same_key k (texts e.0.ite
     split false at more = ap (λ b. meets p key rows e || b) (more (known false at)) ∙ or_true (meets p key rows e)
 
 -- an entry that passes has a lock that does
-sound : (p : DavLock → Bool) (key : Key) (rows : List Row) (run : List (OwnKey × Numbers)) → Rises (keys_of rows) → AllByRecursion (λ e. e.1.items.items ≡ numbers_of (is_of_key (texts e.0.items)) rows) run → list_any (meets p key rows) run ≡ true → list_any p (at_or_below (values_of rows) key) ≡ true
-sound p key rows [] r a e = absurd cc
-sound p key rows (e ∷ run) r a is = split (is_at_or_below (texts e.0.items) key) (list_any p (locks_of_numbers e.1.items.items rows)) refl refl (sound p key rows run r a.1) is
+sound : (register : Register) (p : DavLock → Bool) (key : Key) (rows : List Row) (run : List (OwnKey × Numbers)) → Rises (keys_of rows) → AllByRecursion (λ e. e.1.set.keys ≡ numbers_of (among register (is_of_key (texts e.0.items))) rows) run → list_any (meets p key rows) run ≡ true → list_any (among register p) (at_or_below (values_of rows) key) ≡ true
+sound register p key rows [] r a e = absurd cc
+sound register p key rows (e ∷ run) r a is = split (is_at_or_below (texts e.0.items) key) (list_any p (locks_of_numbers e.1.set.keys rows)) refl refl (sound register p key rows run r a.1) is
   where
     at_lock : is_at_or_below (texts e.0.items) key ≡ true → (l : DavLock) → is_of_key (texts e.0.items) l ≡ true → is_within key l ≡ true
     at_lock below l same = subst (λ x. is_at_or_below x key ≡ true) ((same_key_decides (texts e.0.items) l.path.key).0 same) below
 
-    split : (x y : Bool) → is_at_or_below (texts e.0.items) key ≡ x → list_any p (locks_of_numbers e.1.items.items rows) ≡ y → (list_any (meets p key rows) run ≡ true → list_any p (at_or_below (values_of rows) key) ≡ true) → ((x && y) || list_any (meets p key rows) run) ≡ true → list_any p (at_or_below (values_of rows) key) ≡ true
+    split : (x y : Bool) → is_at_or_below (texts e.0.items) key ≡ x → list_any p (locks_of_numbers e.1.set.keys rows) ≡ y → (list_any (meets p key rows) run ≡ true → list_any (among register p) (at_or_below (values_of rows) key) ≡ true) → ((x && y) || list_any (meets p key rows) run) ≡ true → list_any (among register p) (at_or_below (values_of rows) key) ≡ true
     split true true below passes more i =
-        any_wider p (is_of_key (texts e.0.items)) (is_within key) (at_lock below) (values_of rows)
-        (sym (ap (list_any p) (ap (λ xs. locks_of_numbers xs rows) a.0 ∙ locks_found (is_of_key (texts e.0.items)) rows r)) ∙ passes)
+        any_wider (among register p) (is_of_key (texts e.0.items)) (is_within key) (at_lock below) (values_of rows)
+        (sym (at_key register p (texts e.0.items) e.1.set.keys rows r a.0) ∙ passes)
     split true false below passes more i = more i
     split false y below passes more i = more i
 
@@ -105,33 +106,33 @@ same_answer true b f g = sym (f refl)
 same_answer false true f g = g refl
 same_answer false false f g = refl
 
-each_indexed : (index : LockIndex) (rows : List Row) (run : List (OwnKey × Numbers)) → IsIndexed index rows → AllByRecursion (λ e. numbers_at index.at (texts e.0.items) ≡ e.1.items.items) run → AllByRecursion (λ e. e.1.items.items ≡ numbers_of (is_of_key (texts e.0.items)) rows) run
-each_indexed index rows [] h a = tt
-each_indexed index rows (e ∷ run) h a = (sym a.0 ∙ h.at (texts e.0.items), each_indexed index rows run h a.1)
+each_indexed : (register : Register) (index : LockIndex) (rows : List Row) (run : List (OwnKey × Numbers)) → IsIndexed index rows → AllByRecursion (λ e. found_at index register (texts e.0.items) ≡ e.1.set.keys) run → AllByRecursion (λ e. e.1.set.keys ≡ numbers_of (among register (is_of_key (texts e.0.items))) rows) run
+each_indexed register index rows [] h a = tt
+each_indexed register index rows (e ∷ run) h a = (sym a.0 ∙ h.at register (texts e.0.items), each_indexed register index rows run h a.1)
 
-pub tells-start : (p : DavLock → Bool) (key : Key) (segments : List (String Global)) (index : LockIndex) (rows : List Row) (run left : List (OwnKey × Numbers)) → Rises (keys_of rows) → IsIndexed index rows → texts segments ≡ key → HasRun (texts segments) index.at run → left ≡ run → Tells p key rows left
-tells-start p key segments index rows run left r h same has is = subst (Tells p key rows) (sym is) (record {
+pub tells-start : (register : Register) (p : DavLock → Bool) (key : Key) (segments : List (String Global)) (index : LockIndex) (rows : List Row) (run left : List (OwnKey × Numbers)) → Rises (keys_of rows) → IsIndexed index rows → texts segments ≡ key → HasRun (texts segments) (register_of index register) run → left ≡ run → Tells register p key rows left
+tells-start register p key segments index rows run left r h same has is = subst (Tells register p key rows) (sym is) (record {
   ordered = has.ordered;
   own = owns;
-  answer = same_answer _ _ (sound p key rows run r owns) complete;
+  answer = same_answer _ _ (sound register p key rows run r owns) complete;
 })
   where
-    owns : AllByRecursion (λ e. e.1.items.items ≡ numbers_of (is_of_key (texts e.0.items)) rows) run
-    owns = each_indexed index rows run h has.own
+    owns : AllByRecursion (λ e. e.1.set.keys ≡ numbers_of (among register (is_of_key (texts e.0.items))) rows) run
+    owns = each_indexed register index rows run h has.own
 
-    complete : list_any p (at_or_below (values_of rows) key) ≡ true → list_any (meets p key rows) run ≡ true
+    complete : list_any (among register p) (at_or_below (values_of rows) key) ≡ true → list_any (meets p key rows) run ≡ true
     complete e =
-        let (l, below, found) = witness p (is_within key) (values_of rows) e in
-        let at : numbers_in run l.path.key ≡ numbers_of (is_of_key l.path.key) rows = has.all l.path.key (subst (λ k. is_at_or_below l.path.key k ≡ true) (sym same) below) ∙ h.at l.path.key in
+        let (l, below, found) = witness (among register p) (is_within key) (values_of rows) e in
+        let at : numbers_in run l.path.key ≡ numbers_of (among register (is_of_key l.path.key)) rows = has.all l.path.key (subst (λ k. is_at_or_below l.path.key k ≡ true) (sym same) below) ∙ h.at register l.path.key in
         told p key l.path.key rows run below
-        (ap (list_any p) (ap (λ xs. locks_of_numbers xs rows) at ∙ locks_found (is_of_key l.path.key) rows r) ∙ found (is_of_key l.path.key) ((same_key_decides l.path.key l.path.key).1 refl))
+        (at_key register p l.path.key (numbers_in run l.path.key) rows r at ∙ found (is_of_key l.path.key) ((same_key_decides l.path.key l.path.key).1 refl))
 
 -- ---- one entry
 
 -- it doesn't pass
-pub tells-more : (p : DavLock → Bool) (key : Key) (rows : List Row) (left : List (OwnKey × Numbers)) (e : OwnKey × Numbers) (more : List (OwnKey × Numbers)) → left ≡ e ∷ more → meets p key rows e ≡ false → Tells p key rows left → Tells p key rows more
-tells-more p key rows left e more is fails tells =
-    let here = subst (Tells p key rows) is tells in
+pub tells-more : (register : Register) (p : DavLock → Bool) (key : Key) (rows : List Row) (left : List (OwnKey × Numbers)) (e : OwnKey × Numbers) (more : List (OwnKey × Numbers)) → left ≡ e ∷ more → meets p key rows e ≡ false → Tells register p key rows left → Tells register p key rows more
+tells-more register p key rows left e more is fails tells =
+    let here = subst (Tells register p key rows) is tells in
     record {
       ordered = sorted_tail own_cmp e.0 (keys_of more) here.ordered;
       own = here.own.1;
@@ -139,29 +140,29 @@ tells-more p key rows left e more is fails tells =
     }
 
 -- it passes
-pub tells-some : (p : DavLock → Bool) (key : Key) (rows : List Row) (left : List (OwnKey × Numbers)) (e : OwnKey × Numbers) (more : List (OwnKey × Numbers)) → left ≡ e ∷ more → meets p key rows e ≡ true → Tells p key rows left → list_any p (at_or_below (values_of rows) key) ≡ true
-tells-some p key rows left e more is passes tells =
-    let here = subst (Tells p key rows) is tells in
+pub tells-some : (register : Register) (p : DavLock → Bool) (key : Key) (rows : List Row) (left : List (OwnKey × Numbers)) (e : OwnKey × Numbers) (more : List (OwnKey × Numbers)) → left ≡ e ∷ more → meets p key rows e ≡ true → Tells register p key rows left → list_any (among register p) (at_or_below (values_of rows) key) ≡ true
+tells-some register p key rows left e more is passes tells =
+    let here = subst (Tells register p key rows) is tells in
     sym here.answer ∙ ap (λ b. b || list_any (meets p key rows) more) passes
 
 -- its key is past those below
 all_past : (p : DavLock → Bool) (key first : Key) (own : OwnKey) (rows : List Row) (more : List (OwnKey × Numbers)) → texts own.items ≡ first → is_le (key_cmp key first) ≡ true → is_at_or_below first key ≡ false → AllByRecursion (λ k. own_cmp own k ≡ Less) (keys_of more) → list_any (meets p key rows) more ≡ false
 all_past p key first own rows [] same le out a = refl
 all_past p key first own rows (e ∷ more) same le out a =
-    ap₂ (λ x y. (x && list_any p (locks_of_numbers e.1.items.items rows)) || y)
+    ap₂ (λ x y. (x && list_any p (locks_of_numbers e.1.set.keys rows)) || y)
     (none_behind key first (texts e.0.items) le out (ap (λ k. key_cmp k (texts e.0.items)) (sym same) ∙ sym (texts_cmp own.items e.0.items) ∙ a.0))
     (all_past p key first own rows more same le out a.1)
 
-pub tells-past : (p : DavLock → Bool) (key : Key) (rows : List Row) (left : List (OwnKey × Numbers)) (e : OwnKey × Numbers) (more : List (OwnKey × Numbers)) → left ≡ e ∷ more → is_at_or_below (texts e.0.items) key ≡ false → is_le (key_cmp key (texts e.0.items)) ≡ true → Tells p key rows left → list_any p (at_or_below (values_of rows) key) ≡ false
-tells-past p key rows left e more is out le tells =
-    let here = subst (Tells p key rows) is tells in
+pub tells-past : (register : Register) (p : DavLock → Bool) (key : Key) (rows : List Row) (left : List (OwnKey × Numbers)) (e : OwnKey × Numbers) (more : List (OwnKey × Numbers)) → left ≡ e ∷ more → is_at_or_below (texts e.0.items) key ≡ false → is_le (key_cmp key (texts e.0.items)) ≡ true → Tells register p key rows left → list_any (among register p) (at_or_below (values_of rows) key) ≡ false
+tells-past register p key rows left e more is out le tells =
+    let here = subst (Tells register p key rows) is tells in
     sym here.answer
-    ∙ ap₂ (λ x y. (x && list_any p (locks_of_numbers e.1.items.items rows)) || y) out (all_past p key (texts e.0.items) e.0 rows more refl le out (sorted_head own_cmp e.0 (keys_of more) here.ordered))
+    ∙ ap₂ (λ x y. (x && list_any p (locks_of_numbers e.1.set.keys rows)) || y) out (all_past p key (texts e.0.items) e.0 rows more refl le out (sorted_head own_cmp e.0 (keys_of more) here.ordered))
 
 -- ---- none is left
 
-pub tells-none : (p : DavLock → Bool) (key : Key) (rows : List Row) (left : List (OwnKey × Numbers)) → left ≡ [] → Tells p key rows left → list_any p (at_or_below (values_of rows) key) ≡ false
-tells-none p key rows left is tells = sym tells.answer ∙ ap (list_any (meets p key rows)) is
+pub tells-none : (register : Register) (p : DavLock → Bool) (key : Key) (rows : List Row) (left : List (OwnKey × Numbers)) → left ≡ [] → Tells register p key rows left → list_any (among register p) (at_or_below (values_of rows) key) ≡ false
+tells-none register p key rows left is tells = sym tells.answer ∙ ap (list_any (meets p key rows)) is
 
 pub none_there : (ls : List DavLock) → list_any (λ l. true) ls ≡ false → ls ≡ []
 none_there [] e = refl
@@ -187,19 +188,19 @@ behind_is answer order own xs segments key same is compared value e =
 -- whether it passes
 
 pub not_below : (p : DavLock → Bool) (key : Key) (rows : List Row) (e : OwnKey × Numbers) → is_at_or_below (texts e.0.items) key ≡ false → meets p key rows e ≡ false
-not_below p key rows e out = ap (λ b. b && list_any p (locks_of_numbers e.1.items.items rows)) out
+not_below p key rows e out = ap (λ b. b && list_any p (locks_of_numbers e.1.set.keys rows)) out
 
-pub below_passes : (b answer : Bool) (p : DavLock → Bool) (key : Key) (rows : List Row) (xs : List ℕ) (e : OwnKey × Numbers) → is_at_or_below (texts e.0.items) key ≡ true → xs ≡ e.1.items.items → answer ≡ list_any p (locks_of_numbers xs rows) → answer ≡ b → meets p key rows e ≡ b
+pub below_passes : (b answer : Bool) (p : DavLock → Bool) (key : Key) (rows : List Row) (xs : List ℕ) (e : OwnKey × Numbers) → is_at_or_below (texts e.0.items) key ≡ true → xs ≡ e.1.set.keys → answer ≡ list_any p (locks_of_numbers xs rows) → answer ≡ b → meets p key rows e ≡ b
 below_passes b answer p key rows xs e below is value at =
-    ap (λ c. c && list_any p (locks_of_numbers e.1.items.items rows)) below
+    ap (λ c. c && list_any p (locks_of_numbers e.1.set.keys rows)) below
     ∙ ap (λ ys. list_any p (locks_of_numbers ys rows)) (sym is)
     ∙ sym value
     ∙ at
 
-pub no_numbers : (p : DavLock → Bool) (xs : List ℕ) (rows : List Row) → length xs ≤ 0 → false ≡ list_any p (locks_of_numbers xs rows)
+pub no_numbers : (p : DavLock → Bool) (xs : List ℕ) (rows : List Row) → slice_get xs 0 ≡ None → false ≡ list_any p (locks_of_numbers xs rows)
 no_numbers p [] rows e = refl
-no_numbers p (x ∷ xs) rows e = absurd (omega arith)
+no_numbers p (x ∷ xs) rows e = absurd cc
 
 -- its numbers are those of the locks at its key
-pub numbers_own : (p : DavLock → Bool) (key : Key) (rows : List Row) (xs : List ℕ) (left : List (OwnKey × Numbers)) (e : OwnKey × Numbers) (more : List (OwnKey × Numbers)) → left ≡ e ∷ more → xs ≡ e.1.items.items → Tells p key rows left → xs ≡ numbers_of (is_of_key (texts e.0.items)) rows
-numbers_own p key rows xs left e more is same tells = same ∙ (subst (Tells p key rows) is tells).own.0
+pub numbers_own : (register : Register) (p : DavLock → Bool) (key : Key) (rows : List Row) (xs : List ℕ) (left : List (OwnKey × Numbers)) (e : OwnKey × Numbers) (more : List (OwnKey × Numbers)) → left ≡ e ∷ more → xs ≡ e.1.set.keys → Tells register p key rows left → xs ≡ numbers_of (among register (is_of_key (texts e.0.items))) rows
+numbers_own register p key rows xs left e more is same tells = same ∙ (subst (Tells register p key rows) is tells).own.0

@@ -1,6 +1,5 @@
 -- Numbers by keys: what a change at one key leaves at each.
-use Rattle.std.proofs.Common.{◌≡◌, ◌≢◌, ◌∙◌, ℕ, Bool, true, false, cond, List, [], ◌∷◌, ◌++◌, Option, Some, None, Result, Ok, Err, OnOk, OnErr, String, refl, sym, ap, length, take, ◌==◌, string_bytes, arith}
-use Rattle.std.proofs.lemmas.Bool.Decides.{nat_tests}
+use Rattle.std.proofs.Common.{◌≡◌, ◌≢◌, ◌∙◌, ℕ, Bool, true, false, cond, List, [], ◌∷◌, ◌++◌, Option, Some, None, Result, Ok, Err, OnOk, OnErr, String, refl, sym, ap, take, string_bytes, IsTrue, ◌↔◌}
 use Rattle.std.proofs.lemmas.List.{append-nil}
 use Rattle.std.specs.declared.alloc.Global.{Global}
 use Rattle.std.specs.Bool.{Decides}
@@ -8,13 +7,13 @@ use Rattle.std.specs.Cmp.Lexicographic.{slice_cmp}
 use Rattle.std.specs.Ordering.{eq_by_cmp, is_eq, ordering_then}
 use Rattle.std.specs.String.{string_cmp}
 use Rattle.std.specs.List.{AllZip, take-map}
-use Rattle.std.specs.Option.{option_map, option_map_or}
+use Rattle.std.specs.Option.{option_map}
 use Rattle.std.specs.Map.{lookup, KeepsOthers}
 use Rattle.dav_resource.specs.Key.{Key, is_same_key, same_key_decides, key_cmp, tied_decides}
 use Rattle.dav_resource.specs.Texts.{texts}
 use Rattle.dav_memls.specs.declared.memory_locks.numbers.Numbers.{Numbers}
 use Rattle.dav_memls.specs.Numbers.{without}
-use Rattle.dav_memls.specs.KeyEntries.{OwnKey, own_cmp, entry_in, numbers_in, IsTidy}
+use Rattle.dav_memls.specs.KeyEntries.{OwnKey, own_cmp, entry_in, listed, numbers_in, IsTidy}
 use Rattle.dav_memls.specs.ByKey.{only_if, without_if}
 
 -- ---- segments as the keys that contracts see: their order, copies of them, and which are the same
@@ -55,9 +54,6 @@ found-texts key es = lookup-agree _ _ (λ k. segments-texts key k.items) es
 same_key-left : (a b c : Key) → is_same_key a b ≡ true → is_same_key a c ≡ is_same_key b c
 same_key-left a b c e = ap (λ k. is_same_key k c) ((same_key_decides a b).0 e)
 
-abbrev pub listed : Option Numbers → List ℕ
-listed o = option_map_or (λ (numbers : Numbers). numbers.items.items) o []
-
 abbrev SegmentsEq : OwnKey → OwnKey → Bool
 SegmentsEq x y = eq_by_cmp own_cmp x y
 
@@ -72,11 +68,11 @@ updated key old new w here others k = split (is_same_key k (texts key)) refl
     split false e = ap listed (others (λ (o : OwnKey). is_same_key k (texts o.items)) (λ x y is. same_key-left k (texts x.items) (texts y.items) is ∙ sym (segments-texts x.items y.items)) (λ o is. ap (is_same_key k) (sym ((same_key_decides (texts key) (texts o.items)).0 (sym (segments-texts key o.items) ∙ is))) ∙ e))
 
 -- a number is put behind those of the key
-pub joined : (key : List (String Global)) (old new : List (OwnKey × Numbers)) (w : Numbers) (n : ℕ) → w.items.items ≡ numbers_in old (texts key) ++ n ∷ [] → lookup (at_segments key) new ≡ Some w → KeepsOthers SegmentsEq (at_segments key) old new
+pub joined : (key : List (String Global)) (old new : List (OwnKey × Numbers)) (w : Numbers) (n : ℕ) → w.set.keys ≡ numbers_in old (texts key) ++ n ∷ [] → lookup (at_segments key) new ≡ Some w → KeepsOthers SegmentsEq (at_segments key) old new
     → (k : Key) → numbers_in new k ≡ numbers_in old k ++ only_if (is_same_key k (texts key)) n
 joined key old new w n is here others k = updated key old new (Some w) here others k ∙ split (is_same_key k (texts key)) refl
   where
-    split : (b : Bool) → is_same_key k (texts key) ≡ b → cond b w.items.items (numbers_in old k) ≡ numbers_in old k ++ only_if b n
+    split : (b : Bool) → is_same_key k (texts key) ≡ b → cond b w.set.keys (numbers_in old k) ≡ numbers_in old k ++ only_if b n
     split true e = is ∙ ap (λ q. numbers_in old q ++ n ∷ []) (sym ((same_key_decides k (texts key)).0 e))
     split false e = sym (append-nil (numbers_in old k))
 
@@ -111,7 +107,7 @@ left_none key es n none k = split (is_same_key k (texts key)) refl
 -- ---- entries
 
 abbrev pub itemized : Option Numbers → Option (List ℕ)
-itemized o = option_map (λ (numbers : Numbers). numbers.items.items) o
+itemized o = option_map (λ (numbers : Numbers). numbers.set.keys) o
 
 -- what a map has at a key that was set, and at the others
 entry_here : (key : List (String Global)) (es : List (OwnKey × Numbers)) (w : Option Numbers) → lookup (at_segments key) es ≡ w → (k : Key) → is_same_key k (texts key) ≡ true → entry_in es k ≡ itemized w
@@ -140,7 +136,7 @@ tidy_set key old new w tidy has here others k none = split (is_same_key k (texts
 pub none_tidy : itemized None ≢ Some []
 none_tidy e = cc
 
-pub some_tidy : (w : Numbers) → w.items.items ≢ [] → itemized (Some w) ≢ Some []
+pub some_tidy : (w : Numbers) → w.set.keys ≢ [] → itemized (Some w) ≢ Some []
 some_tidy w has e = has cc
 
 -- the numbers of an entry, with or without one more behind them, are some
@@ -148,7 +144,7 @@ pub pushed_some : (xs : List ℕ) (n : ℕ) → xs ++ n ∷ [] ≢ []
 pushed_some [] n e = cc
 pushed_some (x ∷ xs) n e = cc
 
-pub found_some : (key : List (String Global)) (es : List (OwnKey × Numbers)) (v : Numbers) → IsTidy es → Some v ≡ lookup (at_segments key) es → v.items.items ≢ []
+pub found_some : (key : List (String Global)) (es : List (OwnKey × Numbers)) (v : Numbers) → IsTidy es → Some v ≡ lookup (at_segments key) es → v.set.keys ≢ []
 found_some key es v tidy is e = tidy (texts key) (sym (ap itemized (is ∙ found-texts key es)) ∙ ap Some e)
 
 -- so they are whether the number was put there or memory was lacking
@@ -161,18 +157,13 @@ pub from_either : {A E : Type 0} (r : Result A E) (P Q R : Type 0) → OnOk r P 
 from_either (Ok a) P Q R p q f g = f p
 from_either (Err e) P Q R p q f g = g q
 
-pub not_empty : (xs : List ℕ) → (length xs == 0) ≡ false → xs ≢ []
-not_empty [] e q = cc
-not_empty (x ∷ xs) e q = cc
+pub not_empty : (xs : List ℕ) (is_empty : Bool) → (IsTrue is_empty ↔ (xs ≡ [])) → is_empty ≡ false → xs ≢ []
+not_empty xs is_empty tells not none = let no : false ≡ true = sym not ∙ tells.1 none in cc
 
 -- ---- a look
 
 pub got : (key : List (String Global)) (es : List (OwnKey × Numbers)) (o : Option Numbers) → o ≡ lookup (at_segments key) es → listed o ≡ numbers_in es (texts key)
 got key es o is = ap listed (is ∙ found-texts key es)
-
-pub empty : (xs : List ℕ) → (length xs == 0) ≡ true → xs ≡ []
-empty [] e = refl
-empty (x ∷ xs) e = absurd (grind (arith, nat_tests, e))
 
 -- ---- the first segments of a key
 

@@ -1,20 +1,19 @@
 -- The numbers of the locks that cover a key, found from the root on, in order.
-use Rattle.std.proofs.Common.{◌≡◌, ◌∙◌, ◌==◌, ◌<◌, ◌+◌, ℕ, zero, suc, Bool, true, false, cond, ◌&&◌, ◌||◌, List, [], ◌∷◌, ◌++◌, map, Option, Some, refl, sym, ap, ap₂, subst, length, get_or, take, arith}
-use Rattle.std.proofs.lemmas.List.{take_more}
+use Rattle.std.proofs.Common.{◌≡◌, ◌∙◌, ◌==◌, ◌<◌, ℕ, zero, suc, Bool, true, false, cond, ◌&&◌, ◌||◌, List, [], ◌∷◌, map, refl, sym, ap, ap₂, subst, length, take, take_all, arith}
 use Rattle.std.proofs.lemmas.Bool.Decides.{nat_tests}
-use Rattle.std.specs.BTreeSet.{BTreeSet, contains}
+use Rattle.std.specs.BTreeSet.{BTreeSet, contains, InsertsAll}
 use Rattle.std.specs.List.{AllByRecursion, filter, list_any}
 use Rattle.std.specs.Map.{keys_of, values_of}
-use Rattle.std.specs.Option.{option_map_or}
 use Rattle.std.specs.Ordering.{is_eq, nat_cmp}
-use Rattle.dav_resource.specs.Key.{Key}
+use Rattle.dav_resource.specs.Key.{Key, is_same_key}
 use Rattle.dav_store.specs.declared.lock.DavLock.{DavLock}
-use Rattle.dav_store.specs.Locks.{covers, covering}
-use Rattle.dav_memls.specs.LockIndex.{Row, numbers_of, lock_of, locks_of_numbers, number_passes, is_of_key, is_above, HasNumbers, AddsNumbers}
+use Rattle.dav_store.specs.Locks.{is_at_or_below, covers, covering}
+use Rattle.dav_memls.specs.declared.memory_locks.index.Register.TheVariants.{Deep}
+use Rattle.dav_memls.specs.LockIndex.{Row, among, numbers_of, locks_of_numbers, is_of_key, HasNumbers, AddsNumbers}
 use Rattle.dav_memls.proofs.Ascending.{Rises, rises-head, rises-tail, rises-cons, rises-none, same, not_same, is_eq-same, all_weaker}
 use Rattle.dav_memls.proofs.Reached.{reached-more, reached-all}
-use Rattle.dav_memls.proofs.LockRows.{all_numbers, each_found, locks_found}
-use Rattle.dav_memls.proofs.LockFound.{is_reached, any-or, covers-above}
+use Rattle.dav_memls.proofs.LockRows.{all_numbers, locks_found}
+use Rattle.dav_memls.proofs.LockFound.{is_reached, any-or}
 
 -- ---- lists of numbers in order that have the same numbers
 
@@ -64,15 +63,6 @@ rises-numbers test (row ∷ rows) r =
       | false ↦ rises-numbers test rows (rises-tail row.0 (keys_of rows) r)
     ]
 
-kept_numbers : (find : ℕ → Option DavLock) (s t : DavLock → Bool) (rows : List Row) → AllByRecursion (λ (row : Row). find row.0 ≡ Some row.1) rows → filter (λ n. option_map_or t (find n) false) (numbers_of s rows) ≡ numbers_of (λ l. s l && t l) rows
-kept_numbers find s t [] a = refl
-kept_numbers find s t (row ∷ rows) a = split (s row.1) (t row.1) refl (kept_numbers find s t rows a.1)
-  where
-    split : (x y : Bool) → t row.1 ≡ y → filter (λ n. option_map_or t (find n) false) (numbers_of s rows) ≡ numbers_of (λ l. s l && t l) rows → filter (λ n. option_map_or t (find n) false) (map (λ (r : Row). r.0) (cond x (row ∷ filter (λ (r : Row). s r.1) rows) (filter (λ (r : Row). s r.1) rows))) ≡ map (λ (r : Row). r.0) (cond (x && y) (row ∷ filter (λ (r : Row). s r.1 && t r.1) rows) (filter (λ (r : Row). s r.1 && t r.1) rows))
-    split true true is more = ap (λ o. cond (option_map_or t o false) (row.0 ∷ filter (λ n. option_map_or t (find n) false) (numbers_of s rows)) (filter (λ n. option_map_or t (find n) false) (numbers_of s rows))) a.0 ∙ ap (λ b. cond b (row.0 ∷ filter (λ n. option_map_or t (find n) false) (numbers_of s rows)) (filter (λ n. option_map_or t (find n) false) (numbers_of s rows))) is ∙ ap (λ xs. row.0 ∷ xs) more
-    split true false is more = ap (λ o. cond (option_map_or t o false) (row.0 ∷ filter (λ n. option_map_or t (find n) false) (numbers_of s rows)) (filter (λ n. option_map_or t (find n) false) (numbers_of s rows))) a.0 ∙ ap (λ b. cond b (row.0 ∷ filter (λ n. option_map_or t (find n) false) (numbers_of s rows)) (filter (λ n. option_map_or t (find n) false) (numbers_of s rows))) is ∙ more
-    split false y is more = more
-
 numbers_agree : (a b : DavLock → Bool) (rows : List Row) → AllByRecursion (λ (row : Row). a row.1 ≡ b row.1) rows → numbers_of a rows ≡ numbers_of b rows
 numbers_agree a b [] h = refl
 numbers_agree a b (row ∷ rows) h = ap (λ x. map (λ (r : Row). r.0) (cond x (row ∷ filter (λ (r : Row). a r.1) rows) (filter (λ (r : Row). a r.1) rows))) h.0 ∙ behind (b row.1) (numbers_agree a b rows h.1)
@@ -87,9 +77,9 @@ each_row h (row ∷ rows) = (h row, each_row h rows)
 
 -- ---- from the root on
 
--- the locks reached so far that cover the key
+-- the locks at the key, and those deep ones that were reached so far
 abbrev pub reached_covers : ℕ → Key → DavLock → Bool
-reached_covers d key l = is_reached d key l && covers l key
+reached_covers d key l = is_of_key key l || (l.deep && is_reached d key l)
 
 any_map : (q : ℕ → Bool) (rows : List Row) → list_any q (map (λ (r : Row). r.0) rows) ≡ list_any (λ (r : Row). q r.0) rows
 any_map q [] = refl
@@ -101,30 +91,54 @@ any_numbers_or n a b rows =
     ∙ any-or (λ (r : Row). n == r.0) (λ r. a r.1) (λ r. b r.1) rows
     ∙ sym (ap₂ (λ x y. x || y) (any_map (λ m. n == m) (filter (λ (r : Row). a r.1) rows)) (any_map (λ m. n == m) (filter (λ (r : Row). b r.1) rows)))
 
-and_or : (x y c : Bool) → ((x || y) && c) ≡ ((x && c) || (y && c))
-and_or true y true = refl
-and_or true true false = refl
-and_or true false false = refl
-and_or false y c = refl
+-- at first those at the key
+pub covering_own : (key : Key) (rows : List Row) (found : BTreeSet ℕ) → HasNumbers found (numbers_of (is_of_key key) rows) → HasNumbers found (numbers_of (reached_covers zero key) rows)
+covering_own key rows found h n = h n ∙ ap (list_any (λ m. n == m)) (numbers_agree (is_of_key key) (reached_covers zero key) rows (each_row (λ row. none (is_of_key key row.1) row.1.deep) rows))
+  where
+    none : (own deep : Bool) → own ≡ (own || (deep && false))
+    none true deep = refl
+    none false true = refl
+    none false false = refl
 
-pub covering_more : (d : ℕ) (key : Key) (rows : List Row) (old new : BTreeSet ℕ) → Rises (keys_of rows)
-    → HasNumbers old (numbers_of (reached_covers d key) rows)
-    → ((n : ℕ) → contains nat_cmp new n ≡ (contains nat_cmp old n || list_any (λ m. n == m) (filter (number_passes (λ l. covers l key) rows) (numbers_of (is_of_key (take d key)) rows))))
-    → HasNumbers new (numbers_of (reached_covers (suc d) key) rows)
-covering_more d key rows old new r was is n =
-    is n
-    ∙ ap₂ (λ x y. x || list_any (λ m. n == m) y) (was n) (kept_numbers (λ k. lock_of k rows) (is_of_key (take d key)) (λ l. covers l key) rows (each_found rows r))
-    ∙ sym (any_numbers_or n (reached_covers d key) (λ l. is_of_key (take d key) l && covers l key) rows)
-    ∙ ap (list_any (λ m. n == m)) (numbers_agree _ (reached_covers (suc d) key) rows (each_row (λ row. sym (ap (λ b. b && covers row.1 key) (reached-more d key row.1.path.key) ∙ and_or (is_reached d key row.1) (is_of_key (take d key) row.1) (covers row.1 key))) rows))
+-- then those above it, one after another
+pub covering_more : (d : ℕ) (key : Key) (rows : List Row) (old new : BTreeSet ℕ) → HasNumbers old (numbers_of (reached_covers d key) rows) → AddsNumbers (numbers_of (among Deep (is_of_key (take d key))) rows) old new → HasNumbers new (numbers_of (reached_covers (suc d) key) rows)
+covering_more d key rows old new was adds n =
+    adds n
+    ∙ ap (λ b. b || list_any (λ m. n == m) (numbers_of (among Deep (is_of_key (take d key))) rows)) (was n)
+    ∙ sym (any_numbers_or n (reached_covers d key) (among Deep (is_of_key (take d key))) rows)
+    ∙ ap (list_any (λ m. n == m)) (numbers_agree _ (reached_covers (suc d) key) rows (each_row (λ row. moved (is_of_key key row.1) row.1.deep (is_reached d key row.1) (is_of_key (take d key) row.1) ∙ ap (λ b. is_of_key key row.1 || (row.1.deep && b)) (sym (reached-more d key row.1.path.key))) rows))
+  where
+    moved : (own deep before here : Bool) → ((own || (deep && before)) || (deep && here)) ≡ (own || (deep && (before || here)))
+    moved true deep before here = refl
+    moved false true before here = refl
+    moved false false before here = refl
 
-within : (a c : Bool) → (c ≡ true → a ≡ true) → (a && c) ≡ c
-within true c h = refl
-within false true h = h refl
-within false false h = refl
+-- and at last all that cover it
+pub covering_all_reached : (key : Key) (rows : List Row) (found : BTreeSet ℕ) → HasNumbers found (numbers_of (reached_covers (length key) key) rows) → HasNumbers found (numbers_of (λ l. covers l key) rows)
+covering_all_reached key rows found h n = h n ∙ ap (list_any (λ m. n == m)) (numbers_agree (reached_covers (length key) key) (λ l. covers l key) rows (each_row (λ row. all row.1) rows))
+  where
+    turned : (a b : Bool) → (a || b) ≡ (b || a)
+    turned true true = refl
+    turned true false = refl
+    turned false true = refl
+    turned false false = refl
 
-pub covering_all_reached : (key : Key) (rows : List Row) (found : BTreeSet ℕ) → HasNumbers found (numbers_of (reached_covers (suc (length key)) key) rows) → HasNumbers found (numbers_of (λ l. covers l key) rows)
-covering_all_reached key rows found h n =
-    h n ∙ ap (list_any (λ m. n == m)) (numbers_agree (reached_covers (suc (length key)) key) (λ l. covers l key) rows (each_row (λ row. ap (λ b. b && covers row.1 key) (reached-all key row.1.path.key) ∙ within (is_above key row.1) (covers row.1 key) (covers-above key row.1)) rows))
+    or_false : (b : Bool) → (b || false) ≡ b
+    or_false true = refl
+    or_false false = refl
+
+    above : (l : DavLock) → (is_of_key key l || is_reached (length key) key l) ≡ is_at_or_below key l.path.key
+    above l =
+        turned (is_of_key key l) (is_reached (length key) key l)
+        ∙ ap (λ k. is_reached (length key) key l || is_same_key k l.path.key) (sym (take_all (length key) key (omega arith)))
+        ∙ sym (reached-more (length key) key l.path.key)
+        ∙ reached-all key l.path.key
+
+    all : (l : DavLock) → reached_covers (length key) key l ≡ covers l key
+    all l = elim l.deep as (λ b. (is_of_key key l || (b && is_reached (length key) key l)) ≡ cond b (is_at_or_below key l.path.key) (is_same_key key l.path.key)) [
+      | true ↦ above l
+      | false ↦ or_false (is_of_key key l)
+    ]
 
 -- ---- the set
 
@@ -138,54 +152,18 @@ covering_listed key rows found r s h =
     ap (λ xs. locks_of_numbers xs rows) (same_numbers found.keys (numbers_of (λ l. covers l key) rows) s (rises-numbers _ rows r) (λ n. sym (any_agree _ (λ m. n == m) (λ k. is_eq-same n k) found.keys) ∙ h n))
     ∙ locks_found (λ l. covers l key) rows r
 
--- at first none is reached
-nothing_reached : (key : Key) (rows : List Row) → numbers_of (reached_covers zero key) rows ≡ []
-nothing_reached key [] = refl
-nothing_reached key (row ∷ rows) = nothing_reached key rows
+-- ---- one list of numbers more
 
-pub covering_none : (key : Key) (rows : List Row) (found : BTreeSet ℕ) → found.keys ≡ [] → HasNumbers found (numbers_of (reached_covers zero key) rows)
-covering_none key rows found e n = ap (list_any (λ k. is_eq (nat_cmp n k))) e ∙ ap (list_any (λ m. n == m)) (sym (nothing_reached key rows))
+pub adds_all : (old new : BTreeSet ℕ) (xs : List ℕ) → InsertsAll nat_cmp old xs new → AddsNumbers xs old new
+adds_all old new xs inserts n = inserts.0 n ∙ ap (λ b. contains nat_cmp old n || b) (any_agree _ (λ m. n == m) (λ m. is_eq-same n m) xs)
 
--- ---- one number
-
-or_assoc : (x y z : Bool) → ((x || y) || z) ≡ (x || (y || z))
-or_assoc true y z = refl
-or_assoc false y z = refl
-
-or_false : (x : Bool) → (x || false) ≡ x
-or_false true = refl
-or_false false = refl
-
-passed_more : (n x : ℕ) (b : Bool) (p : ℕ → Bool) (xs : List ℕ) → p x ≡ b → list_any (λ m. n == m) (filter p (xs ++ x ∷ [])) ≡ (list_any (λ m. n == m) (filter p xs) || (b && (n == x)))
-passed_more n x b p [] is = ap (λ c. list_any (λ m. n == m) (cond c (x ∷ []) [])) is ∙ one b
-  where
-    one : (c : Bool) → list_any (λ m. n == m) (cond c (x ∷ []) []) ≡ (c && (n == x))
-    one true = or_false (n == x)
-    one false = refl
-passed_more n x b p (y ∷ xs) is =
-    elim (p y) as (λ c. list_any (λ m. n == m) (cond c (y ∷ filter p (xs ++ x ∷ [])) (filter p (xs ++ x ∷ []))) ≡ (list_any (λ m. n == m) (cond c (y ∷ filter p xs) (filter p xs)) || (b && (n == x)))) [
-      | true ↦ ap (λ c. (n == y) || c) (passed_more n x b p xs is) ∙ sym (or_assoc (n == y) _ _)
-      | false ↦ passed_more n x b p xs is
-    ]
-
--- the next number goes in where it passes
-pub adds_next : (p : ℕ → Bool) (xs : List ℕ) (i : ℕ) (b : Bool) (old mid new : BTreeSet ℕ) → i < length xs → p (get_or xs i 0) ≡ b → AddsNumbers p (take i xs) old mid → ((n : ℕ) → contains nat_cmp new n ≡ (contains nat_cmp mid n || (b && (n == get_or xs i 0)))) → AddsNumbers p (take (i + 1) xs) old new
-adds_next p xs i b old mid new inside is was adds n =
-    adds n
-    ∙ ap (λ c. c || (b && (n == get_or xs i 0))) (was n)
-    ∙ or_assoc (contains nat_cmp old n) _ _
-    ∙ ap (λ c. contains nat_cmp old n || c) (sym (ap (λ ys. list_any (λ m. n == m) (filter p ys)) (take_more xs i 0 inside) ∙ passed_more n (get_or xs i 0) b p (take i xs) is))
-
-pub adds_none : (old new : BTreeSet ℕ) → new ≡ old → (n : ℕ) → contains nat_cmp new n ≡ (contains nat_cmp old n || false)
+pub adds_none : (old new : BTreeSet ℕ) → new ≡ old → AddsNumbers [] old new
 adds_none old new same n = ap (λ s. contains nat_cmp s n) same ∙ sym (or_false (contains nat_cmp old n))
-
-same_turned : (x n : ℕ) → is_eq (nat_cmp x n) ≡ (n == x)
-same_turned x n = grind (arith, nat_tests)
-
-pub adds_some : (old mid new : BTreeSet ℕ) (x : ℕ) → new ≡ mid → ((n : ℕ) → contains nat_cmp mid n ≡ cond (is_eq (nat_cmp x n)) true (contains nat_cmp old n)) → (n : ℕ) → contains nat_cmp new n ≡ (contains nat_cmp old n || (n == x))
-adds_some old mid new x same puts n = ap (λ s. contains nat_cmp s n) same ∙ puts n ∙ ap (λ b. cond b true (contains nat_cmp old n)) (same_turned x n) ∙ either (n == x) (contains nat_cmp old n)
   where
-    either : (b c : Bool) → cond b true c ≡ (c || b)
-    either true true = refl
-    either true false = refl
-    either false c = sym (or_false c)
+    or_false : (b : Bool) → (b || false) ≡ b
+    or_false true = refl
+    or_false false = refl
+
+-- to none at all
+pub adds_first : (xs ys : List ℕ) (old new : BTreeSet ℕ) → old.keys ≡ [] → ys ≡ xs → AddsNumbers ys old new → HasNumbers new xs
+adds_first xs ys old new none same adds n = adds n ∙ ap₂ (λ ks zs. list_any (λ k. is_eq (nat_cmp n k)) ks || list_any (λ m. n == m) zs) none same

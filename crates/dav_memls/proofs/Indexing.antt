@@ -1,5 +1,5 @@
 -- The index of locks: what a lock that is added, removed or refreshed leaves of it.
-use Rattle.std.proofs.Common.{◌≡◌, ◌∙◌, ◌==◌, ℕ, Bool, true, false, cond, List, [], ◌∷◌, ◌++◌, Option, Some, None, bytes_eq, refl, sym, ap, subst, nat_cmp}
+use Rattle.std.proofs.Common.{◌≡◌, ◌∙◌, ◌==◌, ℕ, Bool, true, false, cond, List, [], ◌∷◌, ◌++◌, ◌&&◌, Option, Some, None, bytes_eq, refl, sym, ap, subst, nat_cmp}
 use Rattle.std.proofs.lemmas.List.{append-nil, map-append}
 use Rattle.std.proofs.lemmas.Slice.Eq.{bytes_eq-Decides}
 use Rattle.std.specs.BTreeMap.{is_at}
@@ -10,25 +10,27 @@ use Rattle.std.specs.Option.{option_to_list}
 use Rattle.dav_resource.specs.Key.{Key}
 use Rattle.dav_store.specs.declared.lock.DavLock.{DavLock}
 use Rattle.dav_memls.specs.declared.memory_locks.index.LockIndex.{LockIndex}
+use Rattle.dav_memls.specs.declared.memory_locks.index.Register.{Register}
+use Rattle.dav_memls.specs.declared.memory_locks.index.Register.TheVariants.{All, Deep, Exclusive}
 use Rattle.dav_store.specs.Locks.{has_token}
 use Rattle.dav_store.specs.LockCalls.{refreshed}
 use Rattle.dav_memls.specs.Numbers.{IsAbove}
-use Rattle.dav_memls.specs.ByKey.{numbers_at, only_if, without_if}
-use Rattle.dav_memls.specs.LockIndex.{Row, IsIndexed, EntersIndex, LeavesIndex, by_token, numbers_of, lock_of, is_of_key}
-use Rattle.dav_memls.proofs.Ascending.{Rises, rises-push, without_push}
+use Rattle.dav_memls.specs.ByKey.{only_if, without_if}
+use Rattle.dav_memls.specs.LockIndex.{Row, IsIndexed, EntersIndex, LeavesIndex, among, belongs, by_token, found_at, numbers_of, lock_of, is_of_key}
+use Rattle.dav_memls.proofs.Ascending.{Rises, rises-push, without_below, without_push}
 use Rattle.dav_memls.proofs.Reached.{bytes_eq-sym}
 use Rattle.dav_memls.proofs.LockRows.{pushed_found, pushed_removed, numbers-push, numbers-remove, numbers-set, number_kept, only_number, none_numbers, all_numbers}
 
 pub indexed_push : (old new : LockIndex) (rows : List Row) (n : ℕ) (l : DavLock) → IsIndexed old rows → EntersIndex l n old new → IsIndexed new (rows ++ (n, l) ∷ [])
 indexed_push old new rows n l h enters = record {
   tokens = λ token. enters.tokens token ∙ ap (λ xs. xs ++ only_if (has_token token l) n) (h.tokens token) ∙ sym (numbers-push (has_token token) rows n l);
-  at = λ key. enters.at key ∙ ap (λ xs. xs ++ only_if (is_of_key key l) n) (h.at key) ∙ sym (numbers-push (is_of_key key) rows n l);
+  at = λ register key. enters.at register key ∙ ap (λ xs. xs ++ only_if (among register (is_of_key key) l) n) (h.at register key) ∙ sym (numbers-push (among register (is_of_key key)) rows n l);
 }
 
 pub indexed_remove : (old new : LockIndex) (rows : List Row) (n : ℕ) (l : DavLock) → Rises (keys_of rows) → lock_of n rows ≡ Some l → IsIndexed old rows → LeavesIndex l n old new → IsIndexed new (remove_entry (is_at (nat_cmp n)) rows)
 indexed_remove old new rows n l rises held h leaves = record {
   tokens = λ token. leaves.tokens token ∙ gone token (has_token token l) refl ∙ sym (numbers-remove (has_token token) rows n l rises held);
-  at = λ key. leaves.at key ∙ ap (without_if (is_of_key key l) n) (h.at key) ∙ sym (numbers-remove (is_of_key key) rows n l rises held);
+  at = λ register key. leaves.at register key ∙ ap (without_if (among register (is_of_key key) l) n) (h.at register key) ∙ sym (numbers-remove (among register (is_of_key key)) rows n l rises held);
 }
   where
     gone : (token : List ℕ) (b : Bool) → has_token token l ≡ b → cond b [] (by_token old token) ≡ without_if b n (numbers_of (has_token token) rows)
@@ -46,14 +48,19 @@ indexed_undone old mid new rows n l rises above h enters leaves =
 pub indexed_refreshed : (index : LockIndex) (rows : List Row) (n : ℕ) (timeout : Option ℕ) (now : ℕ) (l : DavLock) → lock_of n rows ≡ Some l → IsIndexed index rows → IsIndexed index (set_value (is_at (nat_cmp n)) rows (refreshed timeout now l))
 indexed_refreshed index rows n timeout now l held h = record {
   tokens = λ token. h.tokens token ∙ sym (numbers-set (has_token token) rows n l (refreshed timeout now l) held refl);
-  at = λ key. h.at key ∙ sym (numbers-set (is_of_key key) rows n l (refreshed timeout now l) held refl);
+  at = λ register key. h.at register key ∙ sym (numbers-set (among register (is_of_key key)) rows n l (refreshed timeout now l) held (ap (λ b. b && is_of_key key l) (same_register register)));
 }
+  where
+    same_register : (register : Register) → belongs register (refreshed timeout now l) ≡ belongs register l
+    same_register All = refl
+    same_register Deep = refl
+    same_register Exclusive = refl
 
 pub free_token : (index : LockIndex) (rows : List Row) (token : List ℕ) → IsIndexed index rows → list_any (has_token token) (values_of rows) ≡ false → by_token index token ≡ []
 free_token index rows token h free = h.tokens token ∙ none_numbers (has_token token) rows free
 
-pub above_at : (index : LockIndex) (rows : List Row) (n : ℕ) → IsIndexed index rows → IsAbove n (keys_of rows) → (key : Key) → IsAbove n (numbers_at index.at key)
-above_at index rows n h above key = subst (IsAbove n) (sym (h.at key)) (all_numbers _ (is_of_key key) rows above)
+pub above_at : (index : LockIndex) (rows : List Row) (n : ℕ) → IsIndexed index rows → IsAbove n (keys_of rows) → (register : Register) (key : Key) → IsAbove n (found_at index register key)
+above_at index rows n h above register key = subst (IsAbove n) (sym (h.at register key)) (all_numbers _ (among register (is_of_key key)) rows above)
 
 -- ---- a token
 
@@ -75,10 +82,20 @@ token_leaves lock bs t o new same is =
     split true = refl
     split false = refl
 
--- what joined and left is as it was
-pub undone : (b : Bool) (n : ℕ) (old mid new : List ℕ) → IsAbove n old → mid ≡ old ++ only_if b n → new ≡ without_if b n mid → new ≡ old
-undone b n old mid new above was is = is ∙ ap (without_if b n) was ∙ split b
+-- where the token is free, it leads to nothing without the lock too
+pub token_free : (lock : DavLock) (find : List ℕ → List ℕ) → find lock.token ≡ [] → (t : List ℕ) → cond (has_token t lock) [] (find t) ≡ find t
+token_free lock find free t = split (has_token t lock) refl
   where
-    split : (b : Bool) → without_if b n (old ++ only_if b n) ≡ old
-    split true = without_push n old above
-    split false = append-nil old
+    split : (b : Bool) → has_token t lock ≡ b → cond b [] (find t) ≡ find t
+    split true e = sym (ap find ((bytes_eq-Decides t lock.token).0 e) ∙ free)
+    split false e = refl
+
+-- ---- a number that joined and leaves
+
+pub unjoined : (b : Bool) (n : ℕ) (old new : List ℕ) → IsAbove n old → new ≡ old → without_if b n new ≡ old
+unjoined true n old new above same = ap (without_if true n) same ∙ without_below n old above
+unjoined false n old new above same = same
+
+pub joined_leaves : (b : Bool) (n : ℕ) (old new : List ℕ) → IsAbove n old → new ≡ old ++ only_if b n → without_if b n new ≡ old
+joined_leaves true n old new above joined = ap (without_if true n) joined ∙ without_push n old above
+joined_leaves false n old new above joined = joined ∙ append-nil old

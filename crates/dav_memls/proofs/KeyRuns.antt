@@ -106,7 +106,7 @@ found-part q k (e ∷ es) h = split (is_same_key k (texts e.0.items)) (q e.0) re
     split false true is in_part more = rw is more
     split false false is in_part more = rw is more
 
-each_own : (m : BTreeMap OwnKey Numbers) (run : List (OwnKey × Numbers)) → AllByRecursion (λ e. get own_cmp m e.0 ≡ Some e.1) run → AllByRecursion (λ e. numbers_in m.entries (texts e.0.items) ≡ e.1.items.items) run
+each_own : (m : BTreeMap OwnKey Numbers) (run : List (OwnKey × Numbers)) → AllByRecursion (λ e. get own_cmp m e.0 ≡ Some e.1) run → AllByRecursion (λ e. numbers_in m.entries (texts e.0.items) ≡ e.1.set.keys) run
 each_own m [] a = tt
 each_own m (e ∷ run) a = (sym (got e.0.items m.entries (Some e.1) (sym a.0)), each_own m run a.1)
 

@@ -4,6 +4,7 @@ pub mod ByKeys
 pub mod LockRows
 pub mod LockFound
 pub mod Indexing
+pub mod Entering
 pub mod CoveringNumbers
 pub mod LockLooks
 pub mod LockLists

@@ -105,12 +105,3 @@ covering_all q key ls = ap not (covering_any (λ l. not (q l)) key ls) ∙ sym (
 
 pub all_from_any : (q : DavLock → Bool) (ls : List DavLock) → not (list_any (λ l. not (q l)) ls) ≡ list_all q ls
 all_from_any q ls = sym (all_not q ls)
-
-pub covered_any : (key : Key) (ls : List DavLock) → list_any (λ l. covers l key) (filter (is_above key) ls) ≡ list_any (λ l. covers l key) ls
-covered_any key [] = refl
-covered_any key (l ∷ ls) = split (is_above key l) (covers l key) refl (covers-above key l) (covered_any key ls)
-  where
-    split : (a c : Bool) → covers l key ≡ c → (c ≡ true → a ≡ true) → list_any (λ l. covers l key) (filter (is_above key) ls) ≡ list_any (λ l. covers l key) ls → list_any (λ l. covers l key) (cond a (l ∷ filter (is_above key) ls) (filter (is_above key) ls)) ≡ (covers l key || list_any (λ l. covers l key) ls)
-    split true c is wide more = ap (λ b. covers l key || b) more
-    split false true is wide more = absurd (let no : false ≡ true = wide refl in cc)
-    split false false is wide more = more ∙ ap (λ b. b || list_any (λ l. covers l key) ls) (sym is)

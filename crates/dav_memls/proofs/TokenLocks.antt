@@ -5,21 +5,11 @@ use Rattle.dav_resource.specs.Key.{Key}
 use Rattle.dav_store.specs.declared.lock.DavLock.{DavLock}
 use Rattle.dav_store.specs.Locks.{has_token, covers, covering}
 use Rattle.dav_memls.proofs.Reached.{bytes_eq-sym}
-use Rattle.dav_memls.proofs.SharedLocks.{any_agree, any_filter}
+use Rattle.dav_memls.proofs.SharedLocks.{any_agree, any_filter, any_or}
 
 none_at_all : {X : Type 0} (xs : List X) → list_any (λ x. false) xs ≡ false
 none_at_all [] = refl
 none_at_all (x ∷ xs) = none_at_all xs
-
-both_any : {X : Type 0} (p q : X → Bool) (xs : List X) → list_any (λ x. p x || q x) xs ≡ (list_any p xs || list_any q xs)
-both_any p q [] = refl
-both_any p q (x ∷ xs) = ap (λ b. (p x || q x) || b) (both_any p q xs) ∙ paired (p x) (q x) (list_any p xs) (list_any q xs)
-  where
-    paired : (a b c d : Bool) → ((a || b) || (c || d)) ≡ ((a || c) || (b || d))
-    paired true b c d = refl
-    paired false true true d = refl
-    paired false true false d = refl
-    paired false false c d = refl
 
 any_and : {X : Type 0} (p : X → Bool) (b : Bool) (xs : List X) → list_any (λ x. p x && b) xs ≡ (list_any p xs && b)
 any_and p b [] = refl
@@ -36,7 +26,7 @@ by_tokens : (q : DavLock → Bool) (tokens : List (List ℕ)) (ls : List DavLock
 by_tokens q tokens [] = none_at_all tokens
 by_tokens q tokens (l ∷ ls) =
     any_agree (λ t. list_any q (filter (has_token t) (l ∷ ls))) (λ t. (bytes_eq l.token t && q l) || list_any q (filter (has_token t) ls)) (λ t. first t) tokens
-    ∙ both_any (λ t. bytes_eq l.token t && q l) (λ t. list_any q (filter (has_token t) ls)) tokens
+    ∙ any_or (λ t. bytes_eq l.token t && q l) (λ t. list_any q (filter (has_token t) ls)) tokens
     ∙ ap₂ (λ a b. a || b) (any_and (bytes_eq l.token) (q l) tokens) (by_tokens q tokens ls)
   where
     here : (b : Bool) (more : List DavLock) → list_any q (cond b (l ∷ more) more) ≡ ((b && q l) || list_any q more)

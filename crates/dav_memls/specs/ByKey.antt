@@ -38,5 +38,5 @@ LeavesNumber test n old new = (key : Key) → numbers_at new key ≡ without_if 
 -- entries of it in the order of their keys, among them each at a key and below it
 pub record HasRun (key : Key) (register : ByKey) (run : List (OwnKey × Numbers)) : Type 0 where
   pub ordered : IsStrictlySortedBy own_cmp (keys_of run)
-  pub own : AllByRecursion (λ e. numbers_at register (texts e.0.items) ≡ e.1.items.items) run
+  pub own : AllByRecursion (λ e. numbers_at register (texts e.0.items) ≡ e.1.set.keys) run
   pub all : (k : Key) → is_at_or_below k key ≡ true → numbers_in run k ≡ numbers_at register k

@@ -23,11 +23,15 @@ found_in entries key = lookup (λ (k : OwnKey). is_same_key key (texts k.items))
 
 -- the numbers of the entry at a key, if there is one
 abbrev pub entry_in : List (OwnKey × Numbers) → Key → Option (List ℕ)
-entry_in entries key = option_map (λ (numbers : Numbers). numbers.items.items) (found_in entries key)
+entry_in entries key = option_map (λ (numbers : Numbers). numbers.set.keys) (found_in entries key)
 
--- the numbers at a key among these entries, none where it has no entry
+-- the numbers that were found, none where nothing was
+abbrev pub listed : Option Numbers → List ℕ
+listed found = option_map_or (λ (numbers : Numbers). numbers.set.keys) found []
+
+-- the numbers at a key among these entries
 abbrev pub numbers_in : List (OwnKey × Numbers) → Key → List ℕ
-numbers_in entries key = option_map_or (λ (numbers : Numbers). numbers.items.items) (found_in entries key) []
+numbers_in entries key = listed (found_in entries key)
 
 -- no key has an entry without numbers
 abbrev pub IsTidy : List (OwnKey × Numbers) → Type 0

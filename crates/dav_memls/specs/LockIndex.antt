@@ -1,16 +1,19 @@
 -- The index of the locks in memory: each lock has a number, later ones greater ones, and these are found by the lock's token and by keys. This project's own choice.
-use Rattle.std.specs.Prelude.{◌≡◌, ◌==◌, ◌||◌, ◌++◌, ℕ, Bool, true, false, List, [], map, Option, Some, if◌then◌else◌}
+use Rattle.std.specs.Prelude.{◌≡◌, ◌==◌, ◌&&◌, ◌||◌, ◌++◌, ℕ, Bool, true, not, List, [], map, Option, Some, if◌then◌else◌}
 use Rattle.std.specs.BTreeMap.{is_at}
 use Rattle.std.specs.BTreeSet.{BTreeSet, contains}
 use Rattle.std.specs.List.{filter, filter_map, list_any}
 use Rattle.std.specs.Map.{lookup, remove_entry, values_of}
 use Rattle.std.specs.HashMap.{get_by_text}
-use Rattle.std.specs.Option.{IsSomeAnd, option_map_or, option_to_list}
+use Rattle.std.specs.Option.{IsSomeAnd, option_to_list}
 use Rattle.std.specs.Ordering.{nat_cmp}
 use denote.Ref.{Bor}
 use Rattle.dav_resource.specs.Key.{Key, is_same_key}
 use Rattle.dav_store.specs.declared.lock.DavLock.{DavLock}
+use Rattle.dav_memls.specs.declared.memory_locks.by_key.ByKey.{ByKey}
 use Rattle.dav_memls.specs.declared.memory_locks.index.LockIndex.{LockIndex}
+use Rattle.dav_memls.specs.declared.memory_locks.index.Register.{Register}
+use Rattle.dav_memls.specs.declared.memory_locks.index.Register.TheVariants.{All, Deep, Exclusive}
 use Rattle.dav_store.specs.Locks.{is_at_or_below, has_token}
 use Rattle.dav_store.specs.LockCalls.{is_named, refreshed}
 use Rattle.dav_memls.specs.ByKey.{numbers_at, only_if, without_if}
@@ -37,10 +40,6 @@ locks_without n rows = values_of (remove_entry (is_at (nat_cmp n)) rows)
 abbrev pub locks_refreshed : ℕ → Option ℕ → ℕ → List Row → List DavLock
 locks_refreshed n timeout now rows = map (λ (row : Row). if n == row.0 then refreshed timeout now row.1 else row.1) rows
 
--- whether there is a lock of the number, and it passes the test
-abbrev pub number_passes : (DavLock → Bool) → List Row → ℕ → Bool
-number_passes test rows n = option_map_or test (lock_of n rows) false
-
 -- whether the lock's own key is this one, is it or one below it, and is it or one above it
 abbrev pub is_of_key : Key → DavLock → Bool
 is_of_key key lock = is_same_key key lock.path.key
@@ -51,6 +50,25 @@ is_within key lock = is_at_or_below lock.path.key key
 abbrev pub is_above : Key → DavLock → Bool
 is_above key lock = is_at_or_below key lock.path.key
 
+-- whether a register has the lock, and whether it has it and the lock passes the test
+abbrev pub belongs : Register → DavLock → Bool
+belongs All lock = true
+belongs Deep lock = lock.deep
+belongs Exclusive lock = not lock.shared
+
+abbrev pub among : Register → (DavLock → Bool) → DavLock → Bool
+among register test lock = belongs register lock && test lock
+
+-- the numbers of its locks by their own keys
+abbrev pub register_of : LockIndex → Register → ByKey
+register_of index All = index.all
+register_of index Deep = index.deep
+register_of index Exclusive = index.exclusive
+
+-- the numbers found in a register by a key
+abbrev pub found_at : LockIndex → Register → Key → List ℕ
+found_at index register key = numbers_at (register_of index register) key
+
 -- the number found by a token, if there is one
 abbrev pub by_token : LockIndex → List ℕ → List ℕ
 by_token index token = option_to_list (get_by_text index.tokens token)
@@ -58,22 +76,27 @@ by_token index token = option_to_list (get_by_text index.tokens token)
 -- the index finds the numbers of the locks
 pub record IsIndexed (index : LockIndex) (rows : List Row) : Type 0 where
   pub tokens : (token : List ℕ) → by_token index token ≡ numbers_of (has_token token) rows
-  pub at : (key : Key) → numbers_at index.at key ≡ numbers_of (is_of_key key) rows
+  pub at : (register : Register) (key : Key) → found_at index register key ≡ numbers_of (among register (is_of_key key)) rows
 
 -- the index finds what it found
 pub record KeepsIndex (old new : LockIndex) : Type 0 where
   pub tokens : (token : List ℕ) → by_token new token ≡ by_token old token
-  pub at : (key : Key) → numbers_at new.at key ≡ numbers_at old.at key
+  pub at : (register : Register) (key : Key) → found_at new register key ≡ found_at old register key
 
 -- it finds the number of a lock too
 pub record EntersIndex (lock : DavLock) (n : ℕ) (old new : LockIndex) : Type 0 where
   pub tokens : (token : List ℕ) → by_token new token ≡ by_token old token ++ only_if (has_token token lock) n
-  pub at : (key : Key) → numbers_at new.at key ≡ numbers_at old.at key ++ only_if (is_of_key key lock) n
+  pub at : (register : Register) (key : Key) → found_at new register key ≡ found_at old register key ++ only_if (among register (is_of_key key) lock) n
+
+-- it may find the number of a lock by its key, and else finds what it found
+pub record IsPartlyEntered (lock : DavLock) (n : ℕ) (old new : LockIndex) : Type 0 where
+  pub tokens : (token : List ℕ) → by_token new token ≡ by_token old token
+  pub at : (register : Register) (key : Key) → without_if (among register (is_of_key key) lock) n (found_at new register key) ≡ found_at old register key
 
 -- it finds the number of the lock no more
 pub record LeavesIndex (lock : DavLock) (n : ℕ) (old new : LockIndex) : Type 0 where
   pub tokens : (token : List ℕ) → by_token new token ≡ (if has_token token lock then [] else by_token old token)
-  pub at : (key : Key) → numbers_at new.at key ≡ without_if (is_of_key key lock) n (numbers_at old.at key)
+  pub at : (register : Register) (key : Key) → found_at new register key ≡ without_if (among register (is_of_key key) lock) n (found_at old register key)
 
 -- the lock of this number, which is named by the token at the key or above it
 pub record IsNamedLock (key : Key) (token : List ℕ) (rows : List Row) (n : ℕ) (lock : DavLock) : Type 0 where
@@ -92,6 +115,6 @@ Computes answers test = (lock : Bor DavLock) (answer : Bool) → answers lock an
 abbrev pub HasNumbers : BTreeSet ℕ → List ℕ → Type 0
 HasNumbers found numbers = (n : ℕ) → contains nat_cmp found n ≡ list_any (λ m. n == m) numbers
 
--- the set has those of these numbers too that pass the test
-abbrev pub AddsNumbers : (ℕ → Bool) → List ℕ → BTreeSet ℕ → BTreeSet ℕ → Type 0
-AddsNumbers test numbers old new = (n : ℕ) → contains nat_cmp new n ≡ (contains nat_cmp old n || list_any (λ m. n == m) (filter test numbers))
+-- the set has these numbers too
+abbrev pub AddsNumbers : List ℕ → BTreeSet ℕ → BTreeSet ℕ → Type 0
+AddsNumbers numbers old new = (n : ℕ) → contains nat_cmp new n ≡ (contains nat_cmp old n || list_any (λ m. n == m) numbers)

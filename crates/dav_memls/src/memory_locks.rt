@@ -24,18 +24,22 @@ use submitted::Submitted;
 /// A lock system in memory. It is dependable, and `check`, `unlock` and `delete` need no memory.
 ///
 /// A call looks at the locks at its path, above it or below it alone, however many are held elsewhere: a hash map
-/// leads from a token to its lock's number, a map ordered by the locks' paths, segment by segment, to the numbers of
-/// the locks at a path, and a map ordered by the numbers to a lock. A look at a path takes as many comparisons of paths
-/// as the logarithm of the number of locked ones, and a look at a number as many of numbers as the logarithm of the
-/// number of locks. `check`, `lock` and `discover` take a look for the path and for each above it, and then the time to
-/// judge the locks found, at each path the first alone where it tells of the others, as it does whether they are
-/// shared. What stands below the path is found from a copy of it on; without memory for the copy, by going through all
-/// locked paths, which is only slower. `check` takes memory to put many tokens in order, and is only slower without
-/// it. `unlock` and `refresh` take a look for the token. `delete` takes a look below the path for each lock, in no
-/// promised order. It and `unlock` move no other lock, and of the numbers at the lock's own path the newer ones by a
-/// place. `lock` takes memory for the lock, for a number in each of these three maps, for its token once more, and for
-/// one copy of its path where no lock stands there. Where the newest lock has the greatest `u64` as its number (each is
-/// one above that of the newest held), `lock` answers `Memory`.
+/// leads from a token to its lock's number; maps ordered by the locks' paths, segment by segment, lead to the numbers
+/// of the locks at a path, one of all locks, one of the deep and one of the exclusive ones; and a map ordered by the
+/// numbers leads to a lock. A look at a path takes as many comparisons of paths as the logarithm of the number of
+/// locked ones, and a look at a number as many of numbers as the logarithm of the number of locks.
+///
+/// `check` and `lock` take two looks at most for the path and for each above it, for an exclusive lock and for a deep
+/// one, and `check` one for each token; how many shared locks stand at a path doesn't count. `discover` takes a look
+/// for the path and for each above it, and copies the locks that cover the path. What stands below the path is found
+/// from a copy of it on; without memory for the copy, by going through all locked paths, which is only slower. A deep
+/// `lock` takes one look there, a deep `check` judges each lock until one isn't submitted. `check` takes memory to put
+/// many tokens in order, and is only slower without it. `unlock` and `refresh` take a look for the token. `delete`
+/// takes a look below the path for each lock, in no promised order. It and `unlock` move no other lock.
+///
+/// `lock` takes memory for the lock, for its token once more, for its number in the maps that have it, and for a copy
+/// of its path in each of these where none stands there. Where the newest lock has the greatest `u64` as its number
+/// (each is one above that of the newest held), `lock` answers `Memory`.
 #[derive(Debug, Drop)]
 pub struct MemLs {
     locks: IndexedLocks,

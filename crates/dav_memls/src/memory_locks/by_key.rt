@@ -1,10 +1,11 @@
 //! Numbers by keys.
-ghost use Rattle.std.specs.Prelude.{◌≡◌, [], OnOk, OnErr};
+ghost use Rattle.std.specs.Prelude.{◌≡◌, ◌&&◌, [], OnOk, OnErr};
+ghost use Rattle.std.specs.Option.{option_copied};
 ghost use Rattle.std.proofs.Props.{props};
 ghost use Rattle.dav_resource.specs.Key.{Key, is_same_key};
 ghost use Rattle.dav_resource.specs.Texts.{texts};
 ghost use Rattle.dav_memls.specs.Numbers.{IsAbove};
-ghost use Rattle.dav_memls.specs.KeyEntries.{IsTidy};
+ghost use Rattle.dav_memls.specs.KeyEntries.{IsTidy, listed};
 
 use super::numbers::Numbers;
 use std::alloc::{AllocError, Global};
@@ -33,14 +34,11 @@ impl ByKey {
         }
     }
 
-    /// The numbers of a key, the least first.
-    pub fn get(&self, key: &[String]) -> &[u64]
-        ensures { result.now ≡ numbers_at self.now (texts key.now) }
+    /// The numbers of a key, where it has some.
+    pub fn get(&self, key: &[String]) -> Option<&Numbers>
+        ensures { listed (option_copied result) ≡ numbers_at self.now (texts key.now) }
     {
-        match self.map.get(key) {
-            Some(numbers) => numbers.as_slice(),
-            None => &[],
-        }
+        self.map.get(key)
     }
 
     /// Entries in the order of their keys, among them all at a key and below it: those from this key on, for which
@@ -71,6 +69,25 @@ impl ByKey {
         Ok(())
     }
 
+    /// Puts a number behind those of a key, if it belongs there. Only memory can be lacking, and then nothing
+    /// changes.
+    pub fn join_if(
+        &mut self,
+        belongs: bool,
+        alloc: Global,
+        key: &[String],
+        number: u64,
+    ) -> Result<(), AllocError>
+        requires { IsAbove number (numbers_at self.old (texts key.now)) }
+        ensures ok { OnOk result (JoinsNumber (λ k. belongs && is_same_key k (texts key.now)) number self.old self.new) }
+        ensures err { OnErr result (KeepsNumbers self.old self.new) }
+    {
+        if belongs {
+            self.join(alloc, key, number)?;
+        }
+        Ok(())
+    }
+
     /// Takes a number from those of a key.
     pub fn leave(&mut self, key: &[String], number: u64)
         ensures { LeavesNumber (λ k. is_same_key k (texts key.now)) number self.old self.new }
@@ -79,8 +96,17 @@ impl ByKey {
             return;
         };
         numbers.remove(number);
-        if numbers.as_slice().is_empty() {
+        if numbers.is_empty() {
             self.map.remove(key);
+        }
+    }
+
+    /// Takes a number from those of a key, if it belongs there.
+    pub fn leave_if(&mut self, belongs: bool, key: &[String], number: u64)
+        ensures { LeavesNumber (λ k. belongs && is_same_key k (texts key.now)) number self.old self.new }
+    {
+        if belongs {
+            self.leave(key, number);
         }
     }
 }

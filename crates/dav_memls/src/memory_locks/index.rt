@@ -1,11 +1,13 @@
 //! An index of locks, by their tokens and by their keys.
 ghost use Rattle.std.specs.Prelude.{◌≡◌, [], OnOk, OnErr};
 ghost use Rattle.std.specs.HashMap.{get_by_text};
+ghost use Rattle.std.specs.Option.{option_copied};
 ghost use Rattle.dav_resource.specs.Key.{Key};
 ghost use Rattle.dav_resource.specs.Texts.{texts};
 ghost use Rattle.dav_memls.specs.Numbers.{IsAbove};
-ghost use Rattle.dav_memls.specs.ByKey.{numbers_at, HasRun};
-ghost use Rattle.dav_memls.specs.LockIndex.{IsIndexed, by_token, KeepsIndex, EntersIndex, LeavesIndex};
+ghost use Rattle.dav_memls.specs.KeyEntries.{listed};
+ghost use Rattle.dav_memls.specs.ByKey.{HasRun};
+ghost use Rattle.dav_memls.specs.LockIndex.{IsIndexed, by_token, register_of, found_at, KeepsIndex, EntersIndex, IsPartlyEntered, LeavesIndex};
 
 use super::by_key::ByKey;
 use super::numbers::Numbers;
@@ -14,11 +16,25 @@ use std::alloc::{AllocError, Global};
 use std::collections::HashMap;
 use std::collections::btree_map::Range;
 
-/// What finds the numbers of locks: by a token, and by a lock's own key.
+/// Which locks one register of an index has.
+#[derive(Clone, Copy, Debug)]
+pub enum Register {
+    /// All locks.
+    All,
+    /// Those of Depth infinity.
+    Deep,
+    /// Those that aren't shared.
+    Exclusive,
+}
+
+/// What finds the numbers of locks: by a token, and by a lock's own key, in a register of all locks, in one of the
+/// deep and in one of the exclusive ones.
 #[derive(Debug, Drop)]
 pub struct LockIndex {
     tokens: HashMap<String, u64>,
-    at: ByKey,
+    all: ByKey,
+    deep: ByKey,
+    exclusive: ByKey,
 }
 
 impl LockIndex {
@@ -28,7 +44,9 @@ impl LockIndex {
     {
         LockIndex {
             tokens: HashMap::new(alloc),
-            at: ByKey::new(alloc),
+            all: ByKey::new(alloc),
+            deep: ByKey::new(alloc),
+            exclusive: ByKey::new(alloc),
         }
     }
 
@@ -39,36 +57,65 @@ impl LockIndex {
         self.tokens.get(token).copied()
     }
 
-    /// The numbers of the locks whose own key is this one, the oldest first.
-    pub fn at(&self, key: &[String]) -> &[u64]
-        ensures { result.now ≡ numbers_at self.now.at (texts key.now) }
+    /// The numbers of the register's locks whose own key is this one, the oldest first.
+    pub fn at(&self, register: Register, key: &[String]) -> Option<&Numbers>
+        ensures { listed (option_copied result) ≡ found_at self.now register (texts key.now) }
     {
-        self.at.get(key)
+        self.register(register).get(key)
     }
 
-    /// The numbers of the locks by their own keys, in the order of these, among them all at a key and below it:
-    /// those from this key on, for which the key is copied, and all where memory for the copy is lacking.
-    pub fn run(&self, alloc: Global, key: &[String]) -> Range<'_, Vec<String>, Numbers>
-        ensures { HasRun (texts key.now) self.now.at result }
+    /// The numbers of the register's locks by their own keys, in the order of these, among them all at a key and
+    /// below it: those from this key on, for which the key is copied, and all where memory for the copy is lacking.
+    pub fn run(
+        &self,
+        register: Register,
+        alloc: Global,
+        key: &[String],
+    ) -> Range<'_, Vec<String>, Numbers>
+        ensures { HasRun (texts key.now) (register_of self.now register) result }
     {
-        self.at.run(alloc, key)
+        self.register(register).run(alloc, key)
+    }
+
+    fn register(&self, register: Register) -> &ByKey
+        ensures { result.now ≡ register_of self.now register }
+    {
+        match register {
+            Register::All => &self.all,
+            Register::Deep => &self.deep,
+            Register::Exclusive => &self.exclusive,
+        }
     }
 
     /// Has a lock be found by this number, which is above those that are. Only memory can be lacking, and
     /// then nothing changes.
     pub fn enter(&mut self, alloc: Global, lock: &DavLock, number: u64) -> Result<(), AllocError>
         requires token { by_token self.old lock.now.token ≡ [] }
-        requires above { (key : Key) → IsAbove number (numbers_at self.old.at key) }
+        requires above { (register : Register) (key : Key) → IsAbove number (found_at self.old register key) }
         ensures ok { OnOk result (EntersIndex lock.now number self.old self.new) }
         ensures err { OnErr result (KeepsIndex self.old self.new) }
     {
+        let entered = self.try_enter(alloc, lock, number);
+        if entered.is_err() {
+            self.leave(lock, number);
+        }
+        entered
+    }
+
+    /// Has a lock be found by this number, as `enter` does, but leaves it where it was put before memory was
+    /// lacking.
+    fn try_enter(&mut self, alloc: Global, lock: &DavLock, number: u64) -> Result<(), AllocError>
+        requires token { by_token self.old lock.now.token ≡ [] }
+        requires above { (register : Register) (key : Key) → IsAbove number (found_at self.old register key) }
+        ensures ok { OnOk result (EntersIndex lock.now number self.old self.new) }
+        ensures err { OnErr result (IsPartlyEntered lock.now number self.old self.new) }
+    {
         let key = lock.path.segments();
         let token = String::from_str(alloc, lock.token.as_str())?;
-        self.at.join(alloc, key, number)?;
-        if let Err(_) = self.tokens.insert(token, number) {
-            self.at.leave(key, number);
-            return Err(AllocError);
-        }
+        self.all.join(alloc, key, number)?;
+        self.deep.join_if(lock.deep, alloc, key, number)?;
+        self.exclusive.join_if(!lock.shared, alloc, key, number)?;
+        self.tokens.insert(token, number)?;
         Ok(())
     }
 
@@ -78,6 +125,8 @@ impl LockIndex {
     {
         let key = lock.path.segments();
         self.tokens.remove(lock.token.as_str());
-        self.at.leave(key, number);
+        self.all.leave(key, number);
+        self.deep.leave_if(lock.deep, key, number);
+        self.exclusive.leave_if(!lock.shared, key, number);
     }
 }

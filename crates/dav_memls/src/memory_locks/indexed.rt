@@ -1,7 +1,7 @@
 //! Locks with an index.
-ghost use Rattle.std.specs.Prelude.{◌≡◌, ◌≤◌, ◌^◌, ℕ, false, [], ◌∷◌, ◌++◌, None, IfOk, IfSome, MatchOption, OnOk, OnErr, Bool, not, ◌&&◌};
+ghost use Rattle.std.specs.Prelude.{◌≡◌, ◌≤◌, ◌^◌, ℕ, false, [], ◌∷◌, ◌++◌, None, IfOk, IfSome, MatchOption, OnOk, OnErr, Bool};
 ghost use Rattle.std.specs.BTreeMap.{IsOrdered};
-ghost use Rattle.std.specs.List.{filter, find, list_any};
+ghost use Rattle.std.specs.List.{filter, list_any};
 ghost use Rattle.std.specs.List.Sorted.{IsStrictlySortedBy-prop};
 ghost use Rattle.std.specs.Map.{keys_of};
 ghost use Rattle.std.specs.Option.{option_copied, option_to_list};
@@ -9,12 +9,14 @@ ghost use Rattle.std.specs.Ordering.{nat_cmp};
 ghost use Rattle.std.proofs.Props.{props};
 ghost use Rattle.dav_resource.specs.Texts.{texts};
 ghost use Rattle.dav_store.specs.declared.lock.DavLock.{DavLock};
-ghost use Rattle.dav_store.specs.Locks.{has_token, covers, covering, at_or_below, AreCompatible};
+ghost use Rattle.dav_store.specs.Locks.{has_token, covers, covering, at_or_below};
 ghost use Rattle.dav_store.specs.LockCalls.{has_named};
 ghost use Rattle.dav_memls.specs.Numbers.{IsAbove};
-ghost use Rattle.dav_memls.specs.LockIndex.{IsIndexed, is_of_key, is_above, lock_of, locks_of_numbers, numbers_of, locks_without, locks_refreshed, Computes, IsNamedLock, StandsBelow, HasNumbers, AddsNumbers, number_passes};
+ghost use Rattle.dav_memls.specs.KeyEntries.{listed};
+ghost use Rattle.dav_memls.specs.LockIndex.{IsIndexed, among, is_of_key, is_above, lock_of, locks_of_numbers, numbers_of, locks_without, locks_refreshed, Computes, IsNamedLock, StandsBelow, HasNumbers, AddsNumbers};
 
-use super::index::LockIndex;
+use super::index::{LockIndex, Register};
+use super::numbers::Numbers;
 use dav_resource::DavPath;
 use dav_store::DavLock;
 use std::alloc::{AllocError, Global};
@@ -89,58 +91,59 @@ impl IndexedLocks {
         self.of_number(number)
     }
 
-    /// The oldest lock whose own key is this one: a look into the index.
-    pub fn first_at(&self, key: &[String]) -> Option<&DavLock>
-        ensures { option_copied result ≡ find (is_of_key (texts key.now)) (locks_in self.now) }
+    /// Whether a lock of the register, whose own key is this one, passes the test: a look into the index, and the
+    /// test of the locks there.
+    pub fn any_at<F: Fn(&DavLock) -> bool>(
+        &self,
+        register: Register,
+        key: &[String],
+        test: &F,
+    ) -> bool
+        requires { F.IsAlwaysCallable test.now }
+        ensures { (p : DavLock → Bool) → Computes (F.post test.now) p → result ≡ list_any (among register p) (filter (is_of_key (texts key.now)) (locks_in self.now)) }
     {
-        let number = self.index.at(key).first()?;
-        self.of_number(*number)
+        match self.index.at(register, key) {
+            Some(numbers) => self.any_of(numbers, test),
+            None => false,
+        }
     }
 
-    /// Whether a lock at the path or above it passes the test: a look into the index for the path and each
-    /// above it, and the test of the locks there.
-    pub fn any_above<F: Fn(&DavLock) -> bool>(&self, path: &DavPath, test: F) -> bool
+    /// Whether a lock of the register, at the path or above it, passes the test: a look into the index for the path
+    /// and each above it, and the test of the locks there.
+    pub fn any_above<F: Fn(&DavLock) -> bool>(
+        &self,
+        register: Register,
+        path: &DavPath,
+        test: F,
+    ) -> bool
         requires { F.IsAlwaysCallable test }
-        ensures { (p : DavLock → Bool) → Computes (F.post test) p → result ≡ list_any p (filter (is_above path.now.key) (locks_in self.now)) }
+        ensures { (p : DavLock → Bool) → Computes (F.post test) p → result ≡ list_any (among register p) (filter (is_above path.now.key) (locks_in self.now)) }
     {
         let key = path.segments();
         for depth in 0..key.len() + 1 {
-            if self.any_of(self.index.at(&key[..depth]), &test) {
+            if self.any_at(register, &key[..depth], &test) {
                 return true;
             }
         }
         false
     }
 
-    /// Whether an exclusive lock at the path or above it passes the test: looks into the index as `any_above`
-    /// takes them, and at the first lock of each key, since an exclusive one stands there alone.
-    pub fn any_exclusive_above<F: Fn(&DavLock) -> bool>(&self, path: &DavPath, test: F) -> bool
-        requires callable { F.IsAlwaysCallable test }
-        requires compatible { AreCompatible (locks_in self.now) }
-        ensures { (p : DavLock → Bool) → Computes (F.post test) p → result ≡ list_any (λ lock. not lock.shared && p lock) (filter (is_above path.now.key) (locks_in self.now)) }
-    {
-        let key = path.segments();
-        for depth in 0..key.len() + 1 {
-            if let Some(lock) = self.first_at(&key[..depth]) {
-                if !lock.shared && test(lock) {
-                    return true;
-                }
-            }
-        }
-        false
-    }
-
-    /// Whether a lock at the path or below it passes the test: a look into the index, for which the path is
-    /// copied, and the test of these locks. Where memory for the copy is lacking, the keys of all locks are gone
-    /// through.
-    pub fn any_below<F: Fn(&DavLock) -> bool>(&self, path: &DavPath, test: F) -> bool
+    /// Whether a lock of the register, at the path or below it, passes the test: a look into the index, for which
+    /// the path is copied, and the test of these locks. Where memory for the copy is lacking, the keys of all locks
+    /// of the register are gone through.
+    pub fn any_below<F: Fn(&DavLock) -> bool>(
+        &self,
+        register: Register,
+        path: &DavPath,
+        test: F,
+    ) -> bool
         requires { F.IsAlwaysCallable test }
-        ensures { (p : DavLock → Bool) → Computes (F.post test) p → result ≡ list_any p (at_or_below (locks_in self.now) path.now.key) }
+        ensures { (p : DavLock → Bool) → Computes (F.post test) p → result ≡ list_any (among register p) (at_or_below (locks_in self.now) path.now.key) }
     {
         let key = path.segments();
-        for (own, numbers) in self.index.run(self.allocator(), key) {
+        for (own, numbers) in self.index.run(register, self.allocator(), key) {
             if own.starts_with(key) {
-                if self.any_of(numbers.as_slice(), &test) {
+                if self.any_of(numbers, &test) {
                     return true;
                 }
             } else if key.cmp(own.as_slice()).is_lt() {
@@ -150,16 +153,16 @@ impl IndexedLocks {
         false
     }
 
-    /// The number of a lock at the path or below it, found as `any_below` finds them. It is the newest of those at
+    /// The number of a lock at the path or below it, found as `any_below` finds them. It is the oldest of those at
     /// the first key that has some, which no contract promises.
     pub fn some_below(&self, path: &DavPath) -> Option<u64>
         ensures { MatchOption result (at_or_below (locks_in self.now) path.now.key ≡ []) (StandsBelow path.now.key self.now.locks.entries) }
     {
         let key = path.segments();
-        for (own, numbers) in self.index.run(self.allocator(), key) {
+        for (own, numbers) in self.index.run(Register::All, self.allocator(), key) {
             if own.starts_with(key) {
-                if let Some(number) = numbers.as_slice().last() {
-                    return Some(*number);
+                if let Some(number) = numbers.first() {
+                    return Some(number);
                 }
             } else if key.cmp(own.as_slice()).is_lt() {
                 break;
@@ -169,11 +172,11 @@ impl IndexedLocks {
     }
 
     /// Whether a lock of one of these numbers passes the test.
-    fn any_of<F: Fn(&DavLock) -> bool>(&self, numbers: &[u64], test: &F) -> bool
+    fn any_of<F: Fn(&DavLock) -> bool>(&self, numbers: &Numbers, test: &F) -> bool
         requires { F.IsAlwaysCallable test.now }
-        ensures { (p : DavLock → Bool) → Computes (F.post test.now) p → result ≡ list_any p (locks_of_numbers numbers.now self.now.locks.entries) }
+        ensures { (p : DavLock → Bool) → Computes (F.post test.now) p → result ≡ list_any p (locks_of_numbers numbers.now.set.keys self.now.locks.entries) }
     {
-        for number in numbers {
+        for number in numbers.iter() {
             if let Some(lock) = self.of_number(*number) {
                 if test(lock) {
                     return true;
@@ -192,7 +195,7 @@ impl IndexedLocks {
 
     // ---- the locks that cover a path
 
-    /// Copies of the locks that cover the path, in order: looks into the index as `any_above` takes them, and
+    /// Copies of the locks that cover the path, in order: a look into the index for the path and each above it, and
     /// the time to put those found in order.
     pub fn covering(&self, path: &DavPath) -> Result<Vec<DavLock>, AllocError>
         ensures { IfOk result (λ copies. copies.items ≡ covering (locks_in self.now) path.now.key) }
@@ -207,35 +210,17 @@ impl IndexedLocks {
         Ok(copies)
     }
 
-    /// The numbers of the locks that cover the path.
+    /// The numbers of the locks that cover the path: of all at it, and of the deep ones above it.
     fn covering_numbers(&self, path: &DavPath) -> Result<BTreeSet<u64>, AllocError>
         ensures { IfOk result (λ found. HasNumbers found (numbers_of (λ lock. covers lock path.now.key) self.now.locks.entries)) }
     {
         let key = path.segments();
         let mut found = BTreeSet::new(self.allocator());
-        for depth in 0..key.len() + 1 {
-            self.add_covering(&mut found, self.index.at(&key[..depth]), path)?;
+        add(&mut found, self.index.at(Register::All, key))?;
+        for depth in 0..key.len() {
+            add(&mut found, self.index.at(Register::Deep, &key[..depth]))?;
         }
         Ok(found)
-    }
-
-    /// Adds those of these numbers whose lock covers the path.
-    fn add_covering(
-        &self,
-        found: &mut BTreeSet<u64>,
-        numbers: &[u64],
-        path: &DavPath,
-    ) -> Result<(), AllocError>
-        ensures { OnOk result (AddsNumbers (number_passes (λ lock. covers lock path.now.key) self.now.locks.entries) numbers.now found.old found.new) }
-    {
-        for number in numbers {
-            if let Some(lock) = self.of_number(*number) {
-                if lock.covers(path) {
-                    found.insert(*number)?;
-                }
-            }
-        }
-        Ok(())
     }
 
     // ---- what changes
@@ -287,4 +272,14 @@ impl IndexedLocks {
             lock.refresh(timeout, now);
         }
     }
+}
+
+/// Adds the numbers at a key, if there are some, to those found.
+fn add(found: &mut BTreeSet<u64>, numbers: Option<&Numbers>) -> Result<(), AllocError>
+    ensures { OnOk result (AddsNumbers (listed (option_copied numbers.entry)) found.old found.new) }
+{
+    if let Some(numbers) = numbers {
+        found.extend(numbers.iter())?;
+    }
+    Ok(())
 }

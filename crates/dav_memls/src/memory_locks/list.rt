@@ -1,10 +1,11 @@
 //! What is asked of the locks.
 ghost use Rattle.std.specs.Prelude.{◌≡◌, ◌&&◌, ◌||◌};
 ghost use Rattle.std.specs.List.{filter, list_all, list_any};
-ghost use Rattle.dav_store.specs.Locks.{covers, covering, at_or_below, has_token, permits_at, conflicts, grants, AreCompatible};
+ghost use Rattle.dav_store.specs.Locks.{covers, covering, at_or_below, has_token, permits_at, conflicts, grants};
 ghost use Rattle.dav_memls.specs.IndexedLocks.{locks_in};
 ghost use Rattle.dav_memls.specs.Submitted.{is_from, passes};
 
+use super::index::Register;
 use super::indexed::IndexedLocks;
 use super::submitted::Submitted;
 use dav_resource::DavPath;
@@ -14,7 +15,6 @@ use dav_store::DavLock;
 
 /// Whether the locks that cover the path let a request go on.
 pub fn permits_at(locks: &IndexedLocks, path: &DavPath, submitted: &Submitted) -> bool
-    requires { AreCompatible (locks_in locks.now) }
     ensures { result ≡ permits_at (covering (locks_in locks.now) path.now.key) (passes submitted.now) }
 {
     exclusive_are_submitted(locks, path, submitted)
@@ -25,15 +25,18 @@ pub fn permits_at(locks: &IndexedLocks, path: &DavPath, submitted: &Submitted) -
 pub fn permits_below(locks: &IndexedLocks, path: &DavPath, submitted: &Submitted) -> bool
     ensures { result ≡ list_all (passes submitted.now) (at_or_below (locks_in locks.now) path.now.key) }
 {
-    !locks.any_below(path, |lock| !submitted.has(lock))
+    !locks.any_below(Register::All, path, |lock| !submitted.has(lock))
 }
 
 /// Whether each lock that covers the path is shared or submitted.
 fn exclusive_are_submitted(locks: &IndexedLocks, path: &DavPath, submitted: &Submitted) -> bool
-    requires { AreCompatible (locks_in locks.now) }
     ensures { result ≡ list_all (λ lock. lock.shared || passes submitted.now lock) (covering (locks_in locks.now) path.now.key) }
 {
-    !locks.any_exclusive_above(path, |lock| lock.covers(path) && !submitted.has(lock))
+    !locks.any_above(
+        Register::Exclusive,
+        path,
+        |lock| lock.covers(path) && !submitted.has(lock),
+    )
 }
 
 /// Whether a lock that covers the path is submitted: a look for each token, however many the locks are.
@@ -56,18 +59,18 @@ fn lets_on(locks: &IndexedLocks, path: &DavPath, submitted: &Submitted, token: &
     }
 }
 
-/// Whether a lock covers the path.
+/// Whether a lock covers the path: one at it, or a deep one above it.
 fn is_covered(locks: &IndexedLocks, path: &DavPath) -> bool
     ensures { result ≡ list_any (λ lock. covers lock path.now.key) (locks_in locks.now) }
 {
-    locks.any_above(path, |lock| lock.covers(path))
+    locks.any_at(Register::All, path.segments(), &|_: &DavLock| true)
+        || locks.any_above(Register::Deep, path, |_: &DavLock| true)
 }
 
 // ---- whether a lock is granted
 
 /// Whether the lock may stand beside these.
 pub fn grants(locks: &IndexedLocks, lock: &DavLock) -> bool
-    requires { AreCompatible (locks_in locks.now) }
     ensures { result ≡ grants (locks_in locks.now) lock.now }
 {
     !locks.has_token(lock.token.as_str())
@@ -77,26 +80,28 @@ pub fn grants(locks: &IndexedLocks, lock: &DavLock) -> bool
 
 /// Whether the lock conflicts with one that covers its path.
 fn conflicts_above(locks: &IndexedLocks, lock: &DavLock) -> bool
-    requires { AreCompatible (locks_in locks.now) }
     ensures { result ≡ list_any (conflicts lock.now) (covering (locks_in locks.now) lock.now.path.key) }
 {
     if lock.shared {
-        locks.any_exclusive_above(&lock.path, |other| other.covers(&lock.path))
+        locks.any_above(
+            Register::Exclusive,
+            &lock.path,
+            |other| other.covers(&lock.path),
+        )
     } else {
         is_covered(locks, &lock.path)
     }
 }
 
-/// Whether the lock conflicts with one at its path or below it. Where the first lock at its path is a deep shared
-/// one, each there and below is shared.
+/// Whether the lock conflicts with one at its path or below it: a shared lock with an exclusive one, an exclusive
+/// lock with any.
 fn conflicts_below(locks: &IndexedLocks, lock: &DavLock) -> bool
-    requires { AreCompatible (locks_in locks.now) }
     ensures { result ≡ list_any (conflicts lock.now) (at_or_below (locks_in locks.now) lock.now.path.key) }
 {
-    if let Some(first) = locks.first_at(lock.path.segments()) {
-        if lock.shared && first.shared && first.deep {
-            return false;
-        }
-    }
-    locks.any_below(&lock.path, |other| lock.conflicts(other))
+    let register = if lock.shared {
+        Register::Exclusive
+    } else {
+        Register::All
+    };
+    locks.any_below(register, &lock.path, |other| lock.conflicts(other))
 }

@@ -1,72 +1,68 @@
 //! Ascending numbers.
-ghost use Rattle.std.specs.Prelude.{◌≡◌, ◌==◌, ◌<◌, [], ◌∷◌, ◌++◌, OnOk, OnErr, length, slice_index};
-ghost use Rattle.std.specs.List.{position, remove};
-ghost use Rattle.std.specs.List.Sorted.{IsStrictlySortedBy, IsStrictlySortedBy-prop};
+ghost use Rattle.std.specs.Prelude.{◌≡◌, ◌∷◌, ◌++◌, [], true, OnOk, OnErr, IsTrue, ◌↔◌, slice_get};
+ghost use Rattle.std.specs.BTreeSet.{IsOrdered};
+ghost use Rattle.std.specs.List.Sorted.{IsStrictlySortedBy-prop};
 ghost use Rattle.std.specs.Ordering.{nat_cmp};
 ghost use Rattle.std.proofs.Props.{props};
 ghost use Rattle.dav_memls.specs.Numbers.{IsAbove, without};
 
 use std::alloc::{AllocError, Global};
+use std::collections::BTreeSet;
+use std::collections::btree_set::Iter;
 
-/// Numbers, each above those before it.
+/// Numbers, each above those before it. One is put to them or taken out by as many comparisons as the logarithm of
+/// how many they are.
 #[derive(Debug, Drop)]
 pub struct Numbers {
-    items: Vec<u64>,
-    ghost rising: { IsStrictlySortedBy nat_cmp items.items } by { Prim.hlevel (props, IsStrictlySortedBy-prop) },
+    set: BTreeSet<u64>,
+    ghost rising: { IsOrdered nat_cmp set } by { Prim.hlevel (props, IsStrictlySortedBy-prop) },
 }
 
 impl Numbers {
     /// No numbers.
     pub fn new(alloc: Global) -> Numbers
-        ensures { result.items.items ≡ [] }
+        ensures { result.set.keys ≡ [] }
     {
         Numbers {
-            items: Vec::new(alloc),
+            set: BTreeSet::new(alloc),
         }
     }
 
     /// The numbers, the least first.
-    pub fn as_slice(&self) -> &[u64]
-        ensures { result.now ≡ self.now.items.items }
+    pub fn iter(&self) -> Iter<'_, u64>
+        ensures { result ≡ self.now.set.keys }
     {
-        &self.items
+        self.set.iter()
     }
 
-    /// The place of a number, by a search that halves.
-    fn place(&self, number: u64) -> Option<usize>
-        ensures { result ≡ position (λ n. n == number) self.now.items.items }
+    /// The least number.
+    pub fn first(&self) -> Option<u64>
+        ensures { result ≡ slice_get self.now.set.keys 0 }
     {
-        match self.items.binary_search(&number) {
-            Ok(place) => Some(place),
-            Err(_) => None,
-        }
+        self.set.first().copied()
+    }
+
+    /// Whether there is no number.
+    pub fn is_empty(&self) -> bool
+        ensures { IsTrue result ↔ (self.now.set.keys ≡ []) }
+    {
+        self.set.is_empty()
     }
 
     /// Puts a number above them at the end. Only memory can be lacking, and then nothing changes.
     pub fn push(&mut self, number: u64) -> Result<(), AllocError>
-        requires { IsAbove number self.old.items.items }
-        ensures ok { OnOk result (self.new.items.items ≡ self.old.items.items ++ number ∷ []) }
-        ensures err { OnErr result (self.new.items.items ≡ self.old.items.items) }
+        requires { IsAbove number self.old.set.keys }
+        ensures ok { OnOk result (self.new.set.keys ≡ self.old.set.keys ++ number ∷ []) }
+        ensures err { OnErr result (self.new.set.keys ≡ self.old.set.keys) }
     {
-        self.items.push(number)?;
+        self.set.insert(number)?;
         Ok(())
-    }
-
-    /// Takes the number at a place out.
-    fn take(&mut self, place: usize) -> u64
-        requires { place < length self.old.items.items }
-        ensures value { result ≡ slice_index self.old.items.items place }
-        ensures rest { self.new.items.items ≡ remove self.old.items.items place }
-    {
-        self.items.remove(place)
     }
 
     /// Takes a number out, where it is one of them.
     pub fn remove(&mut self, number: u64)
-        ensures { self.new.items.items ≡ without number self.old.items.items }
+        ensures { self.new.set.keys ≡ without number self.old.set.keys }
     {
-        if let Some(place) = self.place(number) {
-            self.take(place);
-        }
+        self.set.remove(&number);
     }
 }

@@ -1,16 +1,18 @@
-use Rattle.std.proofs.Common.{◌∙◌, sym, ap, rules}
-use Rattle.std.specs.List.{find}
-use Rattle.dav_store.specs.Locks.{conflicts}
+use Rattle.std.proofs.Common.{◌∙◌, ap, rules}
+use Rattle.std.specs.List.{list_any}
+use Rattle.dav_store.specs.Locks.{at_or_below, conflicts}
 use Rattle.dav_memls.specs.IndexedLocks.{locks_in}
-use Rattle.dav_memls.specs.LockIndex.{is_of_key}
-use Rattle.dav_memls.proofs.SharedLocks.{none_below}
+use Rattle.dav_memls.specs.LockIndex.{among}
+use Rattle.dav_memls.proofs.SharedLocks.{shared_conflicts_below}
+use Rattle.dav_memls.proofs.memory_locks.list.conflicts_below.Goals.{then-lock, else-lock}
 use Rattle.dav_memls.proofs.memory_locks.list.conflicts_below.Goals as goal
 
-pub returns-then-first-2 : goal.returns-then-first-2
-returns-then-first-2 c =
-    let lock = c.args.lock.now in
-    let ls = locks_in c.args.locks.now in
-    sym (none_below lock c.in-Some.first.now lock.path.key ls c.if-lock.true c.requires (sym (c.in-Some.ensures ∙ ap (λ k. find (is_of_key k) ls) c.segments.ensures.value)) c.if-first-2.true c.if-first.true)
-
 pub returns : goal.returns
-returns c = c.any_below.ensures (conflicts c.args.lock.now) (λ other answer h. search rules)
+returns c =
+    let lock = c.args.lock.now in
+    let below = at_or_below (locks_in c.args.locks.now) lock.path.key in
+    c.any_below.ensures (conflicts lock) (λ other answer h. search rules)
+    ∙ (elim c.if-lock.branch [
+      | then-lock w ↦ ap (λ register. list_any (among register (conflicts lock)) below) w.register-is ∙ shared_conflicts_below lock below w.if-lock.true
+      | else-lock w ↦ ap (λ register. list_any (among register (conflicts lock)) below) w.register-is
+    ])

@@ -7,5 +7,5 @@ use Rattle.dav_memls.proofs.memory_locks.list.exclusive_are_submitted.Goals as g
 
 pub returns : goal.returns
 returns c =
-    ap not (c.any_exclusive_above.ensures (λ lock. covers lock c.args.path.now.key && not (passes c.args.submitted.now lock)) (λ lock answer h. search rules))
+    ap not (c.any_above.ensures (λ lock. covers lock c.args.path.now.key && not (passes c.args.submitted.now lock)) (λ lock answer h. search rules))
     ∙ each_submitted (passes c.args.submitted.now) c.args.path.now.key (locks_in c.args.locks.now)

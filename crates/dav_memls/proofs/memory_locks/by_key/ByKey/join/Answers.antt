@@ -20,7 +20,7 @@ invariant_of-self c =
     let w = c.push.new.self in
     let u = (c.get_mut.follows.holds w).3 (ap is_some (sym c.in-Some.ensures.value)) in
     let had = found_some c.args.key.now entries c.in-Some.numbers.now c.args.self.now.tidy c.in-Some.ensures.value in
-    let has = entered_some c.push.result c.in-Some.numbers.now.items.items w.items.items c.args.number had c.push.ensures.ok c.push.ensures.err in
+    let has = entered_some c.push.result c.in-Some.numbers.now.set.keys w.set.keys c.args.number had c.push.ensures.ok c.push.ensures.err in
     record { tidy = tidy_set c.args.key.now entries (c.get_mut.follows.lender w).entries (Some w) (λ k _. c.args.self.now.tidy k) (some_tidy w has) u.1 u.3 }
 
 pub invariant_of-self-2 : goal.invariant_of-self-2

@@ -1,5 +1,6 @@
-use Rattle.dav_memls.proofs.Ascending.{rises-pushed}
+use Rattle.std.proofs.Common.{◌∙◌}
+use Rattle.dav_memls.proofs.Ascending.{insert_last}
 use Rattle.dav_memls.proofs.memory_locks.numbers.Numbers.push.Goals as goal
 
-pub invariant_of-self : goal.invariant_of-self
-invariant_of-self c = record { rising = rw c.push.ensures.items (rises-pushed _ c.args.number c.args.self.now.items.items c.args.self.now.rising c.requires) }
+pub returns-clause-ok : goal.returns-clause-ok
+returns-clause-ok c = c.in_ok-insert.ensures.keys ∙ insert_last c.args.number c.args.self.now.set.keys c.requires
