@@ -10,7 +10,7 @@ use Rattle.dav_parts.specs.Dialogues.{judges_exit, judges_then, judges_memory, j
 use Rattle.dav_walks.specs.declared.listing.Resource.{Resource}
 use Rattle.dav_find.specs.declared.search.AskedProperty.{AskedProperty}
 use Rattle.dav_find.specs.declared.finding.Found.{Found}
-use Rattle.dav_find.specs.Finding.{View, QuotaTold, find_one, find_each}
+use Rattle.dav_find.specs.Finding.{Finding, View, QuotaTold, find_one, find_each, findings_in}
 
 -- ---- dialogues in another grouping
 
@@ -29,21 +29,28 @@ bind_passed (Asks call next) = λ i. Asks call (λ outcome. bind_passed (next ou
 bind_passed (Refuses answer) = refl
 bind_passed (Passed a) = refl
 
+-- ---- what was found
+
+-- what failed is seen as failed
+pub failed_alike : (verdict : Result (List Found × Option QuotaTold) DavError) (e : DavError) → IsErrAnd verdict (λ d. d ≡ e) → IsErrAnd (findings_in verdict) (λ d. d ≡ e)
+failed_alike (Ok found) e is = is
+failed_alike (Err d) e is = is
+
 -- ---- what is left
 
 abbrev pub Sought : Type 0
-Sought = List Found × Option QuotaTold
+Sought = List Finding × Option QuotaTold
 
 module _ (view : View) (contents : Contents) (here : Resource) where
   -- behind these, what is left is sought
-  pub left_of : List Found → List AskedProperty → Option QuotaTold → Dialogue Sought
+  pub left_of : List Finding → List AskedProperty → Option QuotaTold → Dialogue Sought
   left_of found asked quota = find_each view contents here asked quota >>= λ others. Passed (found ++ others.0, others.1)
 
-  left-none : (found : List Found) (quota : Option QuotaTold) → left_of found [] quota ≡ Passed (found, quota)
+  left-none : (found : List Finding) (quota : Option QuotaTold) → left_of found [] quota ≡ Passed (found, quota)
   unfolding left_of find_each ◌>>=◌
   left-none found quota = ap (λ fs. Passed (fs, quota)) (append-nil found)
 
-  left-more : (found : List Found) (asked : AskedProperty) (more : List AskedProperty) (quota : Option QuotaTold)
+  left-more : (found : List Finding) (asked : AskedProperty) (more : List AskedProperty) (quota : Option QuotaTold)
       → left_of found (asked ∷ more) quota ≡ (find_one view contents here asked.element quota >>= λ one. left_of (found ++ record { asked = asked; told = one.0 } ∷ []) more one.1)
   unfolding left_of find_each ◌>>=◌
   left-more found asked more quota =
@@ -56,10 +63,10 @@ module _ (view : View) (contents : Contents) (here : Resource) where
   unfolding left_of
   all_left asked quota old new verdict h = subst (λ (d : Dialogue Sought). Judges d old verdict new) (bind_passed (find_each view contents here asked quota)) h
 
-  pub none_left : (found : List Found) (quota : Option QuotaTold) (store : Store) → Judges (left_of found [] quota) store (Ok (found, quota)) store
+  pub none_left : (found : List Finding) (quota : Option QuotaTold) (store : Store) → Judges (left_of found [] quota) store (Ok (found, quota)) store
   none_left found quota store = subst (λ (d : Dialogue Sought). Judges d store (Ok (found, quota)) store) (sym (left-none found quota)) (judges_pure _ _ _ refl)
 
-  module _ (found : List Found) (asked : AskedProperty) (more : List AskedProperty) (quota : Option QuotaTold) where
+  module _ (found : List Finding) (asked : AskedProperty) (more : List AskedProperty) (quota : Option QuotaTold) where
     pub one_stops : (old new : Store) (e : DavError) (verdict : Result Sought DavError) → IsErrAnd verdict (λ d. d ≡ e) → Judges (find_one view contents here asked.element quota) old (Err e) new → Judges (left_of found (asked ∷ more) quota) old verdict new
     one_stops old new e verdict is h = subst (λ (d : Dialogue Sought). Judges d old verdict new) (sym (left-more found asked more quota)) (judges_exit _ _ _ _ _ _ is h)
 

@@ -6,6 +6,7 @@ use Rattle.std.specs.Option.{option_map, ok_or}
 use Rattle.dav_resource.specs.Errors.{fs_status}
 use Rattle.dav_resource.specs.Key.{Key}
 use Rattle.dav_resource.specs.Tree.{Tree}
+use Rattle.dav_resource.specs.declared.error.DavError.{DavError}
 use Rattle.dav_resource.specs.declared.record.Outcome.{Outcome}
 use Rattle.dav_resource.specs.declared.record.Outcome.TheVariants.{Granted, Barred, Refused}
 use Rattle.dav_store.specs.Calls.{Call}
@@ -107,8 +108,21 @@ find_by view contents here element None quota = find_kept view contents here ele
 abbrev pub find_one : View → Contents → Resource → Tree → Option QuotaTold → Dialogue (Result Tree ℕ × Option QuotaTold)
 find_one view contents here element quota = find_by view contents here element (live_property_of element.tag.namespace element.tag.name) quota
 
+-- a property that was sought, and what came of it: as it is told, or the status for which it isn't
+pub record Finding : Type 0 where
+  pub asked : AskedProperty
+  pub told : Result Tree ℕ
+
+abbrev pub finding_of : Found → Finding
+finding_of found = record { asked = found.asked.now; told = found.told }
+
+-- those that were found, where nothing failed
+abbrev pub findings_in : Result (List Found × Option QuotaTold) DavError → Result (List Finding × Option QuotaTold) DavError
+findings_in (Ok found) = Ok (map finding_of found.0, found.1)
+findings_in (Err e) = Err e
+
 -- one after the other, and what the quota was told to be
-unfoldable pub find_each : View → Contents → Resource → List AskedProperty → Option QuotaTold → Dialogue (List Found × Option QuotaTold)
+unfoldable pub find_each : View → Contents → Resource → List AskedProperty → Option QuotaTold → Dialogue (List Finding × Option QuotaTold)
 find_each view contents here [] quota = Passed ([], quota)
 find_each view contents here (asked ∷ more) quota =
     find_one view contents here asked.element quota >>= λ one.

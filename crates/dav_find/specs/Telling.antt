@@ -8,8 +8,8 @@ use Rattle.dav_props.specs.Propstat.{Told}
 use Rattle.dav_find.specs.declared.search.FindKind.{FindKind}
 use Rattle.dav_find.specs.declared.search.FindKind.TheVariants.{AllProp, PropName, Prop}
 use Rattle.dav_find.specs.declared.search.AskedProperty.{AskedProperty}
-use Rattle.dav_find.specs.declared.finding.Found.{Found}
 use Rattle.dav_find.specs.Asked.{is_among}
+use Rattle.dav_find.specs.Finding.{Finding}
 
 -- what the store told that it keeps
 abbrev pub kept_in : Result (List Tree) ℕ → List Tree
@@ -27,7 +27,7 @@ tell_by stored asked (Ok element) = (200, element) ∷ []
 tell_by stored asked (Err status) =
     if asked.listed || is_among asked.element (kept_in stored) then [] else (missing_status stored asked.element status, bare asked.element) ∷ []
 
-abbrev pub tell_one : Result (List Tree) ℕ → Found → List Told
+abbrev pub tell_one : Result (List Tree) ℕ → Finding → List Told
 tell_one stored found = tell_by stored found.asked found.told
 
 -- the properties that were found
@@ -35,14 +35,14 @@ abbrev pub given_by : AskedProperty → Result Tree ℕ → Option Tree
 given_by asked (Ok told) = Some asked.element
 given_by asked (Err status) = None
 
-abbrev pub given_in : List Found → List Tree
-given_in found = filter_map (λ (one : Found). given_by one.asked one.told) found
+abbrev pub given_in : List Finding → List Tree
+given_in found = filter_map (λ (one : Finding). given_by one.asked one.told) found
 
 -- what the store keeps, without what is told already; or by names alone
-abbrev pub tell_kept : FindKind → List Found → List Tree → List Told
+abbrev pub tell_kept : FindKind → List Finding → List Tree → List Told
 tell_kept AllProp found kept = map (λ element. (200, element)) (filter (λ element. not (is_among element (given_in found))) kept)
 tell_kept PropName found kept = map (λ element. (200, bare element)) kept
 tell_kept Prop found kept = []
 
-abbrev pub told_of : FindKind → List Found → Result (List Tree) ℕ → List Told
+abbrev pub told_of : FindKind → List Finding → Result (List Tree) ℕ → List Told
 told_of kind found stored = flat_map (tell_one stored) found ++ tell_kept kind found (kept_in stored)

@@ -3,6 +3,7 @@ ghost use Rattle.std.specs.Prelude.{◌≡◌, ◌++◌, ◌∷◌, [], not, map
 ghost use Rattle.std.specs.List.{flat_map};
 ghost use Rattle.dav_props.specs.Property.{bare};
 ghost use Rattle.dav_find.specs.Asked.{is_among};
+ghost use Rattle.dav_find.specs.Finding.{finding_of};
 ghost use Rattle.dav_find.specs.Names.{AreNamesOf};
 ghost use Rattle.dav_find.specs.Telling.{kept_in as kept_of, missing_status as status_of_missing, tell_one as told_of_one, given_in, tell_kept as told_of_kept, told_of};
 
@@ -22,10 +23,10 @@ pub(crate) type Told = (StatusCode, Element);
 pub(crate) fn tell(
     alloc: Global,
     kind: FindKind,
-    found: &[Found],
+    found: &[Found<'_>],
     stored: &Result<Items<Element>, StatusCode>,
 ) -> Result<Vec<Told>, AllocError>
-    ensures { IfOk result (λ told. told.items ≡ told_of kind found.now stored.now) }
+    ensures { IfOk result (λ told. told.items ≡ told_of kind (map finding_of found.now) stored.now) }
 {
     let told = tell_found(alloc, found, stored)?;
     tell_kept(alloc, told, kind, found, kept_in(stored))
@@ -34,10 +35,10 @@ pub(crate) fn tell(
 /// What is told of the properties that were sought.
 fn tell_found<'e>(
     alloc: Global,
-    found: &'e [Found],
+    found: &'e [Found<'_>],
     stored: &'e Result<Items<Element>, StatusCode>,
 ) -> Result<Vec<Told>, AllocError>
-    ensures { IfOk result (λ told. told.items ≡ flat_map (told_of_one stored.now) found.now) }
+    ensures { IfOk result (λ told. told.items ≡ flat_map (told_of_one stored.now) (map finding_of found.now)) }
 {
     let kept = names_of(alloc, kept_in(stored))?;
     let mut told = Vec::new(alloc);
@@ -51,12 +52,12 @@ fn tell_found<'e>(
 fn tell_one<'e>(
     alloc: Global,
     mut told: Vec<Told>,
-    one: &'e Found,
+    one: &'e Found<'_>,
     stored: &Result<Items<Element>, StatusCode>,
     kept: &PropertyNames<'e>,
 ) -> Result<Vec<Told>, AllocError>
     requires { AreNamesOf kept.now.names (kept_of stored.now) }
-    ensures { IfOk result (λ more. more.items ≡ told.items ++ told_of_one stored.now one.now) }
+    ensures { IfOk result (λ more. more.items ≡ told.items ++ told_of_one stored.now (finding_of one.now)) }
 {
     match &one.told {
         Ok(element) => {
@@ -103,10 +104,10 @@ fn tell_kept(
     alloc: Global,
     told: Vec<Told>,
     kind: FindKind,
-    found: &[Found],
+    found: &[Found<'_>],
     kept: &[Element],
 ) -> Result<Vec<Told>, AllocError>
-    ensures { IfOk result (λ more. more.items ≡ told.items ++ told_of_kept kind found.now kept.now) }
+    ensures { IfOk result (λ more. more.items ≡ told.items ++ told_of_kept kind (map finding_of found.now) kept.now) }
 {
     match kind {
         FindKind::AllProp => tell_values(alloc, told, found, kept),
@@ -119,10 +120,10 @@ fn tell_kept(
 fn tell_values<'e>(
     alloc: Global,
     mut told: Vec<Told>,
-    found: &'e [Found],
+    found: &'e [Found<'_>],
     kept: &'e [Element],
 ) -> Result<Vec<Told>, AllocError>
-    ensures { IfOk result (λ more. more.items ≡ told.items ++ map (λ element. (200, element)) (filter (λ element. not (is_among element (given_in found.now))) kept.now)) }
+    ensures { IfOk result (λ more. more.items ≡ told.items ++ map (λ element. (200, element)) (filter (λ element. not (is_among element (given_in (map finding_of found.now)))) kept.now)) }
 {
     let given = names_given(alloc, found)?;
     for element in kept {
@@ -155,8 +156,8 @@ fn names_of<'e>(alloc: Global, elements: &'e [Element]) -> Result<PropertyNames<
 }
 
 /// The names of those that were found.
-fn names_given<'e>(alloc: Global, found: &'e [Found]) -> Result<PropertyNames<'e>, AllocError>
-    ensures { IfOk result (λ names. AreNamesOf names.names (given_in found.now)) }
+fn names_given<'e>(alloc: Global, found: &'e [Found<'_>]) -> Result<PropertyNames<'e>, AllocError>
+    ensures { IfOk result (λ names. AreNamesOf names.names (given_in (map finding_of found.now))) }
 {
     let mut names = PropertyNames::new(alloc);
     for one in found {

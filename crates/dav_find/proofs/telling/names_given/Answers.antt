@@ -1,5 +1,6 @@
-use Rattle.std.proofs.Common.{◌∙◌, ◌+◌, sym, subst, take, List}
+use Rattle.std.proofs.Common.{◌∙◌, ◌+◌, sym, subst, map, take, List}
 use Rattle.dav_resource.specs.Tree.{Tree}
+use Rattle.dav_find.specs.Finding.{finding_of}
 use Rattle.dav_find.specs.Names.{AreNamesOf}
 use Rattle.dav_find.specs.Telling.{given_in}
 use Rattle.dav_find.specs.declared.names.PropertyNames.{PropertyNames}
@@ -15,10 +16,10 @@ loop-one-preserved c =
     let one = c.one-item.result in
     elim c.if-is_ok.branch [
       | then-is_ok+in_ok-insert w ↦
-          subst (λ (names : PropertyNames). AreNamesOf names.names (given_in (take (i + 1) found))) (sym w.names-is)
+          subst (λ (names : PropertyNames). AreNamesOf names.names (given_in (map finding_of (take (i + 1) found)))) (sym w.names-is)
           (subst (λ (elements : List Tree). AreNamesOf w.insert.new.self.names elements) (sym (one_given found i one c.loop-one-test.true c.one-item.is (sym c.is_ok.ensures.value ∙ w.if-is_ok.true)))
-          (w.in_ok-insert.ensures.names (given_in (take i found)) c.loop-one.invariant))
+          (w.in_ok-insert.ensures.names (given_in (map finding_of (take i found))) c.loop-one.invariant))
       | else-is_ok w ↦
-          subst (λ (names : PropertyNames). AreNamesOf names.names (given_in (take (i + 1) found))) (sym w.names-is)
+          subst (λ (names : PropertyNames). AreNamesOf names.names (given_in (map finding_of (take (i + 1) found)))) (sym w.names-is)
           (subst (λ (elements : List Tree). AreNamesOf c.loop-one.names.names elements) (sym (none_given found i one c.loop-one-test.true c.one-item.is (sym c.is_ok.ensures.value ∙ w.if-is_ok.false))) c.loop-one.invariant)
     ]

@@ -1,8 +1,9 @@
-use Rattle.std.proofs.Common.{take}
+use Rattle.std.proofs.Common.{map, take}
+use Rattle.dav_find.specs.Finding.{finding_of}
 use Rattle.dav_find.specs.Names.{AreNamesOf}
 use Rattle.dav_find.specs.Telling.{given_in}
 use Rattle.dav_find.proofs.telling.names_given.Given as goal
 
 -- those so far
 abbrev pub invariant-loop-one : goal.invariant-loop-one
-invariant-loop-one l = AreNamesOf l.names.names (given_in (take l.one-index l.found))
+invariant-loop-one l = AreNamesOf l.names.names (given_in (map finding_of (take l.one-index l.found)))

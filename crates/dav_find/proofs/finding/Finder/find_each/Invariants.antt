@@ -1,9 +1,9 @@
-use Rattle.std.proofs.Common.{◌≡◌, Result, drop}
+use Rattle.std.proofs.Common.{◌≡◌, Result, drop, map}
 use Rattle.dav_resource.specs.declared.error.DavError.{DavError}
 use Rattle.dav_store.specs.Store.{Store}
 use Rattle.dav_parts.specs.Dialogue.{Judges}
 use Rattle.dav_find.specs.Finder.{view_of}
-use Rattle.dav_find.specs.Finding.{find_each}
+use Rattle.dav_find.specs.Finding.{find_each, finding_of}
 use Rattle.dav_find.proofs.Each.{Sought, left_of}
 use Rattle.dav_find.proofs.finding.Finder.find_each.Given as goal
 
@@ -13,6 +13,6 @@ invariant-loop-asked g l = record {
   same : (g.F.GuardedFileSystem.seen l.fs).contents ≡ (g.F.GuardedFileSystem.seen l.initial.fs).contents;
   fixed : (g.F.GuardedFileSystem.seen l.fs).keeps_properties ≡ (g.F.GuardedFileSystem.seen l.initial.fs).keeps_properties;
   held : (verdict : Result Sought DavError) (new : Store)
-      → Judges (left_of (view_of g.L.DavLockSystem.seen l.self (g.F.GuardedFileSystem.seen l.initial.fs).keeps_properties) (g.F.GuardedFileSystem.seen l.initial.fs).contents l.here l.found.items (drop l.asked-index l.self.search.now.asked.items) l.quota) (g.F.GuardedFileSystem.seen l.fs) verdict new
+      → Judges (left_of (view_of g.L.DavLockSystem.seen l.self (g.F.GuardedFileSystem.seen l.initial.fs).keeps_properties) (g.F.GuardedFileSystem.seen l.initial.fs).contents l.here (map finding_of l.found.items) (drop l.asked-index l.self.search.now.asked.items) l.quota) (g.F.GuardedFileSystem.seen l.fs) verdict new
       → Judges (find_each (view_of g.L.DavLockSystem.seen l.self (g.F.GuardedFileSystem.seen l.initial.fs).keeps_properties) (g.F.GuardedFileSystem.seen l.initial.fs).contents l.here l.self.search.now.asked.items l.initial.quota) (g.F.GuardedFileSystem.seen l.initial.fs) verdict new;
 }
