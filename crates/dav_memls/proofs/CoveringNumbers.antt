@@ -91,31 +91,27 @@ any_numbers_or n a b rows =
     ∙ any-or (λ (r : Row). n == r.0) (λ r. a r.1) (λ r. b r.1) rows
     ∙ sym (ap₂ (λ x y. x || y) (any_map (λ m. n == m) (filter (λ (r : Row). a r.1) rows)) (any_map (λ m. n == m) (filter (λ (r : Row). b r.1) rows)))
 
--- at first those at the key
-pub covering_own : (key : Key) (rows : List Row) (found : BTreeSet ℕ) → HasNumbers found (numbers_of (is_of_key key) rows) → HasNumbers found (numbers_of (reached_covers zero key) rows)
-covering_own key rows found h n = h n ∙ ap (list_any (λ m. n == m)) (numbers_agree (is_of_key key) (reached_covers zero key) rows (each_row (λ row. none (is_of_key key row.1) row.1.deep) rows))
+pub covers_own : (key : Key) (l : DavLock) → is_of_key key l ≡ reached_covers zero key l
+covers_own key l = none (is_of_key key l) l.deep
   where
     none : (own deep : Bool) → own ≡ (own || (deep && false))
     none true deep = refl
     none false true = refl
     none false false = refl
 
--- then those above it, one after another
-pub covering_more : (d : ℕ) (key : Key) (rows : List Row) (old new : BTreeSet ℕ) → HasNumbers old (numbers_of (reached_covers d key) rows) → AddsNumbers (numbers_of (among Deep (is_of_key (take d key))) rows) old new → HasNumbers new (numbers_of (reached_covers (suc d) key) rows)
-covering_more d key rows old new was adds n =
-    adds n
-    ∙ ap (λ b. b || list_any (λ m. n == m) (numbers_of (among Deep (is_of_key (take d key))) rows)) (was n)
-    ∙ sym (any_numbers_or n (reached_covers d key) (among Deep (is_of_key (take d key))) rows)
-    ∙ ap (list_any (λ m. n == m)) (numbers_agree _ (reached_covers (suc d) key) rows (each_row (λ row. moved (is_of_key key row.1) row.1.deep (is_reached d key row.1) (is_of_key (take d key) row.1) ∙ ap (λ b. is_of_key key row.1 || (row.1.deep && b)) (sym (reached-more d key row.1.path.key))) rows))
+pub covers_more : (d : ℕ) (key : Key) (l : DavLock) → (reached_covers d key l || among Deep (is_of_key (take d key)) l) ≡ reached_covers (suc d) key l
+covers_more d key l = moved (is_of_key key l) l.deep (is_reached d key l) (is_of_key (take d key) l) ∙ ap (λ b. is_of_key key l || (l.deep && b)) (sym (reached-more d key l.path.key))
   where
     moved : (own deep before here : Bool) → ((own || (deep && before)) || (deep && here)) ≡ (own || (deep && (before || here)))
     moved true deep before here = refl
     moved false true before here = refl
     moved false false before here = refl
 
--- and at last all that cover it
-pub covering_all_reached : (key : Key) (rows : List Row) (found : BTreeSet ℕ) → HasNumbers found (numbers_of (reached_covers (length key) key) rows) → HasNumbers found (numbers_of (λ l. covers l key) rows)
-covering_all_reached key rows found h n = h n ∙ ap (list_any (λ m. n == m)) (numbers_agree (reached_covers (length key) key) (λ l. covers l key) rows (each_row (λ row. all row.1) rows))
+pub covers_all : (key : Key) (l : DavLock) → reached_covers (length key) key l ≡ covers l key
+covers_all key l = elim l.deep as (λ b. (is_of_key key l || (b && is_reached (length key) key l)) ≡ cond b (is_at_or_below key l.path.key) (is_same_key key l.path.key)) [
+  | true ↦ above
+  | false ↦ or_false (is_of_key key l)
+]
   where
     turned : (a b : Bool) → (a || b) ≡ (b || a)
     turned true true = refl
@@ -127,18 +123,30 @@ covering_all_reached key rows found h n = h n ∙ ap (list_any (λ m. n == m)) (
     or_false true = refl
     or_false false = refl
 
-    above : (l : DavLock) → (is_of_key key l || is_reached (length key) key l) ≡ is_at_or_below key l.path.key
-    above l =
+    above : (is_of_key key l || is_reached (length key) key l) ≡ is_at_or_below key l.path.key
+    above =
         turned (is_of_key key l) (is_reached (length key) key l)
         ∙ ap (λ k. is_reached (length key) key l || is_same_key k l.path.key) (sym (take_all (length key) key (omega arith)))
         ∙ sym (reached-more (length key) key l.path.key)
         ∙ reached-all key l.path.key
 
-    all : (l : DavLock) → reached_covers (length key) key l ≡ covers l key
-    all l = elim l.deep as (λ b. (is_of_key key l || (b && is_reached (length key) key l)) ≡ cond b (is_at_or_below key l.path.key) (is_same_key key l.path.key)) [
-      | true ↦ above l
-      | false ↦ or_false (is_of_key key l)
-    ]
+-- ---- their numbers
+
+-- at first those at the key
+pub covering_own : (key : Key) (rows : List Row) (found : BTreeSet ℕ) → HasNumbers found (numbers_of (is_of_key key) rows) → HasNumbers found (numbers_of (reached_covers zero key) rows)
+covering_own key rows found h n = h n ∙ ap (list_any (λ m. n == m)) (numbers_agree (is_of_key key) (reached_covers zero key) rows (each_row (λ row. covers_own key row.1) rows))
+
+-- then those above it, one after another
+pub covering_more : (d : ℕ) (key : Key) (rows : List Row) (old new : BTreeSet ℕ) → HasNumbers old (numbers_of (reached_covers d key) rows) → AddsNumbers (numbers_of (among Deep (is_of_key (take d key))) rows) old new → HasNumbers new (numbers_of (reached_covers (suc d) key) rows)
+covering_more d key rows old new was adds n =
+    adds n
+    ∙ ap (λ b. b || list_any (λ m. n == m) (numbers_of (among Deep (is_of_key (take d key))) rows)) (was n)
+    ∙ sym (any_numbers_or n (reached_covers d key) (among Deep (is_of_key (take d key))) rows)
+    ∙ ap (list_any (λ m. n == m)) (numbers_agree _ (reached_covers (suc d) key) rows (each_row (λ row. covers_more d key row.1) rows))
+
+-- and at last all that cover it
+pub covering_all_reached : (key : Key) (rows : List Row) (found : BTreeSet ℕ) → HasNumbers found (numbers_of (reached_covers (length key) key) rows) → HasNumbers found (numbers_of (λ l. covers l key) rows)
+covering_all_reached key rows found h n = h n ∙ ap (list_any (λ m. n == m)) (numbers_agree (reached_covers (length key) key) (λ l. covers l key) rows (each_row (λ row. covers_all key row.1) rows))
 
 -- ---- the set
 

@@ -9,7 +9,8 @@ pub mod CoveringNumbers
 pub mod LockLooks
 pub mod LockLists
 pub mod TokenSets
-pub mod SharedLocks
+pub mod CoveringLocks
+pub mod SomeCovering
 pub mod OneLook
 pub mod KeyRuns
 pub mod BelowLooks

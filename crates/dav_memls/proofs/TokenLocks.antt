@@ -5,7 +5,7 @@ use Rattle.dav_resource.specs.Key.{Key}
 use Rattle.dav_store.specs.declared.lock.DavLock.{DavLock}
 use Rattle.dav_store.specs.Locks.{has_token, covers, covering}
 use Rattle.dav_memls.proofs.Reached.{bytes_eq-sym}
-use Rattle.dav_memls.proofs.SharedLocks.{any_agree, any_filter, any_or}
+use Rattle.dav_memls.proofs.CoveringLocks.{any_agree, any_filter, any_or}
 
 none_at_all : {X : Type 0} (xs : List X) → list_any (λ x. false) xs ≡ false
 none_at_all [] = refl

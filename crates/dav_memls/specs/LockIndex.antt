@@ -40,15 +40,12 @@ locks_without n rows = values_of (remove_entry (is_at (nat_cmp n)) rows)
 abbrev pub locks_refreshed : ℕ → Option ℕ → ℕ → List Row → List DavLock
 locks_refreshed n timeout now rows = map (λ (row : Row). if n == row.0 then refreshed timeout now row.1 else row.1) rows
 
--- whether the lock's own key is this one, is it or one below it, and is it or one above it
+-- whether the lock's own key is this one, and is it or one below it
 abbrev pub is_of_key : Key → DavLock → Bool
 is_of_key key lock = is_same_key key lock.path.key
 
 abbrev pub is_within : Key → DavLock → Bool
 is_within key lock = is_at_or_below lock.path.key key
-
-abbrev pub is_above : Key → DavLock → Bool
-is_above key lock = is_at_or_below key lock.path.key
 
 -- whether a register has the lock, and whether it has it and the lock passes the test
 abbrev pub belongs : Register → DavLock → Bool

@@ -1,7 +1,7 @@
 //! Locks with an index.
 ghost use Rattle.std.specs.Prelude.{◌≡◌, ◌≤◌, ◌^◌, ℕ, false, [], ◌∷◌, ◌++◌, None, IfOk, IfSome, MatchOption, OnOk, OnErr, Bool};
 ghost use Rattle.std.specs.BTreeMap.{IsOrdered};
-ghost use Rattle.std.specs.List.{filter, list_any};
+ghost use Rattle.std.specs.List.{filter, find, list_any};
 ghost use Rattle.std.specs.List.Sorted.{IsStrictlySortedBy-prop};
 ghost use Rattle.std.specs.Map.{keys_of};
 ghost use Rattle.std.specs.Option.{option_copied, option_to_list};
@@ -11,9 +11,10 @@ ghost use Rattle.dav_resource.specs.Texts.{texts};
 ghost use Rattle.dav_store.specs.declared.lock.DavLock.{DavLock};
 ghost use Rattle.dav_store.specs.Locks.{has_token, covers, covering, at_or_below};
 ghost use Rattle.dav_store.specs.LockCalls.{has_named};
+ghost use Rattle.dav_store.specs.Members.{IsIn};
 ghost use Rattle.dav_memls.specs.Numbers.{IsAbove};
 ghost use Rattle.dav_memls.specs.KeyEntries.{listed};
-ghost use Rattle.dav_memls.specs.LockIndex.{IsIndexed, among, is_of_key, is_above, lock_of, locks_of_numbers, numbers_of, locks_without, locks_refreshed, Computes, IsNamedLock, StandsBelow, HasNumbers, AddsNumbers};
+ghost use Rattle.dav_memls.specs.LockIndex.{IsIndexed, among, is_of_key, lock_of, locks_of_numbers, numbers_of, locks_without, locks_refreshed, Computes, IsNamedLock, StandsBelow, HasNumbers, AddsNumbers};
 
 use super::index::{LockIndex, Register};
 use super::numbers::Numbers;
@@ -91,41 +92,29 @@ impl IndexedLocks {
         self.of_number(number)
     }
 
-    /// Whether a lock of the register, whose own key is this one, passes the test: a look into the index, and the
-    /// test of the locks there.
-    pub fn any_at<F: Fn(&DavLock) -> bool>(
-        &self,
-        register: Register,
-        key: &[String],
-        test: &F,
-    ) -> bool
-        requires { F.IsAlwaysCallable test.now }
-        ensures { (p : DavLock → Bool) → Computes (F.post test.now) p → result ≡ list_any (among register p) (filter (is_of_key (texts key.now)) (locks_in self.now)) }
-    {
-        match self.index.at(register, key) {
-            Some(numbers) => self.any_of(numbers, test),
-            None => false,
-        }
-    }
-
-    /// Whether a lock of the register, at the path or above it, passes the test: a look into the index for the path
-    /// and each above it, and the test of the locks there.
-    pub fn any_above<F: Fn(&DavLock) -> bool>(
-        &self,
-        register: Register,
-        path: &DavPath,
-        test: F,
-    ) -> bool
-        requires { F.IsAlwaysCallable test }
-        ensures { (p : DavLock → Bool) → Computes (F.post test) p → result ≡ list_any (among register p) (filter (is_above path.now.key) (locks_in self.now)) }
+    /// A lock that covers the path, where one does: the oldest at it, or else the oldest deep one of the first path
+    /// above it, from the root on, that has one. A look into the index for each of these that is asked.
+    pub fn some_covering(&self, path: &DavPath) -> Option<&DavLock>
+        ensures { MatchOption result (covering (locks_in self.now) path.now.key ≡ []) (λ lock. IsIn lock.now (covering (locks_in self.now) path.now.key)) }
     {
         let key = path.segments();
-        for depth in 0..key.len() + 1 {
-            if self.any_at(register, &key[..depth], &test) {
-                return true;
+        if let Some(lock) = self.first_at(Register::All, key) {
+            return Some(lock);
+        }
+        for depth in 0..key.len() {
+            if let Some(lock) = self.first_at(Register::Deep, &key[..depth]) {
+                return Some(lock);
             }
         }
-        false
+        None
+    }
+
+    /// The oldest lock of the register whose own key is this one: a look into the index.
+    fn first_at(&self, register: Register, key: &[String]) -> Option<&DavLock>
+        ensures { option_copied result ≡ find (among register (is_of_key (texts key.now))) (locks_in self.now) }
+    {
+        let number = self.index.at(register, key)?.first()?;
+        self.of_number(number)
     }
 
     /// Whether a lock of the register, at the path or below it, passes the test: a look into the index, for which

@@ -1,7 +1,7 @@
 //! What is asked of the locks.
 ghost use Rattle.std.specs.Prelude.{◌≡◌, ◌&&◌, ◌||◌};
 ghost use Rattle.std.specs.List.{filter, list_all, list_any};
-ghost use Rattle.dav_store.specs.Locks.{covers, covering, at_or_below, has_token, permits_at, conflicts, grants};
+ghost use Rattle.dav_store.specs.Locks.{covers, covering, at_or_below, has_token, permits_at, conflicts, grants, AreCompatible};
 ghost use Rattle.dav_memls.specs.IndexedLocks.{locks_in};
 ghost use Rattle.dav_memls.specs.Submitted.{is_from, passes};
 
@@ -13,12 +13,20 @@ use dav_store::DavLock;
 
 // ---- whether a request may go on
 
-/// Whether the locks that cover the path let a request go on.
+/// Whether the locks that cover the path let a request go on. Of locks that cover one path an exclusive one stands
+/// alone, so one of them tells what is asked: itself, or any.
 pub fn permits_at(locks: &IndexedLocks, path: &DavPath, submitted: &Submitted) -> bool
+    requires { AreCompatible (locks_in locks.now) }
     ensures { result ≡ permits_at (covering (locks_in locks.now) path.now.key) (passes submitted.now) }
 {
-    exclusive_are_submitted(locks, path, submitted)
-        && (!is_covered(locks, path) || one_is_submitted(locks, path, submitted))
+    let Some(lock) = locks.some_covering(path) else {
+        return true;
+    };
+    if lock.shared {
+        one_is_submitted(locks, path, submitted)
+    } else {
+        submitted.has(lock)
+    }
 }
 
 /// Whether each lock at the path or below it is submitted.
@@ -26,17 +34,6 @@ pub fn permits_below(locks: &IndexedLocks, path: &DavPath, submitted: &Submitted
     ensures { result ≡ list_all (passes submitted.now) (at_or_below (locks_in locks.now) path.now.key) }
 {
     !locks.any_below(Register::All, path, |lock| !submitted.has(lock))
-}
-
-/// Whether each lock that covers the path is shared or submitted.
-fn exclusive_are_submitted(locks: &IndexedLocks, path: &DavPath, submitted: &Submitted) -> bool
-    ensures { result ≡ list_all (λ lock. lock.shared || passes submitted.now lock) (covering (locks_in locks.now) path.now.key) }
-{
-    !locks.any_above(
-        Register::Exclusive,
-        path,
-        |lock| lock.covers(path) && !submitted.has(lock),
-    )
 }
 
 /// Whether a lock that covers the path is submitted: a look for each token, however many the locks are.
@@ -59,18 +56,11 @@ fn lets_on(locks: &IndexedLocks, path: &DavPath, submitted: &Submitted, token: &
     }
 }
 
-/// Whether a lock covers the path: one at it, or a deep one above it.
-fn is_covered(locks: &IndexedLocks, path: &DavPath) -> bool
-    ensures { result ≡ list_any (λ lock. covers lock path.now.key) (locks_in locks.now) }
-{
-    locks.any_at(Register::All, path.segments(), &|_: &DavLock| true)
-        || locks.any_above(Register::Deep, path, |_: &DavLock| true)
-}
-
 // ---- whether a lock is granted
 
 /// Whether the lock may stand beside these.
 pub fn grants(locks: &IndexedLocks, lock: &DavLock) -> bool
+    requires { AreCompatible (locks_in locks.now) }
     ensures { result ≡ grants (locks_in locks.now) lock.now }
 {
     !locks.has_token(lock.token.as_str())
@@ -78,18 +68,14 @@ pub fn grants(locks: &IndexedLocks, lock: &DavLock) -> bool
         && !(lock.deep && conflicts_below(locks, lock))
 }
 
-/// Whether the lock conflicts with one that covers its path.
+/// Whether the lock conflicts with one that covers its path: with one it does, or with all.
 fn conflicts_above(locks: &IndexedLocks, lock: &DavLock) -> bool
+    requires { AreCompatible (locks_in locks.now) }
     ensures { result ≡ list_any (conflicts lock.now) (covering (locks_in locks.now) lock.now.path.key) }
 {
-    if lock.shared {
-        locks.any_above(
-            Register::Exclusive,
-            &lock.path,
-            |other| other.covers(&lock.path),
-        )
-    } else {
-        is_covered(locks, &lock.path)
+    match locks.some_covering(&lock.path) {
+        Some(other) => lock.conflicts(other),
+        None => false,
     }
 }
 

@@ -3,7 +3,7 @@ use Rattle.std.specs.List.{list_any}
 use Rattle.dav_store.specs.Locks.{at_or_below, conflicts}
 use Rattle.dav_memls.specs.IndexedLocks.{locks_in}
 use Rattle.dav_memls.specs.LockIndex.{among}
-use Rattle.dav_memls.proofs.SharedLocks.{shared_conflicts_below}
+use Rattle.dav_memls.proofs.CoveringLocks.{shared_conflicts_below}
 use Rattle.dav_memls.proofs.memory_locks.list.conflicts_below.Goals.{then-lock, else-lock}
 use Rattle.dav_memls.proofs.memory_locks.list.conflicts_below.Goals as goal
 
