@@ -145,8 +145,8 @@ covering_more d key rows old new was adds n =
     ∙ ap (list_any (λ m. n == m)) (numbers_agree _ (reached_covers (suc d) key) rows (each_row (λ row. covers_more d key row.1) rows))
 
 -- and at last all that cover it
-pub covering_all_reached : (key : Key) (rows : List Row) (found : BTreeSet ℕ) → HasNumbers found (numbers_of (reached_covers (length key) key) rows) → HasNumbers found (numbers_of (λ l. covers l key) rows)
-covering_all_reached key rows found h n = h n ∙ ap (list_any (λ m. n == m)) (numbers_agree (reached_covers (length key) key) (λ l. covers l key) rows (each_row (λ row. covers_all key row.1) rows))
+pub covering_all_reached : (m : ℕ) (key : Key) (rows : List Row) (found : BTreeSet ℕ) → AllByRecursion (λ (row : Row). reached_covers m key row.1 ≡ covers row.1 key) rows → HasNumbers found (numbers_of (reached_covers m key) rows) → HasNumbers found (numbers_of (λ l. covers l key) rows)
+covering_all_reached m key rows found all h n = h n ∙ ap (list_any (λ m. n == m)) (numbers_agree (reached_covers m key) (λ l. covers l key) rows all)
 
 -- ---- the set
 

@@ -10,6 +10,7 @@ pub mod LockLooks
 pub mod LockLists
 pub mod TokenSets
 pub mod CoveringLocks
+pub mod Reach
 pub mod SomeCovering
 pub mod OneLook
 pub mod KeyRuns

@@ -1,7 +1,7 @@
 -- The look for a lock that covers a key: at the key, and then for a deep one from the root on.
-use Rattle.std.proofs.Common.{◌≡◌, ◌∙◌, inl, inr, ⊎_elim, ℕ, zero, suc, Bool, true, false, cond, ◌||◌, List, [], ◌∷◌, Some, None, length, take, refl, sym, ap, ap₂}
+use Rattle.std.proofs.Common.{◌≡◌, ◌∙◌, inl, inr, ⊎_elim, ℕ, zero, suc, Bool, true, false, cond, ◌||◌, List, [], ◌∷◌, Some, None, take, refl, sym, ap, ap₂}
 use Rattle.std.proofs.lemmas.Bool.{and_parts}
-use Rattle.std.specs.List.{filter, find, list_any}
+use Rattle.std.specs.List.{AllByRecursion, filter, find, list_any}
 use Rattle.dav_resource.specs.Key.{Key, is_same_key, same_key_decides}
 use Rattle.dav_store.specs.declared.lock.DavLock.{DavLock}
 use Rattle.dav_store.specs.Locks.{is_at_or_below, covers, covering}
@@ -9,7 +9,7 @@ use Rattle.dav_store.specs.Members.{IsIn}
 use Rattle.dav_memls.specs.declared.memory_locks.index.Register.TheVariants.{Deep}
 use Rattle.dav_memls.specs.LockIndex.{among, is_of_key}
 use Rattle.dav_memls.proofs.CoveringLocks.{any_agree, any_or}
-use Rattle.dav_memls.proofs.CoveringNumbers.{reached_covers, covers_own, covers_more, covers_all}
+use Rattle.dav_memls.proofs.CoveringNumbers.{reached_covers, covers_own, covers_more}
 use Rattle.dav_memls.proofs.Reached.{at_itself, reached, reached-more, reached-below}
 
 -- ---- the first lock that passes a test
@@ -66,9 +66,13 @@ none_more d key ls before here =
     ∙ any_or (reached_covers d key) (among Deep (is_of_key (take d key))) ls
     ∙ ap₂ (λ x y. x || y) before here
 
-pub none_covers : (key : Key) (ls : List DavLock) → list_any (reached_covers (length key) key) ls ≡ false → covering ls key ≡ []
-none_covers key ls none = kept_none (λ l. covers l key) ls (any_agree (λ l. covers l key) (reached_covers (length key) key) (λ l. sym (covers_all key l)) ls ∙ none)
+pub none_covers : (m : ℕ) (key : Key) (ls : List DavLock) → AllByRecursion (λ (l : DavLock). reached_covers m key l ≡ covers l key) ls → list_any (reached_covers m key) ls ≡ false → covering ls key ≡ []
+none_covers m key ls all none = kept_none (λ l. covers l key) ls (sym (agree ls all) ∙ none)
   where
+    agree : (xs : List DavLock) → AllByRecursion (λ (l : DavLock). reached_covers m key l ≡ covers l key) xs → list_any (reached_covers m key) xs ≡ list_any (λ l. covers l key) xs
+    agree [] a = refl
+    agree (x ∷ xs) a = ap₂ (λ b c. b || c) a.0 (agree xs a.1)
+
     kept_none : (test : DavLock → Bool) (xs : List DavLock) → list_any test xs ≡ false → filter test xs ≡ []
     kept_none test [] e = refl
     kept_none test (x ∷ xs) e = elim (test x) as (λ b. (b || list_any test xs) ≡ false → cond b (x ∷ filter test xs) (filter test xs) ≡ []) [

@@ -1,8 +1,8 @@
 -- The index of the locks in memory: each lock has a number, later ones greater ones, and these are found by the lock's token and by keys. This project's own choice.
-use Rattle.std.specs.Prelude.{◌≡◌, ◌==◌, ◌&&◌, ◌||◌, ◌++◌, ℕ, Bool, true, not, List, [], map, Option, Some, if◌then◌else◌}
+use Rattle.std.specs.Prelude.{◌≡◌, ◌==◌, ◌&&◌, ◌||◌, ◌++◌, ℕ, Bool, true, not, List, [], length, map, nat_lt, Option, Some, if◌then◌else◌}
 use Rattle.std.specs.BTreeMap.{is_at}
 use Rattle.std.specs.BTreeSet.{BTreeSet, contains}
-use Rattle.std.specs.List.{filter, filter_map, list_any}
+use Rattle.std.specs.List.{filter, filter_map, list_all, list_any}
 use Rattle.std.specs.Map.{lookup, remove_entry, values_of}
 use Rattle.std.specs.HashMap.{get_by_text}
 use Rattle.std.specs.Option.{IsSomeAnd, option_to_list}
@@ -46,6 +46,10 @@ is_of_key key lock = is_same_key key lock.path.key
 
 abbrev pub is_within : Key → DavLock → Bool
 is_within key lock = is_at_or_below lock.path.key key
+
+-- each lock's own key has fewer segments
+abbrev pub are_within : ℕ → List Row → Bool
+are_within reach rows = list_all (λ (row : Row). nat_lt (length row.1.path.key) reach) rows
 
 -- whether a register has the lock, and whether it has it and the lock passes the test
 abbrev pub belongs : Register → DavLock → Bool

@@ -32,11 +32,12 @@ use submitted::Submitted;
 /// `check` and `lock` take a look at the path for any lock, and then at each path above it, from the root on, for a
 /// deep one, until they have found one that covers the path: an exclusive one covers it alone, so one tells what is
 /// asked of all, however many they are. Where those are shared, `check` takes a look for each token. `discover` takes a
-/// look for the path and for each above it, and copies the locks that cover the path. What stands below the path is
-/// found from a copy of it on; without memory for the copy, by going through all locked paths, which is only slower. A
-/// deep `lock` takes one look there, a deep `check` judges each lock until one isn't submitted. `check` takes memory to
-/// put many tokens in order, and is only slower without it. `unlock` and `refresh` take a look for the token. `delete`
-/// takes a look below the path for each lock, in no promised order. It and `unlock` move no other lock.
+/// look for the path and for each above it, and copies the locks that cover the path. These looks go no further down
+/// than locks were ever put. What stands below the path is found from a copy of it on; without memory for the copy, by
+/// going through all locked paths, which is only slower. A deep `lock` takes one look there, a deep `check` judges each
+/// lock until one isn't submitted. `check` takes memory to put many tokens in order, and is only slower without it.
+/// `unlock` and `refresh` take a look for the token. `delete` takes a look below the path for each lock, in no promised
+/// order. It and `unlock` move no other lock.
 ///
 /// `lock` takes memory for the lock, for its token once more, for its number in the maps that have it, and for a copy
 /// of its path in each of these where none stands there. Where the newest lock has the greatest `u64` as its number

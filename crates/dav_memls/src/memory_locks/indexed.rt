@@ -1,5 +1,5 @@
 //! Locks with an index.
-ghost use Rattle.std.specs.Prelude.{◌≡◌, ◌≤◌, ◌^◌, ℕ, false, [], ◌∷◌, ◌++◌, None, IfOk, IfSome, MatchOption, OnOk, OnErr, Bool};
+ghost use Rattle.std.specs.Prelude.{◌≡◌, ◌≤◌, ◌^◌, ℕ, true, false, [], ◌∷◌, ◌++◌, None, IfOk, IfSome, MatchOption, OnOk, OnErr, Bool};
 ghost use Rattle.std.specs.BTreeMap.{IsOrdered};
 ghost use Rattle.std.specs.List.{filter, find, list_any};
 ghost use Rattle.std.specs.List.Sorted.{IsStrictlySortedBy-prop};
@@ -14,7 +14,7 @@ ghost use Rattle.dav_store.specs.LockCalls.{has_named};
 ghost use Rattle.dav_store.specs.Members.{IsIn};
 ghost use Rattle.dav_memls.specs.Numbers.{IsAbove};
 ghost use Rattle.dav_memls.specs.KeyEntries.{listed};
-ghost use Rattle.dav_memls.specs.LockIndex.{IsIndexed, among, is_of_key, lock_of, locks_of_numbers, numbers_of, locks_without, locks_refreshed, Computes, IsNamedLock, StandsBelow, HasNumbers, AddsNumbers};
+ghost use Rattle.dav_memls.specs.LockIndex.{IsIndexed, among, are_within, is_of_key, lock_of, locks_of_numbers, numbers_of, locks_without, locks_refreshed, Computes, IsNamedLock, StandsBelow, HasNumbers, AddsNumbers};
 
 use super::index::{LockIndex, Register};
 use super::numbers::Numbers;
@@ -26,14 +26,17 @@ use std::collections::{BTreeMap, BTreeSet};
 
 /// Locks by their numbers. A newer lock has a greater number, and keeps it while it is held. An index finds the
 /// numbers by a token and by keys. A look at a number, to find its lock, to change it or to take it out, takes as many
-/// comparisons of numbers as the logarithm of how many locks there are, and moves no other lock.
+/// comparisons of numbers as the logarithm of how many locks there are, and moves no other lock. A look above a path
+/// goes no further down than locks were ever put: each lock's own key has fewer segments than `reach`.
 #[derive(Debug, Drop)]
 pub struct IndexedLocks {
     locks: BTreeMap<u64, DavLock>,
     index: LockIndex,
     alloc: Global,
+    reach: usize,
     ghost ordered: { IsOrdered nat_cmp locks } by { Prim.hlevel (props, IsStrictlySortedBy-prop) },
     ghost indexed: { IsIndexed index locks.entries } by { Prim.hlevel props },
+    ghost reached: { are_within reach locks.entries ≡ true } by { Prim.hlevel props },
 }
 
 impl IndexedLocks {
@@ -47,6 +50,7 @@ impl IndexedLocks {
             locks: BTreeMap::new(alloc),
             index: LockIndex::new(alloc),
             alloc,
+            reach: 0,
         }
     }
 
@@ -101,7 +105,7 @@ impl IndexedLocks {
         if let Some(lock) = self.first_at(Register::All, key) {
             return Some(lock);
         }
-        for depth in 0..key.len() {
+        for depth in 0..key.len().min(self.reach) {
             if let Some(lock) = self.first_at(Register::Deep, &key[..depth]) {
                 return Some(lock);
             }
@@ -206,7 +210,7 @@ impl IndexedLocks {
         let key = path.segments();
         let mut found = BTreeSet::new(self.allocator());
         add(&mut found, self.index.at(Register::All, key))?;
-        for depth in 0..key.len() {
+        for depth in 0..key.len().min(self.reach) {
             add(&mut found, self.index.at(Register::Deep, &key[..depth]))?;
         }
         Ok(found)
@@ -225,6 +229,7 @@ impl IndexedLocks {
             return Err(AllocError);
         };
         self.index.enter(alloc, &lock, number)?;
+        self.reach = self.reach.max(lock.path.segments().len() + 1);
         if let Err(refused) = self.locks.insert(number, lock) {
             let (_, lock) = refused.value;
             self.index.leave(&lock, number);

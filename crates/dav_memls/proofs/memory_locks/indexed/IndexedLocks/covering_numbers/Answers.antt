@@ -1,8 +1,9 @@
-use Rattle.std.proofs.Common.{◌≡◌, ◌∙◌, sym, ap, subst, length, arith, add-one, string_bytes, take}
+use Rattle.std.proofs.Common.{◌≡◌, ◌∙◌, sym, ap, subst, length, arith, add-one, string_bytes, take, min}
 use Rattle.std.proofs.lemmas.List.{length-map}
 use Rattle.dav_memls.specs.declared.memory_locks.index.Register.TheVariants.{All, Deep}
 use Rattle.dav_memls.specs.LockIndex.{AddsNumbers, HasNumbers, found_at, is_of_key, numbers_of}
 use Rattle.dav_memls.proofs.LockLooks.{first_segments}
+use Rattle.dav_memls.proofs.Reach.{rows_within}
 use Rattle.dav_memls.proofs.CoveringNumbers.{adds_first, covering_own, reached_covers, covering_more, covering_all_reached}
 use Rattle.dav_memls.proofs.memory_locks.indexed.IndexedLocks.covering_numbers.Goals as goal
 
@@ -28,5 +29,5 @@ pub returns : goal.returns
 returns c =
     let self = c.args.self.now in
     let key = c.args.path.now.key in
-    let end : c.loop-depth.depth ≡ length key = omega (arith, length-map c.segments-key.result.now string_bytes, ap length c.segments-key.ensures.value) in
-    covering_all_reached key self.locks.entries c.loop-depth.found (subst (λ m. HasNumbers c.loop-depth.found (numbers_of (reached_covers m key) self.locks.entries)) end c.loop-depth.invariant)
+    let end : c.loop-depth.depth ≡ min (length key) self.reach = omega (arith, length-map c.segments-key.result.now string_bytes, ap length c.segments-key.ensures.value, c.min-depth-end.ensures) in
+    covering_all_reached c.loop-depth.depth key self.locks.entries c.loop-depth.found (rows_within c.loop-depth.depth self.reach key self.locks.entries end self.reached) c.loop-depth.invariant

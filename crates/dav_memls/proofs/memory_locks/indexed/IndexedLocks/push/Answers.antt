@@ -1,8 +1,10 @@
-use Rattle.std.proofs.Common.{◌∙◌, sym, ap, subst}
+use Rattle.std.proofs.Common.{◌∙◌, sym, ap, subst, arith, length, string_bytes}
+use Rattle.std.proofs.lemmas.List.{length-map}
 use Rattle.std.specs.Map.{values_of}
-use Rattle.dav_memls.specs.LockIndex.{Row, IsIndexed, LeavesIndex}
+use Rattle.dav_memls.specs.LockIndex.{Row, IsIndexed, LeavesIndex, are_within}
 use Rattle.dav_memls.proofs.LockRows.{entries-push, values-push}
 use Rattle.dav_memls.proofs.Indexing.{free_token, above_at, indexed_push, indexed_undone}
+use Rattle.dav_memls.proofs.Reach.{within_more, within_push}
 use Rattle.dav_memls.proofs.memory_locks.indexed.IndexedLocks.push.Goals as goal
 
 pub enter-requires-clause-token : goal.enter-requires-clause-token
@@ -18,6 +20,7 @@ invariant_of-self-in-Err c =
     record {
       ordered = c.insert.ensures.ordered;
       indexed = subst (IsIndexed c.leave.new.self) (sym c.in-Err.ensures.err) (indexed_undone self.index c.enter.new.self c.leave.new.self self.locks.entries c.in-Some.number c.args.lock self.ordered c.in-Some.ensures.above self.indexed c.in_ok-enter.ensures.ok left);
+      reached = ap (are_within c.max-self.result) c.in-Err.ensures.err ∙ within_more self.reach c.max-self.result self.locks.entries (omega (arith, c.max-self.ensures)) self.reached;
     }
 
 pub invariant_of-self-in_default-insert : goal.invariant_of-self-in_default-insert
@@ -27,6 +30,11 @@ invariant_of-self-in_default-insert c =
     record {
       ordered = c.insert.ensures.ordered;
       indexed = subst (IsIndexed c.enter.new.self) (sym grown) (indexed_push self.index c.enter.new.self self.locks.entries c.in-Some.number c.args.lock self.indexed c.in_ok-enter.ensures.ok);
+      reached =
+          ap (are_within c.max-self.result) grown
+          ∙ within_push c.max-self.result self.locks.entries c.in-Some.number c.args.lock
+          (omega (arith, length-map c.segments.result.now string_bytes, ap length c.segments.ensures.value, c.max-self.ensures))
+          (within_more self.reach c.max-self.result self.locks.entries (omega (arith, c.max-self.ensures)) self.reached);
     }
 
 pub returns-clause-ok : goal.returns-clause-ok

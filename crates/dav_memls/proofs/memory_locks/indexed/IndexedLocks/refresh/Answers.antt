@@ -1,9 +1,10 @@
-use Rattle.std.proofs.Common.{◌∙◌, sym, ap, subst, nat_cmp}
+use Rattle.std.proofs.Common.{◌∙◌, refl, sym, ap, subst, nat_cmp}
 use Rattle.std.specs.BTreeMap.{is_at, values}
 use Rattle.std.specs.Map.{values_of, set_value}
-use Rattle.dav_memls.specs.LockIndex.{IsIndexed}
+use Rattle.dav_memls.specs.LockIndex.{IsIndexed, are_within}
 use Rattle.dav_memls.proofs.LockRows.{refreshed_value, refreshed_absent}
 use Rattle.dav_memls.proofs.Indexing.{indexed_refreshed}
+use Rattle.dav_memls.proofs.Reach.{within_set}
 use Rattle.dav_memls.proofs.memory_locks.indexed.IndexedLocks.refresh.Goals as goal
 
 pub invariant_of-self : goal.invariant_of-self
@@ -14,6 +15,7 @@ invariant_of-self c =
     record {
       ordered = written.4;
       indexed = subst (IsIndexed self.index) (sym set) (indexed_refreshed self.index self.locks.entries c.args.number c.args.timeout c.args.now c.in-Some.lock.now (sym c.in-Some.ensures.value) self.indexed);
+      reached = ap (are_within self.reach) set ∙ within_set self.reach self.locks.entries c.args.number c.in-Some.lock.now _ (sym c.in-Some.ensures.value) refl self.reached;
     }
 
 pub returns-in-Some : goal.returns-in-Some

@@ -1,4 +1,4 @@
-use Rattle.std.proofs.Common.{◌≡◌, ◌∙◌, ap, length, arith, add-one, string_bytes, subst, take, false}
+use Rattle.std.proofs.Common.{◌≡◌, ◌∙◌, ap, length, arith, add-one, string_bytes, take, min}
 use Rattle.std.proofs.lemmas.List.{length-map}
 use Rattle.std.specs.List.{find, list_any}
 use Rattle.dav_memls.specs.declared.memory_locks.index.Register.TheVariants.{Deep}
@@ -6,6 +6,7 @@ use Rattle.dav_memls.specs.IndexedLocks.{locks_in}
 use Rattle.dav_memls.specs.LockIndex.{among, is_of_key}
 use Rattle.dav_memls.proofs.CoveringNumbers.{reached_covers}
 use Rattle.dav_memls.proofs.LockLooks.{first_segments}
+use Rattle.dav_memls.proofs.Reach.{values_within}
 use Rattle.dav_memls.proofs.SomeCovering.{find_none, find_some, in_covering, own_covers, deep_covers, none_at, none_more, none_covers}
 use Rattle.dav_memls.proofs.memory_locks.indexed.IndexedLocks.some_covering.Goals as goal
 
@@ -42,7 +43,7 @@ loop-depth-preserved c =
 
 pub returns : goal.returns
 returns c =
-    let ls = locks_in c.args.self.now in
+    let self = c.args.self.now in
     let key = c.args.path.now.key in
-    let end : c.loop-depth.depth ≡ length key = omega (arith, length-map c.segments-key.result.now string_bytes, ap length c.segments-key.ensures.value) in
-    none_covers key ls (subst (λ m. list_any (reached_covers m key) ls ≡ false) end c.loop-depth.invariant)
+    let end : c.loop-depth.depth ≡ min (length key) self.reach = omega (arith, length-map c.segments-key.result.now string_bytes, ap length c.segments-key.ensures.value, c.min-depth-end.ensures) in
+    none_covers c.loop-depth.depth key (locks_in self) (values_within c.loop-depth.depth self.reach key self.locks.entries end self.reached) c.loop-depth.invariant
