@@ -136,6 +136,9 @@ def lock_loads():
     last = block("LOCK /d/z", *lock_tree())
     refused = lambda n: script(make("/d/"), *inside(n), last, *above(n))
     yield Load("shared LOCKs above as many, refused for the last", 500, refused)
+    name = lambda n: "/" + "a" * n
+    beside = lambda n: [make(name(n)), block(f"LOCK {name(n)}/x", *lock_tree()), put(name(n) + "/b" * n)]
+    yield Load("a path as long as a name that has a lock below it", 2000, lambda n: script(*beside(n)))
     below = lambda n: script(*chain(n), block(f"LOCK {path_of(n)}", *lock_tree()), block("OPTIONS *"))
     gone = lambda n: block("DELETE /a", f"If: (<urn:lock:{n + 1}>)")
     yield Load("a LOCK below as many directories", 50, lambda n: script(below(n), gone(n)))
@@ -149,6 +152,8 @@ def condition_loads():
     yield Load("tagged lists of an If", 2000, with_if(lambda n: f"</g>{never}" * n))
     yield Load("conditions of an If", 2000, with_if(lambda n: "(" + "Not <DAV:no-lock>" * n + ")"))
     yield Load("entity tags of an If", 2000, with_if(lambda n: '(["a"])' * n))
+    far = lambda n: script(block("LOCK /f", *lock_tree()), put(path_of(n), "y", "If: (" + "<a>" * n + ")"))
+    yield Load("conditions of an If at a path as long", 500, far)
     tags = lambda n: script(put("/f"), put("/f", "x", "If-Match: " + '"a",' * n))
     yield Load("entity tags of an If-Match", 2000, tags)
     fields = lambda n: script(put("/f"), put("/f", "x", *['If-Match: "a"'] * n))
@@ -166,6 +171,9 @@ def property_loads():
     yield Load("refused properties of a PROPPATCH", 1000, lambda n: patch_names(n, "{DAV:}"))
     single = lambda n: script(*[block("PROPPATCH /", *update_tree(f"      p{it}")) for it in range(n)])
     yield Load("PROPPATCHes of one resource, each of a property", 200, single)
+    asked = block("PROPFIND /", "Depth: 0", *tree("D:propfind {DAV:}", "  D:propname {DAV:}"))
+    valued = lambda n: script(patch_one(*["        x"] * n), *[asked] * n)
+    yield Load("PROPFINDs of names beside as long a value", 250, valued)
     yield Load("names of a PROPFIND", 500, find_names)
     yield Load("names of a PROPFIND that are there", 500, lambda n: script(patch_names(n), find_names(n)))
     long = lambda n: block("PROPFIND /d/", "Depth: 1", *find_tree("    x {n}", *["      y"] * n))
