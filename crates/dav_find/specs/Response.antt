@@ -9,7 +9,8 @@ use Rattle.dav_parts.specs.Dialogue.{Dialogue, Passed, ◌>>=◌, LeadsTo, Judge
 use Rattle.dav_props.specs.Propstat.{Told}
 use Rattle.dav_walks.specs.declared.listing.Resource.{Resource}
 use Rattle.dav_find.specs.declared.search.AskedProperty.{AskedProperty}
-use Rattle.dav_find.specs.Finding.{View, QuotaTold, AreKept, find_each, find_stored}
+use Rattle.dav_find.specs.declared.finding.Found.{Found}
+use Rattle.dav_find.specs.Finding.{View, QuotaTold, AreKept, find_each, find_stored, findings_in}
 use Rattle.dav_find.specs.Telling.{told_of}
 
 -- the calls for the properties that are asked for, and then the one for all that the store keeps, which tells them in this order
@@ -31,6 +32,10 @@ pub record Responds (view : View) (contents : Contents) (asked : List AskedPrope
   pub comes : ComesTo (response_rules view contents asked here quota kept) records end
 
 -- ---- the same of stores
+
+-- each property that is asked for was sought, in order
+abbrev pub FindsEach : View → Resource → List AskedProperty → Option QuotaTold → Store → Result (List Found × Option QuotaTold) DavError → Store → Type 0
+FindsEach view here asked quota old verdict new = Judges (find_each view old.contents here asked quota) old (findings_in verdict) new
 
 -- all that the store keeps was asked for, where it is sought
 pub record FindsStored (view : View) (key : Key) (old : Store) (verdict : Result (Result (List Tree) ℕ) DavError) (new : Store) : Type 0 where

@@ -4,8 +4,8 @@ ghost use Rattle.std.specs.Option.{option_to_list};
 ghost use Rattle.dav_resource.specs.declared.error.DavError.TheVariants.{Memory};
 ghost use Rattle.dav_parts.specs.Dialogue.{Judges};
 ghost use Rattle.dav_find.specs.Finder.{view_of};
-ghost use Rattle.dav_find.specs.Finding.{find_one as rules_of_one, find_quota as rules_of_quota, find_kept as rules_of_kept, ask_quota as rules_of_asking, find_each as rules_of_each, findings_in, live_told as told_of_live, is_looked_up as is_looked_up_in, is_all_sought as is_all_sought_in, quota_in as quota_in_told, quota_status as status_of_quota};
-ghost use Rattle.dav_find.specs.Response.{FindsStored};
+ghost use Rattle.dav_find.specs.Finding.{find_one as rules_of_one, find_quota as rules_of_quota, find_kept as rules_of_kept, ask_quota as rules_of_asking, live_told as told_of_live, is_looked_up as is_looked_up_in, is_all_sought as is_all_sought_in, quota_in as quota_in_told, quota_status as status_of_quota};
+ghost use Rattle.dav_find.specs.Response.{FindsEach, FindsStored};
 
 use crate::refusal::told_by;
 use crate::search::{AskedProperty, Search};
@@ -152,7 +152,7 @@ impl<'r, C, L: DavLockSystem> Finder<'r, C, L> {
         here: &Resource,
         mut quota: Option<QuotaTold>,
     ) -> DavResult<(Items<Found<'r>>, Option<QuotaTold>)>
-        ensures rules { Judges (rules_of_each (view_of L.seen self.now (F.seen fs.old).keeps_properties) (F.seen fs.old).contents here.now self.now.search.now.asked.items quota) (F.seen fs.old) (findings_in result) (F.seen fs.new) }
+        ensures rules { FindsEach (view_of L.seen self.now (F.seen fs.old).keeps_properties) here.now self.now.search.now.asked.items quota (F.seen fs.old) result (F.seen fs.new) }
         ensures err { IfErr result (λ e. e ≡ Memory) }
     {
         let mut found = Vec::new(self.alloc);
