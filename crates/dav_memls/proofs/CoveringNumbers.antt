@@ -165,13 +165,6 @@ covering_listed key rows found r s h =
 pub adds_all : (old new : BTreeSet ℕ) (xs : List ℕ) → InsertsAll nat_cmp old xs new → AddsNumbers xs old new
 adds_all old new xs inserts n = inserts.0 n ∙ ap (λ b. contains nat_cmp old n || b) (any_agree _ (λ m. n == m) (λ m. is_eq-same n m) xs)
 
-pub adds_none : (old new : BTreeSet ℕ) → new ≡ old → AddsNumbers [] old new
-adds_none old new same n = ap (λ s. contains nat_cmp s n) same ∙ sym (or_false (contains nat_cmp old n))
-  where
-    or_false : (b : Bool) → (b || false) ≡ b
-    or_false true = refl
-    or_false false = refl
-
 -- to none at all
 pub adds_first : (xs ys : List ℕ) (old new : BTreeSet ℕ) → old.keys ≡ [] → ys ≡ xs → AddsNumbers ys old new → HasNumbers new xs
 adds_first xs ys old new none same adds n = adds n ∙ ap₂ (λ ks zs. list_any (λ k. is_eq (nat_cmp n k)) ks || list_any (λ m. n == m) zs) none same

@@ -1,10 +1,9 @@
 -- Lists of locks: what a filter and a new lock leave of their distinct tokens, what a new lock and a refreshed one leave of their standing together, and what the number of a lock that is named tells.
-use Rattle.std.proofs.Common.{◌≡◌, ◌∙◌, ℕ, Bool, true, false, cond, not, List, [], ◌∷◌, ◌++◌, map, Option, Some, None, Result, Ok, Err, OnOk, OnErr, refl, sym, ap, ap₂, subst, ◌&&◌, ◌||◌, ◌==◌, ◌<◌, length, arith, bytes_eq, nat_cmp}
+use Rattle.std.proofs.Common.{◌≡◌, ◌∙◌, ℕ, Bool, true, false, cond, not, List, [], ◌∷◌, ◌++◌, map, Option, Some, None, Result, Ok, Err, OnOk, OnErr, refl, sym, ap, ap₂, subst, ◌&&◌, ◌||◌, ◌<◌, length, arith, bytes_eq, nat_cmp}
 use Rattle.std.proofs.lemmas.Bool.{and_from}
 use Rattle.std.proofs.lemmas.List.{map-append}
 use Rattle.std.proofs.lemmas.Map.Keys.{IsDistinct-head, IsDistinct-tail, IsDistinct-cons, IsDistinct-push}
 use Rattle.std.proofs.lemmas.Slice.Eq.{bytes_eq-Decides}
-use Rattle.std.proofs.lemmas.Bool.Decides.{nat_tests}
 use Rattle.std.proofs.lemmas.Cmp.{nat_list_eq_equiv}
 use Rattle.std.specs.BTreeMap.{is_at}
 use Rattle.std.specs.List.{IsDistinct, AllByRecursion, filter, find, list_any}
@@ -20,19 +19,6 @@ use Rattle.dav_memls.specs.LockIndex.{Row, lock_of, locks_without, locks_refresh
 use Rattle.dav_memls.proofs.Ascending.{Rises, rises-head, rises-tail, is_eq-same, at_number}
 use Rattle.dav_memls.proofs.LockRows.{refreshed_none}
 use Rattle.dav_memls.proofs.Reached.{bytes_eq-sym, at_itself}
-
--- ---- filters
-
--- a filter is empty where nothing passes
-pub filter_none : {X : Type 0} (test : X → Bool) (xs : List X) → (length (filter test xs) == 0) ≡ not (list_any test xs)
-filter_none test [] = refl
-filter_none test (x ∷ xs) = elim (test x) as (λ b. (length (cond b (x ∷ filter test xs) (filter test xs)) == 0) ≡ not (b || list_any test xs)) [ true ↦ search (arith, nat_tests) | false ↦ filter_none test xs ]
-
-pub uncovered : (covered each none one : Bool) → each ≡ true → none ≡ not covered → covered ≡ false → not covered ≡ (each && (none || one))
-uncovered covered each none one a b c = rw a (rw b (rw c refl))
-
-pub covered-one : (r covered each none one : Bool) → each ≡ true → none ≡ not covered → covered ≡ true → r ≡ one → r ≡ (each && (none || one))
-covered-one r covered each none one a b c d = rw a (rw b (rw c d))
 
 -- ---- distinct tokens
 

@@ -1,6 +1,6 @@
 -- What the looks into the index of locks answer.
 use Rattle.std.proofs.Common.{◌≡◌, ◌∙◌, ℕ, Bool, true, false, cond, ◌&&◌, ◌||◌, List, [], ◌∷◌, Option, Some, None, refl, sym, ap, ap₂, subst, slice_get, take}
-use Rattle.std.specs.List.{AllByRecursion, filter, filter_map, list_any, cons_option}
+use Rattle.std.specs.List.{AllByRecursion, filter, list_any}
 use Rattle.std.specs.Map.{keys_of, values_of}
 use Rattle.std.specs.Option.{IsSomeAnd, MatchOption, option_to_list}
 use Rattle.std.specs.Prelude.{String}
@@ -15,23 +15,6 @@ use Rattle.dav_memls.specs.LockIndex.{Row, among, belongs, numbers_of, lock_of, 
 use Rattle.dav_memls.proofs.Ascending.{Rises}
 use Rattle.dav_memls.proofs.ByKeys.{texts-take}
 use Rattle.dav_memls.proofs.LockRows.{locks_found, all_held}
-
--- ---- the locks of numbers, one after another
-
--- the next one's lock passes
-pub look_finds : (find : ℕ → Option DavLock) (p : DavLock → Bool) (left : List ℕ) (n : ℕ) (more : List ℕ) (l : DavLock) → left ≡ n ∷ more → find n ≡ Some l → p l ≡ true → list_any p (filter_map find left) ≡ true
-look_finds find p left n more l is found passes =
-    ap (λ xs. list_any p (filter_map find xs)) is
-    ∙ ap (λ o. list_any p (cons_option o (filter_map find more))) found
-    ∙ ap (λ b. b || list_any p (filter_map find more)) passes
-
--- it doesn't pass, or there is none
-pub look_goes_on : (find : ℕ → Option DavLock) (p : DavLock → Bool) (left : List ℕ) (n : ℕ) (more : List ℕ) → left ≡ n ∷ more → MatchOption (find n) (Unit {0}) (λ l. p l ≡ false) → list_any p (filter_map find left) ≡ list_any p (filter_map find more)
-look_goes_on find p left n more is fails = ap (λ xs. list_any p (filter_map find xs)) is ∙ past (find n) fails
-  where
-    past : (o : Option DavLock) → MatchOption o (Unit {0}) (λ l. p l ≡ false) → list_any p (cons_option o (filter_map find more)) ≡ list_any p (filter_map find more)
-    past None e = refl
-    past (Some l) e = ap (λ b. b || list_any p (filter_map find more)) e
 
 -- ---- the lock that is named
 

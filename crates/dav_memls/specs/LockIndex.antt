@@ -47,7 +47,7 @@ is_of_key key lock = is_same_key key lock.path.key
 abbrev pub is_within : Key → DavLock → Bool
 is_within key lock = is_at_or_below lock.path.key key
 
--- each lock's own key has fewer segments
+-- each lock's own key has fewer segments than this
 abbrev pub are_within : ℕ → List Row → Bool
 are_within reach rows = list_all (λ (row : Row). nat_lt (length row.1.path.key) reach) rows
 
