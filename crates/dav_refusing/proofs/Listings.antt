@@ -11,7 +11,7 @@ use Rattle.dav_resource.specs.declared.record.Record.{Record}
 use Rattle.dav_resource.specs.declared.error.FsError.{FsError}
 use Rattle.dav_store.specs.Logged.{logged_of}
 use Rattle.dav_store.specs.Members.{Child, member, unseen_record}
-use Rattle.dav_refusing.specs.Plans.{Plan, Call, refusal_for, shown_as, shown_by, refused_call, refused_calls, refused_record, hidden_by, AreNamed, IsListingOf, IsLetBy, HaveSegmentNames}
+use Rattle.dav_refusing.specs.Plans.{Plan, Call, refusal_for, shown_as, shown_by, refused_call, refused_calls, refused_record, hidden_by, AreNamed, IsLetBy, HaveSegmentNames}
 
 abbrev pub Shown : Type 0
 Shown = Result DirEntry FsError
@@ -28,9 +28,6 @@ pub record Underway (plan : Plan) (directory : PathValue) (children : List Child
   pub shown : take i listing ++ map shown_of (shown_by plan directory.key rest) ≡ map shown_of (shown_by plan directory.key children)
   pub told : unseen ++ hidden_by plan directory rest hidden ≡ hidden_by plan directory children all_hidden
   pub called : refused ++ refused_calls plan directory.key rest ≡ refused_calls plan directory.key children
-
-pub begins : (plan : Plan) (directory : PathValue) (children : List Child) (listing : List Shown) (hidden : List Record) → IsListingOf directory.key children listing hidden → Underway plan directory children hidden 0 listing [] [] hidden
-begins plan directory children listing hidden is = record { rest = children; named = is.named; ahead = is.listed; still = is.told; shown = refl; told = refl; called = refl }
 
 pub ends : (plan : Plan) (directory : PathValue) (children : List Child) (all_hidden : List Record) (i : ℕ) (listing : List Shown) (unseen : List Record) (refused : List Call) (hidden : List Record)
     → Underway plan directory children all_hidden i listing unseen refused hidden → length listing ≤ i → IsLetBy plan directory children all_hidden listing unseen refused
