@@ -1,5 +1,5 @@
 //! The trees that no request is answered with, and the reply on several resources by its own call.
-use crate::fixture::{path_of, share, status};
+use crate::fixture::{path_of, share, status, text_of};
 use crate::outline::{show, tree};
 use dav_memls::MemLs;
 use dav_parts::{build_lock_prop, list_lockdiscovery, list_supportedlock, multi_error};
@@ -63,6 +63,17 @@ const COVERING: &str = "(D:lockdiscovery \
 fn without_a_lock_system_no_lock_is_told(rt: HostRuntime) -> Result<(), Fail> {
     let none = discovered(rt.alloc(), None);
     assert!(rt; is_tree(rt.alloc(), none, "(D:lockdiscovery )")?);
+    Ok(())
+}
+
+#[test]
+fn a_lock_is_submitted_by_its_token_in_the_name_of_its_holder(rt: HostRuntime) -> Result<(), Fail> {
+    let (_, lock) = share(rt.alloc(), "/a/")?;
+    let tokens = [text_of(rt.alloc(), "s")?, text_of(rt.alloc(), "t")?];
+    assert!(rt; lock.is_submitted(None, false, &tokens));
+    assert!(rt; !lock.is_submitted(Some("jane"), false, &tokens));
+    assert!(rt; lock.is_submitted(Some("jane"), true, &tokens));
+    assert!(rt; !lock.is_submitted(None, true, &tokens[..1]));
     Ok(())
 }
 
