@@ -11,7 +11,7 @@ use crate::refusal::told_by;
 use crate::search::{AskedProperty, Search};
 use dav_live::{LiveProperty, Viewer, live_element};
 use dav_props::{element_to_davprop, is_kept};
-use dav_resource::{DavPath, DavProp, DavResult, Element, Items};
+use dav_resource::{DavPath, DavProp, DavResult, Element, Items, SharedElement};
 use dav_store::{DavLockSystem, GuardedFileSystem};
 use dav_walks::Resource;
 use http::StatusCode;
@@ -170,7 +170,7 @@ impl<'r, C, L: DavLockSystem> Finder<'r, C, L> {
         &self,
         fs: &mut F,
         path: &DavPath,
-    ) -> DavResult<Result<Items<Element>, StatusCode>>
+    ) -> DavResult<Result<Items<SharedElement>, StatusCode>>
         ensures stored { FindsStored (view_of L.seen self.now (F.seen fs.old).keeps_properties) path.now.key (F.seen fs.old) result (F.seen fs.new) }
         ensures err { IfErr result (λ e. e ≡ Memory) }
     {
@@ -220,7 +220,7 @@ fn quota_status(quota: &Option<QuotaTold>) -> StatusCode
 }
 
 /// The elements of properties.
-fn kept_elements(alloc: Global, props: Vec<DavProp>) -> Result<Items<Element>, AllocError>
+fn kept_elements(alloc: Global, props: Vec<DavProp>) -> Result<Items<SharedElement>, AllocError>
     ensures { IfOk result (λ elements. elements ≡ filter_map (λ (p : DavProp). p.element) props.items) }
 {
     let mut elements = Vec::new(alloc);
@@ -232,9 +232,9 @@ fn kept_elements(alloc: Global, props: Vec<DavProp>) -> Result<Items<Element>, A
 
 /// With one more element, where there is one.
 fn keep_element(
-    mut elements: Vec<Element>,
-    element: Option<Element>,
-) -> Result<Vec<Element>, AllocError>
+    mut elements: Vec<SharedElement>,
+    element: Option<SharedElement>,
+) -> Result<Vec<SharedElement>, AllocError>
     ensures { IfOk result (λ more. more.items ≡ elements.items ++ option_to_list element) }
 {
     if let Some(element) = element {

@@ -11,7 +11,7 @@ use crate::finding::Found;
 use crate::names::PropertyNames;
 use crate::search::FindKind;
 use dav_props::{bare_element, is_kept};
-use dav_resource::{Element, Items};
+use dav_resource::{Element, Items, SharedElement};
 use http::StatusCode;
 use std::alloc::{AllocError, Global};
 
@@ -24,7 +24,7 @@ pub(crate) fn tell(
     alloc: Global,
     kind: FindKind,
     found: &[Found<'_>],
-    stored: &Result<Items<Element>, StatusCode>,
+    stored: &Result<Items<SharedElement>, StatusCode>,
 ) -> Result<Vec<Told>, AllocError>
     ensures { IfOk result (λ told. told.items ≡ told_of kind (map finding_of found.now) stored.now) }
 {
@@ -36,7 +36,7 @@ pub(crate) fn tell(
 fn tell_found<'e>(
     alloc: Global,
     found: &'e [Found<'_>],
-    stored: &'e Result<Items<Element>, StatusCode>,
+    stored: &'e Result<Items<SharedElement>, StatusCode>,
 ) -> Result<Vec<Told>, AllocError>
     ensures { IfOk result (λ told. told.items ≡ flat_map (told_of_one stored.now) (map finding_of found.now)) }
 {
@@ -53,7 +53,7 @@ fn tell_one<'e>(
     alloc: Global,
     mut told: Vec<Told>,
     one: &'e Found<'_>,
-    stored: &Result<Items<Element>, StatusCode>,
+    stored: &Result<Items<SharedElement>, StatusCode>,
     kept: &PropertyNames<'e>,
 ) -> Result<Vec<Told>, AllocError>
     requires { AreNamesOf kept.now.names (kept_of stored.now) }
@@ -77,7 +77,7 @@ fn tell_one<'e>(
 
 /// Why a property isn't told.
 fn missing_status(
-    stored: &Result<Items<Element>, StatusCode>,
+    stored: &Result<Items<SharedElement>, StatusCode>,
     element: &Element,
     status: StatusCode,
 ) -> StatusCode
@@ -90,7 +90,7 @@ fn missing_status(
 }
 
 /// What the store told that it keeps.
-fn kept_in(stored: &Result<Items<Element>, StatusCode>) -> &[Element]
+fn kept_in(stored: &Result<Items<SharedElement>, StatusCode>) -> &[SharedElement]
     ensures { result.now ≡ kept_of stored.now }
 {
     match stored {
@@ -105,7 +105,7 @@ fn tell_kept(
     told: Vec<Told>,
     kind: FindKind,
     found: &[Found<'_>],
-    kept: &[Element],
+    kept: &[SharedElement],
 ) -> Result<Vec<Told>, AllocError>
     ensures { IfOk result (λ more. more.items ≡ told.items ++ told_of_kept kind (map finding_of found.now) kept.now) }
 {
@@ -121,36 +121,43 @@ fn tell_values<'e>(
     alloc: Global,
     mut told: Vec<Told>,
     found: &'e [Found<'_>],
-    kept: &'e [Element],
+    kept: &'e [SharedElement],
 ) -> Result<Vec<Told>, AllocError>
     ensures { IfOk result (λ more. more.items ≡ told.items ++ map (λ element. (200, element)) (filter (λ element. not (is_among element (given_in (map finding_of found.now)))) kept.now)) }
 {
     let given = names_given(alloc, found)?;
     for element in kept {
-        if !given.has(element) {
-            told.push((StatusCode::OK, element.clone()?))?;
+        if !given.has(element.as_element()) {
+            told.push((StatusCode::OK, element.as_element().clone()?))?;
         }
     }
     Ok(told)
 }
 
 /// With the name of each.
-fn tell_names(alloc: Global, mut told: Vec<Told>, kept: &[Element]) -> Result<Vec<Told>, AllocError>
+fn tell_names(
+    alloc: Global,
+    mut told: Vec<Told>,
+    kept: &[SharedElement],
+) -> Result<Vec<Told>, AllocError>
     ensures { IfOk result (λ more. more.items ≡ told.items ++ map (λ element. (200, bare element)) kept.now) }
 {
     for element in kept {
-        told.push((StatusCode::OK, bare_element(alloc, element)?))?;
+        told.push((StatusCode::OK, bare_element(alloc, element.as_element())?))?;
     }
     Ok(told)
 }
 
 /// The names of these properties.
-fn names_of<'e>(alloc: Global, elements: &'e [Element]) -> Result<PropertyNames<'e>, AllocError>
+fn names_of<'e>(
+    alloc: Global,
+    elements: &'e [SharedElement],
+) -> Result<PropertyNames<'e>, AllocError>
     ensures { IfOk result (λ names. AreNamesOf names.names elements.now) }
 {
     let mut names = PropertyNames::new(alloc);
     for element in elements {
-        names.insert(element)?;
+        names.insert(element.as_element())?;
     }
     Ok(names)
 }

@@ -2,7 +2,7 @@
 ghost use Rattle.std.specs.Prelude.{◌≡◌, IfOk, None, Some, option_map, option_copied, string_bytes};
 ghost use Rattle.dav_props.specs.Property.{bare, prop_named, named_alone};
 
-use dav_resource::{DavProp, Element, Text};
+use dav_resource::{DavProp, Element, SharedElement, Text};
 use std::alloc::{AllocError, Global};
 
 /// The element of a property without its value: its name, and its prefix and namespace, which it declares itself
@@ -32,12 +32,13 @@ pub fn element_to_davprop(element: &Element) -> Result<DavProp, AllocError>
     })
 }
 
-/// The property of this element, with the element as its value. Only memory can be lacking.
+/// The property of this element, with a copy of the element as its value. Only memory can be lacking.
 pub fn element_to_davprop_full(element: &Element) -> Result<DavProp, AllocError>
     ensures { IfOk result (λ prop. prop ≡ prop_named element.now (Some element.now)) }
 {
     let mut prop = element_to_davprop(element)?;
-    prop.element = Some(element.clone()?);
+    let value = SharedElement::new(*element.name.allocator(), element.clone()?)?;
+    prop.element = Some(value);
     Ok(prop)
 }
 

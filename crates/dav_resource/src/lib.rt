@@ -11,6 +11,7 @@ mod path;
 mod property;
 mod record;
 mod request;
+mod shared_element;
 mod text;
 
 pub use element::{ChildElements, Element, XMLNode};
@@ -23,4 +24,5 @@ pub use path::DavPath;
 pub use property::DavProp;
 pub use record::{Op, Outcome, Record};
 pub use request::{Body, DavRequest, Depth, ReqBody};
+pub use shared_element::SharedElement;
 pub use text::{Items, Text};

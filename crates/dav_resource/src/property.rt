@@ -1,7 +1,7 @@
 //! Properties of a resource (RFC 4918, section 4).
 ghost use Rattle.std.specs.Prelude.{◌≡◌, IfOk, option_copied};
 
-use crate::{Element, Text};
+use crate::{SharedElement, Text};
 use std::alloc::AllocError;
 
 /// A property by its name, with its value where that is known (RFC 4918, sections 4.3 and 4.4).
@@ -14,7 +14,7 @@ pub struct DavProp {
     /// The namespace that the name is of, where it has one.
     pub namespace: Option<Text>,
     /// The element that holds the value, where it is known.
-    pub element: Option<Element>,
+    pub element: Option<SharedElement>,
 }
 
 impl DavProp {

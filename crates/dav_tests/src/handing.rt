@@ -8,6 +8,7 @@ use dav_memfs::MemFs;
 use dav_refusing::Refusing;
 use dav_resource::{
     DavFile, DavPath, DavProp, DavResult, DirEntry, Element, FsError, FsResult, Op, OpenOptions,
+    SharedElement,
 };
 use dav_store::GuardedFileSystem;
 use std::alloc::{AllocError, Global};
@@ -207,7 +208,11 @@ fn a_barred_call_leaves_a_file_at_its_place(rt: HostRuntime) -> Result<(), Fail>
 // ---- properties
 
 /// A property of this name, which is of the namespace `urn:n` under the prefix `N`.
-fn property(alloc: Global, name: &str, element: Option<Element>) -> Result<DavProp, AllocError>
+fn property(
+    alloc: Global,
+    name: &str,
+    element: Option<SharedElement>,
+) -> Result<DavProp, AllocError>
     ensures { IfOk result (λ prop. prop.element ≡ element) }
 {
     Ok(DavProp {
@@ -232,7 +237,7 @@ fn bare_property(alloc: Global) -> Result<DavProp, AllocError> {
 fn call_on_properties(alloc: Global, store: &mut Store, path: &DavPath) -> Result<(), AllocError> {
     let _ = store.get_prop(path, &property(alloc, "p", None)?, &1);
     let _ = store.get_prop(path, &bare_property(alloc)?, &2);
-    let element = Some(Element::new2(alloc, "N:p")?);
+    let element = Some(SharedElement::new(alloc, Element::new2(alloc, "N:p")?)?);
     let patches = [
         (true, property(alloc, "p", element)?),
         (false, bare_property(alloc)?),
@@ -315,7 +320,7 @@ fn properties_keep_their_order(rt: HostRuntime) -> Result<(), Fail> {
     let mut store = new_store(alloc)?;
     let path = path_below(alloc, "/dav/")?;
     for name in ["q", "p"] {
-        let element = Some(Element::new2(alloc, "N:any")?);
+        let element = Some(SharedElement::new(alloc, Element::new2(alloc, "N:any")?)?);
         let patches = [(true, property(alloc, name, element)?)];
         store.patch_props(&path, &patches, &0)?;
     }

@@ -1,8 +1,9 @@
 //! Elements, paths, methods, copies and errors: the calls that the engine doesn't make, and texts that no script shows.
 use crate::fixture::text_of;
+use crate::outline::show;
 use dav_resource::{
     DavError, DavMethod, DavMethodSet, DavPath, DavProp, Element, FsError, Items, Op, Outcome,
-    Record,
+    Record, SharedElement,
 };
 use dav_store::LockError;
 use http::{Method, StatusCode};
@@ -54,6 +55,20 @@ fn show_taking(alloc: Global) -> Result<String, AllocError> {
 fn child_is_taken_from_between_texts(rt: HostRuntime) -> Result<(), Fail> {
     let shown = show_taking(rt.alloc())?;
     assert_eq!(rt; shown.as_str(), "[true, true, false] 2 Some(\"one two\")");
+    Ok(())
+}
+
+/// An element that is held a second time, and no longer by who held it first.
+fn held_again(alloc: Global) -> Result<SharedElement, AllocError> {
+    let first = SharedElement::new(alloc, mixed(alloc)?)?;
+    first.clone()
+}
+
+#[test]
+fn a_shared_element_stays_while_it_is_held(rt: HostRuntime) -> Result<(), Fail> {
+    let held = show(rt.alloc(), held_again(rt.alloc())?.as_element())?;
+    let wanted = show(rt.alloc(), &mixed(rt.alloc())?)?;
+    assert_eq!(rt; held, wanted);
     Ok(())
 }
 

@@ -144,7 +144,7 @@ fn print_property<O: Write>(
         None => writeln!(output, "property {name}")?,
     }
     if let Some(element) = &property.element {
-        output.write_all(outline(alloc, element)?.as_bytes())?;
+        output.write_all(outline(alloc, element.as_element())?.as_bytes())?;
     }
     Ok(())
 }

@@ -3,7 +3,7 @@ ghost use Rattle.std.specs.Prelude.{All, IfOk};
 ghost use Rattle.dav_store.specs.PropertyCalls.{IsWhole};
 
 use crate::property::text_of;
-use dav_resource::{DavProp, Element, Text, XMLNode};
+use dav_resource::{DavProp, Element, SharedElement, Text, XMLNode};
 use dav_script::{Fault, LineError};
 use std::alloc::{AllocError, Global};
 
@@ -74,7 +74,7 @@ impl Change {
         match self {
             Change::Set(element) => {
                 let mut property = property_of(alloc, &element)?;
-                property.element = Some(element);
+                property.element = Some(SharedElement::new(alloc, element)?);
                 Ok((true, property))
             }
             Change::Remove(element) => Ok((false, property_of(alloc, &element)?)),

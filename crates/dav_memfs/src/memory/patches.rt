@@ -22,7 +22,7 @@ impl MemFs {
         };
         let found = entry.properties().get(prop)?;
         match found {
-            Some(element) => Ok(element.clone()?),
+            Some(element) => Ok(element.as_element().clone()?),
             None => Err(FsError::NotFound),
         }
     }

@@ -10,7 +10,7 @@ ghost use Rattle.dav_memfs.specs.MemoryCalls.{IsPropertyList};
 
 mod patching;
 
-use dav_resource::{DavProp, Element, Text};
+use dav_resource::{DavProp, SharedElement, Text};
 use std::alloc::{AllocError, Global};
 use std::collections::BTreeMap;
 use std::marker::Model;
@@ -23,11 +23,11 @@ struct PropertyName {
     name: String,
 }
 
-/// Elements by the names of properties, and the allocator that copies of them are kept by.
+/// Elements by the names of properties, which others may hold too, and the allocator that names are kept by.
 #[derive(Debug, Drop)]
 pub struct Properties {
     alloc: Global,
-    map: BTreeMap<PropertyName, Element>,
+    map: BTreeMap<PropertyName, SharedElement>,
 }
 
 impl Model for Properties {
@@ -66,14 +66,14 @@ impl Properties {
 
     /// The element of the property of this name. Only memory can be lacking. Costs a copy of the name, and as
     /// many comparisons as the logarithm of the number of properties.
-    pub fn get(&self, prop: &DavProp) -> Result<Option<&Element>, AllocError>
+    pub fn get(&self, prop: &DavProp) -> Result<Option<&SharedElement>, AllocError>
         ensures { IfOk result (λ element. option_copied element ≡ map.get self.now (name_of prop.now)) }
     {
         let name = PropertyName::of(prop)?;
         Ok(self.map.get(&name))
     }
 
-    /// The same properties again. Only memory can be lacking. Costs a copy of each.
+    /// The same properties again. Only memory can be lacking. Costs a copy of each name.
     pub fn clone(&self) -> Result<Properties, AllocError>
         ensures { IfOk result (λ copy. copy ≡ self.now) }
     {
@@ -83,7 +83,7 @@ impl Properties {
     }
 
     /// Each property with its element, whose prefix is the property's: those without a namespace first, then by
-    /// namespace, then by name. Only memory can be lacking. Costs a copy of each.
+    /// namespace, then by name. Only memory can be lacking. Costs a copy of each name.
     pub fn list(&self, alloc: Global) -> Result<Vec<DavProp>, AllocError>
         ensures { IfOk result (λ props. IsPropertyList self.now props.items) }
     {
@@ -122,7 +122,7 @@ impl Properties {
     }
 
     /// Puts an element at a name. Only memory can be lacking, and then nothing changes.
-    fn insert(&mut self, name: PropertyName, element: Element) -> Result<(), AllocError>
+    fn insert(&mut self, name: PropertyName, element: SharedElement) -> Result<(), AllocError>
         ensures ok { OnOk result (self.new ≡ map.insert self.old (key_of name) element) }
         ensures err { OnErr result (self.new ≡ self.old) }
     {
@@ -138,7 +138,7 @@ impl Properties {
     }
 
     /// Gives the property of a name, where there is one, this element.
-    fn replace(&mut self, name: &PropertyName, element: Element)
+    fn replace(&mut self, name: &PropertyName, element: SharedElement)
         ensures { self.new ≡ put_at self.old (key_of name.now) (replaced_by (Some (Some element)) (map.get self.old (key_of name.now))) }
     {
         if let Some(place) = self.map.get_mut(name) {
@@ -169,13 +169,13 @@ impl PropertyName {
     }
 
     /// The property of this name with this element, whose prefix it has. Only memory can be lacking.
-    fn with_element(&self, element: &Element) -> Result<DavProp, AllocError>
+    fn with_element(&self, element: &SharedElement) -> Result<DavProp, AllocError>
         ensures named { IfOk result (λ prop. named_element prop ≡ (key_of self.now, Some element.now)) }
         ensures prefix { IfOk result (λ prop. prop.prefix ≡ element.now.tag.prefix) }
     {
         Ok(DavProp {
             name: Text::from_string(self.name.clone()?),
-            prefix: text_of(element.prefix.as_ref())?,
+            prefix: text_of(element.as_element().prefix.as_ref())?,
             namespace: text_of(self.namespace.as_ref())?,
             element: Some(element.clone()?),
         })

@@ -7,7 +7,7 @@ ghost use Rattle.dav_memfs.specs.PropertyNames.{key_of};
 ghost use Rattle.dav_memfs.specs.Patching.{wanted, changes_of, AreOthers, ArePut, AreChanged, IsPlan, replaced_by};
 
 use super::{Properties, PropertyName};
-use dav_resource::{DavProp, Element};
+use dav_resource::{DavProp, SharedElement};
 use std::alloc::AllocError;
 use std::collections::BTreeMap;
 
@@ -16,14 +16,14 @@ use std::collections::BTreeMap;
 #[derive(Drop)]
 struct Plan {
     added: Properties,
-    changed: BTreeMap<PropertyName, Option<Element>>,
+    changed: BTreeMap<PropertyName, Option<SharedElement>>,
 }
 
 impl Properties {
     /// Sets (`true`) or removes (`false`) properties, in order: a property that is set has the element that is
     /// given with it, and without one it is removed. Only memory can be lacking, and then nothing changes. Costs
     /// for each change a few lookups among the properties and among the changes, and at most two copies of its
-    /// property; a property that isn't changed costs nothing.
+    /// name; a property that isn't changed costs nothing.
     pub fn patch(&mut self, patches: &[(bool, DavProp)]) -> Result<(), AllocError>
         ensures ok { OnOk result (self.new ≡ patched patches.now self.old) }
         ensures err { OnErr result (self.new ≡ self.old) }
@@ -69,7 +69,7 @@ impl Properties {
     }
 
     /// Replaces or removes the properties of these names that are there.
-    fn change_all(&mut self, changed: BTreeMap<PropertyName, Option<Element>>)
+    fn change_all(&mut self, changed: BTreeMap<PropertyName, Option<SharedElement>>)
         ensures { AreChanged (changes_of changed) self.old self.new }
     {
         for (name, element) in changed {
@@ -78,7 +78,7 @@ impl Properties {
     }
 
     /// Replaces the property of a name by one with this element, where it is there, or removes it.
-    fn change(&mut self, name: &PropertyName, element: Option<Element>)
+    fn change(&mut self, name: &PropertyName, element: Option<SharedElement>)
         ensures { self.new ≡ put_at self.old (key_of name.now) (replaced_by (Some element) (map.get self.old (key_of name.now))) }
     {
         match element {
@@ -90,7 +90,11 @@ impl Properties {
 
 impl Plan {
     /// Notes what a property that is there is replaced by. Only memory can be lacking.
-    fn change(&mut self, name: PropertyName, element: Option<Element>) -> Result<(), AllocError>
+    fn change(
+        &mut self,
+        name: PropertyName,
+        element: Option<SharedElement>,
+    ) -> Result<(), AllocError>
         ensures added { self.new.added ≡ self.old.added }
         ensures changed { OnOk result (changes_of self.new.changed ≡ map.insert (changes_of self.old.changed) (key_of name) element) }
     {
@@ -100,7 +104,7 @@ impl Plan {
 
     /// Notes that a property is to be added that isn't there, or, without an element, that it isn't. Only memory
     /// can be lacking.
-    fn add(&mut self, name: PropertyName, element: Option<Element>) -> Result<(), AllocError>
+    fn add(&mut self, name: PropertyName, element: Option<SharedElement>) -> Result<(), AllocError>
         ensures added { OnOk result (self.new.added ≡ put_at self.old.added (key_of name) element) }
         ensures changed { self.new.changed ≡ self.old.changed }
     {
@@ -112,8 +116,8 @@ impl Plan {
     }
 }
 
-/// The element that a change gives its property, where it gives one. Only memory can be lacking. Costs a copy.
-fn wanted(set: bool, prop: &DavProp) -> Result<Option<Element>, AllocError>
+/// The element that a change gives its property, where it gives one. Only memory can be lacking.
+fn wanted(set: bool, prop: &DavProp) -> Result<Option<SharedElement>, AllocError>
     ensures { IfOk result (λ element. element ≡ wanted (set, prop.now)) }
 {
     match &prop.element {

@@ -14,7 +14,7 @@ returns-in_default-clause-answer c =
 pub returns-in_ok-clone-in-Some-found-clause-element : goal.returns-in_ok-clone-in-Some-found-clause-element
 returns-in_ok-clone-in-Some-found-clause-element c =
     let here = sym (rw c.segments.ensures.value at c.in-Some.ensures) in
-    property-kept (memory_of c.args.self.now) c.args.path.now.key (name_of c.args.prop.now) c.in-Some.entry.now here ∙ sym (rw c.properties.ensures at c.in_ok-found.ensures) ∙ ap option_copied c.in-Some-found.is ∙ ap Some (sym c.in_ok-clone-in-Some-found.ensures)
+    property-kept (memory_of c.args.self.now) c.args.path.now.key (name_of c.args.prop.now) c.in-Some.entry.now here ∙ sym (rw c.properties.ensures at c.in_ok-found.ensures) ∙ ap option_copied c.in-Some-found.is ∙ ap Some (sym c.as_element.ensures) ∙ ap Some (sym c.in_ok-clone-in-Some-found.ensures)
 
 pub returns-in_ok-clone-in-Some-found-clause-answer : goal.returns-in_ok-clone-in-Some-found-clause-answer
 returns-in_ok-clone-in-Some-found-clause-answer c =
