@@ -1,4 +1,4 @@
--- The date and time that the property DAV:creationdate shows for a second since 1970 (RFC 4918, section 15.1; RFC 3339, section 5.6).
+-- The date and time of the property DAV:creationdate for a second since 1970 (RFC 4918, section 15.1; RFC 3339, section 5.6).
 use Rattle.std.specs.Prelude.{ℕ, List, ◌++◌, codes}
 use Rattle.httpdate.specs.declared.parts.Parts.{Parts}
 use Rattle.httpdate.specs.Text.{two_digits, four_digits}

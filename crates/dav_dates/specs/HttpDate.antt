@@ -1,11 +1,11 @@
--- The date that a header field shows for a second since 1970 (RFC 9110, section 5.6.7).
+-- The date in a header field for a second since 1970 (RFC 9110, section 5.6.7).
 use Rattle.std.specs.Prelude.{◌≡◌, ℕ, List}
 use Rattle.httpdate.specs.declared.date.HttpDate.{HttpDate}
 use Rattle.httpdate.specs.Date.{unix_secs, date_text}
 use Rattle.httpdate.specs.Text.{imf_fixdate}
 use Rattle.dav_dates.specs.Moment.{parts_of}
 
--- the text is the date of this second
+-- the string is the HTTP date of this second
 abbrev pub IsHttpDate : ℕ → List ℕ → Type 0
 IsHttpDate secs text = (date : HttpDate) × (unix_secs date ≡ secs) × (text ≡ date_text date)
 

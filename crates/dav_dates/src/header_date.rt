@@ -1,4 +1,4 @@
-//! Moments, as header fields and properties show them.
+//! Dates of header fields and properties.
 ghost use Rattle.std.specs.Prelude.{◌≡◌, ◌≤◌, IfOk, IfSome, string_bytes};
 ghost use Rattle.http_header.specs.FieldValue.{IsFieldValue};
 ghost use Rattle.dav_dates.specs.Moment.{last_shown, shown_moment};
@@ -7,10 +7,11 @@ ghost use Rattle.dav_dates.specs.HttpDate.{IsHttpDate, http_date_text};
 use httpdate::{HttpDate, fmt_http_date};
 use std::alloc::{AllocError, Global};
 
-/// The last moment that is shown: 9998-12-31T23:59:59Z, in seconds since 1970.
+/// The latest time that is written as a date: 9998-12-31T23:59:59Z, in seconds since 1970.
 pub const LAST_SHOWN: u64 = 253_370_764_799;
 
-/// The moment where it is known and not past the last one that is shown.
+/// Returns the time if it is known and not later than `LAST_SHOWN`, otherwise `None`. Times are in seconds
+/// since 1970.
 pub fn shown_moment(moment: Option<u64>) -> Option<u64>
     ensures exact { result ≡ shown_moment moment }
     ensures shown { IfSome result (λ secs. secs ≤ last_shown) }
@@ -21,8 +22,8 @@ pub fn shown_moment(moment: Option<u64>) -> Option<u64>
     }
 }
 
-/// The HTTP date of this second since 1970, as `Thu, 01 Jan 1970 00:00:01 GMT` (RFC 9110, section 5.6.7). It fails only
-/// where memory is lacking.
+/// Formats a time in seconds since 1970 as an HTTP date such as `Thu, 01 Jan 1970 00:00:01 GMT` (RFC 9110,
+/// section 5.6.7). Fails only if memory runs out.
 pub fn http_date(alloc: Global, secs: u64) -> Result<String, AllocError>
     requires { secs ≤ last_shown }
     ensures dated { IfOk result (λ text. IsHttpDate secs (string_bytes text)) }

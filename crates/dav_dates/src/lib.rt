@@ -1,4 +1,4 @@
-//! Moments as texts: the date of a header field, and the date with the time of day that tells when a resource was made.
+//! Times as strings: the HTTP date of a header field, and the date and time of `DAV:creationdate`.
 #![tactic(auto)]
 
 mod header_date;

@@ -1,4 +1,4 @@
--- The header Depth (RFC 4918, section 10.2): how far below a resource a request reaches.
+-- The header Depth (RFC 4918, section 10.2): how far below a resource a request applies.
 use Rattle.std.specs.Prelude.{ℕ, List, codes, bytes_eq, Option, Some, None, option_and_then, if◌then◌else◌}
 use Rattle.http_header.specs.HeaderMap.{Entries}
 use Rattle.http_header.specs.FieldValue.{FieldValue}
@@ -13,6 +13,6 @@ depth_in text =
     if bytes_eq text (codes "1") then Some One else (
     if is_word text (codes "infinity") then Some Infinity else None))
 
--- what the header says, where it can be read
+-- the value of the header, if it can be parsed
 abbrev pub depth_of : Entries FieldValue → Option Depth
 depth_of headers = option_and_then depth_in (first_text headers (codes "depth"))

@@ -17,6 +17,6 @@ drop_angles (b ∷ bs) = if is_angle b then drop_angles bs else b ∷ bs
 abbrev pub trim_angles : List ℕ → List ℕ
 trim_angles bs = reverse (drop_angles (reverse (drop_angles bs)))
 
--- the text of the header without them
+-- the value of the header without the angle brackets at its ends
 abbrev pub lock_token_of : Entries FieldValue → Option (List ℕ)
 lock_token_of headers = option_map trim_angles (first_text headers (codes "lock-token"))

@@ -1,4 +1,4 @@
--- The header Timeout (RFC 4918, section 10.7): how long a client wishes its lock to last.
+-- The header Timeout (RFC 4918, section 10.7): the timeout that a client requests for its lock.
 use Rattle.std.specs.Prelude.{ℕ, ◌^◌, ◌==◌, List, codes, nat_lt, Option, Some, None, is_some, slice_get, option_and_then, if◌then◌else◌}
 use Rattle.std.specs.List.{list_all, slice_split}
 use Rattle.http_header.specs.HeaderMap.{Entries}
@@ -8,7 +8,7 @@ use Rattle.dav_headers.specs.declared.timeout.DavTimeout.TheVariants.{Infinite, 
 use Rattle.dav_headers.specs.Values.{first_text, trim_blanks, is_word, cut_at}
 use Rattle.dav_headers.specs.Number.{number_in}
 
--- this many seconds, where 32 bits hold them
+-- this many seconds, if the number is below 2 ^ 32
 abbrev pub seconds : ℕ → Option DavTimeout
 seconds number = if nat_lt number (2 ^ 32) then Some (Seconds number) else None
 
@@ -17,24 +17,24 @@ abbrev pub seconds_in : List ℕ → Option DavTimeout
 seconds_in text =
     option_and_then (λ parts. if is_word parts.0 (codes "second") then option_and_then seconds (number_in parts.1) else None) (cut_at 45 text)
 
--- one wish: `Infinite` in any ASCII case, or seconds
+-- one timeout: `Infinite` in any ASCII case, or seconds
 abbrev pub wish_in : List ℕ → Option DavTimeout
 wish_in text = if is_word text (codes "infinite") then Some Infinite else seconds_in text
 
--- the wish between two commas, without the blanks at its ends
+-- the timeout in a list element, without the blanks at its ends
 abbrev pub place_in : List ℕ → Option DavTimeout
 place_in text = wish_in (trim_blanks text)
 
--- what stands between the commas
+-- the list elements, which commas separate
 abbrev pub places : List ℕ → List (List ℕ)
 places text = slice_split (λ b. b == 44) text
 
--- the first wish, where each place is one
+-- the first timeout, if every list element is one
 abbrev pub timeout_in : List ℕ → Option DavTimeout
 timeout_in text =
     if list_all (λ place. is_some (place_in place)) (places text) then option_and_then place_in (slice_get (places text) 0)
     else None
 
--- what the header says, where all of it can be read
+-- the value of the header, if all of it can be parsed
 abbrev pub timeout_of : Entries FieldValue → Option DavTimeout
 timeout_of headers = option_and_then timeout_in (first_text headers (codes "timeout"))

@@ -1,4 +1,4 @@
--- A cut at a byte gives what std's `split_once` gives: what stands before the first such byte, and what stands behind it.
+-- `cut_at` gives what std's `split_once` gives: what precedes the first such byte, and what follows it.
 use Rattle.std.proofs.Common.{◌≡◌, ◌<◌, ◌+◌, ◌==◌, ℕ, Bool, true, false, not, cond, List, [], ◌∷◌, length, take, drop, Option, Some, None, option_map, refl, sym, arith, one-add, add-one, MatchOption}
 use Rattle.std.specs.List.{position_or_len, before_first, after_first}
 use Rattle.dav_headers.specs.Values.{cut_at}
@@ -11,7 +11,7 @@ step b n bs false r found lt =
     let is = found (omega arith) in
     rw (is, one-add, add-one, add-one) refl
 
--- where the byte is there
+-- if the byte occurs
 pub cut_at_first : (end : ℕ) (bs : List ℕ) → position_or_len (λ b. b == end) bs < length bs → cut_at end bs ≡ Some (before_first (λ b. b == end) bs, after_first (λ b. b == end) bs)
 cut_at_first end [] lt = absurd (omega arith)
 cut_at_first end (b ∷ bs) lt = step b (position_or_len (λ b. b == end) bs) bs (b == end) (cut_at end bs) (cut_at_first end bs) lt
@@ -21,12 +21,12 @@ miss : (b n : ℕ) (bs : List ℕ) (here : Bool) (r : Option (List ℕ × List �
 miss b n bs true r none e = absurd (omega arith)
 miss b n bs false r none e = rw (none (omega arith)) refl
 
--- where it isn't
+-- if it does not occur
 pub cut_at_none : (end : ℕ) (bs : List ℕ) → position_or_len (λ b. b == end) bs ≡ length bs → cut_at end bs ≡ None
 cut_at_none end [] e = refl
 cut_at_none end (b ∷ bs) e = miss b (position_or_len (λ b. b == end) bs) bs (b == end) (cut_at end bs) (cut_at_none end bs) e
 
--- what `split_once` says of its result
+-- the contract of `split_once` for its result gives `cut_at`
 pub cut_at_split : (end : ℕ) (bs : List ℕ) (r : Option (Bor (List ℕ) × Bor (List ℕ))) → MatchOption r (position_or_len (λ b. b == end) bs ≡ length bs)
     (λ x. (x.0.now ≡ before_first (λ b. b == end) bs) × (x.1.now ≡ after_first (λ b. b == end) bs) × (position_or_len (λ b. b == end) bs < length bs))
     → option_map (λ parts. (parts.0.now, parts.1.now)) r ≡ cut_at end bs

@@ -6,9 +6,9 @@ use crate::values::{first_text, is_word};
 use dav_resource::{DavResult, Depth};
 use http_header::{HeaderMap, HeaderValue};
 
-/// How far below its resource a request reaches (RFC 4918, section 10.2): none where there is no header
-/// Depth, or its first value can't be read. It is never `Depth::Default`. No error comes, as no memory is
-/// taken; the answer has the form of all readers.
+/// Reads Depth (RFC 4918, section 10.2): how far below its resource a request applies. Returns `None` if
+/// there is no such header, or its first value cannot be parsed. `Depth::Default` is never returned. Never
+/// returns an error, because it allocates nothing. The result type is that of all readers.
 pub fn read_depth(headers: &HeaderMap<HeaderValue>) -> DavResult<Option<Depth>>
     ensures { result ≡ Ok (depth_of headers.now) }
 {
@@ -18,7 +18,7 @@ pub fn read_depth(headers: &HeaderMap<HeaderValue>) -> DavResult<Option<Depth>>
     }
 }
 
-/// How far `0`, `1`, or `infinity` in any ASCII case reaches.
+/// Parses `0`, `1`, or `infinity` in any ASCII case.
 fn depth_in(text: &str) -> Option<Depth>
     ensures { result ≡ depth_in text.now }
 {

@@ -10,10 +10,14 @@ use http::StatusCode;
 use http_header::{HeaderMap, HeaderValue};
 use std::alloc::Global;
 
-/// The path that the header Destination names (RFC 4918, section 10.3), below the prefix of a server.
+/// Reads Destination (RFC 4918, section 10.3): the path of the destination, below the prefix of a server.
 ///
-/// `Status`, 400: there is no such header, or its first value names no place (`read_place`). Else the errors are
-/// those of `DavPath::from_str_and_prefix`, or `Memory`, as in `read_place`.
+/// Errors:
+///
+/// - `Status` with 400: there is no such header, or its first value is not readable, or is neither a path nor
+///   an http or https URL (`read_place`).
+/// - Those of `DavPath::from_str_and_prefix` for that path.
+/// - `Memory`, as in `read_place`.
 pub fn read_destination(
     alloc: Global,
     headers: &HeaderMap<HeaderValue>,
@@ -27,7 +31,7 @@ pub fn read_destination(
     }
 }
 
-/// The path of the place that the header names, as a text. The only error is `Memory`, as in `read_place`.
+/// Finds the path in the header's first value, as a string. The only error is `Memory`, as in `read_place`.
 fn place_named(alloc: Global, headers: &HeaderMap<HeaderValue>) -> DavResult<Option<Text>>
     ensures { GivesBy (λ place. place) result (Ok (destination_place headers.now)) }
 {

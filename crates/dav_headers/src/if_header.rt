@@ -12,36 +12,36 @@ use http_header::{HeaderMap, HeaderValue};
 use std::alloc::Global;
 use std::collections::VecDeque;
 
-/// What a condition asks for.
+/// What a condition tests.
 #[derive(Drop, Debug)]
 pub enum IfItem {
-    /// This state token, as that of a lock.
+    /// A state token, such as a lock token.
     StateToken(Text),
-    /// This entity tag.
+    /// An entity tag.
     ETag(ETag),
 }
 
 /// One condition of a list.
 #[derive(Drop, Debug)]
 pub struct IfCondition {
-    /// Whether `Not` stands before it.
+    /// Whether `Not` precedes the condition.
     pub not: bool,
-    /// What it asks for.
+    /// What the condition tests.
     pub item: IfItem,
 }
 
-/// One list of conditions, which holds where all of them do. It is about the resource that the tag
-/// right before it names. Without one it is about the same resource as the list before it, and where
-/// no tag came before, about the path of the request (RFC 4918, section 10.4.2).
+/// One list of conditions. It is true if all its conditions are (RFC 4918, section 10.4.2). It applies to the
+/// resource that the tag right before it names. Without a tag it applies to the same resource as the list
+/// before it, or to the path of the request if no tag came before.
 #[derive(Drop, Debug)]
 pub struct IfList {
-    /// The resource tag right before it, as written between `<` and `>`; none where there is none.
+    /// The resource tag right before the list, as written between `<` and `>`, if there is one.
     pub resource_tag: Option<Text>,
     /// The conditions, in order.
     pub conditions: Items<IfCondition>,
 }
 
-/// What a condition of this token asks for.
+/// What a condition with this token tests. Returns `None` if the token is not a condition.
 fn item_of(token: IfToken) -> Option<IfItem>
     ensures { result ≡ item_of token }
 {
@@ -52,7 +52,8 @@ fn item_of(token: IfToken) -> Option<IfItem>
     }
 }
 
-/// Takes the conditions of a list up to its `)`. Where there are none, some of the tokens are taken all the same.
+/// Takes the conditions of a list, up to and including its `)`. Returns `None` if the tokens do not begin
+/// with those. Some tokens may then have been taken.
 fn conditions_of(
     alloc: Global,
     tokens: &mut VecDeque<IfToken>,
@@ -77,8 +78,8 @@ fn conditions_of(
     Ok(None)
 }
 
-/// Takes a list, with the tag right before it, where there is one. Where there is no list, some of
-/// the tokens are taken all the same.
+/// Takes a list, with the tag right before it if there is one. Returns `None` if the tokens do not begin with
+/// a list. Some tokens may then have been taken.
 fn first_list(alloc: Global, tokens: &mut VecDeque<IfToken>) -> DavResult<Option<IfList>>
     ensures { GivesBy (option_map (λ list. (list, tokens.new.items))) result (Ok (first_list tokens.old.items)) }
 {
@@ -98,7 +99,7 @@ fn first_list(alloc: Global, tokens: &mut VecDeque<IfToken>) -> DavResult<Option
     }
 }
 
-/// The lists of tokens, unless the tokens are something else.
+/// Parses the tokens into lists. Returns `None` if they are not one or more lists.
 fn lists_of(alloc: Global, mut tokens: VecDeque<IfToken>) -> DavResult<Option<Items<IfList>>>
     ensures { GivesBy (λ lists. lists) result (Ok (lists_of tokens.items)) }
 {
@@ -115,7 +116,7 @@ fn lists_of(alloc: Global, mut tokens: VecDeque<IfToken>) -> DavResult<Option<It
     Ok(Some(Items::from_vec(lists)))
 }
 
-/// The lists of a text, unless it can't be read.
+/// Parses a string into lists. Returns `None` if it is malformed.
 fn if_lists(alloc: Global, text: &str) -> DavResult<Option<Items<IfList>>>
     ensures { GivesBy (λ lists. lists) result (Ok (if_lists text.now)) }
 {
@@ -125,13 +126,13 @@ fn if_lists(alloc: Global, text: &str) -> DavResult<Option<Items<IfList>>>
     }
 }
 
-/// The lists of the header If, in order (RFC 4918, section 10.4): of its first value, where that is
-/// readable; none where it isn't, or where there is no such header. Each list has the resource tag
-/// right before it alone; a tag that governs several lists stands in the first of them.
+/// Reads If (RFC 4918, section 10.4): the lists of its first value, in order. Returns `None` if there is no
+/// such header, or its first value is not readable or malformed. Each list has only the resource tag right
+/// before it, so a tag that applies to several lists is in the first of them.
 ///
-/// It costs time and memory in proportion to the length of the value.
+/// Time and memory are proportional to the length of the value.
 ///
-/// The only error is `Memory`, where memory is lacking.
+/// The only error is `Memory`.
 pub fn read_if(alloc: Global, headers: &HeaderMap<HeaderValue>) -> DavResult<Option<Items<IfList>>>
     ensures value { GivesBy (λ lists. lists) result (Ok (if_of headers.now)) }
     ensures found { IfOk result (λ found. IfSome found (IfHeaderSpells headers.now)) }

@@ -23,21 +23,21 @@ pub(crate) enum IfToken {
     Angle(Text),
     /// `[tag]`, without the brackets.
     Bracket(ETag),
-    /// Another run without blanks and brackets.
+    /// Any other run of bytes without blanks and brackets.
     Word(Text),
 }
 
-/// The first token and what follows it, or none; only memory can be lacking.
+/// The first token and what follows it, or `None` if there is no token. Fails only if memory runs out.
 type FirstToken<'a> = Result<Option<(IfToken, &'a str)>, AllocError>;
 
-/// Whether the byte may stand in a word.
+/// Whether the byte may occur in a word.
 fn is_word_byte(byte: u8) -> bool
     ensures { result ≡ is_word_byte byte }
 {
     !(is_blank(byte) || matches!(byte, b'(' | b')' | b'<' | b'>' | b'[' | b']'))
 }
 
-/// How long the run of bytes of a word at the front is.
+/// The length of the longest run of word bytes at the front.
 fn word_len(bytes: &[u8]) -> usize
     ensures value { result ≡ prefix_len is_word_byte bytes.now }
     ensures fits { result ≤ length bytes.now }
@@ -45,7 +45,7 @@ fn word_len(bytes: &[u8]) -> usize
     bytes.iter().take_while(|b| is_word_byte(**b)).count()
 }
 
-/// The run of bytes of a word at the front, and what follows it.
+/// The longest run of word bytes at the front, and what follows it.
 fn split_word(text: &str) -> (&str, &str)
     ensures word { result.0.now ≡ take_while is_word_byte text.now }
     ensures len { length result.0.now ≡ prefix_len is_word_byte text.now }
@@ -54,7 +54,7 @@ fn split_word(text: &str) -> (&str, &str)
     text.split_at(word_len(text.as_bytes()))
 }
 
-/// Behind `<`: the text before the first `>`, and what follows that.
+/// After a `<`: the string before the first `>`, and what follows it.
 fn first_angle(alloc: Global, text: &str) -> FirstToken<'_>
     ensures { IfOk result (λ found. option_map (λ f. (f.0, f.1.now)) found ≡ first_angle text.now) }
 {
@@ -64,7 +64,7 @@ fn first_angle(alloc: Global, text: &str) -> FirstToken<'_>
     Ok(Some((IfToken::Angle(text_of(alloc, text)?), rest)))
 }
 
-/// Behind `[`: an entity tag and `]`, and what follows that.
+/// After a `[`: an entity tag and `]`, and what follows it.
 fn first_bracket(alloc: Global, text: &str) -> FirstToken<'_>
     ensures { IfOk result (λ found. option_map (λ f. (f.0, f.1.now)) found ≡ first_bracket text.now) }
 {
@@ -77,7 +77,7 @@ fn first_bracket(alloc: Global, text: &str) -> FirstToken<'_>
     Ok(Some((IfToken::Bracket(tag.to_tag(alloc)?), after_first(rest))))
 }
 
-/// The word that the text begins with, and what follows it.
+/// The word or `Not` that the string begins with, and what follows it.
 fn first_word(alloc: Global, text: &str) -> FirstToken<'_>
     ensures { IfOk result (λ found. option_map (λ f. (f.0, f.1.now)) found ≡ first_word text.now) }
 {
@@ -91,7 +91,7 @@ fn first_word(alloc: Global, text: &str) -> FirstToken<'_>
     Ok(Some((IfToken::Word(text_of(alloc, word)?), rest)))
 }
 
-/// The token that the text begins with, and what follows it.
+/// The token that the string begins with, and what follows it.
 fn token_at(alloc: Global, text: &str) -> FirstToken<'_>
     ensures { IfOk result (λ found. option_map (λ f. (f.0, f.1.now)) found ≡ token_at text.now) }
 {
@@ -104,7 +104,7 @@ fn token_at(alloc: Global, text: &str) -> FirstToken<'_>
     }
 }
 
-/// The token that the text begins with, and what follows it and the blanks behind it.
+/// The token that the string begins with, and what follows it without the blanks at its front.
 fn first_token(alloc: Global, text: &str) -> FirstToken<'_>
     ensures { IfOk result (λ found. option_map (λ f. (f.0, f.1.now)) found ≡ first_token text.now) }
 {
@@ -114,7 +114,8 @@ fn first_token(alloc: Global, text: &str) -> FirstToken<'_>
     }
 }
 
-/// The tokens of a text, unless something else stands in it. Only memory can be lacking.
+/// Splits a string into tokens. Returns `None` if it has anything else than tokens and blanks. Fails only if
+/// memory runs out.
 pub(crate) fn tokens_of(alloc: Global, text: &str) -> Result<Option<VecDeque<IfToken>>, AllocError>
     ensures { IfOk result (λ found. option_map (λ tokens. tokens.items) found ≡ tokens_of text.now) }
 {

@@ -1,7 +1,9 @@
-//! Headers of a request, read by their grammars.
+//! Reads the headers of a request by their grammars.
 //!
-//! A header's first value counts; for If-Match and If-None-Match the tags of all values do. A value
-//! that can't be read counts as absent, but a Content-Range that can't be read is a bad request.
+//! Only the first value of a header is read, but all values of If-Match and If-None-Match are. A value is
+//! readable if it has only tabs and bytes 0x20 to 0x7E. Blanks (spaces and tabs) at its ends are ignored. A
+//! value that is not readable, or that cannot be parsed, counts as absent. The exceptions are Content-Range
+//! and Destination: for these the reader returns an error.
 #![tactic(auto)]
 
 mod body;

@@ -7,9 +7,10 @@ use crate::values::first_text;
 use dav_resource::DavResult;
 use http_header::{HeaderMap, HeaderValue};
 
-/// The token of the lock that a request is about (RFC 4918, section 10.5), without the angle brackets at its
-/// ends, however many and whichever they are; blanks inside of them stay. None where there is no header
-/// Lock-Token, or its first value isn't readable; an empty token is there. No error comes.
+/// Reads Lock-Token (RFC 4918, section 10.5): the token of the lock that the request is about. All `<` and
+/// `>` at both ends are removed, and blanks inside of them stay. Returns `None` if there is no such header,
+/// or its first value is not readable. An empty token is returned as the empty string. Never returns an
+/// error.
 pub fn read_lock_token(headers: &HeaderMap<HeaderValue>) -> DavResult<Option<&str>>
     ensures { IsOkAnd result (λ text. option_copied text ≡ lock_token_of headers.now) }
 {
@@ -19,7 +20,7 @@ pub fn read_lock_token(headers: &HeaderMap<HeaderValue>) -> DavResult<Option<&st
     }
 }
 
-/// The text without the angle brackets at its front.
+/// The string without the angle brackets at its front.
 fn drop_angles(text: &str) -> &str
     ensures { result.now ≡ drop_angles text.now }
 {
@@ -30,7 +31,7 @@ fn drop_angles(text: &str) -> &str
     rest
 }
 
-/// The text without the angle brackets at both ends.
+/// The string without the angle brackets at both ends.
 fn trim_angles(text: &str) -> &str
     ensures { result.now ≡ trim_angles text.now }
 {

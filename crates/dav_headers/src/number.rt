@@ -1,11 +1,11 @@
-//! Numbers as texts write them.
+//! Decimal numbers.
 ghost use Rattle.std.specs.Prelude.{◌≡◌};
 ghost use Rattle.std.specs.List.{list_all};
 ghost use Rattle.std.specs.Char.{is_ascii_digit};
 ghost use Rattle.dav_headers.specs.Number.{number_in};
 
-/// The number that a text of one or more decimal digits writes, without a sign (RFC 7230, section 3.3.2,
-/// of Content-Length); zeros may lead it. None where the text is another, or the number doesn't fit.
+/// Parses one or more decimal digits, without a sign, as in Content-Length (RFC 7230, section 3.3.2). Leading
+/// zeros are allowed. Returns `None` for any other string, or if the number does not fit in 64 bits.
 pub fn read_number(text: &str) -> Option<u64>
     ensures { result ≡ number_in text.now }
 {
@@ -15,7 +15,7 @@ pub fn read_number(text: &str) -> Option<u64>
     text.parse().ok()
 }
 
-/// Whether the bytes are decimal digits, each of them.
+/// Whether all bytes are decimal digits.
 fn has_digits_alone(text: &[u8]) -> bool
     ensures { result ≡ list_all is_ascii_digit text.now }
 {

@@ -6,9 +6,9 @@ use crate::values::{first_text, is_word};
 use dav_resource::DavResult;
 use http_header::{HeaderMap, HeaderValue};
 
-/// Whether a copy or a move may replace what stands at its destination (RFC 4918, section 10.6): none where there is
-/// no header Overwrite, or its first value can't be read. No error comes, as no memory is taken; the answer has the
-/// form of all readers.
+/// Reads Overwrite (RFC 4918, section 10.6): whether COPY or MOVE may replace a resource at the destination.
+/// Returns `None` if there is no such header, or its first value cannot be parsed. Never returns an error,
+/// because it allocates nothing. The result type is that of all readers.
 pub fn read_overwrite(headers: &HeaderMap<HeaderValue>) -> DavResult<Option<bool>>
     ensures { result ≡ Ok (overwrite_of headers.now) }
 {
@@ -18,7 +18,7 @@ pub fn read_overwrite(headers: &HeaderMap<HeaderValue>) -> DavResult<Option<bool
     }
 }
 
-/// What `T` or `F` says, in any ASCII case.
+/// Parses `T` or `F`, in any ASCII case.
 fn overwrite_in(text: &str) -> Option<bool>
     ensures { result ≡ overwrite_in text.now }
 {

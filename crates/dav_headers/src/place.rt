@@ -1,4 +1,4 @@
-//! The place that a text names: a path, or a URL of the web.
+//! The path of a string that is a path, or an http or https URL.
 ghost use Rattle.std.specs.Prelude.{Ok};
 ghost use Rattle.dav_resource.specs.Gives.{GivesBy};
 ghost use Rattle.dav_headers.specs.Place.{place_path, tagged_path};
@@ -8,10 +8,10 @@ use dav_resource::{DavError, DavPath, DavResult, Text};
 use std::alloc::Global;
 use url::{ParseError, Url};
 
-/// The path that a text names: a text that starts with `/` is the path itself, and of an http or
-/// https URL the path counts, as the URL Standard writes it; any other text names none.
+/// Finds the path in a path or URL. A string that begins with `/` is the path itself. For an http or https
+/// URL the result is its path, as the URL Standard serializes it. Any other string gives `None`.
 ///
-/// The only error is `Memory`, where memory is lacking, or the URL is too long for its parser.
+/// The only error is `Memory`: memory runs out, or the URL is too long for its parser.
 pub fn read_place(alloc: Global, text: &str) -> DavResult<Option<Text>>
     ensures value { GivesBy (λ path. path) result (Ok (place_path text.now)) }
 {
@@ -27,9 +27,9 @@ pub fn read_place(alloc: Global, text: &str) -> DavResult<Option<Text>>
     }
 }
 
-/// The path of a resource tag of the header If (RFC 4918, section 10.4.2), below the prefix that
-/// the path of the request has: none where the tag names no place, or its path can't be read or
-/// isn't below the prefix.
+/// Parses the path of a resource tag of the If header (RFC 4918, section 10.4.2), below the prefix of the
+/// request's path. Returns `None` if the tag is neither a path nor an http or https URL, or if its path
+/// cannot be parsed or is not below the prefix.
 ///
 /// The only error is `Memory`, as in `read_place`.
 pub fn read_tagged_path(alloc: Global, tag: &str, path: &DavPath) -> DavResult<Option<DavPath>>

@@ -9,25 +9,26 @@ use dav_resource::{DavError, DavResult};
 use http::StatusCode;
 use http_header::{HeaderMap, HeaderValue};
 
-/// The bytes of a file that the body of a PATCH takes the place of.
+/// Where X-Update-Range says that the body of a PATCH is written. Bytes are counted from 0.
 #[derive(Clone, Copy, Debug, PartialEq, Eq)]
 pub enum UpdateRange {
-    /// From the first of these bytes to the last, counted from 0.
+    /// From the first of these bytes to the last.
     FromTo(u64, u64),
-    /// All from this byte on.
+    /// From this byte on.
     AllFrom(u64),
-    /// So many bytes at the end.
+    /// From this many bytes before the end on.
     Last(u64),
-    /// None: the body follows the last byte.
+    /// After the last byte.
     Append,
 }
 
-/// The place of the body in a file, counted from 0. The last byte may stand before the first.
+/// The bytes of a file that Content-Range gives for the body, counted from 0. The last may be less than the
+/// first.
 #[derive(Clone, Copy, Debug, PartialEq, Eq)]
 pub struct ContentRange {
-    /// Where its first byte stands.
+    /// The offset of the first byte.
     pub first: u64,
-    /// Where its last byte stands.
+    /// The offset of the last byte.
     pub last: u64,
 }
 
@@ -42,16 +43,16 @@ fn of_bytes(text: &str, mark: char) -> Option<&str>
     }
 }
 
-/// The numbers before the first `-` and behind it.
+/// Parses both strings as numbers.
 fn both_numbers(first: &str, last: &str) -> Option<(u64, u64)>
     ensures { result ≡ both_numbers (first.now, last.now) }
 {
     Some((read_number(first)?, read_number(last)?))
 }
 
-/// The bytes that the header X-Update-Range of SabreDAV's partial update names: `append`, or `bytes=b-e`,
-/// `bytes=b-` or `bytes=-n` with numbers of decimal digits, which aren't compared. None where there is no
-/// such header, or its first value is another. No error comes.
+/// Reads X-Update-Range of SabreDAV's partial update: `append`, or `bytes=b-e`, `bytes=b-` or `bytes=-n`,
+/// where b, e and n are decimal numbers. They are not compared. Returns `None` if there is no such header, or
+/// its first value cannot be parsed. Never returns an error.
 pub fn read_update_range(headers: &HeaderMap<HeaderValue>) -> DavResult<Option<UpdateRange>>
     ensures { result ≡ Ok (update_range_of headers.now) }
 {
@@ -61,7 +62,7 @@ pub fn read_update_range(headers: &HeaderMap<HeaderValue>) -> DavResult<Option<U
     }
 }
 
-/// `append`, or `bytes=` and a range.
+/// Parses `append`, or `bytes=` and a range.
 fn update_range_in(text: &str) -> Option<UpdateRange>
     ensures { result ≡ update_range_in text.now }
 {
@@ -72,7 +73,7 @@ fn update_range_in(text: &str) -> Option<UpdateRange>
     range_between(first, last)
 }
 
-/// The range of what stands before `-` and behind it, where one of them may be left out.
+/// The range from the strings before and after the `-`, one of which may be empty.
 fn range_between(first: &str, last: &str) -> Option<UpdateRange>
     ensures { result ≡ range_between (first.now, last.now) }
 {
@@ -86,11 +87,11 @@ fn range_between(first: &str, last: &str) -> Option<UpdateRange>
     Some(UpdateRange::FromTo(first, last))
 }
 
-/// The place of the body in a file, by the header Content-Range (RFC 7233, section 4.2): `bytes`, one space,
-/// `b-e` and behind a `/` a number or `*`, where nothing is compared. None where there is no such header, or
-/// its first value is `bytes */n`, which names no place.
+/// Reads Content-Range (RFC 7233, section 4.2): which bytes of a file the body is. The value is `bytes`, one
+/// space, `b-e`, a `/`, and a length that is a number or `*`. Numbers are not compared. Returns `None` if
+/// there is no such header, or its first value is `bytes */n`, which gives no range.
 ///
-/// The error is `StatusClose(400)` where the first value is another.
+/// The only error is `StatusClose(400)`: the first value is anything else.
 pub fn read_content_range(headers: &HeaderMap<HeaderValue>) -> DavResult<Option<ContentRange>>
     ensures { result ≡ content_range_of headers.now }
 {
@@ -102,7 +103,7 @@ pub fn read_content_range(headers: &HeaderMap<HeaderValue>) -> DavResult<Option<
         .ok_or(DavError::StatusClose(StatusCode::BAD_REQUEST))
 }
 
-/// `bytes`, one space, and a range and a length.
+/// Parses `bytes`, one space, a range, `/` and a length.
 fn content_range_in(text: &str) -> Option<Option<ContentRange>>
     ensures { result ≡ content_range_in text.now }
 {
@@ -110,7 +111,7 @@ fn content_range_in(text: &str) -> Option<Option<ContentRange>>
     range_of_length(range, length)
 }
 
-/// The range of what stands before `/` and behind it, where `*` of a known length is none.
+/// The range from the strings before and after the `/`. A `*` with a known length is no range.
 fn range_of_length(range: &str, length: &str) -> Option<Option<ContentRange>>
     ensures { result ≡ range_of_length (range.now, length.now) }
 {
@@ -124,14 +125,14 @@ fn range_of_length(range: &str, length: &str) -> Option<Option<ContentRange>>
     Some(Some(ends_in(range)?))
 }
 
-/// Whether the text is `*` or a number.
+/// Whether the string is `*` or a number.
 fn is_length(text: &str) -> bool
     ensures { result ≡ is_length text.now }
 {
     text == "*" || read_number(text).is_some()
 }
 
-/// A first and a last byte.
+/// Parses the offsets of a first and a last byte.
 fn ends_in(text: &str) -> Option<ContentRange>
     ensures { result ≡ ends_in text.now }
 {

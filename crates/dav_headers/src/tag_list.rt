@@ -15,7 +15,7 @@ use dav_resource::{DavResult, ETag, ETagList, Items};
 use http_header::{HeaderMap, HeaderValue};
 use std::alloc::{AllocError, Global};
 
-/// The text without the blanks and commas at its front.
+/// The string without the blanks and commas at its front.
 fn drop_separators(text: &str) -> &str
     ensures { result.now ≡ drop_separators text.now }
 {
@@ -26,8 +26,8 @@ fn drop_separators(text: &str) -> &str
     rest
 }
 
-/// The tag that the text begins with, where a comma or the end follows it, and the text from the
-/// next place that isn't empty.
+/// The tag that the string begins with, if a comma or the end follows it, and the string from the next
+/// element that is not empty.
 fn first_listed(text: &str) -> Option<(BorrowedTag<'_>, &str)>
     ensures { option_map (λ found. (record { weak = found.0.weak; tag = found.0.text.now }, found.1.now)) result ≡ first_listed text.now }
 {
@@ -39,7 +39,8 @@ fn first_listed(text: &str) -> Option<(BorrowedTag<'_>, &str)>
     None
 }
 
-/// The tags of a text, which may be none, unless it can't be read. Only memory can be lacking.
+/// Parses a string as a list of tags, which may be empty. Returns `None` if it is malformed. Fails only if
+/// memory runs out.
 fn tags_of(alloc: Global, text: &str) -> Result<Option<Vec<ETag>>, AllocError>
     ensures { IfOk result (λ found. option_map (λ tags. tags.items) found ≡ tags_of text.now) }
 {
@@ -56,14 +57,14 @@ fn tags_of(alloc: Global, text: &str) -> Result<Option<Vec<ETag>>, AllocError>
     Ok(Some(tags))
 }
 
-/// Whether the value is `*` alone.
+/// Whether the value is `*`, except for blanks at its ends.
 fn is_star(value: &HeaderValue) -> bool
     ensures { result ≡ is_star value.now }
 {
     readable_text(value).is_some_and(|text| text == "*")
 }
 
-/// The tags of a value, none where it can't be read. Only memory can be lacking.
+/// The tags of a value. A value that cannot be parsed has none. Fails only if memory runs out.
 fn value_tags(alloc: Global, value: &HeaderValue) -> Result<Vec<ETag>, AllocError>
     ensures { IfOk result (λ tags. tags.items ≡ value_tags value.now) }
 {
@@ -82,7 +83,7 @@ fn has_star(headers: &HeaderMap<HeaderValue>, name: &'static str) -> bool
     headers.get_all(name).iter().any(is_star)
 }
 
-/// The tags of all values of a header, in order. Only memory can be lacking.
+/// The tags of all values of a header, in order. Fails only if memory runs out.
 fn all_tags(
     alloc: Global,
     headers: &HeaderMap<HeaderValue>,
@@ -98,7 +99,8 @@ fn all_tags(
     Ok(tags)
 }
 
-/// The tags of all values of a header, or `*` where one of them is.
+/// `*` if one of the header's values is `*`, otherwise the tags of all its values. Returns `None` if there
+/// are none.
 #[tactic(auto, using(crate::proofs::TagListLemmas::some_tags_cases))]
 fn tag_list_of(
     alloc: Global,
@@ -117,10 +119,10 @@ fn tag_list_of(
     Ok(Some(ETagList::Tags(Items::from_vec(tags))))
 }
 
-/// The header If-Match (RFC 7232, section 3.1): `*` where one of its values is, else the tags of
-/// all of them, in order. A value that can't be read counts as absent; none where no tag is left.
+/// Reads If-Match (RFC 7232, section 3.1): `*` if one of its values is `*`, otherwise the entity tags of all
+/// its values, in order. A value that cannot be parsed counts as absent. Returns `None` if there are no tags.
 ///
-/// The only error is `Memory`, where memory is lacking.
+/// The only error is `Memory`.
 pub fn read_if_match(alloc: Global, headers: &HeaderMap<HeaderValue>) -> DavResult<Option<ETagList>>
     ensures value { GivesBy (λ tags. tags) result (Ok (if_match_of headers.now)) }
     ensures found { IfOk result (λ found. IfSome found (SpellsTagList (get_all headers.now (codes "if-match")))) }
@@ -129,9 +131,9 @@ pub fn read_if_match(alloc: Global, headers: &HeaderMap<HeaderValue>) -> DavResu
     tag_list_of(alloc, headers, "if-match")
 }
 
-/// The header If-None-Match (RFC 7232, section 3.2), read as If-Match is.
+/// Reads If-None-Match (RFC 7232, section 3.2), as If-Match is read.
 ///
-/// The only error is `Memory`, where memory is lacking.
+/// The only error is `Memory`.
 pub fn read_if_none_match(
     alloc: Global,
     headers: &HeaderMap<HeaderValue>,

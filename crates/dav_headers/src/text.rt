@@ -1,11 +1,11 @@
-//! Small steps along a text.
+//! Splits and trims strings.
 ghost use Rattle.std.specs.Prelude.{◌≡◌, ◌<◌, ◌-◌, IfOk, length, take, drop, slice_index, option_map};
 ghost use Rattle.dav_headers.specs.Values.{is_blank, drop_blanks, trim_blanks, cut_at};
 
 use dav_resource::Text;
 use std::alloc::{AllocError, Global};
 
-/// The text with memory of its own. Only memory can be lacking.
+/// Copies the string. Fails only if memory runs out.
 pub(crate) fn text_of(alloc: Global, text: &str) -> Result<Text, AllocError>
     ensures { IfOk result (λ copy. copy ≡ text.now) }
 {
@@ -19,7 +19,7 @@ pub(crate) fn is_blank(byte: u8) -> bool
     byte == b' ' || byte == b'\t'
 }
 
-/// The text behind its first character, which is ASCII and not NUL.
+/// The string without its first character, which is ASCII and not NUL.
 pub(crate) fn after_first(text: &str) -> &str
     requires some { 0 < slice_index text.now 0 }
     requires ascii { slice_index text.now 0 < 128 }
@@ -28,7 +28,7 @@ pub(crate) fn after_first(text: &str) -> &str
     &text[1..]
 }
 
-/// The text without its last character, which is ASCII and not NUL.
+/// The string without its last character, which is ASCII and not NUL.
 pub(crate) fn before_last(text: &str) -> &str
     requires some { 0 < slice_index text.now (length text.now - 1) }
     requires ascii { slice_index text.now (length text.now - 1) < 128 }
@@ -37,7 +37,7 @@ pub(crate) fn before_last(text: &str) -> &str
     &text[..text.len() - 1]
 }
 
-/// The text without the blanks at its front.
+/// The string without the blanks at its front.
 pub(crate) fn drop_blanks(text: &str) -> &str
     ensures { result.now ≡ drop_blanks text.now }
 {
@@ -48,7 +48,7 @@ pub(crate) fn drop_blanks(text: &str) -> &str
     rest
 }
 
-/// The text without the blanks at both ends.
+/// The string without the blanks at both ends.
 pub(crate) fn trim_blanks(text: &str) -> &str
     ensures { result.now ≡ trim_blanks text.now }
 {
@@ -59,7 +59,7 @@ pub(crate) fn trim_blanks(text: &str) -> &str
     rest
 }
 
-/// What stands before the first of these ASCII characters, and what stands behind it.
+/// The parts before and after the first `end`, an ASCII character. Returns `None` if it does not occur.
 pub(crate) fn cut_at(text: &str, end: char) -> Option<(&str, &str)>
     requires { end < 128 }
     ensures { option_map (λ parts. (parts.0.now, parts.1.now)) result ≡ cut_at end text.now }

@@ -8,19 +8,21 @@ use crate::values::{first_text, is_word};
 use dav_resource::DavResult;
 use http_header::{HeaderMap, HeaderValue};
 
-/// One wish of a client, how long its lock is to last.
+/// A timeout that a client requests for its lock.
 #[derive(Clone, Copy, Debug, PartialEq, Eq)]
 pub enum DavTimeout {
-    /// Without end.
+    /// No end.
     Infinite,
-    /// So many seconds.
+    /// A number of seconds.
     Seconds(u32),
 }
 
-/// How long a client wishes its lock to last (RFC 4918, section 10.7): the first of the wishes that commas
-/// part, each of them `Infinite` or `Second-` and a number that fits a `u32`, in any ASCII case, with spaces
-/// and tabs round the commas or none. None where there is no header Timeout, or one of the wishes of its first
-/// value can't be read. No error comes.
+/// Reads Timeout (RFC 4918, section 10.7): the timeout that the client prefers for its lock, the first of a
+/// list.
+///
+/// The elements of the list are separated by commas. Each is `Infinite`, or `Second-` and a number that fits
+/// in 32 bits, in any ASCII case, with blanks around it or none. Returns `None` if there is no such header,
+/// or any element of its first value cannot be parsed. Never returns an error.
 pub fn read_timeout(headers: &HeaderMap<HeaderValue>) -> DavResult<Option<DavTimeout>>
     ensures { result ≡ Ok (timeout_of headers.now) }
 {
@@ -30,7 +32,7 @@ pub fn read_timeout(headers: &HeaderMap<HeaderValue>) -> DavResult<Option<DavTim
     }
 }
 
-/// The first wish, where each place between the commas is one.
+/// The first timeout of a list, if every element of the list can be parsed.
 fn timeout_in(text: &str) -> Option<DavTimeout>
     ensures { result ≡ timeout_in text.now }
 {
@@ -41,14 +43,14 @@ fn timeout_in(text: &str) -> Option<DavTimeout>
     place_in(first)
 }
 
-/// The wish between two commas.
+/// Parses an element of the list, without the blanks at its ends.
 fn place_in(text: &str) -> Option<DavTimeout>
     ensures { result ≡ place_in text.now }
 {
     wish_in(trim_blanks(text))
 }
 
-/// `Infinite`, or seconds.
+/// Parses `Infinite`, or seconds.
 fn wish_in(text: &str) -> Option<DavTimeout>
     ensures { result ≡ wish_in text.now }
 {
@@ -58,7 +60,7 @@ fn wish_in(text: &str) -> Option<DavTimeout>
     seconds_in(text)
 }
 
-/// `Second-` and a number.
+/// Parses `Second-` and a number.
 fn seconds_in(text: &str) -> Option<DavTimeout>
     ensures { result ≡ seconds_in text.now }
 {

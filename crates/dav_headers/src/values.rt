@@ -1,4 +1,4 @@
-//! Values of headers, as texts.
+//! Values of headers as strings.
 ghost use Rattle.std.specs.Prelude.{◌≡◌, option_copied};
 ghost use Rattle.http_header.specs.Token.{lowercase};
 ghost use Rattle.dav_headers.specs.Values.{readable_text, first_text, is_word};
@@ -6,7 +6,7 @@ ghost use Rattle.dav_headers.specs.Values.{readable_text, first_text, is_word};
 use crate::text::trim_blanks;
 use http_header::{HeaderMap, HeaderValue};
 
-/// The first value of a header, where it is readable, without the blanks at its ends.
+/// The first value of a header, if it is readable, without the blanks at its ends.
 pub(crate) fn first_text<'a>(
     headers: &'a HeaderMap<HeaderValue>,
     name: &'static str,
@@ -16,7 +16,7 @@ pub(crate) fn first_text<'a>(
     readable_text(headers.get(name)?)
 }
 
-/// A value of tabs and the characters 0x20 to 0x7E, without the blanks at its ends.
+/// The value without the blanks at its ends, if it is readable: only tabs and bytes 0x20 to 0x7E.
 pub(crate) fn readable_text(value: &HeaderValue) -> Option<&str>
     ensures { option_copied result ≡ readable_text value.now.bytes }
 {
@@ -26,7 +26,7 @@ pub(crate) fn readable_text(value: &HeaderValue) -> Option<&str>
     }
 }
 
-/// Whether the text is this word, in any ASCII case.
+/// Whether the string is this word, in any ASCII case.
 pub(crate) fn is_word(text: &str, word: &str) -> bool
     ensures { result ≡ is_word text.now word.now }
 {

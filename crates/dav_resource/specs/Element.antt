@@ -1,4 +1,4 @@
--- What the fields of an `Element` and of its nodes are seen as: this project's own choice.
+-- What contracts see of the fields of an `Element` and of its nodes: this project's own choice.
 use Rattle.std.specs.Prelude.{Bool, false, bytes_eq, ℕ, List, [], ◌∷◌, map, option_map, string_bytes, String}
 use Rattle.std.specs.declared.alloc.Global.{Global}
 use Rattle.dav_resource.specs.Tree.{Nodes, no_nodes, text_then, element_then, Tree, elements_of}
@@ -7,13 +7,13 @@ use Rattle.dav_resource.specs.declared.element.Element.TheInside.{Inside}
 use Rattle.dav_resource.specs.declared.element.XMLNode.{XMLNode}
 use Rattle.dav_resource.specs.declared.element.XMLNode.TheVariants as node
 
--- what stands in an element, without the vectors that hold it
+-- the content of an element, without the vectors that hold it
 abbrev pub nodes_of : List XMLNode → Nodes
 nodes_of [] = no_nodes
 nodes_of (node.Text s ∷ xs) = text_then s (nodes_of xs)
 nodes_of (node.Element t ∷ xs) = element_then t.tag t.children (nodes_of xs)
 
--- a name with its value
+-- the name and the value of an attribute
 abbrev pub text_pair : String Global × String Global → List ℕ × List ℕ
 text_pair p = (string_bytes p.0, string_bytes p.1)
 
@@ -29,11 +29,11 @@ tree_of e =
       children = nodes_of e.children.items;
     }
 
--- the node is an element of this name
+-- the node is an element with this local name
 abbrev pub node_is_named : List ℕ → XMLNode → Bool
 node_is_named name (node.Text s) = false
 node_is_named name (node.Element t) = bytes_eq t.tag.name name
 
--- what the iterator has left to give
+-- the elements that the iterator has not returned yet
 abbrev pub child_elements : ChildElements → List Tree
 child_elements it = elements_of (nodes_of it.nodes.now)

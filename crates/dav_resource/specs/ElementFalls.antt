@@ -1,4 +1,4 @@
--- Each child of an element has fewer nodes below it than the element: this project's own choice, for recursions over elements.
+-- The largest measure of an element's children is at most the element's number of nodes: this project's own choice, for recursions over elements.
 use Rattle.std.specs.Prelude.{◌≤◌, List, [], ◌∷◌}
 use Rattle.std.proofs.Common.{arith}
 use denote.Param.Weighed.{most}

@@ -1,4 +1,5 @@
--- The status that each error answers (RFC 9110, section 15; RFC 4918, section 11; RFC 5842, section 7), and the error that another one becomes: which is which is this project's own choice.
+-- The status of the response for each error (RFC 9110, section 15; RFC 4918, section 11; RFC 5842, section 7), and how other errors become errors of
+-- the engine. Which status and which error is this project's own choice.
 use Rattle.std.specs.Prelude.{ℕ}
 use Rattle.dav_resource.specs.declared.error.FsError.{FsError}
 use Rattle.dav_resource.specs.declared.error.FsError.TheVariants as fs
@@ -9,7 +10,7 @@ use Rattle.http_header.specs.declared.value.HeaderValueError.TheVariants as valu
 use Rattle.dav_resource.specs.declared.error.DavError.{DavError}
 use Rattle.dav_resource.specs.declared.error.DavError.TheVariants as dav
 
--- the status of a store's refusal
+-- the status for an error of a store call
 abbrev pub fs_status : FsError → ℕ
 fs_status fs.NotImplemented = 501
 fs_status fs.GeneralFailure = 500
@@ -23,7 +24,7 @@ fs_status fs.TooLarge = 413
 fs_status fs.IsRemote = 502
 fs_status fs.Memory = 507
 
--- the status of an error of the engine
+-- the status for an error of the engine
 abbrev pub dav_status : DavError → ℕ
 dav_status (dav.Status status) = status
 dav_status (dav.StatusClose status) = status
@@ -35,7 +36,7 @@ dav_status dav.IllegalPath = 502
 dav_status dav.ChanError = 500
 dav_status dav.Memory = 507
 
--- a refusal of the store as an error of the engine
+-- an error of a store call as an error of the engine
 abbrev pub from_fs : FsError → DavError
 from_fs fs.Memory = dav.Memory
 from_fs fs.NotImplemented = dav.FsError fs.NotImplemented
@@ -49,17 +50,17 @@ from_fs fs.PathTooLong = dav.FsError fs.PathTooLong
 from_fs fs.TooLarge = dav.FsError fs.TooLarge
 from_fs fs.IsRemote = dav.FsError fs.IsRemote
 
--- a handler above is to close the connection
+-- the HTTP server must close the connection after the response
 abbrev pub closes : DavError → Type 0
 closes (dav.StatusClose status) = Unit {0}
 closes _ = ⊥
 
--- a header that a reply cannot take: too many, or no memory
+-- a header field that cannot be added to a response: there are too many (status 500), or memory ran out
 abbrev pub from_map : HeaderMapError → DavError
 from_map map.MaxSizeReached = dav.Status 500
 from_map map.OutOfMemory = dav.Memory
 
--- a text that is no header value, or no memory
+-- a string that is not a valid header value (status 500), or memory ran out
 abbrev pub from_value : HeaderValueError → DavError
 from_value value.Invalid = dav.Status 500
 from_value value.OutOfMemory = dav.Memory

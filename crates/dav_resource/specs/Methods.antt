@@ -1,10 +1,10 @@
--- The methods of WebDAV (RFC 4918, section 9; PATCH is RFC 5789), by their names, and sets of them.
+-- The methods of WebDAV (RFC 4918, section 9; PATCH is RFC 5789) by name, and sets of methods.
 use Rattle.std.specs.Prelude.{ℕ, Bool, false, List, codes, bytes_eq, if◌then◌else◌, Option, Some, None, slice_index_or, nat_eq}
 use Rattle.dav_resource.specs.declared.method.DavMethod.{DavMethod}
 use Rattle.dav_resource.specs.declared.method.DavMethod.TheVariants.{Head, Get, Put, Patch, Options, PropFind, PropPatch, MkCol, Copy, Move, Delete, Lock, Unlock}
 use Rattle.dav_resource.specs.declared.method.DavMethodSet.{DavMethodSet}
 
--- the method of this name
+-- the method with this name
 abbrev pub method_of : List ℕ → Option DavMethod
 method_of name =
     if bytes_eq name (codes "HEAD") then Some Head
@@ -21,7 +21,7 @@ method_of name =
     else (if bytes_eq name (codes "LOCK") then Some Lock
     else (if bytes_eq name (codes "UNLOCK") then Some Unlock else None))))))))))))
 
--- the place of a method among them all
+-- the index of a method in declaration order
 abbrev pub place_of : DavMethod → ℕ
 place_of Head = 0
 place_of Get = 1
@@ -37,10 +37,10 @@ place_of Delete = 10
 place_of Lock = 11
 place_of Unlock = 12
 
--- two methods are the same
+-- the methods are the same
 abbrev pub same_method : DavMethod → DavMethod → Bool
 same_method a b = nat_eq (place_of a) (place_of b)
 
--- the set has the method
+-- the method is in the set
 abbrev pub contains_method : DavMethodSet → DavMethod → Bool
 contains_method set method = slice_index_or set.members (place_of method) false

@@ -1,4 +1,4 @@
--- The media type of a file by its name: the extensions are this project's own choice, the types those of the IANA registry.
+-- The media type of a file, from its name. The extensions are this project's own choice, the types are those of the IANA registry.
 use Rattle.std.specs.Prelude.{ℕ, ◌&&◌, ◌||◌, ◌==◌, not, Bool, codes, bytes_eq, List, [], ◌∷◌, drop, map, if◌then◌else◌}
 use Rattle.std.specs.List.{list_any}
 use Rattle.std.specs.Char.{to_ascii_lowercase}
@@ -7,16 +7,16 @@ use Rattle.std.specs.Char.{to_ascii_lowercase}
 abbrev pub is_dot : ℕ → Bool
 is_dot b = b == 46
 
--- the bytes behind the last `.`, nothing where there is none
+-- the bytes after the last `.`, empty if there is none
 abbrev pub after_last_dot : List ℕ → List ℕ
 after_last_dot [] = []
 after_last_dot (b ∷ bs) = if is_dot b && not (list_any is_dot bs) then bs else after_last_dot bs
 
--- a `.` that is the name's first character begins no extension
+-- the extension of a file name; a `.` that is the first character does not begin one
 abbrev pub extension_of : List ℕ → List ℕ
 extension_of name = after_last_dot (drop 1 name)
 
--- the type of an extension in lower case
+-- the media type for an extension in lower case
 abbrev pub type_of : List ℕ → List ℕ
 type_of extension =
     let is : List ℕ → Bool = bytes_eq extension in
@@ -36,6 +36,6 @@ type_of extension =
     else (if is (codes "mp4") then codes "video/mp4"
     else codes "application/octet-stream")))))))))))))
 
--- the type of a file of this name, whose extension is in any ASCII case
+-- the media type of a file with this name; its extension may be in any ASCII case
 abbrev pub mime_type_of : List ℕ → List ℕ
 mime_type_of name = type_of (map to_ascii_lowercase (extension_of name))

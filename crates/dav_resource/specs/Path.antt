@@ -3,10 +3,10 @@ use Rattle.dav_resource.specs.PathText.{PathValue, IsPathValue}
 use Rattle.dav_resource.specs.Texts.{texts}
 use Rattle.dav_resource.specs.declared.path.DavPath.TheInside.{Inside}
 
--- the fields as a path's value
+-- the fields as the value of a path
 abbrev pub path_of : Inside → PathValue
 path_of p = record { star = p.star; slash = p.slash; prefix = texts p.prefix.value.items; key = texts p.segments.value.items }
 
--- what holds of each path
+-- the invariant of every path
 abbrev pub IsPath : Inside → Type 0
 IsPath p = IsPathValue (path_of p)

@@ -1,4 +1,4 @@
--- What a list of texts is seen as: a key, of each text its bytes; this project's own choice.
+-- The bytes of each string of a list, as a key: this project's own choice.
 use Rattle.std.specs.Prelude.{List, map, string_bytes, String}
 use Rattle.std.specs.declared.alloc.Global.{Global}
 use Rattle.dav_resource.specs.Key.{Key}

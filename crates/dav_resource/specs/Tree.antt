@@ -1,18 +1,18 @@
--- What contracts see of an element: its names and attributes, and what stands in it in order (RFC 4918, section 14; Namespaces in XML 1.0, sections 3 to 5).
+-- What contracts see of an element: names, attributes, and content in order (RFC 4918, section 14; Namespaces in XML 1.0, sections 3 to 5).
 use Rattle.std.specs.Prelude.{ℕ, ◌++◌, List, [], ◌∷◌, Option, Some, None, Bool, ◌==◌, if◌then◌else◌, bytes_eq, nat_lt, length, codes}
 use Rattle.std.specs.List.{position_or_len, before_first, after_first, concat}
 use Rattle.std.specs.Ordering.{nat_cmp}
 use Rattle.std.specs.Cmp.Lexicographic.{slice_cmp}
 use Rattle.std.specs.BTreeMap.{insert_entry}
 
--- the start tag: an attribute is a name with its value, in ascending order of names
+-- the start tag; an attribute is a name with its value, and attributes are in ascending order of names
 pub record Tag : Type 0 where
   pub name : List ℕ
   pub prefix : Option (List ℕ)
   pub namespace : Option (List ℕ)
   pub attributes : List (List ℕ × List ℕ)
 
--- what stands in an element, in order: texts, and elements with what stands in them
+-- the content of an element, in order: text nodes, and elements with their content
 pub data Nodes : Type 0 where
   no_nodes : Nodes
   text_then : List ℕ → Nodes → Nodes
@@ -25,48 +25,48 @@ pub record Tree : Type 0 where
 
 -- ---- nodes
 
--- one list of nodes after another
+-- one list of nodes followed by another
 abbrev pub append_nodes : Nodes → Nodes → Nodes
 append_nodes no_nodes ns = ns
 append_nodes (text_then t ms) ns = text_then t (append_nodes ms ns)
 append_nodes (element_then tag inner ms) ns = element_then tag inner (append_nodes ms ns)
 
--- one text, and one element, as what stands in an element
+-- one text node, and one element, as the content of an element
 abbrev pub one_text : List ℕ → Nodes
 one_text t = text_then t no_nodes
 
 abbrev pub one_element : Tree → Nodes
 one_element t = element_then t.tag t.children no_nodes
 
--- elements one after another
+-- a list of elements, as the content of an element
 abbrev pub elements : List Tree → Nodes
 elements [] = no_nodes
 elements (t ∷ ts) = element_then t.tag t.children (elements ts)
 
--- the elements that stand directly among the nodes, in order
+-- the elements directly among the nodes, in order
 abbrev pub elements_of : Nodes → List Tree
 elements_of no_nodes = []
 elements_of (text_then t ns) = elements_of ns
 elements_of (element_then tag inner ns) = record { tag = tag; children = inner } ∷ elements_of ns
 
--- the texts that stand directly among the nodes, in order
+-- the text nodes directly among the nodes, in order
 abbrev pub texts : Nodes → List (List ℕ)
 texts no_nodes = []
 texts (text_then t ns) = t ∷ texts ns
 texts (element_then tag inner ns) = texts ns
 
--- pieces joined, where there is one
+-- the strings joined, if there are any
 abbrev pub joined : List (List ℕ) → Option (List ℕ)
 joined [] = None
 joined (t ∷ ts) = Some (t ++ concat ts)
 
--- those texts joined, where there is one
+-- the text nodes directly among the nodes, joined, if there are any
 abbrev pub texts_of : Nodes → Option (List ℕ)
 texts_of ns = joined (texts ns)
 
--- ---- elements that calls build
+-- ---- elements that the calls build
 
--- no attribute yet, and nothing in it
+-- an element without namespace, attributes and content
 abbrev pub empty_element : List ℕ → Option (List ℕ) → Tree
 empty_element name prefix =
     record {
@@ -74,7 +74,7 @@ empty_element name prefix =
       children = no_nodes;
     }
 
--- a text with `:` is a prefix, up to the first one, and a name: `D:x` is the prefix D and the name x
+-- a string with `:` is a prefix and a name, split at the first `:`: `D:x` is the prefix D and the name x
 abbrev pub has_colon : List ℕ → Bool
 has_colon text = nat_lt (position_or_len (λ b. b == 58) text) (length text)
 
@@ -92,18 +92,18 @@ abbrev pub with_attribute : Tree → List ℕ → List ℕ → Tree
 with_attribute t name value =
     record t { tag = record t.tag { attributes = put_attribute t.tag.attributes name value } }
 
--- the attribute that declares a prefix: `xmlns:prefix`, or `xmlns` for the empty one
+-- the name of the attribute that declares a prefix: `xmlns:prefix`, or `xmlns` for the empty prefix
 abbrev pub xmlns_name : List ℕ → List ℕ
 xmlns_name [] = codes "xmlns"
 xmlns_name (b ∷ bs) = codes "xmlns:" ++ b ∷ bs
 
--- the element with these nodes after those that stand in it
+-- the element with these nodes appended to its content
 abbrev pub with_children : Tree → Nodes → Tree
 with_children t ns = record t { children = append_nodes t.children ns }
 
 -- ---- children by name
 
--- the first element of this name
+-- the first element with this local name
 abbrev pub first_named : List ℕ → Nodes → Option Tree
 first_named name no_nodes = None
 first_named name (text_then t ns) = first_named name ns

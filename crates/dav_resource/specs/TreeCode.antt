@@ -1,11 +1,11 @@
--- How a proof tells elements apart, and how large one is: this project's own choice.
+-- An injective code of elements, by which proofs compare them, and the size of an element: this project's own choice.
 use Rattle.std.specs.Prelude.{◌≡◌, ℕ, suc, ◌+◌, List, Option, refl}
 use Rattle.std.specs.Coded.{Coded, code_by, coded×, coded_ℕ, coded_list, coded_option}
 use Rattle.std.proofs.Common.{ap}
 use Rattle.dav_resource.specs.Tree.{Tag, Nodes, no_nodes, text_then, element_then, Tree}
 use base.Stored.{Gv, gnil, gnum, gcons}
 
--- how many nodes there are, at every level
+-- the number of nodes, at every level
 abbrev pub nodes_size : Nodes → ℕ
 nodes_size no_nodes = 0
 nodes_size (text_then t ms) = suc (nodes_size ms)

@@ -1,4 +1,4 @@
-//! Element trees, as a WebDAV body holds them (RFC 4918, section 14; Namespaces in XML 1.0).
+//! Element trees, as in the XML body of a WebDAV request (RFC 4918, section 14; Namespaces in XML 1.0).
 ghost use Rattle.std.specs.Prelude.{◌≡◌, ◌↔◌, ◌<◌, ◌++◌, length, [], None, map, position, unwrap_or, IsTrue, IfOk, OnOk, OnErr, option_map, option_copied, string_bytes};
 ghost use Rattle.dav_resource.specs.Tree.{empty_element, prefixed_element, with_attribute, xmlns_name, with_children, one_text, one_element, texts_of, elements_of, first_named, without_first_named};
 ghost use Rattle.dav_resource.specs.Element.{nodes_of, text_pair, node_is_named, child_elements};
@@ -9,29 +9,29 @@ use std::alloc::{AllocError, Global};
 use std::collections::BTreeMap;
 use std::marker::Model;
 
-/// An element with its attributes and what stands in it, which contracts see as a tree.
+/// An element with its attributes and content. In contracts its value is a tree.
 #[derive(Drop, Debug)]
 #[cycle(element)]
 pub struct Element {
     /// The local name (Namespaces in XML 1.0, section 4).
     pub name: String,
-    /// The prefix that stands before the name, where there is one.
+    /// The namespace prefix of the name, if it has one.
     pub prefix: Option<String>,
-    /// The namespace that the name is of, where it is known.
+    /// The namespace of the name, if it is known.
     pub namespace: Option<String>,
-    /// The attributes by their names, with the declarations of namespaces among them.
+    /// The attributes by name, including namespace declarations.
     pub attributes: BTreeMap<String, String>,
-    /// What stands in the element, in order.
+    /// The content of the element, in order.
     pub children: Vec<XMLNode>,
 }
 
-/// What may stand in an element.
+/// A node in the content of an element.
 #[derive(Drop, Debug)]
 #[cycle(element)]
 pub enum XMLNode {
-    /// An element, with what stands in it.
+    /// An element with its content.
     Element(Element),
-    /// Characters.
+    /// Character data.
     Text(Text),
 }
 
@@ -56,8 +56,8 @@ impl Model for Element {
 }
 
 impl Element {
-    /// An element with this name alone: no prefix, no namespace, no attribute and nothing in it.
-    /// Only memory can be lacking.
+    /// Creates an element with this name. It has no prefix, namespace, attributes or content. Fails only if
+    /// memory runs out.
     pub fn new(alloc: Global, name: &str) -> Result<Element, AllocError>
         ensures { IfOk result (λ e. e ≡ empty_element name.now None) }
     {
@@ -70,8 +70,9 @@ impl Element {
         })
     }
 
-    /// An element by its prefix and name, cut at the first `:` (Namespaces in XML 1.0, section 4);
-    /// a text without `:` is a name alone. No namespace is set. Only memory can be lacking.
+    /// Creates an element from a prefixed name (Namespaces in XML 1.0, section 4). The string is split at the
+    /// first `:` into prefix and name. Without a `:` the whole string is the name, and there is no prefix. No
+    /// namespace is set. Fails only if memory runs out.
     pub fn new2(alloc: Global, text: &str) -> Result<Element, AllocError>
         ensures { IfOk result (λ e. e ≡ prefixed_element text.now) }
     {
@@ -83,9 +84,9 @@ impl Element {
         Ok(element)
     }
 
-    /// Declares a namespace under a prefix, or the default namespace for an empty prefix
-    /// (Namespaces in XML 1.0, section 3). A declaration of the same prefix gives way; all else
-    /// stays. Only memory can be lacking, and then nothing is left of the element.
+    /// Declares a namespace under a prefix, or the default namespace for an empty prefix (Namespaces in XML
+    /// 1.0, section 3). An existing declaration of the same prefix is replaced. Nothing else changes. Fails
+    /// only if memory runs out, and the element is then dropped.
     #[tactic(auto, using(crate::proofs::ElementLemmas::building))]
     pub fn ns(mut self, prefix: &str, uri: &str) -> Result<Element, AllocError>
         ensures { IfOk result (λ e. e ≡ with_attribute self (xmlns_name prefix.now) uri.now) }
@@ -97,7 +98,7 @@ impl Element {
         Ok(self)
     }
 
-    /// Adds a text at the end. Only memory can be lacking, and then nothing is left of the element.
+    /// Appends a text node. Fails only if memory runs out, and the element is then dropped.
     #[tactic(auto, using(crate::proofs::ElementLemmas::building))]
     pub fn text(mut self, text: &str) -> Result<Element, AllocError>
         ensures { IfOk result (λ e. e ≡ with_children self (one_text text.now)) }
@@ -107,8 +108,8 @@ impl Element {
         Ok(self)
     }
 
-    /// The texts that stand directly in it, joined; none without such a text. Only memory can be
-    /// lacking.
+    /// Returns the text nodes directly in the element, joined. Returns `None` if there are none. Fails only
+    /// if memory runs out.
     pub fn get_text(&self) -> Result<Option<String>, AllocError>
         ensures { IfOk result (λ text. option_map string_bytes text ≡ texts_of self.now.children) }
     {
@@ -122,7 +123,7 @@ impl Element {
         Ok(joined)
     }
 
-    /// The elements that stand directly in it, in order.
+    /// Iterates over the child elements, in order.
     pub fn child_elems_iter(&self) -> ChildElements<'_>
         ensures { child_elements result ≡ elements_of self.now.children }
     {
@@ -131,15 +132,15 @@ impl Element {
         }
     }
 
-    /// Whether an element stands directly in it.
+    /// Whether the element has a child element.
     pub fn has_child_elems(&self) -> bool
         ensures { IsTrue result ↔ (0 < length (elements_of self.now.children)) }
     {
         self.child_elems_iter().next().is_some()
     }
 
-    /// Takes the first child element of this local name out, whatever its prefix and namespace, and
-    /// leaves the rest as it is; without one nothing changes.
+    /// Removes and returns the first child element with this local name, whatever its prefix and namespace.
+    /// Everything else stays the same. Returns `None` and changes nothing if there is no such child.
     pub fn take_child(&mut self, name: &str) -> Option<Element>
         ensures taken { result ≡ first_named name.now self.old.children }
         ensures left { self.new ≡ record self.old { children = without_first_named name.now self.old.children } }
@@ -147,7 +148,7 @@ impl Element {
         take_named(&mut self.children, name)
     }
 
-    /// A value of the same contents, at every level. Only memory can be lacking.
+    /// Returns a deep copy. Fails only if memory runs out.
     #[cycle(clone)]
     #[tactic(auto, using(crate::proofs::ElementLemmas::walking))]
     pub fn clone(&self) -> Result<Element, AllocError>
@@ -166,8 +167,8 @@ impl Element {
         })
     }
 
-    /// Adds an element at the end. Only memory can be lacking, and then the element that it was to
-    /// stand in is as it was, and nothing is left of the other.
+    /// Appends a child element. Fails only if memory runs out. `self` is then unchanged, and the child is
+    /// dropped.
     #[tactic(auto, using(crate::proofs::ElementLemmas::building))]
     pub fn push_element(&mut self, element: Element) -> Result<(), AllocError>
         ensures ok { OnOk result (self.new ≡ with_children self.old (one_element element)) }
@@ -179,7 +180,7 @@ impl Element {
 }
 
 impl XMLNode {
-    /// Whether this is an element of this local name.
+    /// Whether this node is an element with this local name.
     fn is_named(&self, name: &str) -> bool
         ensures { result ≡ node_is_named name.now self.now }
     {
@@ -189,7 +190,7 @@ impl XMLNode {
         }
     }
 
-    /// A value of the same contents, at every level. Only memory can be lacking.
+    /// Returns a deep copy. Fails only if memory runs out.
     #[cycle(clone)]
     pub fn clone(&self) -> Result<XMLNode, AllocError>
         ensures { IfOk result (λ copy. copy ≡ self.now) }
@@ -201,7 +202,7 @@ impl XMLNode {
     }
 }
 
-/// The elements among nodes, in order.
+/// An iterator over the elements among nodes, in order.
 #[derive(Drop)]
 pub struct ChildElements<'a> {
     nodes: &'a [XMLNode],
@@ -225,14 +226,14 @@ impl<'a> Iterator for ChildElements<'a> {
     }
 }
 
-/// Where the first element of this name stands.
+/// The index of the first element with this name.
 fn position_named(nodes: &[XMLNode], name: &str) -> Option<usize>
     ensures { result ≡ position (node_is_named name.now) nodes.now }
 {
     nodes.iter().position(|node| node.is_named(name))
 }
 
-/// Takes the first element of this name out.
+/// Removes and returns the first element with this name.
 fn take_named(nodes: &mut Vec<XMLNode>, name: &str) -> Option<Element>
     ensures taken { result ≡ first_named name.now (nodes_of nodes.old.items) }
     ensures left { nodes_of nodes.new.items ≡ without_first_named name.now (nodes_of nodes.old.items) }
@@ -244,7 +245,7 @@ fn take_named(nodes: &mut Vec<XMLNode>, name: &str) -> Option<Element>
     }
 }
 
-/// The same text again, where there is one.
+/// Copies an optional string.
 fn clone_text(text: Option<&String>) -> Result<Option<String>, AllocError>
     ensures { IfOk result (λ copy. option_map string_bytes copy ≡ option_map string_bytes (option_copied text.entry)) }
 {
@@ -254,7 +255,7 @@ fn clone_text(text: Option<&String>) -> Result<Option<String>, AllocError>
     }
 }
 
-/// The same names with the same values again.
+/// Copies the attributes.
 #[tactic(auto, using(crate::proofs::ElementLemmas::walking))]
 fn clone_attributes(
     attributes: &BTreeMap<String, String>,
@@ -276,7 +277,7 @@ fn xmlns_name(alloc: Global, prefix: &str) -> Result<String, AllocError>
     Ok(name)
 }
 
-/// The text so far, if any, and this text after it.
+/// Appends a string to the text so far, or starts with it.
 fn append_text(alloc: Global, joined: Option<String>, text: &str) -> Result<String, AllocError>
     ensures { IfOk result (λ whole. string_bytes whole ≡ unwrap_or (option_map string_bytes joined) [] ++ text.now) }
 {

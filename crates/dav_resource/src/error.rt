@@ -1,4 +1,4 @@
-//! Why a request was refused.
+//! Errors of stores and of the engine.
 ghost use Rattle.std.specs.Prelude.{◌≡◌, IsTrue, ◌↔◌};
 ghost use Rattle.dav_resource.specs.Errors.{fs_status, dav_status, closes};
 
@@ -7,84 +7,84 @@ use http_header::{HeaderMapError, HeaderValueError};
 use std::alloc::{AllocError, AllocFailed};
 use thiserror::Error;
 
-/// Why a store refused a call.
+/// Why a store call failed.
 #[derive(Clone, Copy, Debug, PartialEq, Eq, Error)]
 pub enum FsError {
-    /// The store doesn't offer it.
+    /// The store does not implement the call.
     #[error("not implemented")]
     NotImplemented,
     /// The store failed.
     #[error("the store failed")]
     GeneralFailure,
-    /// Something is there that may not be.
+    /// A resource exists that must not exist.
     #[error("it exists already")]
     Exists,
-    /// Something isn't there that has to be.
+    /// A resource does not exist that must exist.
     #[error("not found")]
     NotFound,
-    /// What is there doesn't allow the call, or the store doesn't.
+    /// The existing resource does not allow the call, or the store forbids it.
     #[error("forbidden")]
     Forbidden,
-    /// The store has no room for more (RFC 4918, section 11.5).
+    /// The store has no space left (RFC 4918, section 11.5).
     #[error("no room is left")]
     InsufficientStorage,
-    /// The store's links make a loop (RFC 5842, section 7.2).
+    /// The store's links form a loop (RFC 5842, section 7.2).
     #[error("a loop was found")]
     LoopDetected,
-    /// The store keeps no path of this length.
+    /// The path is longer than the store supports.
     #[error("the path is too long")]
     PathTooLong,
-    /// The store keeps no file of this size.
+    /// The file is larger than the store supports.
     #[error("it is too large")]
     TooLarge,
-    /// Another server has the resource.
+    /// The resource is on another server.
     #[error("it is on another server")]
     IsRemote,
-    /// Memory was lacking, and nothing happened.
+    /// Memory ran out, and the call changed nothing.
     #[error("out of memory")]
     Memory,
 }
 
-/// Why the engine refused a request.
+/// Why a request failed.
 #[derive(Debug, Drop, Error)]
 pub enum DavError {
-    /// The request is answered by this status.
+    /// The response has this status.
     #[error("status {0}")]
     Status(StatusCode),
-    /// The request is answered by this status, and a handler above is to close the connection.
+    /// The response has this status, and the HTTP server must close the connection after it.
     #[error("status {0}, and the connection closes")]
     StatusClose(StatusCode),
-    /// The store refused a call, for any cause but want of memory.
+    /// A store call failed, for any reason except memory.
     #[error("{0}")]
     FsError(FsError),
-    /// The body is no tree that the method knows.
+    /// The request body is not an XML tree that the method accepts.
     #[error("the body is no tree that the method knows")]
     XmlParseError,
-    /// The path can't be read.
+    /// The path cannot be parsed.
     #[error("the path cannot be read")]
     InvalidPath,
-    /// A `..` of the path leaves the root.
+    /// A `..` in the path leaves the root.
     #[error("the path leaves the root")]
     ForbiddenPath,
-    /// The path isn't below the server's prefix.
+    /// The path is not below the server's prefix.
     #[error("the path is not below the prefix")]
     IllegalPath,
-    /// Nothing was there to be answered.
+    /// There was nothing to report in the response.
     #[error("nothing was answered")]
     ChanError,
-    /// Memory was lacking.
+    /// Memory ran out.
     #[error("out of memory")]
     Memory,
 }
 
-/// What a call of a store answers.
+/// The result of a store call.
 pub type FsResult<T> = Result<T, FsError>;
 
-/// What a call of the engine answers.
+/// The result of an engine call.
 pub type DavResult<T> = Result<T, DavError>;
 
 impl FsError {
-    /// The status that the refusal is answered by.
+    /// The status of the response when a store call fails with this error.
     pub fn statuscode(self) -> StatusCode
         ensures { result ≡ fs_status self }
     {
@@ -103,7 +103,7 @@ impl FsError {
     }
 }
 
-/// Want of memory.
+/// A failed allocation becomes `Memory`.
 impl From<AllocError> for FsError {
     ghost use Rattle.dav_resource.specs.declared.error.FsError.TheVariants.{Memory};
 
@@ -114,7 +114,7 @@ impl From<AllocError> for FsError {
     }
 }
 
-/// Want of memory.
+/// A failed allocation becomes `Memory`.
 impl<T: Drop> From<AllocFailed<T>> for FsError {
     ghost use Rattle.dav_resource.specs.declared.error.FsError.TheVariants.{Memory};
 
@@ -126,7 +126,7 @@ impl<T: Drop> From<AllocFailed<T>> for FsError {
 }
 
 impl DavError {
-    /// The status that the error is answered by.
+    /// The status of the response for this error.
     pub fn statuscode(&self) -> StatusCode
         ensures { result ≡ dav_status self.now }
     {
@@ -141,7 +141,7 @@ impl DavError {
         }
     }
 
-    /// Whether the connection is to be closed.
+    /// Whether the HTTP server must close the connection after the response.
     pub fn must_close(&self) -> bool
         ensures { IsTrue result ↔ closes self.now }
     {
@@ -149,7 +149,7 @@ impl DavError {
     }
 }
 
-/// The status as the answer; the connection stays open.
+/// Converts a status into an error with that status. The connection stays open.
 impl From<StatusCode> for DavError {
     ghost use Rattle.dav_resource.specs.declared.error.DavError.TheVariants.{Status};
 
@@ -160,7 +160,7 @@ impl From<StatusCode> for DavError {
     }
 }
 
-/// Want of memory stays that; each other refusal is kept as it is.
+/// `FsError::Memory` becomes `DavError::Memory`. Every other store error is kept as `DavError::FsError`.
 impl From<FsError> for DavError {
     ghost use Rattle.dav_resource.specs.Errors.{from_fs};
 
@@ -174,7 +174,7 @@ impl From<FsError> for DavError {
     }
 }
 
-/// Want of memory.
+/// A failed allocation becomes `Memory`.
 impl From<AllocError> for DavError {
     ghost use Rattle.dav_resource.specs.declared.error.DavError.TheVariants.{Memory};
 
@@ -185,7 +185,7 @@ impl From<AllocError> for DavError {
     }
 }
 
-/// Want of memory.
+/// A failed allocation becomes `Memory`.
 impl<T: Drop> From<AllocFailed<T>> for DavError {
     ghost use Rattle.dav_resource.specs.declared.error.DavError.TheVariants.{Memory};
 
@@ -196,7 +196,8 @@ impl<T: Drop> From<AllocFailed<T>> for DavError {
     }
 }
 
-/// A reply that takes no more headers is the server's own fault: status 500 (RFC 9110, section 15.6.1).
+/// A response with too many header fields is the server's fault: status 500 (RFC 9110, section 15.6.1). A
+/// failed allocation becomes `Memory`.
 impl From<HeaderMapError> for DavError {
     ghost use Rattle.dav_resource.specs.Errors.{from_map};
 
@@ -210,7 +211,8 @@ impl From<HeaderMapError> for DavError {
     }
 }
 
-/// A reply's text that is no header value is the server's own fault: status 500 (RFC 9110, section 15.6.1).
+/// An invalid header value for a response is the server's fault: status 500 (RFC 9110, section 15.6.1). A
+/// failed allocation becomes `Memory`.
 impl From<HeaderValueError> for DavError {
     ghost use Rattle.dav_resource.specs.Errors.{from_value};
 

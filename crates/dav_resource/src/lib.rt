@@ -1,4 +1,4 @@
-//! The values that a WebDAV engine works on: errors, paths, elements, metadata, requests and replies.
+//! The values of a WebDAV engine: errors, paths, elements, metadata, requests and response bodies.
 #![tactic(auto)]
 
 mod element;

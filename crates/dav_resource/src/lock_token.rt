@@ -9,7 +9,7 @@ use std::alloc::{AllocError, Global};
 use std::marker::Model;
 
 /// The token of a lock (RFC 4918, section 6.5): one or more bytes 0x21 to 0x7E, so that a header field can
-/// show it. Contracts see its bytes.
+/// carry it. In contracts its value is the list of its bytes.
 #[derive(Drop, Debug)]
 pub struct LockToken {
     text: String,
@@ -28,7 +28,8 @@ impl Model for LockToken {
 }
 
 impl LockToken {
-    /// The token that this string holds; none where it is empty, or has another byte than those.
+    /// Converts a string into a lock token. Returns `None` if the string is empty or has a byte outside 0x21
+    /// to 0x7E.
     pub fn from_string(text: String) -> Option<LockToken>
         ensures { result ≡ lock_token (string_bytes text) }
     {
@@ -38,15 +39,15 @@ impl LockToken {
         Some(LockToken { text })
     }
 
-    /// The token as a text.
+    /// The token as a string.
     pub fn as_str(&self) -> &str
         ensures { result.now ≡ self.now }
     {
         self.text.as_str()
     }
 
-    /// The token in angle brackets, as a header field shows it (RFC 4918, section 10.1). Only memory can be
-    /// lacking.
+    /// Returns the token in angle brackets, as header fields carry it (RFC 4918, section 10.1). Fails only if
+    /// memory runs out.
     pub fn coded(&self) -> Result<String, AllocError>
         ensures value { IfOk result (λ text. string_bytes text ≡ coded self.now) }
         ensures field_value { IfOk result (λ text. IsFieldValue (string_bytes text)) }
@@ -55,14 +56,14 @@ impl LockToken {
     }
 }
 
-/// Whether the bytes are characters that show, each of them.
+/// Whether all bytes are visible ASCII, 0x21 to 0x7E.
 fn has_graphic_alone(text: &[u8]) -> bool
     ensures { result ≡ list_all is_ascii_graphic text.now }
 {
     text.iter().all(|byte| byte.is_ascii_graphic())
 }
 
-/// The text in angle brackets.
+/// Puts the string in angle brackets.
 fn in_brackets(alloc: Global, text: &str) -> Result<String, AllocError>
     ensures { IfOk result (λ whole. string_bytes whole ≡ coded text.now) }
 {

@@ -1,32 +1,32 @@
-//! What a store says of its resources, and how a file is opened.
+//! Metadata of resources, and options for opening a file.
 ghost use Rattle.std.specs.Prelude.{◌≡◌, IfOk};
 
 use crate::{DavPath, Text};
 use std::alloc::AllocError;
 
-/// What a store knows of a resource. Moments are whole seconds since 1970.
+/// The metadata of a resource. Times are whole seconds since 1970.
 #[derive(Drop, Debug)]
 pub struct Meta {
-    /// Whether it is a directory.
+    /// Whether the resource is a directory.
     pub dir: bool,
-    /// A file's length in bytes; a directory's is the store's to choose.
+    /// The length of a file in bytes. The store chooses the value for a directory.
     pub len: u64,
-    /// When it last changed, where that is known.
+    /// When the resource last changed, if known.
     pub modified: Option<u64>,
-    /// When it was made, where that is known.
+    /// When the resource was created, if known.
     pub created: Option<u64>,
-    /// When it was last read, where that is known.
+    /// When the resource was last read, if known.
     pub accessed: Option<u64>,
-    /// When its metadata last changed, where that is known.
+    /// When the metadata last changed, if known.
     pub status_changed: Option<u64>,
-    /// Whether it may be executed, where that is known.
+    /// Whether the file is executable, if known.
     pub executable: Option<bool>,
-    /// The text between the quotes of its strong entity tag (RFC 7232, section 2.3), where it has one.
+    /// The string between the quotes of the strong entity tag (RFC 7232, section 2.3), if there is one.
     pub etag: Option<Text>,
 }
 
 impl Meta {
-    /// A value of the same contents. Only memory can be lacking.
+    /// Returns a copy. Fails only if memory runs out.
     pub fn clone(&self) -> Result<Meta, AllocError>
         ensures { IfOk result (λ copy. copy ≡ self.now) }
     {
@@ -47,41 +47,41 @@ impl Meta {
     }
 }
 
-/// A child in the listing of a directory.
+/// A member in the listing of a directory.
 #[derive(Drop, Debug)]
 pub struct DirEntry {
-    /// The last segment of its path.
+    /// The last segment of the member's path.
     pub name: Text,
-    /// What the store knows of it.
+    /// The member's metadata.
     pub meta: Meta,
 }
 
-/// How a file is to be opened.
+/// How to open a file.
 #[derive(Drop, Debug)]
 pub struct OpenOptions {
-    /// It is written.
+    /// The file is opened for writing.
     pub write: bool,
-    /// A file that isn't there is made.
+    /// A file is created if none exists.
     pub create: bool,
-    /// A file is made, and nothing may stand there.
+    /// A new file is created, and the call fails if a resource exists at the path.
     pub create_new: bool,
-    /// A file that is there is emptied.
+    /// An existing file is emptied.
     pub truncate: bool,
-    /// Each write goes to the end.
+    /// Every write goes to the end of the file.
     pub append: bool,
-    /// How many bytes will come, where the request states it.
+    /// How many bytes will be written, if the request states it.
     pub size: Option<u64>,
-    /// The checksum of what will come, where the request states it.
+    /// The checksum of the bytes that will be written, if the request states it.
     pub checksum: Option<Text>,
 }
 
-/// A file that is open. The calls on it are the store's.
+/// A handle of an open file, for calls of the store.
 #[derive(Drop, Debug)]
 pub struct DavFile {
-    /// The file's path.
+    /// The path of the file.
     pub path: DavPath,
-    /// The place of the next write, in bytes from the start.
+    /// The offset of the next write, in bytes.
     pub pos: u64,
-    /// Each write goes to the end instead.
+    /// Every write goes to the end of the file instead.
     pub append: bool,
 }

@@ -1,11 +1,11 @@
-//! The methods of WebDAV, and sets of them.
+//! The methods of WebDAV, and sets of methods.
 ghost use Rattle.std.specs.Prelude.{◌≡◌, false, true, if◌then◌else◌};
 ghost use Rattle.dav_resource.specs.Methods.{method_of, contains_method, same_method};
 
 use http::Method;
 
-/// A method that a WebDAV server serves (RFC 9110, section 9; RFC 5789; RFC 4918, section 9). Each
-/// variant is the method of its name.
+/// A method of a WebDAV server (RFC 9110, section 9; RFC 5789; RFC 4918, section 9). Each variant is the
+/// method of the same name.
 #[derive(Clone, Copy, Debug, PartialEq, Eq)]
 pub enum DavMethod {
     Head,
@@ -24,7 +24,7 @@ pub enum DavMethod {
 }
 
 impl DavMethod {
-    /// The method of a request, where it is one of these. Names are compared exactly.
+    /// Converts the method of a request. Returns `None` if it is not one of these. Names are case-sensitive.
     pub fn from_method(method: &Method) -> Option<DavMethod>
         ensures { result ≡ method_of method.now }
     {
@@ -50,12 +50,12 @@ impl DavMethod {
 /// A set of methods.
 #[derive(Clone, Copy, Debug, PartialEq, Eq)]
 pub struct DavMethodSet {
-    /// Whether each method is in the set, in the order in which they are declared.
+    /// Whether each method is in the set, in declaration order.
     pub members: [bool; 13],
 }
 
 impl DavMethodSet {
-    /// No method.
+    /// Returns the empty set.
     pub fn none() -> DavMethodSet
         ensures { (method : _) → contains_method result method ≡ false }
     {
@@ -64,7 +64,7 @@ impl DavMethodSet {
         }
     }
 
-    /// Every method.
+    /// Returns the set of all methods.
     pub fn all() -> DavMethodSet
         ensures { (method : _) → contains_method result method ≡ true }
     {
@@ -73,14 +73,14 @@ impl DavMethodSet {
         }
     }
 
-    /// Puts a method in; the others stay as they are.
+    /// Adds a method. The other methods stay as they are.
     pub fn add(&mut self, method: DavMethod)
         ensures { (other : _) → contains_method self.new other ≡ (if same_method other method then true else contains_method self.old other) }
     {
         self.members[method as usize] = true;
     }
 
-    /// Takes a method out; the others stay as they are.
+    /// Removes a method. The other methods stay as they are.
     pub fn remove(&mut self, method: DavMethod)
         ensures { (other : _) → contains_method self.new other ≡ (if same_method other method then false else contains_method self.old other) }
     {

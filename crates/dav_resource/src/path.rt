@@ -1,4 +1,4 @@
-//! Paths of resources: a key below a server's prefix, as requests write it.
+//! Paths of resources: a key below a server's prefix.
 ghost use Rattle.std.specs.Prelude.{◌≡◌, ◌↔◌, true, ◌||◌, ◌==◌, [], ◌∷◌, ◌++◌, length, IsTrue, IfOk, OnOk, OnErr, bytes_eq, string_bytes};
 ghost use Rattle.std.specs.List.{starts_with};
 ghost use Rattle.http_header.specs.FieldValue.{IsFieldValue};
@@ -20,11 +20,11 @@ mod write;
 
 /// The path of a resource, below the prefix of a server.
 ///
-/// Its key is a list of segments. A segment is a text without `/` and NUL that is neither
-/// empty, `.` nor `..`. The star path `*` has no segment.
+/// Its key is a list of segments. A segment is a non-empty string that contains neither `/` nor NUL, and is
+/// neither `.` nor `..`. The star path `*` has no segments.
 ///
-/// Copies of a path have their segments and those of its prefix in common, so that a copy takes
-/// no memory; what makes another key or prefix of it says what it copies.
+/// Copies of a path share the segments of its key and of its prefix, so a copy allocates no memory. A method
+/// that makes another key or prefix says what it copies.
 #[derive(Debug, Drop)]
 pub struct DavPath {
     star: bool,
@@ -48,15 +48,20 @@ impl Model for DavPath {
 }
 
 impl DavPath {
-    /// Reads the path of a URL (RFC 3986, section 3.3), below the prefix of a server.
+    /// Parses the path of a URL (RFC 3986, section 3.3), below the prefix of a server.
     ///
-    /// `*` is the star path. Else the text counts up to its first `?` or `#`, and is read
-    /// segment by segment, as `cd` goes; the prefix, which may be empty, is taken off.
-    /// The first fault from left to right is the error: `InvalidPath` where the text (or the
-    /// prefix) doesn't begin with `/`, or a part has a `%` without two hexadecimal digits, or
-    /// stands for bytes that are no UTF-8, or for NUL or `/`; `ForbiddenPath` where a `..`
-    /// leaves the root. The faults of the text come before those of the prefix, and last comes
-    /// `IllegalPath`, where the path is not below the prefix. `Memory` may come at any time.
+    /// `*` is the star path. Otherwise only the part before the first `?` or `#` is parsed. Its segments are
+    /// percent-decoded and applied from left to right, as `cd` does: an empty segment and `.` change nothing,
+    /// and `..` removes the last segment. Then the prefix, which may be empty, is removed.
+    ///
+    /// The first error from left to right is returned. Errors of the path come before those of the prefix,
+    /// and `IllegalPath` comes last.
+    ///
+    /// - `InvalidPath`: the path or the prefix does not begin with `/`, or a segment of it has a `%` without
+    ///   two hexadecimal digits, or decodes to bytes that are not UTF-8 or that contain NUL or `/`.
+    /// - `ForbiddenPath`: a `..` leaves the root.
+    /// - `IllegalPath`: the path is not below the prefix.
+    /// - `Memory`: memory runs out, at any time.
     pub fn from_str_and_prefix(alloc: Global, text: &str, prefix: &str) -> DavResult<DavPath>
         ensures { GivesBy (λ path. path) result (read_path text.now prefix.now) }
     {
@@ -69,11 +74,11 @@ impl DavPath {
         read::below_prefix(text.ends_with('/'), key, prefix)
     }
 
-    /// Reads the path of a URL as `from_str_and_prefix` does, below the prefix of another path,
-    /// which both have in common from then on.
+    /// Parses the path of a URL as `from_str_and_prefix` does, below the prefix of another path. Except for
+    /// the star path, the result shares the prefix of that path.
     ///
-    /// The errors are those of the text, from left to right, and last `IllegalPath`, where the
-    /// path is not below the prefix. `Memory` may come at any time.
+    /// The errors are those of the path, from left to right, and last `IllegalPath`, if the path is not below
+    /// the prefix. `Memory` can come at any time.
     pub fn from_str_beside(alloc: Global, text: &str, path: &DavPath) -> DavResult<DavPath>
         ensures { GivesBy (λ p. p) result (read_path_below text.now path.now.prefix) }
     {
@@ -85,14 +90,14 @@ impl DavPath {
         read::below_prefix(text.ends_with('/'), key, path.prefix.clone()?)
     }
 
-    /// The root, below no prefix, with its slash. Only memory can be lacking.
+    /// Returns the root with a trailing slash, below no prefix. Fails only if memory runs out.
     pub fn root(alloc: Global) -> Result<DavPath, AllocError>
         ensures { IfOk result (λ path. path ≡ root_path) }
     {
         DavPath::without_segments(alloc, false)
     }
 
-    /// The star path, or else the root below no prefix. Only memory can be lacking.
+    /// Returns the star path, or the root below no prefix. Fails only if memory runs out.
     fn without_segments(alloc: Global, star: bool) -> Result<DavPath, AllocError>
         ensures { IfOk result (λ path. path ≡ record root_path { star = star }) }
     {
@@ -105,8 +110,8 @@ impl DavPath {
         })
     }
 
-    /// A path of the same contents. It takes no memory, as both have all segments in common; the
-    /// error stands for more copies at once than a `usize` counts.
+    /// Returns a path with the same contents. It shares all segments and allocates no memory. Fails only if
+    /// there would be more copies at once than a `usize` counts.
     pub fn clone(&self) -> Result<DavPath, AllocError>
         ensures { IfOk result (λ copy. copy ≡ self.now) }
     {
@@ -118,8 +123,8 @@ impl DavPath {
         })
     }
 
-    /// The path of the same key below no prefix, with a slash where it is a collection. Both have
-    /// the key's segments in common. Only memory can be lacking.
+    /// Returns the path with the same key below no prefix. It has a trailing slash if `collection` is set or
+    /// the key is the root. Both paths share the key's segments. Fails only if memory runs out.
     pub fn resource_path(&self, collection: bool) -> Result<DavPath, AllocError>
         ensures { IfOk result (λ path. path ≡ resource_path collection self.now) }
     {
@@ -131,7 +136,7 @@ impl DavPath {
         })
     }
 
-    /// Whether it is the star path.
+    /// Whether this is the star path.
     pub fn is_star(&self) -> bool
         ensures value { result ≡ self.now.star }
         ensures star { IsTrue result → self.now ≡ star_path }
@@ -139,21 +144,21 @@ impl DavPath {
         self.star
     }
 
-    /// Whether it names a collection: it ends in a slash, or is the root.
+    /// Whether the path names a collection: it has a trailing slash, or no segments.
     pub fn is_collection(&self) -> bool
         ensures { result ≡ is_collection self.now }
     {
         key::is_collection(self.slash, self.segments())
     }
 
-    /// Whether both paths have one key.
+    /// Whether both paths have the same key. Prefixes and trailing slashes are not compared.
     pub fn same_key(&self, other: &DavPath) -> bool
         ensures { IsTrue result ↔ (self.now.key ≡ other.now.key) }
     {
         self.segments == other.segments
     }
 
-    /// Whether this path is at the other or below it.
+    /// Whether this path's key is at or below the other's. Prefixes and trailing slashes are not compared.
     pub fn is_at_or_below(&self, other: &DavPath) -> bool
         ensures { result ≡ starts_with bytes_eq self.now.key other.now.key }
     {
@@ -176,8 +181,8 @@ impl DavPath {
         self.segments.as_slice()
     }
 
-    /// The path without its last segment, and with a slash; the root's is the root. It copies the
-    /// key's segments, and both have the prefix in common. Only memory can be lacking.
+    /// Returns the path of the parent, with a trailing slash. The parent of the root is the root. The key's
+    /// segments are copied, and both paths share the prefix. Fails only if memory runs out.
     pub fn parent(&self) -> Result<DavPath, AllocError>
         ensures { IfOk result (λ path. path ≡ parent_path self.now) }
     {
@@ -187,9 +192,9 @@ impl DavPath {
         Ok(path)
     }
 
-    /// Goes down to the member of this name: one more segment, and no slash. It copies the key's
-    /// segments where a copy of the path has them in common, which keeps them as they are.
-    /// Where memory is lacking the path is as before.
+    /// Appends a segment, and removes the trailing slash: the path becomes that of the member with this name.
+    /// If another path shares the key's segments, they are copied first, and the other path does not change.
+    /// Fails only if memory runs out, and the path is then unchanged.
     pub fn push_segment(&mut self, name: &str) -> Result<(), AllocError>
         requires { IsSegment name.now }
         ensures ok { OnOk result (self.new ≡ member_path self.old name.now) }
@@ -201,22 +206,22 @@ impl DavPath {
         Ok(())
     }
 
-    /// Makes it end in a slash.
+    /// Makes the path end in a slash.
     pub fn add_slash(&mut self)
         ensures { self.new ≡ record self.old { slash = true } }
     {
         self.slash = true;
     }
 
-    /// Makes it end in a slash where asked to; else it stays as it is.
+    /// Makes the path end in a slash if `wanted` is set. Otherwise it stays as it is.
     pub fn add_slash_if(&mut self, wanted: bool)
         ensures { self.new ≡ record self.old { slash = self.old.slash || wanted } }
     {
         self.slash |= wanted;
     }
 
-    /// The path whose key has the prefix's segments first, below no prefix. It copies all of them.
-    /// Only memory can be lacking.
+    /// Returns the path whose key is the prefix followed by the key, below no prefix. All segments are
+    /// copied. Fails only if memory runs out.
     pub fn with_prefix(&self) -> Result<DavPath, AllocError>
         ensures { IfOk result (λ path. path ≡ prefixed self.now) }
     {
@@ -228,8 +233,9 @@ impl DavPath {
         })
     }
 
-    /// The path as a URL writes it (RFC 3986, section 2.1), without its prefix; the star path
-    /// is `*`. Only memory can be lacking.
+    /// Writes the path as the path of a URL (RFC 3986, section 2.1), without its prefix. The star path is
+    /// `*`, and the root always has its slash. Parsing the result below no prefix gives the path again,
+    /// without its prefix. Fails only if memory runs out.
     pub fn as_url_string(&self) -> Result<String, AllocError>
         ensures value { IfOk result (λ text. string_bytes text ≡ url_text self.now) }
         ensures reads_back { IfOk result (λ text. ReadsBack self.now (string_bytes text)) }
@@ -238,7 +244,7 @@ impl DavPath {
         write::path_text(self.star, self.slash, self.segments.as_ref())
     }
 
-    /// The bytes of the last segment, none for the root.
+    /// The bytes of the last segment. They are empty for the root.
     pub fn file_name_bytes(&self) -> &[u8]
         ensures { result.now ≡ file_name self.now.key }
     {
@@ -248,8 +254,8 @@ impl DavPath {
         }
     }
 
-    /// The media type by the last segment's extension: what stands behind the last `.` that
-    /// isn't its first character, in any ASCII case.
+    /// Returns the media type for the extension of the last segment, in any ASCII case. The extension is what
+    /// follows the last `.`. A `.` that is the first character does not begin one.
     pub fn get_mime_type_str(&self) -> &'static str
         ensures { result.now ≡ mime_type_of (file_name self.now.key) }
     {

@@ -4,21 +4,21 @@ ghost use Rattle.std.specs.Prelude.{◌≡◌, IfOk, option_copied};
 use crate::{SharedElement, Text};
 use std::alloc::AllocError;
 
-/// A property by its name, with its value where that is known (RFC 4918, sections 4.3 and 4.4).
+/// A property: its name, and its value if known (RFC 4918, sections 4.3 and 4.4).
 #[derive(Drop, Debug)]
 pub struct DavProp {
     /// The local name (Namespaces in XML 1.0, section 4).
     pub name: Text,
-    /// The prefix that the name was written with, where it had one.
+    /// The prefix that the name was written with, if it had one.
     pub prefix: Option<Text>,
-    /// The namespace that the name is of, where it has one.
+    /// The namespace of the name, if it has one.
     pub namespace: Option<Text>,
-    /// The element that holds the value, where it is known.
+    /// The element that holds the value, if it is known.
     pub element: Option<SharedElement>,
 }
 
 impl DavProp {
-    /// A value of the same contents. Only memory can be lacking.
+    /// Returns a copy. Fails only if memory runs out.
     pub fn clone(&self) -> Result<DavProp, AllocError>
         ensures { IfOk result (λ copy. copy ≡ self.now) }
     {
@@ -35,7 +35,7 @@ impl DavProp {
     }
 }
 
-/// The same text again, where there is one.
+/// Copies an optional string.
 fn clone_text(text: Option<&Text>) -> Result<Option<Text>, AllocError>
     ensures { IfOk result (λ copy. copy ≡ option_copied text.entry) }
 {

@@ -1,11 +1,12 @@
-//! What a store keeps of each call.
+//! Records of store calls, as a store's log keeps them.
 ghost use Rattle.std.specs.Prelude.{◌≡◌, IfOk};
 
 use crate::{DavPath, FsError, Items};
 use http::StatusCode;
 use std::alloc::{AllocError, Global};
 
-/// Which call of a store a record is of. Each variant but the two described is the call of its name.
+/// The store call that a record is about. Each variant is the call of the same name, except the two with a
+/// comment.
 #[derive(Clone, Copy, Debug, PartialEq, Eq)]
 pub enum Op {
     Metadata,
@@ -25,36 +26,37 @@ pub enum Op {
     GetProps,
     PatchProps,
     GetQuota,
-    /// No call: a child that a granted listing didn't show.
+    /// No call: a granted `read_dir` did not list a member.
     Entry,
 }
 
 /// How a call ended.
 #[derive(Clone, Copy, Debug, PartialEq, Eq)]
 pub enum Outcome {
-    /// It did what it says.
+    /// The call succeeded and had its effect.
     Granted,
-    /// What stands in the tree doesn't let it.
+    /// The state of the store does not allow the call.
     Barred(FsError),
-    /// The store refused it of its own will.
+    /// The store refused the call for its own reasons.
     Refused(FsError),
 }
 
-/// What a store keeps of a call: the paths in the call's order, and how it ended.
+/// An entry in a store's log: the call, its paths in the order of its arguments, and how it ended.
 #[derive(Drop, Debug)]
 pub struct Record {
-    /// Which call it was.
+    /// The call.
     pub op: Op,
-    /// The paths of the call; of a call on an open file the file's; of `get_quota` none.
+    /// The paths passed to the call. For a call on an open file it is the file's path, and for `Entry` the
+    /// member's path. `get_quota` has none.
     pub paths: Items<DavPath>,
-    /// How it ended.
+    /// How the call ended.
     pub outcome: Outcome,
-    /// The statuses that a change of properties answered; else none.
+    /// The statuses that `patch_props` returned. Empty for every other call.
     pub statuses: Items<StatusCode>,
 }
 
 impl Record {
-    /// A value of the same contents. Only memory can be lacking.
+    /// Returns a copy. Fails only if memory runs out.
     pub fn clone(&self) -> Result<Record, AllocError>
         ensures { IfOk result (λ copy. copy ≡ self.now) }
     {
@@ -69,7 +71,7 @@ impl Record {
     }
 }
 
-/// The same paths, in order.
+/// Copies the paths, in order.
 fn clone_paths(alloc: Global, paths: &[DavPath]) -> Result<Vec<DavPath>, AllocError>
     ensures { IfOk result (λ copies. copies.items ≡ paths.now) }
 {

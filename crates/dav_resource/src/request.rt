@@ -1,58 +1,59 @@
-//! Requests, and what replies carry.
+//! Requests, and the bodies of responses.
 use crate::{DavPath, Element, Items, LockToken, Text};
 use http::Method;
 use http_header::{HeaderMap, HeaderValue};
 
-/// How far below a resource a method reaches (RFC 4918, section 10.2).
+/// How far below a resource a request applies (RFC 4918, section 10.2).
 #[derive(Clone, Copy, Debug, PartialEq, Eq)]
 pub enum Depth {
-    /// The resource alone.
+    /// Only the resource.
     Zero,
     /// The resource and its members.
     One,
-    /// The resource and all that is below it.
+    /// The resource and everything below it.
     Infinity,
-    /// No header: each method says what that means. It is never read from a header.
+    /// There is no Depth header, and each method defines what that means. No header is parsed into this
+    /// variant.
     Default,
 }
 
-/// The body of a request, as a handler above has read it.
+/// The body of a request, as the HTTP server has read it.
 #[derive(Drop, Debug)]
 pub enum ReqBody {
     /// No body.
     None,
-    /// Bytes, which no one has read.
+    /// Bytes that were not parsed.
     Bytes(Items<u8>),
-    /// XML, as the tree of its root.
+    /// XML, as the tree of its root element.
     Tree(Element),
-    /// A body that should have been XML and couldn't be read.
+    /// A body that should be XML and could not be parsed.
     Malformed,
 }
 
-/// What a reply carries.
+/// The body of a response.
 #[derive(Drop, Debug)]
 pub enum Body {
-    /// Nothing.
+    /// No body.
     Empty,
-    /// XML, as the tree of its root.
+    /// XML, as the tree of its root element.
     Tree(Element),
 }
 
-/// A request, with all that the engine is told beside it.
+/// A request, with the values that the HTTP server supplies beside it.
 #[derive(Drop, Debug)]
 pub struct DavRequest {
     /// The method.
     pub method: Method,
-    /// The path of the resource that the request is about.
+    /// The path of the requested resource.
     pub path: DavPath,
-    /// The headers.
+    /// The header fields.
     pub headers: HeaderMap<HeaderValue>,
     /// The body.
     pub body: ReqBody,
-    /// Who sends it, where that is known.
+    /// The principal that sent the request, if known.
     pub principal: Option<Text>,
-    /// The token that a lock made by this request gets.
+    /// The token for the lock that this request creates, if it creates one.
     pub token: LockToken,
-    /// The moment, in whole seconds since 1970.
+    /// The time of the request, in whole seconds since 1970.
     pub now: u64,
 }

@@ -1,4 +1,4 @@
-//! Element trees that many hold at once.
+//! Element trees with several owners.
 ghost use Rattle.std.specs.Prelude.{◌≡◌, IfOk};
 
 use crate::Element;
@@ -6,7 +6,7 @@ use std::alloc::{AllocError, Global};
 use std::marker::Model;
 use std::rc::Rc;
 
-/// An element that stays as it is and that many may hold at once, which contracts see as its tree.
+/// An immutable element with several owners. In contracts its value is its tree.
 #[derive(Drop, Debug)]
 pub struct SharedElement {
     element: Rc<Element>,
@@ -24,8 +24,8 @@ impl Model for SharedElement {
 }
 
 impl SharedElement {
-    /// This element, to be shared from now on. Only memory can be lacking, and then nothing is left of it. Costs no
-    /// copy.
+    /// Makes an element shareable, without copying it. Fails only if memory runs out, and the element is then
+    /// dropped.
     pub fn new(alloc: Global, element: Element) -> Result<SharedElement, AllocError>
         ensures { IfOk result (λ shared. shared ≡ element) }
     {
@@ -34,7 +34,8 @@ impl SharedElement {
         })
     }
 
-    /// The same element, held once more. Costs no copy; the only error is that it is held as often as can be counted.
+    /// Returns another owner of the same element, without copying it. Fails only if the count of owners
+    /// overflows.
     pub fn clone(&self) -> Result<SharedElement, AllocError>
         ensures { IfOk result (λ copy. copy ≡ self.now) }
     {

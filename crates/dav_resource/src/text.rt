@@ -1,10 +1,10 @@
-//! Texts and lists that contracts see as what they hold.
+//! Strings and lists whose value in contracts is their contents.
 ghost use Rattle.std.specs.Prelude.{◌≡◌, IfOk, string_bytes};
 
 use std::alloc::{AllocError, Global};
 use std::marker::Model;
 
-/// A text, which contracts see as its bytes.
+/// A string. In contracts its value is the list of its bytes.
 #[derive(Drop, Debug)]
 pub struct Text {
     text: String,
@@ -19,28 +19,28 @@ impl Model for Text {
 }
 
 impl Text {
-    /// The text that this string holds.
+    /// Converts a string into a `Text`.
     pub fn from_string(text: String) -> Text
         ensures { result ≡ string_bytes text }
     {
         Text { text }
     }
 
-    /// The string that holds the text.
+    /// Returns the string.
     pub fn into_string(self) -> String
         ensures { string_bytes result ≡ self }
     {
         self.text
     }
 
-    /// The text as it stands.
+    /// Borrows the string.
     pub fn as_str(&self) -> &str
         ensures { result.now ≡ self.now }
     {
         self.text.as_str()
     }
 
-    /// A value of the same contents. Only memory can be lacking.
+    /// Returns a copy. Fails only if memory runs out.
     pub fn clone(&self) -> Result<Text, AllocError>
         ensures { IfOk result (λ copy. copy ≡ self.now) }
     {
@@ -50,7 +50,7 @@ impl Text {
     }
 }
 
-/// A list, which contracts see as the list of its items.
+/// A list. In contracts its value is the list of its items.
 #[derive(Drop, Debug)]
 pub struct Items<T> {
     items: Vec<T>,
@@ -65,21 +65,21 @@ impl<T> Model for Items<T> {
 }
 
 impl<T> Items<T> {
-    /// The items of this vector, in order.
+    /// Converts a vector into an `Items`, in the same order.
     pub fn from_vec(items: Vec<T>) -> Items<T>
         ensures { result ≡ items.items }
     {
         Items { items }
     }
 
-    /// The vector that holds the items.
+    /// Returns the vector of the items.
     pub fn into_vec(self) -> Vec<T>
         ensures { result.items ≡ self }
     {
         self.items
     }
 
-    /// The allocator that the items are kept by.
+    /// The allocator of the vector.
     pub(crate) fn allocator(&self) -> Global {
         *self.items.allocator()
     }

@@ -1,4 +1,4 @@
-//! Keys, as lists of segments.
+//! Keys as lists of segments.
 ghost use Rattle.std.specs.Prelude.{◌≡◌, ◌≤◌, [], ◌∷◌, ◌++◌, ◌||◌, ◌==◌, drop, length, vec_len, IsTrue, IfOk, OnOk, OnErr, bytes_eq};
 ghost use Rattle.std.specs.List.{starts_with};
 ghost use Rattle.dav_resource.specs.Key.{parent};
@@ -15,14 +15,14 @@ pub(crate) fn is_below(key: &[String], prefix: &[String]) -> bool
     key.starts_with(prefix)
 }
 
-/// Whether a path of this key names a collection: the root always does.
+/// Whether a path with this key names a collection. The root always does.
 pub(crate) fn is_collection(slash: bool, key: &[String]) -> bool
     ensures { result ≡ (slash || length key.now == 0) }
 {
     slash || key.is_empty()
 }
 
-/// Takes the first segments off.
+/// Removes the first `count` segments.
 pub(crate) fn drop_first(key: &mut Vec<String>, count: usize)
     requires { count ≤ vec_len key.old }
     ensures { key.new.items ≡ drop count key.old.items }
@@ -30,7 +30,7 @@ pub(crate) fn drop_first(key: &mut Vec<String>, count: usize)
     key.drain(..count);
 }
 
-/// Takes the last segment off, where there is one.
+/// Removes the last segment, if there is one.
 #[tactic(auto, using(crate::proofs::TextsLemmas::parent_texts))]
 pub(crate) fn drop_last(key: &mut Vec<String>)
     ensures { texts key.new.items ≡ parent (texts key.old.items) }
@@ -38,7 +38,8 @@ pub(crate) fn drop_last(key: &mut Vec<String>)
     key.pop();
 }
 
-/// Puts a copy of each of these segments at the key's end.
+/// Appends a copy of each of these segments to the key. Fails only if memory runs out. Some of them may then
+/// have been appended.
 pub(crate) fn append_copies(key: &mut Vec<String>, segments: &[String]) -> Result<(), AllocError>
     ensures { OnOk result (texts key.new.items ≡ texts key.old.items ++ texts segments.now) }
 {
@@ -49,7 +50,7 @@ pub(crate) fn append_copies(key: &mut Vec<String>, segments: &[String]) -> Resul
     Ok(())
 }
 
-/// The same segments once more.
+/// Copies these segments. Fails only if memory runs out.
 pub(crate) fn copy_key(alloc: Global, segments: &[String]) -> Result<Vec<String>, AllocError>
     ensures { IfOk result (λ copy. texts copy.items ≡ texts segments.now) }
 {
@@ -58,7 +59,7 @@ pub(crate) fn copy_key(alloc: Global, segments: &[String]) -> Result<Vec<String>
     Ok(copy)
 }
 
-/// These segments, for several paths to have at once. Only memory can be lacking.
+/// Makes these segments shareable by several paths. Fails only if memory runs out.
 pub(crate) fn share(segments: Vec<String>) -> Result<Rc<Vec<String>>, AllocError>
     ensures { IfOk result (λ shared. shared.value ≡ segments) }
 {
@@ -66,14 +67,14 @@ pub(crate) fn share(segments: Vec<String>) -> Result<Rc<Vec<String>>, AllocError
     Ok(Rc::new(alloc, segments)?)
 }
 
-/// No segment, for several paths to have at once. Only memory can be lacking.
+/// Returns an empty list of segments, shareable by several paths. Fails only if memory runs out.
 pub(crate) fn share_none(alloc: Global) -> Result<Rc<Vec<String>>, AllocError>
     ensures { IfOk result (λ none. none.value.items ≡ []) }
 {
     share(Vec::new(alloc))
 }
 
-/// A copy without the last segment, where there is one. Only memory can be lacking.
+/// Returns a copy without the last segment, if there is one. Fails only if memory runs out.
 pub(crate) fn copy_parent(key: &Rc<Vec<String>>) -> Result<Rc<Vec<String>>, AllocError>
     ensures { IfOk result (λ copy. texts copy.value.items ≡ parent (texts key.now.value.items)) }
 {
@@ -82,8 +83,8 @@ pub(crate) fn copy_parent(key: &Rc<Vec<String>>) -> Result<Rc<Vec<String>>, Allo
     share(copy)
 }
 
-/// Puts one more segment at the end: in place where no other path has the segments in common, and else at the end of a
-/// copy of its own. Only memory can be lacking, and then nothing changes.
+/// Appends a segment: in place if no other path shares the segments, otherwise to a copy of them. Fails only
+/// if memory runs out, and the segments are then unchanged.
 pub(crate) fn push_member(key: &mut Rc<Vec<String>>, name: &str) -> Result<(), AllocError>
     ensures ok { OnOk result (texts key.new.value.items ≡ texts key.old.value.items ++ name.now ∷ []) }
     ensures err { OnErr result (texts key.new.value.items ≡ texts key.old.value.items) }
@@ -99,7 +100,7 @@ pub(crate) fn push_member(key: &mut Rc<Vec<String>>, name: &str) -> Result<(), A
     Ok(())
 }
 
-/// A copy of the prefix's segments and then of the key's. Only memory can be lacking.
+/// Returns a copy of the prefix's segments followed by the key's. Fails only if memory runs out.
 pub(crate) fn copy_prefixed(
     prefix: &Rc<Vec<String>>,
     key: &Rc<Vec<String>>,

@@ -1,9 +1,9 @@
-//! The media type of a file, by its name.
+//! The media type of a file, from its name.
 ghost use Rattle.std.specs.Prelude.{◌≡◌, bytes_eq, map, IsTrue};
 ghost use Rattle.std.specs.Char.{to_ascii_lowercase};
 ghost use Rattle.dav_resource.specs.Mime.{after_last_dot, extension_of, type_of, mime_type_of};
 
-/// The bytes behind the last `.`, none where there is none.
+/// The bytes after the last `.`, empty if there is none.
 fn after_last_dot(name: &[u8]) -> &[u8]
     ensures { result.now ≡ after_last_dot name.now }
 {
@@ -18,7 +18,7 @@ fn after_last_dot(name: &[u8]) -> &[u8]
     found
 }
 
-/// The extension, where the name's first character begins none.
+/// The extension of a file name. A `.` that is the first character does not begin one.
 fn extension_of(name: &[u8]) -> &[u8]
     ensures { result.now ≡ extension_of name.now }
 {
@@ -28,7 +28,7 @@ fn extension_of(name: &[u8]) -> &[u8]
     }
 }
 
-/// Whether the extension is this one, written in lower case.
+/// Whether the extension is this one, in any ASCII case. `wanted` is in lower case.
 fn is_extension(extension: &[u8], wanted: &[u8]) -> bool
     requires { map to_ascii_lowercase wanted.now ≡ wanted.now }
     ensures { result ≡ bytes_eq (map to_ascii_lowercase extension.now) wanted.now }
@@ -36,7 +36,7 @@ fn is_extension(extension: &[u8], wanted: &[u8]) -> bool
     extension.eq_ignore_ascii_case(wanted)
 }
 
-/// The type of an extension, in any case.
+/// The media type for an extension in any ASCII case.
 fn type_of(extension: &[u8]) -> &'static str
     ensures { result.now ≡ type_of (map to_ascii_lowercase extension.now) }
 {
@@ -73,7 +73,7 @@ fn type_of(extension: &[u8]) -> &'static str
     }
 }
 
-/// The type of a file of this name.
+/// The media type of a file with this name.
 pub(crate) fn mime_type_of(name: &[u8]) -> &'static str
     ensures { result.now ≡ mime_type_of name.now }
 {

@@ -1,4 +1,4 @@
-//! How the text of a URL is read as a path.
+//! Parses the path of a URL.
 ghost use Rattle.std.specs.Prelude.{◌≡◌, ◌⊎◌, [], Ok, Err, IsTrue, IfOk, OnOk, IfErr, ◌||◌, ◌==◌, ◌≤◌, map, drop, length, vec_len, bytes_eq, if◌then◌else◌, string_bytes};
 ghost use Rattle.std.specs.Str.{is_utf8};
 ghost use Rattle.std.specs.List.{list_all, starts_with, slice_split};
@@ -12,7 +12,7 @@ use percent_encoding::percent_decode_str;
 use std::alloc::{AllocError, Global};
 use std::rc::Rc;
 
-/// The text up to its first `?` or `#`.
+/// The part of the string before its first `?` or `#`.
 pub(crate) fn path_part(text: &str) -> &str
     ensures { result.now ≡ path_part text.now }
 {
@@ -20,7 +20,7 @@ pub(crate) fn path_part(text: &str) -> &str
     text.split_once('#').map_or(text, |(before, _)| before)
 }
 
-/// The segments of a prefix, which may be empty.
+/// Parses a prefix into segments. An empty prefix has none.
 pub(crate) fn read_prefix(alloc: Global, prefix: &str) -> DavResult<Vec<String>>
     ensures value { GivesBy (λ key. texts key.items) result (read_prefix prefix.now) }
     ensures key { IfOk result (λ key. IsKey (texts key.items)) }
@@ -31,7 +31,8 @@ pub(crate) fn read_prefix(alloc: Global, prefix: &str) -> DavResult<Vec<String>>
     read_key(alloc, prefix)
 }
 
-/// The path of this key below this prefix.
+/// Makes the path with this key, below this prefix. Errors: `IllegalPath` if the key does not begin with the
+/// prefix, and `Memory`.
 pub(crate) fn below_prefix(
     slash: bool,
     mut key: Vec<String>,
@@ -65,7 +66,7 @@ fn starts_with_two_digits(bytes: &[u8]) -> bool
     }
 }
 
-/// Whether two hexadecimal digits stand behind each `%`.
+/// Whether every `%` is followed by two hexadecimal digits.
 fn has_whole_escapes(part: &[u8]) -> bool
     ensures { result ≡ has_whole_escapes part.now }
 {
@@ -79,14 +80,14 @@ fn has_whole_escapes(part: &[u8]) -> bool
     true
 }
 
-/// Whether neither NUL nor `/` is among the bytes.
+/// Whether the bytes contain neither NUL nor `/`.
 fn is_plain(bytes: &[u8]) -> bool
     ensures { result ≡ list_all is_plain_byte bytes.now }
 {
     bytes.iter().all(|b| *b != 0 && *b != b'/')
 }
 
-/// The text that a part of a path stands for.
+/// Percent-decodes one part of a path. Errors: `InvalidPath` if the part is malformed, and `Memory`.
 fn decode_part(alloc: Global, part: &str) -> DavResult<String>
     ensures value { GivesBy string_bytes result (read_part part.now) }
     ensures text { IfOk result (λ text. IsSegmentText (string_bytes text)) }
@@ -102,7 +103,7 @@ fn decode_part(alloc: Global, part: &str) -> DavResult<String>
     utf8_text(bytes)
 }
 
-/// The text that these bytes spell, where they are UTF-8.
+/// Converts these bytes into a string. Returns `InvalidPath` if they are not UTF-8.
 fn utf8_text(bytes: Vec<u8>) -> DavResult<String>
     ensures { GivesBy string_bytes result (if is_utf8 bytes.items then Ok bytes.items else Err DavError.InvalidPath) }
 {
@@ -112,7 +113,7 @@ fn utf8_text(bytes: Vec<u8>) -> DavResult<String>
     }
 }
 
-/// Goes one part further, as `cd` does.
+/// Applies one decoded segment to the key, as `cd` does.
 fn enter(key: &mut Vec<String>, segment: String) -> DavResult<()>
     ensures ok { OnOk result (enter (texts key.old.items) (string_bytes segment) ≡ Ok (texts key.new.items)) }
     ensures err { IfErr result (λ e. (enter (texts key.old.items) (string_bytes segment) ≡ Err e) ⊎ (e ≡ DavError.Memory)) }
@@ -130,7 +131,7 @@ fn enter(key: &mut Vec<String>, segment: String) -> DavResult<()>
     }
 }
 
-/// Goes on by one part of a path.
+/// Decodes one part of a path and applies it to the key.
 fn enter_part(key: &mut Vec<String>, part: &str) -> DavResult<()>
     ensures key { IsKey (texts key.old.items) → OnOk result (IsKey (texts key.new.items)) }
     ensures ok { OnOk result (enter_part (texts key.old.items) part.now ≡ Ok (texts key.new.items)) }
@@ -140,7 +141,7 @@ fn enter_part(key: &mut Vec<String>, part: &str) -> DavResult<()>
     enter(key, segment)
 }
 
-/// The segments that these parts lead to.
+/// Decodes these parts and applies them in order, starting at the root.
 fn enter_parts(alloc: Global, parts: &[&str]) -> DavResult<Vec<String>>
     ensures key { IfOk result (λ key. IsKey (texts key.items)) }
     ensures value { GivesBy (λ key. texts key.items) result (enter_parts [] (map (λ part. part.now) parts.now)) }
@@ -152,14 +153,14 @@ fn enter_parts(alloc: Global, parts: &[&str]) -> DavResult<Vec<String>>
     Ok(key)
 }
 
-/// The parts between slashes.
+/// Splits the string at its slashes.
 fn split(alloc: Global, text: &str) -> Result<Vec<&str>, AllocError>
     ensures { IfOk result (λ parts. map (λ part. part.now) parts.items ≡ slice_split is_slash text.now) }
 {
     text.split('/').collect(alloc)
 }
 
-/// The segments of a text that begins with `/`.
+/// Parses a string that begins with `/` into segments. Any other string is an `InvalidPath`.
 pub(crate) fn read_key(alloc: Global, text: &str) -> DavResult<Vec<String>>
     ensures value { GivesBy (λ key. texts key.items) result (read_key text.now) }
     ensures key { IfOk result (λ key. IsKey (texts key.items)) }

@@ -1,4 +1,4 @@
-//! How a path is written as the text of a URL.
+//! Writes a path as the path of a URL.
 ghost use Rattle.std.specs.Prelude.{◌≡◌, ◌++◌, [], IfOk, OnOk, string_bytes};
 ghost use Rattle.dav_resource.specs.PathText.{key_text, url_text};
 ghost use Rattle.dav_resource.specs.Texts.{texts};
@@ -6,7 +6,7 @@ ghost use Rattle.dav_resource.specs.Texts.{texts};
 use percent_encoding::{AsciiSet, NON_ALPHANUMERIC, ascii_set, utf8_percent_encode};
 use std::alloc::{AllocError, Global};
 
-/// The bytes that a written path escapes: all but the unreserved ones of RFC 3986, section 2.3.
+/// The bytes that are percent-encoded: all except the unreserved characters of RFC 3986, section 2.3.
 pub(crate) const ESCAPED: AsciiSet = ascii_set!(
     NON_ALPHANUMERIC
         .remove(b'-')
@@ -15,7 +15,7 @@ pub(crate) const ESCAPED: AsciiSet = ascii_set!(
         .remove(b'~')
 );
 
-/// A slash and then the escaped segment, for each segment.
+/// Writes a slash and the percent-encoded segment, for each segment.
 pub(crate) fn key_text(alloc: Global, segments: &[String]) -> Result<String, AllocError>
     ensures { IfOk result (λ text. string_bytes text ≡ key_text (texts segments.now)) }
 {
@@ -27,7 +27,7 @@ pub(crate) fn key_text(alloc: Global, segments: &[String]) -> Result<String, All
     Ok(text)
 }
 
-/// The text of a path of this key.
+/// Writes the path with this key.
 pub(crate) fn path_text(
     star: bool,
     slash: bool,
