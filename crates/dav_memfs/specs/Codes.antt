@@ -1,4 +1,4 @@
--- How a proof tells apart what is kept of resources: this project's own choice.
+-- Codes by which proofs distinguish stored resources: this project's own choice.
 use Rattle.std.specs.Prelude.{◌≡◌, ℕ, List, Option, Some, None, refl}
 use Rattle.std.specs.Coded.{Coded, code_by, coded×, coded_ℕ, coded_list, coded_option}
 use Rattle.std.specs.FinMap.{code}

@@ -1,4 +1,4 @@
--- What a copy of all that a store in memory holds is: this project's own choice.
+-- The dump of all resources of the in-memory store: this project's own choice.
 use Rattle.std.specs.Prelude.{◌≡◌, ℕ, Bool, true, false, List, Option, Some, None, Vec}
 use Rattle.std.specs.List.{AllZip}
 use Rattle.std.specs.FinMap.{entries}
@@ -23,7 +23,7 @@ abbrev pub is_directory : Option (Vec ℕ Global) → Bool
 is_directory (Some bytes) = false
 is_directory None = true
 
--- the copy of one resource: its path has no prefix, and a slash exactly where it is a directory's
+-- the dump of one resource: its path has no prefix, and a trailing slash exactly if it is a directory
 pub record IsDumpOf (e : Key × Stored) (dumped : Dumped) : Type 0 where
   pub key : dumped.0.key ≡ e.0
   pub path : dumped.0 ≡ resource_path (is_directory dumped.1) dumped.0

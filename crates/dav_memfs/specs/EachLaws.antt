@@ -1,4 +1,4 @@
--- The laws of maps by whole keys whose values are read off another map's: this project's own choice.
+-- The laws of `each`, which computes the values of a map from those of another map with whole keys: this project's own choice.
 use Rattle.std.proofs.Common.{◌≡◌, ◌∙◌, Bool, true, false, cond, List, [], ◌∷◌, ◌++◌, map, filter_map, Option, Some, None, refl, ap, sym, subst, ◌&&◌}
 use Rattle.std.specs.declared.cmp.Ordering.{Ordering}
 use Rattle.std.specs.declared.cmp.Ordering.TheVariants.{Less, Equal, Greater}
@@ -15,7 +15,7 @@ use lib.Dec.{T}
 
 -- ---- lists of entries
 
--- what the values of a list of entries give
+-- the results that `give` has for a list of entries, each at its key
 abbrev pub given : {X Y : Type 0} → (X → Option Y) → List (Key × X) → List (Key × Y)
 given give es = filter_map (λ e. option_map (λ y. (e.0, y)) (give e.1)) es
 
@@ -27,7 +27,7 @@ one_or_other : {A : Type 0} (b : Bool) (x : A) → x ≡ cond b x x
 one_or_other true x = refl
 one_or_other false x = refl
 
--- a key before all others isn't found among them
+-- a key before all others is not found among them
 pub find_below : {X : Type 0} (k : Key) (es : List (Key × X)) → T (below_all key_cmp k es) → find key_cmp k es ≡ None
 find_below k [] h = refl
 find_below {X} k (e ∷ es) h = apart (key_cmp k e.0) h (find_below k es)
@@ -58,7 +58,7 @@ find-given {X} {Y} give q (e ∷ es) h =
         ap (option_or (give e.1)) (is ∙ ap (option_and_then give) none) ∙ or_none (give e.1)
     here false tied below is = is
 
--- ---- what stands at a key
+-- ---- the value at a key
 
 pub get-each : {X Y : Type 0} (give : X → Option Y) (m : FinMap key_cmp X) (q : Key) → get (each give m) q ≡ option_and_then give (get m q)
 get-each give m q =
@@ -70,7 +70,7 @@ always : {X Y : Type 0} (f : X → Y) (o : Option X) → option_and_then (λ x. 
 always f None = refl
 always f (Some x) = refl
 
--- where each value gives one
+-- if `give` has a result for each value
 pub get-each-some : {X Y : Type 0} (f : X → Y) (m : FinMap key_cmp X) (q : Key) → get (each (λ x. Some (f x)) m) q ≡ option_map f (get m q)
 get-each-some f m q = get-each (λ x. Some (f x)) m q ∙ always f (get m q)
 
@@ -93,7 +93,7 @@ each-put_at give m k o =
     ∙ ap (cond (eq_by_cmp key_cmp q k) (option_and_then give o)) (sym (get-each give m q))
     ∙ sym (get-put_at (each give m) k (option_and_then give o) q))
 
--- a key's own value put there changes nothing
+-- storing a key's own value again changes nothing
 pub put_at-same : {X : Type 0} (m : FinMap key_cmp X) (k : Key) (o : Option X) → get m k ≡ o → put_at m k o ≡ m
 put_at-same m k o is = same_map key_cmp_total key_cmp_exact _ _ (λ q. get-put_at m k o q ∙ there (eq_by_cmp key_cmp q k) q refl)
   where
@@ -112,13 +112,13 @@ each-IsMoved give from to old new is = record {
 
 -- ---- the entries
 
--- a list in order is the entries of its map
+-- the entries of the map made from a sorted list are the list
 pub entries-from_entries : {X : Type 0} (es : List (Key × X)) → T (is_sorted key_cmp es) → entries (from_entries {R = key_cmp} es) ≡ es
 entries-from_entries es h =
     ap entries (same_map key_cmp_total key_cmp_exact (from_entries es) (from_sorted es) (λ q. get-from_entries key_cmp_total es q ∙ sym (get-from_sorted key_cmp es q h)))
     ∙ entries-from_sorted key_cmp es h
 
--- the values changed, each at its key
+-- the list with each value changed, at the same key
 abbrev pub with_values : {X Y : Type 0} → (X → Y) → List (Key × X) → List (Key × Y)
 with_values f es = map (λ e. (e.0, f e.1)) es
 
@@ -143,6 +143,6 @@ keys-with_values : {X Y : Type 0} (f : X → Y) (es : List (Key × X)) → map (
 keys-with_values f [] = refl
 keys-with_values f (e ∷ es) = ap (λ ks. e.0 ∷ ks) (keys-with_values f es)
 
--- where each value gives one, the keys stay
+-- if `give` has a result for each value, the keys stay the same
 pub keys-each-some : {X Y : Type 0} (f : X → Y) (m : FinMap key_cmp X) → keys (each (λ x. Some (f x)) m) ≡ keys m
 keys-each-some f m = ap (map (λ e. e.0)) (entries-each-some f m) ∙ keys-with_values f (entries m)

@@ -1,4 +1,4 @@
--- What contracts see of the resources that a store in memory keeps by their keys, and of how many bytes they have: this project's own choice.
+-- What contracts see of the in-memory store's map of resources, and of the total length of its files: this project's own choice.
 use Rattle.std.specs.Prelude.{◌≡◌, ◌<◌, ◌^◌, ℕ, All, Vec, String}
 use Rattle.std.specs.declared.alloc.Global.{Global}
 use Rattle.std.specs.declared.cmp.Ordering.{Ordering}
@@ -17,14 +17,14 @@ OwnKey = Vec (String Global) Global
 abbrev pub key_of : OwnKey → Key
 key_of k = texts k.items
 
--- as `Vec` and `String` compare
+-- the order of `Vec` and `String`
 abbrev pub own_cmp : OwnKey → OwnKey → Ordering
 own_cmp a b = slice_cmp string_cmp a.items b.items
 
 abbrev pub resources_of : BTreeMap OwnKey Stored → Resources
 resources_of m = seen_map key_of m
 
--- what always holds of the map and the sum of the files' lengths, of which none is too long for memory
+-- the invariant of the map: it is ordered, each file has fewer than 2^63 bytes, and `used` is the total length of the files
 pub record IsCounted (m : BTreeMap OwnKey Stored) (used : ℕ) : Type 0 where
   pub ordered : IsOrdered own_cmp m
   pub small : All (λ s. size_of s.node < 2 ^ 63) (values m)

@@ -1,4 +1,4 @@
--- What contracts see of a resource that a store in memory keeps.
+-- What contracts see of a resource of the in-memory store.
 use Rattle.dav_store.specs.Store.{Node, File, Directory}
 use Rattle.dav_memfs.specs.Memory.{Stored}
 use Rattle.dav_memfs.specs.declared.memory.entry.Resource.{Resource}

@@ -1,4 +1,4 @@
--- That a key is one has one proof at most, so that a struct may keep the fact.
+-- `IsKey` has at most one proof, so that a struct can hold the fact.
 use Rattle.std.proofs.Common.{List, [], ◌∷◌, ℕ}
 use Rattle.std.proofs.Props.{props}
 use mathlib.Core.HLevel.{×_prop, Unit-prop}

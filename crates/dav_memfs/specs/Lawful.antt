@@ -1,4 +1,4 @@
--- That a store in memory is well formed: this project's own choice.
+-- The in-memory store is well formed: this project's own choice.
 use Rattle.std.proofs.Common.{◌≡◌, ◌∙◌, ℕ, zero, suc, ◌<◌, ◌%◌, ◌/◌, true, false, List, [], ◌∷◌, Option, Some, None, refl, sym, ap, subst, arith, ◌&&◌, ◌==◌, if◌then◌else◌}
 use Rattle.std.specs.Option.{option_map, option_and_then}
 use Rattle.std.specs.List.{list_all}
@@ -21,13 +21,13 @@ some_node : (o : Option Stored) → option_and_then (λ s. Some s.node) o ≡ op
 some_node None = refl
 some_node (Some s) = refl
 
--- what stands at a key is what is kept there
+-- the node at a key is that of the stored resource
 pub get-tree : (resources : Resources) (key : Key) → get (tree_of resources) key ≡ option_map node_in (get resources key)
 get-tree resources key = get-each (λ s. Some s.node) resources key ∙ some_node (get resources key)
 
 -- ---- the properties
 
--- a key's properties are those that are kept there, where there are some
+-- a key's properties are those of the stored resource, if it has any
 pub get-properties : (resources : Resources) (key : Key) → get (properties_of resources) key ≡ option_and_then (λ s. some_properties s.properties) (get resources key)
 get-properties resources key = get-each (λ s. some_properties s.properties) resources key
 
@@ -63,7 +63,7 @@ digits_are_tag (suc k) n more h =
       | false ↦ digits_are_tag k (n / 16) _ last
     ]
 
--- a number in hexadecimal is an entity tag's text
+-- a number in hexadecimal is a valid entity tag
 tag_text_is : (version : ℕ) → IsTagText (tag_text version)
 unfolding digits
 tag_text_is version = digits_are_tag 64 version [] refl

@@ -1,4 +1,4 @@
--- What contracts see of a store in memory.
+-- What contracts see of an in-memory store.
 use Rattle.std.specs.Prelude.{List, map}
 use Rattle.dav_resource.specs.declared.record.Record.{Record}
 use Rattle.dav_store.specs.Logged.{logged_of}
@@ -13,6 +13,6 @@ memory_of store = record { resources = store.entries; version = store.version; m
 abbrev pub records_of : MemFs → List Record
 records_of store = store.log.items
 
--- as the engine sees it
+-- the store as the engine sees it
 abbrev pub store_of : MemFs → Store
 store_of store = seen_of (memory_of store) (map logged_of store.log.items)

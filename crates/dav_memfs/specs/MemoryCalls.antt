@@ -1,4 +1,4 @@
--- What each call of a store in memory answers, exactly: this project's own choice.
+-- The exact result and effect of each call of the in-memory store: this project's own choice.
 use Rattle.std.specs.Prelude.{map, ◌≡◌, ◌≢◌, true, ℕ, ◌-◌, ◌^◌, ◌==◌, if◌then◌else◌, List, [], ◌∷◌, ◌++◌, Option, Some, None, Result, Ok, Err, ◌⊎◌, IfOk, IfErr}
 use Rattle.std.specs.Option.{option_map}
 use Rattle.std.specs.List.{AllZip}
@@ -23,17 +23,17 @@ use Rattle.dav_store.specs.PropertyCalls.{properties_at, get_prop_bar, propertie
 use Rattle.dav_store.specs.Members.{members, member, remove_file_bar, remove_dir_bar, read_dir_bar}
 use Rattle.dav_memfs.specs.Memory.{Stored, Resources, Memory, tree_of, contents_of, quota_of, meta_of, made, filled}
 
--- a call has no memory, and nothing happens; or it answers this error, where there is one, and nothing
--- changes; or there is none, and what is held becomes such
+-- a call that succeeds has no error due, and the new state is one that the old becomes; a call that fails changes nothing, and its error is `Memory`
+-- or the one that is due
 pub record Yields {A : Type 0} (error : Option FsError) (Becomes : Memory → Memory → Type 0) (old : Memory) (answer : Result A FsError) (new : Memory) : Type 0 where
   pub granted : IfOk answer (λ a. (error ≡ None) × Becomes old new)
   pub declined : IfErr answer (λ e. (new ≡ old) × ((e ≡ errors.Memory) ⊎ (error ≡ Some e)))
 
--- or exactly this
+-- the same, where the new state is exactly `change` of the old
 abbrev pub Gives : {A : Type 0} → Option FsError → (Memory → Memory) → Memory → Result A FsError → Memory → Type 0
 Gives error change = Yields error (λ old new. new ≡ change old)
 
--- how a call is recorded that answers an error: no row gives GeneralFailure
+-- the outcome recorded for an error: GeneralFailure, which bars no call, is refused, and any other error is barred
 abbrev pub outcome_of : FsError → Outcome
 outcome_of errors.GeneralFailure = Refused errors.GeneralFailure
 outcome_of errors.NotImplemented = Barred errors.NotImplemented
@@ -47,12 +47,12 @@ outcome_of errors.TooLarge = Barred errors.TooLarge
 outcome_of errors.IsRemote = Barred errors.IsRemote
 outcome_of errors.Memory = Barred errors.Memory
 
--- what an answer with these statuses adds to the records, with its paths whole, as they were given; a want of memory adds nothing
+-- what a result with these statuses adds to the records, with the paths exactly as supplied; the error `Memory` adds nothing
 abbrev pub TellsWith : {A : Type 0} → (A → List ℕ) → Op → List PathValue → Result A FsError → List Record → List Record → Type 0
 TellsWith statuses op paths (Ok answer) old new = new ≡ old ++ record_with op paths Granted (statuses answer) ∷ []
 TellsWith statuses op paths (Err e) old new = ((e ≡ errors.Memory) × (new ≡ old)) ⊎ ((e ≢ errors.Memory) × (new ≡ old ++ record_on op paths (outcome_of e) ∷ []))
 
--- the same of an answer without statuses
+-- the same for a result without statuses
 abbrev pub Tells : {A : Type 0} → Op → List PathValue → Result A FsError → List Record → List Record → Type 0
 Tells = TellsWith (λ _. [])
 
@@ -60,7 +60,7 @@ Tells = TellsWith (λ _. [])
 abbrev pub kept : Memory → Memory
 kept old = old
 
--- a change is barred by its row, or else refused where no number is left for it
+-- the error of a call that counts as a change: the one that bars it, or else GeneralFailure if the counter is at its end
 abbrev pub change_error : Option FsError → Memory → Option FsError
 change_error (Some e) old = Some e
 change_error None old = if old.version == 2 ^ 64 - 1 then Some errors.GeneralFailure else None
@@ -80,16 +80,16 @@ create_dir_error key old = change_error (create_dir_bar (get (tree_of old.resour
 abbrev pub read_dir_error : Key → Memory → Option FsError
 read_dir_error key old = read_dir_bar (get (tree_of old.resources) key)
 
--- a member is shown by its name, and with what is known of it
+-- a member is listed by its name, with its metadata
 abbrev pub IsShown : Key → Resources → List ℕ → Result DirEntry FsError → Type 0
 IsShown directory resources name (Ok entry) = (entry.name ≡ name) × (option_map meta_of (get resources (member directory name)) ≡ Some entry.meta)
 IsShown directory resources name (Err e) = ⊥
 
--- each member is shown, in the order of their names
+-- each member is listed, in the order of the names
 abbrev pub IsListing : Key → Resources → List (Result DirEntry FsError) → Type 0
 IsListing directory resources listing = AllZip (IsShown directory resources) (members (tree_of resources) directory) listing
 
--- ---- remove_file and remove_dir: no change is counted, so none is refused
+-- ---- remove_file and remove_dir: not counted as changes, so never refused
 
 abbrev pub remove_file_error : Key → Memory → Option FsError
 remove_file_error key old = remove_file_bar (get (tree_of old.resources) key)
@@ -97,7 +97,7 @@ remove_file_error key old = remove_file_bar (get (tree_of old.resources) key)
 abbrev pub remove_dir_error : Key → Memory → Option FsError
 remove_dir_error key old = remove_dir_bar key (get (tree_of old.resources) key) (members (tree_of old.resources) key)
 
--- ---- open: a file that is there and isn't to be emptied stays as it is
+-- ---- open: an existing file that is not to be truncated stays as it is
 
 abbrev pub error_of_opening : OpenOptions → Option Stored → Option FsError → Memory → Option FsError
 error_of_opening options None bar old = change_error bar old
@@ -132,7 +132,7 @@ copy_error from to old = change_error (copy_bar (get (tree_of old.resources) fro
 abbrev pub rename_error : Key → Key → Memory → Option FsError
 rename_error from to old = rename_bar from to (get (tree_of old.resources) from) (get (tree_of old.resources) to) (get (tree_of old.resources) (parent to))
 
--- ---- properties: to change them counts as no change
+-- ---- properties: changing them does not count as a change
 
 abbrev pub get_prop_error : Key → Key → Memory → Option FsError
 get_prop_error key name old = get_prop_bar (get (properties_at (contents_of old) key) name)
@@ -140,7 +140,7 @@ get_prop_error key name old = get_prop_bar (get (properties_at (contents_of old)
 abbrev pub properties_error : Key → Memory → Option FsError
 properties_error key old = properties_bar true (get (tree_of old.resources) key)
 
--- each property once with its element, whose prefix is the property's, in ascending order of namespaces, none first, then of names
+-- each property once with its element, and with the element's prefix; in ascending order of namespaces, none first, then of names
 pub record IsPropertyList (properties : PropertyMap) (props : List DavProp) : Type 0 where
   pub named : map named_element props ≡ map (λ e. (e.0, Some e.1)) (entries properties)
   pub prefixes : HavePrefixes props

@@ -1,4 +1,4 @@
--- The steps by which a store in memory renames what is kept at a key and below it: this project's own choice.
+-- The steps by which the in-memory store renames the resource at a key and everything below it: this project's own choice.
 use Rattle.std.specs.Prelude.{◌≡◌, ◌++◌, false, List, [], ◌∷◌, map, filter_map, Option, Some, None, IsSome}
 use Rattle.std.specs.Ordering.{eq_by_cmp}
 use Rattle.std.specs.FinMap.{get, insert, remove, keys}
@@ -9,7 +9,7 @@ use Rattle.dav_store.specs.Store.{Directory}
 use Rattle.dav_memfs.specs.Memory.{Stored, Resources, fresh}
 use Rattle.dav_memfs.specs.declared.memory.entries.renaming.Step.{Step}
 
--- a key, and the key to which what is kept there goes
+-- a key, and the destination of the resource there
 abbrev pub Move : Type 0
 Move = Key × Key
 
@@ -19,11 +19,11 @@ move_of step = (texts step.from.items, texts step.to.items)
 abbrev pub moves : List Step → List Move
 moves plan = map move_of plan
 
--- the moves of what is kept at a key and below it to another
+-- the moves of the resource at a key, and of everything below it, to another key
 abbrev pub moves_of : Key → Key → Resources → List Move
 moves_of from to old = map (λ below. (from ++ below, to ++ below)) (filter_map (strip from) (keys old))
 
--- what holds a place: it has no bytes
+-- the placeholder at a destination: it has no bytes
 abbrev pub holder : Stored
 holder = fresh Directory 0 0
 
@@ -37,16 +37,16 @@ abbrev pub put_from : Resources → Move → Option Stored → Resources
 put_from resources move None = resources
 put_from resources move (Some s) = insert (remove resources move.0) move.1 s
 
--- what is kept at the first key is at the second
+-- the resource at the first key moves to the second
 abbrev pub shift : Resources → Move → Resources
 shift resources move = put_from resources move (get resources move.0)
 
--- each move finds its place held
+-- each move finds a placeholder at its destination
 abbrev pub CanShift : Resources → List Move → Type 0
 CanShift resources [] = Unit {0}
 CanShift resources (move ∷ more) = (eq_by_cmp key_cmp move.1 move.0 ≡ false) × IsSome (get resources move.1) × CanShift (shift resources move) more
 
--- nothing is kept where something is to go
+-- nothing exists at any destination
 abbrev pub AreFree : Resources → List Move → Type 0
 AreFree resources [] = Unit {0}
 AreFree resources (move ∷ more) = (get resources move.1 ≡ None) × AreFree resources more

@@ -1,4 +1,4 @@
--- What an ordered map is seen as: a finite map by what its keys are seen as. This project's own choice.
+-- The finite map that contracts see of an ordered map, by what they see of its keys. This project's own choice.
 use Rattle.std.specs.Prelude.{◌≡◌, List, map}
 use Rattle.std.specs.declared.cmp.Ordering.{Ordering}
 use Rattle.std.specs.BTreeMap.{BTreeMap}
@@ -11,10 +11,10 @@ seen_entries key es = map (λ e. (key e.0, e.1)) es
 abbrev pub seen_map : {K X : Type 0} → (K → Key) → BTreeMap K X → FinMap key_cmp X
 seen_map key m = from_entries (seen_entries key m.entries)
 
--- a query compares to each key as this key does
+-- a query compares to each key as the key `q` does
 abbrev pub ComparesAs : {K : Type 0} → (K → Key) → (K → Ordering) → Key → Type 0
 ComparesAs {K} key compare q = (k : K) → compare k ≡ key_cmp q (key k)
 
--- keys compare as what they are seen as
+-- keys compare as what contracts see of them
 abbrev pub OrdersAs : {K : Type 0} → (K → Key) → (K → K → Ordering) → Type 0
 OrdersAs {K} key own = (k : K) → ComparesAs key (own k) (key k)

@@ -1,4 +1,4 @@
--- What contracts see of the names by which a store in memory keeps dead properties (RFC 4918, section 4.2): this project's own choice.
+-- What contracts see of the names of dead properties in the in-memory store (RFC 4918, section 4.2): this project's own choice.
 use Rattle.std.specs.Prelude.{string_bytes, string_cmp}
 use Rattle.std.specs.Option.{option_map, option_cmp}
 use Rattle.std.specs.Ordering.{ordering_then}
@@ -14,7 +14,7 @@ use Rattle.dav_memfs.specs.declared.memory.properties.PropertyName.{PropertyName
 abbrev pub key_of : PropertyName → Key
 key_of name = property_key (option_map string_bytes name.namespace) (string_bytes name.name)
 
--- names compare by their namespaces, none first, and then by their local names
+-- names compare by namespace, none first, and then by local name
 abbrev pub name_cmp : PropertyName → PropertyName → Ordering
 name_cmp a b = ordering_then (option_cmp string_cmp a.namespace b.namespace) (string_cmp a.name b.name)
 

@@ -1,4 +1,4 @@
-//! A store in memory.
+//! An in-memory store.
 ghost use Rattle.std.specs.Prelude.{◌≡◌, ◌≢◌, ◌<◌, ◌+◌, ◌^◌, [], ◌∷◌, map, All, length, replicate, false, IfOk, IfErr, MatchResult, Some, None};
 ghost use Rattle.dav_resource.specs.PathText.{IsKey};
 ghost use Rattle.dav_store.specs.Logged.{logged_of};
@@ -32,13 +32,17 @@ use entry::Entry;
 use http::StatusCode;
 use std::alloc::Global;
 
-/// A store in memory, which keeps dead properties. It refuses nothing of its own will, but for a change when its
-/// counter is at its end. The counter starts at 0, and each `create_dir`, `copy`, `write_bytes`, and `open` that
-/// makes or empties a file, adds one: the number is the entity tag of what was made or changed.
+/// An in-memory store with dead properties.
 ///
-/// What it holds stands in one map, ordered by the whole keys. A lookup costs the logarithm of the number of
-/// resources; each call takes a few of them, and beside that what its comment says. A call answered `Memory` changes
-/// nothing.
+/// It refuses a call for its own reasons in one case only: the call would count as a change, and the change
+/// counter is at `u64::MAX`. The error is then `GeneralFailure`. The counter starts at 0 (`with_version` sets
+/// another start). Each successful `create_dir`, `copy` and `write_bytes`, and each `open` that creates or
+/// truncates a file, adds one. The new number, in lower-case hexadecimal, is the entity tag of the resource
+/// created or changed.
+///
+/// All resources are in one map, ordered by whole keys. A lookup takes a number of comparisons logarithmic in
+/// the number of resources. Each call makes a few lookups, and `read_dir` one more for each member. Other
+/// costs are listed at each call. A call that returns `Memory` changes nothing.
 #[derive(Debug, Drop)]
 pub struct MemFs {
     entries: Entries,
@@ -53,8 +57,8 @@ impl MemFs {
     ghost use Rattle.dav_memfs.specs.MemFs.{memory_of, store_of, records_of};
     ghost use Rattle.dav_memfs.specs.Memory.{first_memory};
 
-    /// A store with the root alone, made at the moment 0, and an empty log. It has no quota. Only memory can be
-    /// lacking.
+    /// Creates a store that holds only the root, created at time 0, with an empty log and no quota. Fails
+    /// only if memory runs out.
     pub fn new(alloc: Global) -> FsResult<MemFs>
         ensures memory { IfOk result (λ store. memory_of store ≡ first_memory 0 None) }
         ensures log { IfOk result (λ store. (store_of store).log ≡ []) }
@@ -64,8 +68,8 @@ impl MemFs {
         MemFs::first(alloc, 0, None)
     }
 
-    /// The same with a quota of so many bytes, or with one that has no limit. A quota is told and not kept to: no
-    /// write is refused by it.
+    /// Creates a store as `new` does, with a quota: `Some` gives its total bytes, `None` sets no limit. The
+    /// quota is reported but not enforced: no write is refused because of it. Fails only if memory runs out.
     pub fn with_quota(alloc: Global, total: Option<u64>) -> FsResult<MemFs>
         ensures memory { IfOk result (λ store. memory_of store ≡ first_memory 0 (Some total)) }
         ensures log { IfOk result (λ store. (store_of store).log ≡ []) }
@@ -75,7 +79,8 @@ impl MemFs {
         MemFs::first(alloc, 0, Some(total))
     }
 
-    /// The same as by `new`, with the counter at a number. At the greatest u64 no change is left that counts.
+    /// Creates a store as `new` does, with the change counter at `version`. At `u64::MAX` the store refuses
+    /// every call that would add to the counter. Fails only if memory runs out.
     pub fn with_version(alloc: Global, version: u64) -> FsResult<MemFs>
         ensures memory { IfOk result (λ store. memory_of store ≡ first_memory version None) }
         ensures log { IfOk result (λ store. (store_of store).log ≡ []) }
@@ -85,7 +90,8 @@ impl MemFs {
         MemFs::first(alloc, version, None)
     }
 
-    /// The root alone, with the counter at a number.
+    /// Creates a store that holds only the root, with the change counter at `version` and the quota `limit`.
+    /// Fails only if memory runs out.
     fn first(alloc: Global, version: u64, limit: Option<Option<u64>>) -> FsResult<MemFs>
         ensures memory { IfOk result (λ store. memory_of store ≡ first_memory version limit) }
         ensures log { IfOk result (λ store. (store_of store).log ≡ []) }
@@ -103,7 +109,7 @@ impl MemFs {
         })
     }
 
-    /// Sets the moment, in whole seconds since 1970. Nothing that is seen changes.
+    /// Sets the current time, in whole seconds since 1970. The contents and the log stay the same.
     pub fn set_now(&mut self, now: u64)
         ensures memory { memory_of self.new ≡ record (memory_of self.old) { moment = now } }
         ensures seen { store_of self.new ≡ store_of self.old }
@@ -112,9 +118,9 @@ impl MemFs {
         self.moment = now;
     }
 
-    /// A copy of all that is kept, in the order of the keys: each path without prefix and with a slash exactly for a
-    /// directory, a file's bytes, and the properties with their elements. It leaves no record. Only memory can be
-    /// lacking.
+    /// Returns a copy of all resources, in the order of their keys. Each has its path without the prefix,
+    /// with a trailing slash exactly if it is a directory, a file's bytes, and the properties with their
+    /// elements. The call leaves no record in the log. Fails only if memory runs out.
     pub fn dump(&self) -> FsResult<Vec<(DavPath, Option<Vec<u8>>, Vec<DavProp>)>>
         ensures dump { IfOk result (λ dumped. IsDump (memory_of self.now).resources dumped.items) }
         ensures err { IfErr result (λ e. e ≡ FsError.Memory) }
@@ -234,7 +240,7 @@ impl<C> GuardedFileSystem<C> for MemFs {
         self.end_record(Op::FileMetadata, paths, answer)
     }
 
-    /// Costs the bytes and the properties of the file.
+    /// Copies the file's bytes and the names of its properties. The elements are shared.
     fn copy(&mut self, from: &DavPath, to: &DavPath, _credentials: &C) -> FsResult<()>
         ensures seen { Copies (store_of self.old) from.now.key to.now.key result (store_of self.new) }
         ensures memory { Gives (copy_error from.now.key to.now.key (memory_of self.old)) (copied from.now.key to.now.key) (memory_of self.old) result (memory_of self.new) }
@@ -245,7 +251,7 @@ impl<C> GuardedFileSystem<C> for MemFs {
         self.end_record(Op::Copy, paths, answer)
     }
 
-    /// Costs what stands at the path and below it, of which no bytes are copied.
+    /// Makes a few lookups for each resource at the path and below it. No file's bytes are copied.
     fn rename(&mut self, from: &DavPath, to: &DavPath, _credentials: &C) -> FsResult<()>
         ensures seen { Renames (store_of self.old) from.now.key to.now.key result (store_of self.new) }
         ensures memory { Yields (rename_error from.now.key to.now.key (memory_of self.old)) (IsRenamed from.now.key to.now.key) (memory_of self.old) result (memory_of self.new) }
@@ -256,7 +262,7 @@ impl<C> GuardedFileSystem<C> for MemFs {
         self.end_record(Op::Rename, paths, answer)
     }
 
-    /// Costs the element.
+    /// Copies the element.
     fn get_prop(&mut self, path: &DavPath, prop: &DavProp, _credentials: &C) -> FsResult<Element>
         ensures seen { GetsProp (store_of self.old) path.now.key (name_of prop.now) result (store_of self.new) }
         ensures memory { Gives (get_prop_error path.now.key (name_of prop.now) (memory_of self.old)) kept (memory_of self.old) result (memory_of self.new) }
@@ -267,7 +273,7 @@ impl<C> GuardedFileSystem<C> for MemFs {
         self.end_record(Op::GetProp, paths, answer)
     }
 
-    /// Costs the properties of the path.
+    /// Copies the names and prefixes of the path's properties. The elements are shared.
     fn get_props(&mut self, path: &DavPath, _credentials: &C) -> FsResult<Vec<DavProp>>
         ensures seen { GetsProps (store_of self.old) path.now.key result (store_of self.new) }
         ensures props { IfOk result (λ props. IsPropertyList (properties_at (contents_of (memory_of self.old)) path.now.key) props.items) }
@@ -279,8 +285,8 @@ impl<C> GuardedFileSystem<C> for MemFs {
         self.end_record(Op::GetProps, paths, answer)
     }
 
-    /// Costs for each change at most two copies of its property, and a few lookups among the path's properties and
-    /// among the changes. A property that isn't changed costs nothing.
+    /// Makes at most two copies of a property's name for each change, and a few lookups among the path's
+    /// properties and among the changes. Properties that are not changed cost nothing.
     fn patch_props(
         &mut self,
         path: &DavPath,

@@ -1,4 +1,4 @@
--- Numbers by keys: this project's own choice.
+-- Numbers by key: this project's own choice.
 use Rattle.std.specs.Prelude.{◌≡◌, ℕ, Bool, true, List, [], ◌∷◌, ◌++◌, if◌then◌else◌}
 use Rattle.std.specs.List.{AllByRecursion}
 use Rattle.std.specs.List.Sorted.{IsStrictlySortedBy}
@@ -11,31 +11,31 @@ use Rattle.dav_memls.specs.Numbers.{without}
 use Rattle.dav_memls.specs.KeyEntries.{OwnKey, own_cmp, numbers_in}
 use Rattle.dav_memls.specs.declared.memory_locks.by_key.ByKey.{ByKey}
 
--- the numbers at a key, none where the register has no entry of it
+-- the numbers at a key; none if the register has no entry for it
 abbrev pub numbers_at : ByKey → Key → List ℕ
 numbers_at register key = numbers_in register.map.entries key
 
--- the number where it belongs, and else none
+-- the number if it belongs there, or else none
 abbrev pub only_if : Bool → ℕ → List ℕ
 only_if belongs n = if belongs then n ∷ [] else []
 
--- these without the number where it belonged
+-- the numbers without this one, if it belonged there
 abbrev pub without_if : Bool → ℕ → List ℕ → List ℕ
 without_if belonged n xs = if belonged then without n xs else xs
 
--- each key has the numbers that it had
+-- each key keeps its numbers
 abbrev pub KeepsNumbers : ByKey → ByKey → Type 0
 KeepsNumbers old new = (key : Key) → numbers_at new key ≡ numbers_at old key
 
--- the number goes behind those of each key that passes the test
+-- the number is added after those of each key that passes the test
 abbrev pub JoinsNumber : (Key → Bool) → ℕ → ByKey → ByKey → Type 0
 JoinsNumber test n old new = (key : Key) → numbers_at new key ≡ numbers_at old key ++ only_if (test key) n
 
--- it leaves each key that passes the test
+-- the number is removed from those of each key that passes the test
 abbrev pub LeavesNumber : (Key → Bool) → ℕ → ByKey → ByKey → Type 0
 LeavesNumber test n old new = (key : Key) → numbers_at new key ≡ without_if (test key) n (numbers_at old key)
 
--- entries of it in the order of their keys, among them each at a key and below it
+-- entries of the register in the order of their keys, among them each at or below the key
 pub record HasRun (key : Key) (register : ByKey) (run : List (OwnKey × Numbers)) : Type 0 where
   pub ordered : IsStrictlySortedBy own_cmp (keys_of run)
   pub own : AllByRecursion (λ e. numbers_at register (texts e.0.items) ≡ e.1.set.keys) run

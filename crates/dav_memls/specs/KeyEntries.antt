@@ -1,4 +1,4 @@
--- What a map from keys to numbers has: this project's own choice.
+-- The entries of a map from keys to numbers: this project's own choice.
 use Rattle.std.specs.Prelude.{◌≢◌, ℕ, List, [], Option, Some, Vec, String}
 use Rattle.std.specs.declared.alloc.Global.{Global}
 use Rattle.std.specs.declared.cmp.Ordering.{Ordering}
@@ -13,26 +13,26 @@ use Rattle.dav_memls.specs.declared.memory_locks.numbers.Numbers.{Numbers}
 abbrev pub OwnKey : Type 0
 OwnKey = Vec (String Global) Global
 
--- as `Vec` and `String` compare: segment by segment
+-- the order of `Vec` and `String`: segment by segment
 abbrev pub own_cmp : OwnKey → OwnKey → Ordering
 own_cmp a b = slice_cmp string_cmp a.items b.items
 
--- what these entries have at a key, if there is one of it
+-- the numbers that these entries have for a key, if there is an entry for it
 abbrev pub found_in : List (OwnKey × Numbers) → Key → Option Numbers
 found_in entries key = lookup (λ (k : OwnKey). is_same_key key (texts k.items)) entries
 
--- the numbers of the entry at a key, if there is one
+-- the list of numbers in the entry for a key, if there is one
 abbrev pub entry_in : List (OwnKey × Numbers) → Key → Option (List ℕ)
 entry_in entries key = option_map (λ (numbers : Numbers). numbers.set.keys) (found_in entries key)
 
--- the numbers that were found, none where nothing was
+-- the numbers that were found; none if nothing was found
 abbrev pub listed : Option Numbers → List ℕ
 listed found = option_map_or (λ (numbers : Numbers). numbers.set.keys) found []
 
--- the numbers at a key among these entries
+-- the list of numbers for a key in these entries; none if there is no entry for it
 abbrev pub numbers_in : List (OwnKey × Numbers) → Key → List ℕ
 numbers_in entries key = listed (found_in entries key)
 
--- no key has an entry without numbers
+-- no entry is without numbers
 abbrev pub IsTidy : List (OwnKey × Numbers) → Type 0
 IsTidy entries = (key : Key) → entry_in entries key ≢ Some []

@@ -9,6 +9,6 @@ use Rattle.dav_memls.specs.IndexedLocks.{locks_in}
 abbrev pub list_of : MemLs → List DavLock
 list_of system = locks_in system.locks
 
--- as the engine sees it
+-- what the engine sees of it: these locks, and that it is reliable
 abbrev pub locks_of : MemLs → Locks
 locks_of system = record { list = list_of system; dependable = true }

@@ -5,7 +5,7 @@ use Rattle.dav_store.specs.declared.lock.DavLock.{DavLock}
 use Rattle.dav_store.specs.Locks.{is_submitted}
 use Rattle.dav_memls.specs.declared.memory_locks.submitted.Submitted.{Submitted}
 
--- whether the lock's principal is the request's, unless that is ignored
+-- whether the lock's principal is that of the request or is ignored
 abbrev pub is_from : Submitted → DavLock → Bool
 is_from submitted lock = submitted.ignore_principal || option_eq bytes_eq lock.principal (option_copied submitted.principal)
 

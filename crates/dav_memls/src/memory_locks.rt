@@ -21,27 +21,39 @@ use std::alloc::{AllocError, Global};
 use std::collections::btree_map::Values;
 use submitted::Submitted;
 
-/// A lock system in memory. It is dependable, and `check`, `unlock` and `delete` need no memory.
+/// A lock system in memory. It is reliable, and `check`, `unlock` and `delete` never fail when memory runs
+/// out.
 ///
-/// A call looks at the locks at its path, above it or below it alone, however many are held elsewhere: a hash map
-/// leads from a token to its lock's number; maps ordered by the locks' paths, segment by segment, lead to the numbers
-/// of the locks at a path, one of all locks, one of the deep and one of the exclusive ones; and a map ordered by the
-/// numbers leads to a lock. A look at a path takes as many comparisons of paths as the logarithm of the number of
-/// locked ones, and a look at a number as many of numbers as the logarithm of the number of locks.
+/// The locks are stored in these maps:
 ///
-/// `check` and `lock` take a look at the path for any lock, and then at each path above it, from the root on, for a
-/// deep one, until they have found one that covers the path: an exclusive one covers it alone, so one tells what is
-/// asked of all, however many they are. Where those are shared, `check` takes a look for each token. `discover` takes a
-/// look for the path and for each above it, and copies the locks that cover the path. These looks go no further down
-/// than locks were ever put. What stands below the path is found from a copy of it on; without memory for the copy, by
-/// going through all locked paths, which is only slower. A deep `lock` takes one look there, a deep `check` judges each
-/// lock until one isn't submitted. `check` takes memory to put many tokens in order, and is only slower without it.
-/// `unlock` and `refresh` take a look for the token. `delete` takes a look below the path for each lock, in no promised
-/// order. It and `unlock` move no other lock.
+/// - A hash map finds the number of a lock by its token.
+/// - Three maps find the numbers of the locks at a path: one of all locks, one of the deep and one of the
+///   exclusive locks. They are ordered by path, segment by segment.
+/// - A map, ordered by the numbers, finds a lock by its number.
 ///
-/// `lock` takes memory for the lock, for its token once more, for its number in the maps that have it, and for a copy
-/// of its path in each of these where none stands there. Where the newest lock has the greatest `u64` as its number
-/// (each is one above that of the newest held), `lock` answers `Memory`.
+/// A lookup of a path takes as many comparisons of paths as the logarithm of the number of locked paths. A
+/// lookup of a number takes as many comparisons of numbers as the logarithm of the number of locks. Except
+/// for these logarithms, the cost of a call does not depend on how many locks exist elsewhere, unless memory
+/// runs out.
+///
+/// - `check` and `lock` look up any lock at the path, and then a deep lock at each path above it, from the
+///   root down, until they find one that covers the path. One lock decides, because an exclusive lock that
+///   covers a path is the only lock that covers it. If that lock is shared, `check` looks up the tokens.
+/// - A deep `lock` makes one lookup below the path. A deep `check` tests each lock at or below the path until
+///   one is not submitted. Both copy the path for this. If memory for the copy runs out, they search all
+///   locked paths, which is only slower.
+/// - `check` sorts the tokens if there are many. Without memory for that it is only slower.
+/// - `discover` looks up the path and each path above it, and copies the locks that cover the path.
+/// - `unlock` and `refresh` look up the token.
+/// - `delete` makes one lookup below the path for each lock that it removes, in no promised order. It copies
+///   the path as a deep `check` does.
+///
+/// Lookups above a path go no deeper than the deepest path ever locked. `unlock` and `delete` do not change
+/// the numbers of other locks.
+///
+/// `lock` allocates memory for the lock, for a second copy of its token, for its number in each map that has
+/// it, and for a copy of its path in each of these maps that does not have the path yet. Each new lock gets
+/// the number after that of the newest lock. If that number does not fit in 64 bits, `lock` returns `Memory`.
 #[derive(Debug, Drop)]
 pub struct MemLs {
     locks: IndexedLocks,
@@ -52,7 +64,7 @@ pub struct MemLs {
 impl MemLs {
     ghost use Rattle.dav_memls.specs.MemLs.{list_of};
 
-    /// A lock system without a lock.
+    /// Creates a lock system without locks.
     pub fn new(alloc: Global) -> MemLs
         ensures { list_of result ≡ [] }
     {
@@ -61,7 +73,7 @@ impl MemLs {
         }
     }
 
-    /// The locks, the oldest first. Of any two, one of which covers the other's path, both are shared
+    /// Returns the locks, the oldest first. If one of two locks covers the path of the other, both are shared
     /// (RFC 4918, section 6.2).
     pub fn locks(&self) -> Values<'_, u64, DavLock>
         ensures value { result ≡ list_of self.now }
@@ -165,7 +177,7 @@ impl DavLockSystem for MemLs {
     }
 }
 
-/// The principal of a lock, where there is one.
+/// Returns a copy of the principal, if there is one. Fails only if memory runs out.
 fn copy_principal(alloc: Global, principal: Option<&str>) -> Result<Option<Text>, AllocError>
     ensures { IfOk result (λ copy. copy ≡ option_copied principal.entry) }
 {

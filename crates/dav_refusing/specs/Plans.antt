@@ -1,4 +1,4 @@
--- Plans of refusals, and what a listing of members becomes by one: this project's own choice.
+-- Plans of refusals, and how a plan changes a listing of members: this project's own choice.
 use Rattle.std.specs.Prelude.{◌≡◌, ℕ, nat_eq, Bool, ◌&&◌, if◌then◌else◌, List, [], ◌∷◌, ◌++◌, map, drop, slice_get, filter_map, All, IfOk, Option, Some, None, Ok, Err, Result}
 use Rattle.std.specs.Ordering.{eq_by_cmp}
 use Rattle.dav_resource.specs.Key.{Key, key_cmp}
@@ -14,7 +14,7 @@ use Rattle.dav_store.specs.Logged.{logged_of}
 use Rattle.dav_store.specs.Members.{Child, member, IsIn, unseen_record}
 use Rattle.dav_store.specs.Logged.{record_on}
 
--- the place of a kind of call among them all
+-- the number of a kind of call
 abbrev pub place_of_op : Op → ℕ
 place_of_op Metadata = 0
 place_of_op ReadDir = 1
@@ -34,16 +34,16 @@ place_of_op PatchProps = 14
 place_of_op GetQuota = 15
 place_of_op Entry = 16
 
--- two calls are of one kind
+-- two calls are of the same kind
 abbrev pub same_op : Op → Op → Bool
 same_op a b = nat_eq (place_of_op a) (place_of_op b)
 
--- the key of a call's first path; of a call without a path, the root's
+-- the key of a call's first path; for a call without a path, that of the root
 abbrev pub first_key : List PathValue → Key
 first_key [] = []
 first_key (path ∷ paths) = path.key
 
--- the errors that the calls of each kind on each key are to be refused with, in their order
+-- the errors with which the calls of each kind on each key are to be refused, in order
 abbrev pub Plan : Type 0
 Plan = Op → Key → List FsError
 
@@ -51,7 +51,7 @@ Plan = Op → Key → List FsError
 abbrev pub no_refusals : Plan
 no_refusals op key = []
 
--- two calls, each by its kind and its key, go by the same errors
+-- two calls, each given by its kind and its key, have the same kind and the same key
 abbrev pub is_for : Op → Key → Op → Key → Bool
 is_for op key other other_key = same_op op other && eq_by_cmp key_cmp key other_key
 
@@ -59,46 +59,46 @@ is_for op key other other_key = same_op op other && eq_by_cmp key_cmp key other_
 abbrev pub with_errors : Op → Key → List FsError → Plan → Plan
 with_errors op key errors plan other other_key = if is_for op key other other_key then errors else plan other other_key
 
--- the key that a refusal is for: `get_quota` has no path
+-- the key that a refusal is for; `get_quota` has no path
 abbrev pub planned_key : Op → Key → Key
 planned_key GetQuota key = []
 planned_key op key = key
 
--- the plan with one more refusal, behind those for the same calls
+-- the plan with one more refusal, after those for the same calls
 abbrev pub with_last : Op → Key → FsError → Plan → Plan
 with_last op key error plan = with_errors op key (plan op key ++ error ∷ []) plan
 
--- the first error for the call, where there is one
+-- the first error for the call, if there is one
 abbrev pub refusal_for : Op → Key → Plan → Option FsError
 refusal_for op key plan = slice_get (plan op key) 0
 
--- the plan without that one; where there is none, as it is
+-- the plan without that error; unchanged if there is none
 abbrev pub without_first : Op → Key → Plan → Plan
 without_first op key plan = with_errors op key (drop 1 (plan op key)) plan
 
 -- ---- listings
 
--- an entry, or the refusal to show it
+-- an entry, or the error with which it is not listed
 abbrev pub shown_as : Option FsError → DirEntry → Result DirEntry FsError
 shown_as None entry = Ok entry
 shown_as (Some e) entry = Err e
 
--- the members as the plan lets them be seen; a member that isn't shown anyway uses up nothing
+-- the members as listed under the plan; a member that was not listed before stays as it is
 abbrev pub shown_by : Plan → Key → List Child → List Child
 shown_by plan directory [] = []
 shown_by plan directory ((name, Ok entry) ∷ children) = (name, shown_as (refusal_for Entry (member directory name) plan) entry) ∷ shown_by plan directory children
 shown_by plan directory ((name, Err e) ∷ children) = (name, Err e) ∷ shown_by plan directory children
 
--- a call by its kind and its key
+-- a call, given by its kind and its key
 abbrev pub Call : Type 0
 Call = Op × Key
 
--- that of showing a member, where it is refused
+-- the call that stands for listing a member, if it is refused
 abbrev pub refused_call : Key → List ℕ → Option FsError → List Call
 refused_call directory name None = []
 refused_call directory name (Some e) = (Entry, member directory name) ∷ []
 
--- those of showing the members that the plan refuses
+-- the calls that stand for listing the members which the plan refuses
 abbrev pub refused_calls : Plan → Key → List Child → List Call
 refused_calls plan directory [] = []
 refused_calls plan directory ((name, Ok entry) ∷ children) = refused_call directory name (refusal_for Entry (member directory name) plan) ++ refused_calls plan directory children
@@ -109,23 +109,23 @@ abbrev pub without_firsts : List Call → Plan → Plan
 without_firsts [] plan = plan
 without_firsts (call ∷ calls) plan = without_firsts calls (without_first call.0 call.1 plan)
 
--- what is left of the plan then
+-- the plan after a listing
 abbrev pub left_by : Plan → Key → List Child → Plan
 left_by plan directory children = without_firsts (refused_calls plan directory children) plan
 
--- the record of a member that the plan refuses, by the directory's path with the member's name
+-- the record of a member that the plan refuses; its path is that of the directory with the member's name
 abbrev pub refused_record : PathValue → List ℕ → Option FsError → List Record
 refused_record directory name None = []
 refused_record directory name (Some e) = record_on Entry (member_path directory name ∷ []) (Refused e) ∷ []
 
--- the records of the members that aren't shown, in the listing's order; a member that isn't shown anyway keeps its record
+-- the records of the members that are not listed, in the order of the listing; a member that was not listed before keeps its record
 abbrev pub hidden_by : Plan → PathValue → List Child → List Record → List Record
 hidden_by plan directory [] hidden = []
 hidden_by plan directory ((name, Ok entry) ∷ children) hidden = refused_record directory name (refusal_for Entry (member directory.key name) plan) ++ hidden_by plan directory children hidden
 hidden_by plan directory ((name, Err e) ∷ children) [] = []
 hidden_by plan directory ((name, Err e) ∷ children) (r ∷ hidden) = r ∷ hidden_by plan directory children hidden
 
--- the names of the entries may stand in a key
+-- the name of each entry may be a segment of a key
 abbrev pub HaveSegmentNames : List (Result DirEntry FsError) → Type 0
 HaveSegmentNames listing = All (λ shown. IfOk shown (λ entry. IsSegment entry.name)) listing
 
@@ -137,18 +137,18 @@ IsNamed (name, Err e) = Unit {0}
 abbrev pub AreNamed : List Child → Type 0
 AreNamed children = (c : Child) → IsIn c children → IsNamed c
 
--- the listing shows these members, and these are the records of those that it doesn't show
+-- the listing has these members, and these are the records of those that it does not list
 pub record IsListingOf (directory : Key) (children : List Child) (listing : List (Result DirEntry FsError)) (hidden : List Record) : Type 0 where
   pub named : AreNamed children
   pub listed : listing ≡ map (λ c. c.1) children
   pub told : map logged_of hidden ≡ filter_map (unseen_record directory) children
 
--- it shows them as the plan lets them be seen; these are the records of those that it doesn't show now, and the calls that the plan refuses
+-- the listing is as the plan leaves it; these are the records of the members that are not listed now, and the calls that the plan refuses
 pub record IsLetBy (plan : Plan) (directory : PathValue) (children : List Child) (hidden : List Record) (listing : List (Result DirEntry FsError)) (unseen : List Record) (refused : List Call) : Type 0 where
   pub shown : listing ≡ map (λ c. c.1) (shown_by plan directory.key children)
   pub told : unseen ≡ hidden_by plan directory children hidden
   pub refused_are : refused ≡ refused_calls plan directory.key children
 
--- so it shows its members, whichever they are
+-- the plan is followed for the members of the listing, whichever they are
 abbrev pub LetsThrough : Plan → PathValue → List (Result DirEntry FsError) → List Record → List (Result DirEntry FsError) → List Record → List Call → Type 0
 LetsThrough plan directory listing hidden shown unseen refused = (children : List Child) → IsListingOf directory.key children listing hidden → IsLetBy plan directory children hidden shown unseen refused

@@ -1,4 +1,4 @@
--- What each call of a store does that refuses by plan or by number: this project's own choice.
+-- What each call does in a store that refuses by plan or by number: this project's own choice.
 use Rattle.std.specs.Prelude.{◌≡◌, ◌≢◌, ℕ, List, [], ◌∷◌, ◌++◌, map, filter_map, Option, Some, None, Result, Ok, Err, Vec, ◌⊎◌}
 use Rattle.std.specs.declared.alloc.Global.{Global}
 use Rattle.dav_resource.specs.PathText.{PathValue}
@@ -19,22 +19,22 @@ use Rattle.dav_refusing.specs.Pending as pendings
 use Rattle.dav_refusing.specs.Pending.{Pending, due, after_call}
 use Rattle.dav_refusing.specs.declared.refusing.Refusing.{Refusing}
 
--- how the last call ended that the records tell of
+-- the outcome of the last record; granted if there is none
 abbrev pub last_outcome : List Logged → Outcome
 last_outcome [] = Granted
 last_outcome (r ∷ []) = r.outcome
 last_outcome (r ∷ next ∷ rs) = last_outcome (next ∷ rs)
 
 module _ {F : Type 0} where
-  -- the store behind it
+  -- the wrapped store
   abbrev pub inner_of : Refusing F → F
   inner_of store = store.inner
 
-  -- what it is to refuse yet
+  -- the refusals that are still to come
   abbrev pub pending_of : Refusing F → Pending
   pending_of store = pendings.pending_of store.pending
 
-  -- of that the plan
+  -- the plan in these
   abbrev pub plan_of : Refusing F → Plan
   plan_of store = (pending_of store).plan
 
@@ -42,32 +42,33 @@ module _ {F : Type 0} where
   abbrev pub records_of : Refusing F → List Record
   records_of store = store.log.items
 
-  -- what it holds is what the store behind it holds; its log is its own
+  -- what contracts see: what they see of the wrapped store, except the log, which is its own
   abbrev pub seen_behind : (F → Store) → Refusing F → Store
   seen_behind see store = record (see store.inner) { log = map logged_of store.log.items }
 
   -- ---- a call
 
-  -- nothing changes, the store behind it included
+  -- nothing changes, neither here nor in the wrapped store
   pub record IsWhollyKept (old new : Refusing F) : Type 0 where
     pub inner : inner_of new ≡ inner_of old
     pub pending : pending_of new ≡ pending_of old
     pub records : records_of new ≡ records_of old
 
-  -- nothing changes that is seen, here or of the store behind it
+  -- nothing changes that contracts see, here or in the wrapped store
   pub record LooksKept (see : F → Store) (old new : Refusing F) : Type 0 where
     pub inner : see (inner_of new) ≡ see (inner_of old)
     pub pending : pending_of new ≡ pending_of old
     pub records : records_of new ≡ records_of old
 
-  -- the call is refused with the error that is due, which is used up; the store behind isn't asked
+  -- the call is refused with the error that is due, which is used up; the wrapped store does not change
   pub record Refuses (op : Op) (paths : List PathValue) (e : FsError) (old new : Refusing F) : Type 0 where
     pub is_due : due op (first_key paths) (pending_of old) ≡ Some e
     pub inner : inner_of new ≡ inner_of old
     pub left : pending_of new ≡ after_call op (first_key paths) (pending_of old)
     pub records : records_of new ≡ records_of old ++ record_on op paths (Refused e) ∷ []
 
-  -- the answer is one that the store behind may give, which has changed as by it; the record has the outcome and the statuses of that store's own
+  -- the result is one that the wrapped store may return, and that store has changed accordingly; the record has the outcome and the statuses of that
+  -- store's record
   pub record Passes {A : Type 0} (see : F → Store) (op : Op) (paths : List PathValue) (Behind : Store → Result A FsError → Store → Type 0) (old : Refusing F) (answer : Result A FsError) (new : Refusing F) : Type 0 where
     pub behind : Behind (see (inner_of old)) answer (see (inner_of new))
     pub left : pending_of new ≡ after_call op (first_key paths) (pending_of old)
@@ -81,20 +82,20 @@ module _ {F : Type 0} where
   GoesByPlan op paths Passed (Some e) old answer new = (answer ≡ Err e) × Refuses op paths e old new
   GoesByPlan op paths Passed None old answer new = Passed old answer new
 
-  -- so it goes, or memory is lacking, and then this much stays as it was
+  -- a call goes by the plan, or memory runs out and what `Kept` says stays as it was
   abbrev pub FollowsPlan : {A : Type 0} → (Refusing F → Refusing F → Type 0) → Op → List PathValue → (Refusing F → Result A FsError → Refusing F → Type 0) → Refusing F → Result A FsError → Refusing F → Type 0
   FollowsPlan Kept op paths Passed old answer new =
       ((answer ≡ Err Memory) × Kept old new) ⊎ ((answer ≢ Err Memory) × GoesByPlan op paths Passed (due op (first_key paths) (pending_of old)) old answer new)
 
-  -- a call that does so of the store behind; without memory nothing changes that is seen
+  -- a call of the wrapped store goes by the plan; if memory runs out, nothing changes that contracts see
   abbrev pub Follows : {A : Type 0} → (F → Store) → Op → List PathValue → (Store → Result A FsError → Store → Type 0) → Refusing F → Result A FsError → Refusing F → Type 0
   Follows see op paths Behind = FollowsPlan (LooksKept see) op paths (Passes see op paths Behind)
 
   -- ---- read_dir
 
-  -- a listing that the store behind may give, but for the members for which the plan has a refusal: each is refused with it, and it is
-  -- used up; the records of the members that aren't shown follow that of the call, in the listing's order, and those of the
-  -- members that the store behind doesn't show have the keys and outcomes of its own
+  -- a listing that the wrapped store may return, except for the members for which the plan has a refusal: each is refused with it, and the refusal is
+  -- used up. The records of the members that are not listed follow that of the call, in the order of the listing. Those of members that the wrapped
+  -- store does not list have the keys and outcomes of its own records
   pub record PassesListing (see : F → Store) (path : PathValue) (old : Refusing F) (answer : List (Result DirEntry FsError)) (new : Refusing F) : Type 0 where
     pub listed : List (Result DirEntry FsError)
     pub behind : Lists path.key (see (inner_of old)) listed (see (inner_of new))
@@ -108,18 +109,18 @@ module _ {F : Type 0} where
   PassesReadDir see path old (Ok listing) new = PassesListing see path old listing.items new
   PassesReadDir see path old (Err e) new = Passes see ReadDir (path ∷ []) (λ s. ReadsDir s path.key) old (Err e) new
 
-  -- no error is due for the listing, and the store behind has listed the directory, which changes its log alone
+  -- no error is due for the listing, and the wrapped store has listed the directory, which changes only its log
   pub record HasListed (see : F → Store) (path : PathValue) (old new : Refusing F) : Type 0 where
     pub free : due ReadDir path.key (pending_of old) ≡ None
     pub listed : List (Result DirEntry FsError)
     pub behind : Lists path.key (see (inner_of old)) listed (see (inner_of new))
 
-  -- nothing changes that is seen, here or of the store behind it, but that the latter may have listed the directory
+  -- nothing changes that contracts see, here or in the wrapped store, except that the latter may have listed the directory
   pub record KeepsReading (see : F → Store) (path : PathValue) (old new : Refusing F) : Type 0 where
     pub inner : (see (inner_of new) ≡ see (inner_of old)) ⊎ HasListed see path old new
     pub pending : pending_of new ≡ pending_of old
     pub records : records_of new ≡ records_of old
 
-  -- a listing goes by the plan; without memory the store behind it may have listed the directory
+  -- a listing goes by the plan; if memory runs out, the wrapped store may have listed the directory
   abbrev pub FollowsReading : (F → Store) → PathValue → Refusing F → Result (Vec (Result DirEntry FsError) Global) FsError → Refusing F → Type 0
   FollowsReading see path = FollowsPlan (KeepsReading see path) ReadDir (path ∷ []) (PassesReadDir see path)

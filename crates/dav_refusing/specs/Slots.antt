@@ -1,4 +1,4 @@
--- A plan of refusals as the code keeps it: this project's own choice.
+-- A plan of refusals as the code stores it: this project's own choice.
 use Rattle.std.specs.Prelude.{◌≢◌, List, [], map, Option, Some, None}
 use Rattle.std.specs.declared.collections.VecDeque.{VecDeque}
 use Rattle.std.specs.declared.alloc.Global.{Global}
@@ -16,7 +16,7 @@ use Rattle.dav_refusing.specs.Plans.{Plan, Call, place_of_op}
 use Rattle.dav_refusing.specs.declared.refusing.slot.Slot.{Slot}
 use Rattle.dav_refusing.specs.declared.refusing.own_error.OwnError.{OwnError}
 
--- a path's key; where there is no path, the root's
+-- the key of a path; without a path, that of the root
 abbrev pub path_key : Option PathValue → Key
 path_key None = []
 path_key (Some path) = path.key
@@ -27,7 +27,7 @@ slot_key slot = path_key slot.path
 abbrev pub slot_call : Slot → Call
 slot_call slot = (slot.op, slot_key slot)
 
--- by the kind of call, and then by the key
+-- ordered by the kind of call, and then by the key
 abbrev pub slot_cmp : Slot → Slot → Ordering
 slot_cmp = then_cmp (on (λ (s : Slot). place_of_op s.op) nat_cmp) (on slot_key key_cmp)
 
@@ -44,7 +44,7 @@ Queue = VecDeque OwnError Global
 abbrev pub errors_of : List OwnError → List FsError
 errors_of errors = map (λ (e : OwnError). e.error) errors
 
--- the errors of a queue, where there is one
+-- the errors of a queue; none if there is no queue
 abbrev pub errors_in : Option Queue → List FsError
 errors_in None = []
 errors_in (Some queue) = errors_of queue.items
@@ -52,7 +52,7 @@ errors_in (Some queue) = errors_of queue.items
 abbrev pub plan_in : BTreeMap Slot Queue → Plan
 plan_in queues op key = errors_in (get slot_cmp queues (slot_at op key))
 
--- the queue, where there is one, has an error
+-- if there is a queue, it has an error
 abbrev pub HasErrors : Option Queue → Type 0
 HasErrors o = option_map (λ (queue : Queue). queue.items) o ≢ Some []
 

@@ -1,4 +1,4 @@
-//! A store that refuses, by plan or by number, what another would grant.
+//! A store for tests: it wraps another store and refuses calls by plan or by number.
 #![tactic(auto)]
 
 mod refusing;

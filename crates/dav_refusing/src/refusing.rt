@@ -1,4 +1,4 @@
-//! A store that refuses by plan, or by number.
+//! A store that refuses calls by plan or by number.
 ghost use Rattle.std.specs.Prelude.{◌≡◌, ◌≢◌, ◌⊎◌, ◌<◌, ◌≤◌, ◌+◌, ◌-◌, ◌^◌, [], ◌∷◌, ◌++◌, All, false, map, length, vec_len, vec_capacity, IfOk, IfErr, OnOk, OnErr, MatchResult, Some, None};
 ghost use Rattle.std.specs.Borrow.{sem};
 ghost use Rattle.dav_store.specs.Logged.{logged_of};
@@ -27,14 +27,16 @@ use listing::{Unseen, refuse_members};
 use pending::Pending;
 use std::alloc::Global;
 
-/// A store that refuses by plan, or by number: it stands before another store, and passes on each call for which no
-/// error is due. What refuses a call is used once. The call is recorded in a log of its own, and so is each call that was
-/// passed on; a call that had no memory uses up nothing and leaves no record.
+/// A store that wraps another store and refuses calls by plan or by number. It passes on each call for which
+/// no error is due.
 ///
-/// A listing that was passed on shows no member for which the plan has a refusal of `Op::Entry`. The record of such a
-/// member has the listing's path with the member's name, and no slash at its end.
+/// Each refusal is used once. A refused call is recorded in a log of its own, and so is each call that was
+/// passed on. A call that runs out of memory uses up no refusal and leaves no record.
 ///
-/// Where memory is lacking the store behind is as it was, but that its log may tell of a listing.
+/// In a listing that was passed on, a member for which the plan has a refusal of `Op::Entry` is not listed.
+/// The record of such a member has the listing's path with the member's name, without a trailing slash.
+///
+/// If memory runs out, the wrapped store stays as it was, except that its log may have records of a listing.
 #[derive(Debug, Drop)]
 pub struct Refusing<F> {
     inner: F,
@@ -47,7 +49,7 @@ impl<F> Refusing<F> {
     ghost use Rattle.dav_refusing.specs.Refusing.{inner_of, pending_of, plan_of, records_of, IsWhollyKept, Refuses};
     ghost use Rattle.dav_refusing.specs.InnerLends.{LendsInner};
 
-    /// A store that stands before another one and passes each call on, with an empty log, until it is told what to refuse.
+    /// Wraps a store, with an empty log. It passes on each call until refusals are added.
     pub fn new(alloc: Global, inner: F) -> Refusing<F>
         ensures inner { inner_of result ≡ inner }
         ensures plan { pending_of result ≡ record { numbered = None; plan = no_refusals } }
@@ -60,11 +62,15 @@ impl<F> Refusing<F> {
         }
     }
 
-    /// Plans to refuse a call of this kind whose first path has the key of this one, behind those of the same kind and key
-    /// that are planned. The first path of a call on an open file is the file's; `get_quota` has none, so that any path
-    /// will do for it; `Op::Entry` is the showing of a member in a listing.
+    /// Plans to refuse a call of this kind whose first path has the same key as this path. The refusal comes
+    /// after those already planned for the same kind and key.
     ///
-    /// Only memory can be lacking, and then nothing changes. It takes time as the logarithm of the calls that are planned.
+    /// The first path of a call on an open file is that of the file. `get_quota` has no path, so any path
+    /// will do for it. `Op::Entry` stands for a member in a listing. The error must be one that a store may
+    /// return for its own reasons.
+    ///
+    /// Fails only if memory runs out, and then nothing changes. The time is logarithmic in the number of
+    /// planned calls.
     pub fn add(&mut self, op: Op, path: DavPath, error: FsError) -> FsResult<()>
         requires { IsOwn error }
         ensures inner { inner_of self.new ≡ inner_of self.old }
@@ -76,9 +82,12 @@ impl<F> Refusing<F> {
         Ok(())
     }
 
-    /// Refuses the nth call from now, counted from 1, with this error. The calls on open files are counted, and so are
-    /// refused calls; `have_props`, `records`, `clear_log`, the members of a listing and calls that had no memory aren't.
-    /// It comes before the plan, of which it uses up nothing, and it takes the place of an earlier number.
+    /// Refuses the nth call from now, counted from 1, with this error. The error must be one that a store may
+    /// return for its own reasons.
+    ///
+    /// Calls on open files and refused calls are counted. `have_props`, `records`, `clear_log`, the members
+    /// of a listing and calls that run out of memory are not. The numbered refusal comes before the plan and
+    /// uses up none of it. It replaces an earlier numbered refusal.
     pub fn refuse_call(&mut self, n: u64, error: FsError)
         requires counted { 1 ≤ n }
         requires own { IsOwn error }
@@ -89,7 +98,7 @@ impl<F> Refusing<F> {
         self.pending.refuse_call(n, error);
     }
 
-    /// The store behind, lent.
+    /// Borrows the wrapped store.
     pub fn inner_mut(&mut self) -> &mut F
         ensures* writes_back { sem 𝓛 (LendsInner F.row self.entry result) }
         ensures inner { result.now ≡ inner_of self.old }
@@ -97,13 +106,13 @@ impl<F> Refusing<F> {
         &mut self.inner
     }
 
-    /// The allocator that the log is kept by.
+    /// Returns the allocator of the log.
     fn allocator(&self) -> Global {
         *self.log.allocator()
     }
 
-    /// Refuses a call on these paths for which an error is due; else makes room for its record, and gives that of a call
-    /// which is granted and answers no statuses.
+    /// Refuses a call on these paths if an error is due. Otherwise reserves capacity for its record, and
+    /// returns the record of a granted call without statuses.
     fn begin(&mut self, op: Op, paths: Items<DavPath>) -> FsResult<Record>
         ensures call { IfOk result (λ call. call ≡ record_on op paths Outcome.Granted) }
         ensures room { OnOk result (vec_len self.new.log < vec_capacity self.new.log) }
@@ -128,8 +137,8 @@ impl<F> Refusing<F> {
         }
     }
 
-    /// Writes the records of a listing and of the members that it doesn't show, counts the call and uses up what the plan
-    /// refused of it. Only memory can be lacking, and then nothing changes.
+    /// Records a listing and the members that it does not list, counts the call, and uses up the plan's
+    /// refusals for members. Fails only if memory runs out, and then nothing changes.
     fn keep_listing(&mut self, call: Record, mut unseen: Unseen) -> FsResult<()>
         ensures inner { inner_of self.new ≡ inner_of self.old }
         ensures plan { OnOk result (pending_of self.new ≡ record (passed_by (pending_of self.old)) { plan = without_firsts (map slot_call unseen.refused.items) (plan_of self.old) }) }
@@ -144,7 +153,7 @@ impl<F> Refusing<F> {
         Ok(())
     }
 
-    /// Writes the record of a call that the store behind has answered, and counts it; but not where memory was lacking.
+    /// Records and counts a call that was passed on, unless memory ran out in it. Returns the call's result.
     fn finish<T>(&mut self, call: Record, answer: FsResult<T>) -> FsResult<T>
         requires { vec_len self.old.log < vec_capacity self.old.log }
         ensures answer { result ≡ answer }
@@ -383,7 +392,7 @@ impl<C, F: GuardedFileSystem<C>> GuardedFileSystem<C> for Refusing<F> {
         &self.log
     }
 
-    /// Empties the log of the store behind too.
+    /// Empties its own log and that of the wrapped store.
     fn clear_log(&mut self)
         ensures seen { seen_behind F.seen self.new ≡ record (seen_behind F.seen self.old) { log = [] } }
         ensures inner { F.seen (inner_of self.new) ≡ record (F.seen (inner_of self.old)) { log = [] } }
@@ -395,7 +404,7 @@ impl<C, F: GuardedFileSystem<C>> GuardedFileSystem<C> for Refusing<F> {
     }
 }
 
-/// How the last call ended that these records tell of.
+/// Returns the outcome of the last record, or `Granted` if there is none.
 fn last_outcome(records: &[Record]) -> Outcome
     ensures { result ≡ outcome_of_last (map logged_of records.now) }
 {

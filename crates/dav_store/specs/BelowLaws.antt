@@ -1,4 +1,4 @@
--- The laws of keys at a key and below it: this project's own choice.
+-- The laws of keys at or below another key: this project's own choice.
 use Rattle.std.proofs.Common.{◌≡◌, true, [], ◌∷◌, ◌++◌, bytes_eq, refl, sym}
 use Rattle.std.proofs.lemmas.Bool.{and_parts, and_from}
 use Rattle.std.proofs.lemmas.Slice.Eq.{bytes_eq-Decides}

@@ -1,4 +1,4 @@
--- What each call of a store does. One definition for all: a call is granted, barred, refused, or had no memory.
+-- What each call of a store does. One definition for all: a call is granted, barred or refused, or memory runs out.
 use Rattle.std.specs.Prelude.{◌≡◌, ◌≢◌, ℕ, ◌+◌, ◌-◌, ◌||◌, if◌then◌else◌, List, [], ◌∷◌, ◌++◌, length, take, drop, replicate, Option, Some, None, Result, ◌⊎◌, IfOk, IfErr}
 use Rattle.std.specs.Option.{option_map}
 use Rattle.std.specs.FinMap.{get, insert}
@@ -16,9 +16,9 @@ use Rattle.dav_resource.specs.declared.error.FsError.TheVariants.{NotFound, Exis
 use Rattle.dav_store.specs.Logged.{Logged, logged}
 use Rattle.dav_store.specs.Store.{Store, Contents, Node, File, Directory, Quota}
 
--- ---- what an answer may be
+-- ---- the outcomes of a call
 
--- a call at a state: what is asked, of which keys, and the error by which what stands there bars it, if it does
+-- a call in one state of the store: the operation, the keys of its paths, and the error with which that state bars the call, if it does
 pub record Call : Type 0 where
   pub op : Op
   pub keys : List Key
@@ -27,32 +27,32 @@ pub record Call : Type 0 where
 abbrev pub record_of : Call → Outcome → Logged
 record_of call outcome = logged call.op call.keys outcome
 
--- an error of the store's own: none of those that only the tree or the memory gives
+-- an error that a store may return for its own reasons: any except `NotFound`, `Exists` and `Memory`
 pub record IsOwn (e : FsError) : Type 0 where
   pub not_missing : e ≢ NotFound
   pub not_there : e ≢ Exists
   pub not_memory : e ≢ Memory
 
--- granted where nothing bars it, barred with exactly that error, or refused with one of the store's own
+-- an outcome that the contract allows: granted if nothing bars the call, barred with exactly that error, or refused with an error of the store's own
 abbrev pub IsLawful : Option FsError → Outcome → Type 0
 IsLawful bar Granted = bar ≡ None
 IsLawful bar (Barred e) = bar ≡ Some e
 IsLawful bar (Refused e) = IsOwn e
 
--- why a call wasn't granted
+-- the error of a call that was not granted
 abbrev pub error_of : Outcome → Option FsError
 error_of Granted = None
 error_of (Barred e) = Some e
 error_of (Refused e) = Some e
 
--- the call is granted: nothing bars it, it has its effect, and its record is written
+-- the call is granted: nothing bars it, it has its effect, and one record is added to the log
 pub record Grants (call : Call) (Effect : Contents → Contents → Type 0) (old new : Store) : Type 0 where
   pub allowed : call.bar ≡ None
   pub effect : Effect old.contents new.contents
   pub told : new.log ≡ old.log ++ record_of call Granted ∷ []
   pub fixed : new.keeps_properties ≡ old.keeps_properties
 
--- the call isn't granted: its record is written, and nothing else changes
+-- the call is not granted: one record is added to the log, and nothing else changes
 pub record Declines (call : Call) (e : FsError) (old new : Store) : Type 0 where
   pub outcome : Outcome
   pub cause : error_of outcome ≡ Some e
@@ -62,12 +62,12 @@ pub record Declines (call : Call) (e : FsError) (old new : Store) : Type 0 where
   pub told : new.log ≡ old.log ++ record_of call outcome ∷ []
   pub fixed : new.keeps_properties ≡ old.keeps_properties
 
--- a call is granted, or declined, or had no memory, and then nothing happened
+-- the call is granted, or declined, or memory runs out and nothing changes
 pub record Answers {A : Type 0} (call : Call) (Effect : A → Contents → Contents → Type 0) (old : Store) (answer : Result A FsError) (new : Store) : Type 0 where
   pub granted : IfOk answer (λ a. Grants call (Effect a) old new)
   pub declined : IfErr answer (λ e. ((e ≡ Memory) × (new ≡ old)) ⊎ Declines call e old new)
 
--- whether there is a quota, and how many bytes it grants: no call changes that
+-- whether there is a quota, and its limit in bytes if it has one; no call changes that
 abbrev pub limit_of : Contents → Option (Option ℕ)
 limit_of contents = option_map (λ (q : Quota). q.total) contents.quota
 
@@ -80,7 +80,7 @@ metadata_bar (Some node) = None
 abbrev pub metadata_call : Contents → Key → Call
 metadata_call old key = record { op = Metadata; keys = key ∷ []; bar = metadata_bar (get old.tree key) }
 
--- the metadata of the key, and nothing changes
+-- the result is the metadata of the key, and the contents stay the same
 pub record IsMetaAt (key : Key) (meta : Meta) (old new : Contents) : Type 0 where
   pub answer : old.metas key ≡ Some meta
   pub same : new ≡ old
@@ -90,7 +90,7 @@ Looks old key = Answers (metadata_call old.contents key) (IsMetaAt key) old
 
 -- ---- create_dir
 
--- nothing may stand there, and above it a directory has to
+-- nothing may exist at the key, and its parent must be a directory
 abbrev pub create_dir_bar : Option Node → Option Node → Option FsError
 create_dir_bar (Some node) above = Some Exists
 create_dir_bar None (Some Directory) = None
@@ -100,7 +100,7 @@ create_dir_bar None None = Some NotFound
 abbrev pub create_dir_call : Contents → Key → Call
 create_dir_call old key = record { op = CreateDir; keys = key ∷ []; bar = create_dir_bar (get old.tree key) (get old.tree (parent key)) }
 
--- a directory is made, without properties
+-- a directory is created, and all properties stay the same
 pub record IsMadeAt (key : Key) (old new : Contents) : Type 0 where
   pub tree : new.tree ≡ insert old.tree key Directory
   pub properties : new.properties ≡ old.properties
@@ -111,7 +111,7 @@ MakesDirectory old key = Answers (create_dir_call old.contents key) (λ _. IsMad
 
 -- ---- open
 
--- a file there is opened, unless a new one is asked for; where nothing is, one is made below a directory, if asked
+-- an existing file is opened, unless `create_new` is set; a missing one is created if an option says so and its parent is a directory
 abbrev pub open_bar : OpenOptions → Option Node → Option Node → Option FsError
 open_bar options (Some (File bytes)) above = if options.create_new then Some Exists else None
 open_bar options (Some Directory) above = if options.create_new then Some Exists else Some Forbidden
@@ -122,13 +122,13 @@ open_bar options None None = Some NotFound
 abbrev pub open_call : Contents → Key → OpenOptions → Call
 open_call old key options = record { op = OpenFile; keys = key ∷ []; bar = open_bar options (get old.tree key) (get old.tree (parent key)) }
 
--- what a file holds; nothing where there is none
+-- the bytes of a file; none if there is no file
 abbrev pub bytes_at : Option Node → List ℕ
 bytes_at (Some (File bytes)) = bytes
 bytes_at (Some Directory) = []
 bytes_at None = []
 
--- a file stands there: a new one is empty and without properties, one that was there is emptied where that is asked
+-- the handle is at offset 0; the file has the bytes that it had, or none if it is new or `truncate` is set; all properties stay the same
 pub record IsOpened (path : PathValue) (options : OpenOptions) (file : DavFile) (old new : Contents) : Type 0 where
   pub handle : file ≡ record { path = path; pos = 0; append = options.append }
   pub tree : new.tree ≡ insert old.tree path.key (File (if options.truncate then [] else bytes_at (get old.tree path.key)))
@@ -140,7 +140,7 @@ Opens old path options = Answers (open_call old.contents path.key options) (IsOp
 
 -- ---- the calls on an open file
 
--- the file has to be there
+-- the file must exist
 abbrev pub file_bar : Option Node → Option FsError
 file_bar (Some (File bytes)) = None
 file_bar (Some Directory) = Some NotFound
@@ -149,20 +149,20 @@ file_bar None = Some NotFound
 abbrev pub file_call : Op → Contents → Key → Call
 file_call op old key = record { op = op; keys = key ∷ []; bar = file_bar (get old.tree key) }
 
--- a call that asks of the store only that the file is there, and changes nothing
+-- a call that requires only that the file exists, and that changes no contents
 abbrev pub FindsFile : Op → Store → Key → Result (Unit {0}) FsError → Store → Type 0
 FindsFile op old key = Answers (file_call op old.contents key) (λ _ before after. after ≡ before) old
 
--- the place is the handle's own, and may lie past the end of the file: nothing of the store changes
+-- the offset is in the handle, and may be past the end of the file: the contents of the store stay the same
 abbrev pub Seeks : Store → Key → Result (Unit {0}) FsError → Store → Type 0
 Seeks old key = FindsFile Seek old key
 
--- the bytes with others written at a place; zeros fill a gap, and no bytes change nothing
+-- a file's bytes after a write at an offset; zeros fill a gap, and writing no bytes changes nothing
 abbrev pub written_at : List ℕ → ℕ → List ℕ → List ℕ
 written_at bytes place [] = bytes
 written_at bytes place (b ∷ more) = take place bytes ++ replicate (place - length bytes) 0 ++ (b ∷ more) ++ drop (place + length (b ∷ more)) bytes
 
--- where the next write goes
+-- the offset of the next write: the end of a file that was opened to append, or else the offset in the handle
 abbrev pub place_of : DavFile → Contents → ℕ
 place_of file contents = if file.append then length (bytes_at (get contents.tree file.path.key)) else file.pos
 
@@ -174,7 +174,7 @@ pub record IsWritten (file : DavFile) (more : List ℕ) (old new : Contents) : T
 abbrev pub Writes : Store → DavFile → List ℕ → Result (Unit {0}) FsError → Store → Type 0
 Writes old file more = Answers (file_call WriteBytes old.contents file.path.key) (λ _. IsWritten file more) old
 
--- nothing is left to be done for the file, and nothing changes
+-- a flush requires that the file exists, and changes no contents
 abbrev pub Flushes : Store → Key → Result (Unit {0}) FsError → Store → Type 0
 Flushes old key = FindsFile Flush old key
 

@@ -1,4 +1,5 @@
--- Locks that stand together (RFC 4918, section 6.2) do so after each call of a lock system, and a lock that is granted and then unlocked leaves the others as they were.
+-- Compatible locks (RFC 4918, section 6.2) stay compatible after each call of a lock system. A lock that is granted and then removed by its token at
+-- its own path leaves the other locks as they were.
 use Rattle.std.proofs.Common.{◌≡◌, ◌∙◌, ℕ, Bool, true, false, cond, not, ◌&&◌, ◌||◌, List, [], ◌∷◌, ◌++◌, map, filter, Option, refl, sym, ap, ap₂, subst}
 use Rattle.std.proofs.lemmas.Bool.{and_parts, and_from, not-true}
 use Rattle.std.proofs.lemmas.List.Folds.{list_all-append, list_all-map}
@@ -22,7 +23,7 @@ all_filtered test kept (lock ∷ locks) h =
     let rest = all_filtered test kept locks both.1 in
     elim (kept lock) as (λ b. list_all test (cond b (lock ∷ filter kept locks) (filter kept locks)) ≡ true) [ true ↦ and_from _ _ both.0 rest | false ↦ rest ]
 
--- where none that is kept passes, the first doesn't, if it is kept, nor do the rest
+-- if no kept lock passes the test, then the first lock, if kept, does not pass it, nor do the rest
 none_kept : (asked : Bool) (test kept : DavLock → Bool) (lock : DavLock) (locks : List DavLock) → (asked && list_any test (filter kept (lock ∷ locks))) ≡ false
     → (((asked && kept lock) && test lock) ≡ false) × ((asked && list_any test (filter kept locks)) ≡ false)
 none_kept false test kept lock locks h = (refl, refl)
@@ -41,7 +42,7 @@ below_itself (segment ∷ key) = and_from _ _ ((bytes_eq-Decides segment segment
 covers_itself : (lock : DavLock) → covers lock lock.path.key ≡ true
 covers_itself lock = elim lock.deep as (λ b. cond b (is_at_or_below lock.path.key lock.path.key) (is_same_key lock.path.key lock.path.key) ≡ true) [ true ↦ below_itself lock.path.key | false ↦ (same_key_decides lock.path.key lock.path.key).1 refl ]
 
--- locks meet where the one covers the other's key or, the other being deep, stands at its key or below it
+-- two locks meet exactly if the first covers the key of the second, or the second is deep and the key of the first is at or below its key
 meet-is : (a b : DavLock) → meet a b ≡ (covers a b.path.key || (b.deep && is_at_or_below a.path.key b.path.key))
 meet-is a b = elim b.deep as (λ d. (covers a b.path.key || cond d (is_at_or_below a.path.key b.path.key) (is_same_key a.path.key b.path.key)) ≡ (covers a b.path.key || (d && is_at_or_below a.path.key b.path.key))) [
   | true ↦ refl
@@ -62,7 +63,7 @@ conflicts-sym a b = turned a.shared b.shared
     turned false true = refl
     turned false false = refl
 
--- what a grant asks of another lock is that both stand together
+-- a lock that does not conflict with another in the two ways that `grants` checks stands together with it
 beside : (lock other : DavLock) → (covers other lock.path.key && conflicts lock other) ≡ false → ((lock.deep && is_at_or_below other.path.key lock.path.key) && conflicts lock other) ≡ false → stand_together other lock ≡ true
 beside lock other above below = ap₂ (λ m c. not (m && c)) (meet-is other lock) (conflicts-sym other lock) ∙ never (covers other lock.path.key) (lock.deep && is_at_or_below other.path.key lock.path.key) (conflicts lock other) above below
   where
@@ -75,7 +76,7 @@ beside lock other above below = ap₂ (λ m c. not (m && c)) (meet-is other lock
 
 -- ---- lists of locks
 
--- the token of a lock that is granted is free, and nothing conflicts with it
+-- the token of a granted lock is not in use, and no lock conflicts with it
 granted_parts : (taken above below : Bool) → (not taken && not above && not below) ≡ true → (taken ≡ false) × (above ≡ false) × (below ≡ false)
 granted_parts true above below e = absurd cc
 granted_parts false true below e = absurd cc
@@ -95,7 +96,7 @@ compatible_push lock (first ∷ locks) each h =
     let both = and_parts (list_all (stand_together first) locks) (are_compatible locks) h in
     and_from _ _ (list_all-append (stand_together first) locks (lock ∷ []) ∙ and_from _ _ both.0 (and_from _ _ one.0 refl)) (compatible_push lock locks one.1 both.1)
 
--- what is left of locks that stand together
+-- compatible locks stay compatible when some are left out
 pub compatible_filtered : (kept : DavLock → Bool) (locks : List DavLock) → AreCompatible locks → AreCompatible (filter kept locks)
 compatible_filtered kept [] h = refl
 compatible_filtered kept (lock ∷ locks) h =
@@ -103,7 +104,7 @@ compatible_filtered kept (lock ∷ locks) h =
     let rest = compatible_filtered kept locks both.1 in
     elim (kept lock) as (λ b. are_compatible (cond b (lock ∷ filter kept locks) (filter kept locks)) ≡ true) [ true ↦ and_from _ _ (all_filtered (stand_together lock) kept locks both.0) rest | false ↦ rest ]
 
--- locks that are changed, but not in what they cover nor in whether they are shared
+-- locks stay compatible after a change that keeps which locks stand together
 compatible-map : (change : DavLock → DavLock) → ((a b : DavLock) → stand_together (change a) (change b) ≡ stand_together a b) → (locks : List DavLock) → are_compatible (map change locks) ≡ are_compatible locks
 compatible-map change same [] = refl
 compatible-map change same (lock ∷ locks) =
@@ -115,7 +116,7 @@ together-refreshed timeout now a b true false = refl
 together-refreshed timeout now a b false true = refl
 together-refreshed timeout now a b false false = refl
 
--- a lock that is granted stands together with the others
+-- a granted lock is compatible with the others
 pub compatible_granted : (lock : DavLock) (locks : List DavLock) → grants locks lock ≡ true → AreCompatible locks → AreCompatible (locks ++ lock ∷ [])
 compatible_granted lock locks granted h =
     let parts = granted_parts (list_any (has_token lock.token) locks) _ _ granted in
@@ -130,7 +131,7 @@ compatible_with_refreshed key token timeout now locks h = compatible-map _ (λ a
 pub compatible_elsewhere : (locks : List DavLock) (key : Key) → AreCompatible locks → AreCompatible (elsewhere locks key)
 compatible_elsewhere locks key h = compatible_filtered (λ lock. not (is_at_or_below lock.path.key key)) locks h
 
--- ---- a lock that is named by its own token at its own path
+-- ---- a lock identified by its own token and path
 
 pub names_itself : (lock : DavLock) → is_named lock.path.key lock.token lock ≡ true
 names_itself lock = and_from _ _ ((bytes_eq-Decides lock.token lock.token).1 refl) (below_itself lock.path.key)
@@ -150,11 +151,11 @@ free_without lock (other ∷ locks) free =
     let rest = without_named lock.path.key lock.token (locks ++ lock ∷ []) in
     ap (λ b. cond (not (b && is_at_or_below lock.path.key other.path.key)) (other ∷ rest) rest) apart.0 ∙ ap (λ more. other ∷ more) (free_without lock locks apart.1)
 
--- its token was free, so no other lock is named
+-- its token was not in use, so no other lock is removed
 pub granted_without : (lock : DavLock) (locks : List DavLock) → grants locks lock ≡ true → without_named lock.path.key lock.token (locks ++ lock ∷ []) ≡ locks
 granted_without lock locks granted = free_without lock locks (granted_parts (list_any (has_token lock.token) locks) _ _ granted).0
 
--- ---- what the calls make of locks that stand together
+-- ---- the calls keep compatible locks compatible
 
 pub compatible_added : (lock : DavLock) (old new : Locks) → AddsLock lock old new → AreCompatible old.list → AreCompatible new.list
 compatible_added lock old new adds h = subst AreCompatible (sym (ap (λ (locks : Locks). locks.list) adds.added)) (compatible_granted lock old.list adds.granted h)

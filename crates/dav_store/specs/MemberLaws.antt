@@ -1,4 +1,4 @@
--- The laws of a directory's members, and of lists in another order: this project's own choice.
+-- The laws of a directory's members, and of permuted lists: this project's own choice.
 use Rattle.std.proofs.Common.{◌≡◌, ◌≢◌, ◌∙◌, ℕ, zero, suc, ◌<◌, ◌-◌, Bool, true, false, List, [], ◌∷◌, length, map, filter_map, get_or, swap, IsPermutation, bytes_eq, is_some, is_lt, Option, Some, None, inl, inr, ⊎_elim, ◌&&◌, ◌||◌, if◌then◌else◌, T, refl, sym, ap, subst, arith}
 use Rattle.std.specs.List.{list_any, cons_option}
 use Rattle.std.specs.Ordering.{eq_by_cmp}
@@ -15,7 +15,7 @@ use Rattle.dav_store.specs.Members.{name_in, members, member, IsIn, AreDistinct}
 
 -- ---- names
 
--- the name of a key that stands directly in the directory
+-- `name_in` gives the name of a member for its key
 pub name_in-member : (directory : Key) (name : List ℕ) → name_in directory (member directory name) ≡ Some name
 name_in-member [] name = refl
 name_in-member (segment ∷ directory) name = ap (λ b. if b then name_in directory (member directory name) else None) ((bytes_eq-Decides segment segment).1 refl) ∙ name_in-member directory name
@@ -36,7 +36,7 @@ member-name_in (segment ∷ directory) (first ∷ key) name is =
 pub parent-below : (segment : List ℕ) (next : List ℕ) (key : Key) → parent (segment ∷ next ∷ key) ≡ segment ∷ parent (next ∷ key)
 parent-below segment next key = let e : length (segment ∷ next ∷ key) - 1 ≡ suc (length (next ∷ key) - 1) = omega arith in rw e refl
 
--- a key but the root's is a member's of its parent
+-- every key except the root's is the key of a member of its parent
 pub member-parent : (segment : List ℕ) (key : Key) → (name : List ℕ) × (segment ∷ key ≡ member (parent (segment ∷ key)) name)
 member-parent segment [] = (segment, refl)
 member-parent segment (next ∷ key) =
@@ -54,7 +54,7 @@ behind : {Y : Type 0} (o : Option Y) (ys : List Y) (y : Y) → IsIn y ys → IsI
 behind None ys y inside = inside
 behind (Some z) ys y inside = inr inside
 
--- what a member of a list gives is in the list of what all give
+-- if `h` gives a value for an element of the list, that value is in the list of all such values
 pub kept_in : {X Y : Type 0} (h : X → Option Y) (xs : List X) (x : X) (y : Y) → h x ≡ Some y → IsIn x xs → IsIn y (filter_map h xs)
 kept_in h [] x y e inside = inside
 kept_in h (z ∷ xs) x y e (inl same) = rw (ap h same ∙ e) (inl refl)
@@ -63,7 +63,7 @@ kept_in h (z ∷ xs) x y e (inr inside) = behind (h z) (filter_map h xs) y (kept
 later : {X Y : Type 0} (h : X → Option Y) (z : X) (xs : List X) (y : Y) → (x : X) × IsIn x xs × (h x ≡ Some y) → (x : X) × IsIn x (z ∷ xs) × (h x ≡ Some y)
 later h z xs y (x, inside, e) = (x, inr inside, e)
 
--- and what is in there is given by a member
+-- each value in that list comes from an element
 pub come_from : {X Y : Type 0} (h : X → Option Y) (xs : List X) (y : Y) → IsIn y (filter_map h xs) → (x : X) × IsIn x xs × (h x ≡ Some y)
 come_from h [] y inside = absurd inside
 come_from {X} {Y} h (z ∷ xs) y inside = first (h z) refl (come_from h xs y) inside
@@ -93,7 +93,7 @@ place_in [] x inside = absurd inside
 place_in (y ∷ xs) x (inl same) = (zero, omega arith, λ d. same)
 place_in (y ∷ xs) x (inr inside) = let p = place_in xs x inside in (suc p.0, omega arith, p.2)
 
--- no element stands at two places
+-- no element is at two positions
 OnePlace : {X : Type 0} → List X → Type 0
 OnePlace {X} xs = (i j : ℕ) (d : X) → i < length xs → j < length xs → get_or xs i d ≡ get_or xs j d → i ≡ j
 
@@ -113,7 +113,7 @@ from_places (x ∷ xs) one = (
   from_places xs (λ i j d li lj e. let same : suc i ≡ suc j = one (suc i) (suc j) d (omega arith) (omega arith) e in omega arith),
 )
 
--- where a place went when a and b changed places
+-- the position in the first list of the element that is at position p once positions a and b are swapped
 went : {X : Type 0} (f g : ℕ → X) (a b n : ℕ) → Swapped f g a b → a < n → b < n → (p : ℕ) → p < n → (s : ℕ) × (s < n) × (g p ≡ f s) × (p ≡ a → s ≡ b) × (p ≡ b → s ≡ a) × ((p ≡ a → ⊥) → (p ≡ b → ⊥) → s ≡ p)
 went f g a b n sw la lb p lp = ⊎_elim
     (λ ea. (b, lb, ap g ea ∙ sw.0, (λ _. refl), (λ eb. omega arith), (λ u v. absurd (u ea))))
@@ -174,14 +174,14 @@ some_is : (o : Option Node) → o ≢ None → is_some o ≡ true
 some_is None some = absurd (some refl)
 some_is (Some node) some = refl
 
--- each member's key has something
+-- something exists at each member's key
 pub members_there : (tree : Tree) (directory : Key) (name : List ℕ) → IsIn name (members tree directory) → get tree (member directory name) ≢ None
 members_there tree directory name inside =
     let (key, at, named) = come_from (name_in directory) (keys tree) name inside in
     let key_is = member-name_in directory key name named in
     something (get tree (member directory name)) (contains_key-keys tree (member directory name) ∙ in_found (keys tree) (member directory name) (subst (λ k. IsIn k (keys tree)) key_is at))
 
--- what stands directly in the directory is a member
+-- whatever exists directly in the directory is a member
 pub there_members : (tree : Tree) (directory : Key) (name : List ℕ) → get tree (member directory name) ≢ None → IsIn name (members tree directory)
 there_members tree directory name some =
     kept_in (name_in directory) (keys tree) (member directory name) name (name_in-member directory name)
@@ -203,7 +203,7 @@ sorted_apart : {X : Type 0} (es : List (Key × X)) → T (is_sorted key_cmp es) 
 sorted_apart [] h = tt
 sorted_apart (e ∷ es) h = let p = both (below_all key_cmp e.0 es) _ h in (below_others e.0 es p.0, sorted_apart es p.1)
 
--- no member stands twice
+-- no member occurs twice
 pub members_distinct : (tree : Tree) (directory : Key) → AreDistinct (members tree directory)
 members_distinct tree directory =
     kept_apart (name_in directory) (λ x z name ex ez. member-name_in directory x name ex ∙ sym (member-name_in directory z name ez))
@@ -213,6 +213,6 @@ nothing_in : {X : Type 0} (xs : List X) → ((x : X) → IsIn x xs → ⊥) → 
 nothing_in [] none = refl
 nothing_in (x ∷ xs) none = absurd (none x (inl refl))
 
--- a directory below which nothing stands has no members
+-- a directory with nothing directly in it has no members
 pub no_members : (tree : Tree) (directory : Key) → ((name : List ℕ) → get tree (member directory name) ≡ None) → members tree directory ≡ []
 no_members tree directory none = nothing_in (members tree directory) (λ name inside. members_there tree directory name inside (none name))

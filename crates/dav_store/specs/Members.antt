@@ -1,4 +1,4 @@
--- What the calls of a store do that list a directory, or remove what stands at a key (RFC 4918, sections 5.2 and 9.6).
+-- The calls of a store that list a directory, or remove a file or a directory (RFC 4918, sections 5.2 and 9.6).
 use Rattle.std.specs.Prelude.{◌≡◌, ℕ, if◌then◌else◌, bytes_eq, List, [], ◌∷◌, ◌++◌, map, filter_map, Option, Some, None, Result, Ok, Err, Vec, ◌⊎◌, IfOk, IfErr, IsPermutation}
 use Rattle.std.specs.declared.alloc.Global.{Global}
 use Rattle.std.specs.FinMap.{get, remove, keys}
@@ -14,7 +14,7 @@ use Rattle.dav_store.specs.Calls.{Call, record_of, IsOwn, Answers, Declines, lim
 
 -- ---- members
 
--- the last segment of a key that stands directly in a directory
+-- the last segment of a key that is directly in a directory
 abbrev pub name_in : Key → Key → Option (List ℕ)
 name_in [] [] = None
 name_in [] (name ∷ []) = Some name
@@ -22,7 +22,7 @@ name_in [] (name ∷ next ∷ key) = None
 name_in (segment ∷ directory) [] = None
 name_in (segment ∷ directory) (first ∷ key) = if bytes_eq segment first then name_in directory key else None
 
--- the names of its members, in ascending order
+-- the names of the directory's members, in ascending order
 abbrev pub members : Tree → Key → List (List ℕ)
 members tree directory = filter_map (name_in directory) (keys tree)
 
@@ -32,7 +32,7 @@ member directory name = directory ++ name ∷ []
 
 -- ---- remove_file
 
--- a file has to be there
+-- a file must exist at the key
 abbrev pub remove_file_bar : Option Node → Option FsError
 remove_file_bar None = Some NotFound
 remove_file_bar (Some Directory) = Some Forbidden
@@ -41,7 +41,7 @@ remove_file_bar (Some (File bytes)) = None
 abbrev pub remove_file_call : Contents → Key → Call
 remove_file_call old key = record { op = RemoveFile; keys = key ∷ []; bar = remove_file_bar (get old.tree key) }
 
--- what stood at the key is gone, with its properties
+-- the file or directory at the key is removed, with its properties
 pub record IsRemovedAt (key : Key) (old new : Contents) : Type 0 where
   pub tree : new.tree ≡ remove old.tree key
   pub properties : new.properties ≡ remove old.properties key
@@ -52,7 +52,7 @@ RemovesFile old key = Answers (remove_file_call old.contents key) (λ _. IsRemov
 
 -- ---- remove_dir
 
--- a directory without members has to be there, and not the root
+-- a directory without members must exist at the key, and it must not be the root
 abbrev pub remove_dir_bar : Key → Option Node → List (List ℕ) → Option FsError
 remove_dir_bar key None names = Some NotFound
 remove_dir_bar key (Some (File bytes)) names = Some Forbidden
@@ -68,7 +68,7 @@ RemovesDir old key = Answers (remove_dir_call old.contents key) (λ _. IsRemoved
 
 -- ---- read_dir
 
--- a directory has to be there
+-- a directory must exist at the key
 abbrev pub read_dir_bar : Option Node → Option FsError
 read_dir_bar None = Some NotFound
 read_dir_bar (Some (File bytes)) = Some Forbidden
@@ -77,39 +77,39 @@ read_dir_bar (Some Directory) = None
 abbrev pub read_dir_call : Contents → Key → Call
 read_dir_call old key = record { op = ReadDir; keys = key ∷ []; bar = read_dir_bar (get old.tree key) }
 
--- a member by its name, and what a listing shows of it: an entry, or the store's refusal to show it
+-- a member: its name, and its item in a listing, which is an entry or the error with which the store does not list it
 abbrev pub Child : Type 0
 Child = List ℕ × Result DirEntry FsError
 
 abbrev pub names_of : List Child → List (List ℕ)
 names_of children = map (λ c. c.0) children
 
--- one of the list
+-- the list has this element
 abbrev pub IsIn : {X : Type 0} → X → List X → Type 0
 IsIn x [] = ⊥
 IsIn x (y ∷ ys) = (y ≡ x) ⊎ IsIn x ys
 
--- none of the list twice
+-- the list has no element twice
 abbrev pub AreDistinct : {X : Type 0} → List X → Type 0
 AreDistinct [] = Unit {0}
 AreDistinct (x ∷ xs) = (IsIn x xs → ⊥) × AreDistinct xs
 
--- the entry has the member's name and metadata; a refusal is one of the store's own
+-- an entry has the member's name and metadata; an error is one that the store may return for its own reasons
 abbrev pub IsShownAs : Contents → Key → Child → Type 0
 IsShownAs old directory (name, Ok entry) = (entry.name ≡ name) × (old.metas (member directory name) ≡ Some entry.meta)
 IsShownAs old directory (name, Err e) = IsOwn e
 
--- each member once, in some order
+-- each member once, in any order
 pub record AreChildren (old : Contents) (directory : Key) (children : List Child) : Type 0 where
   pub each_once : IsPermutation (members old.tree directory) (names_of children)
   pub shown : (c : Child) → IsIn c children → IsShownAs old directory c
 
--- a member that isn't shown leaves a record
+-- the record of a member that is not listed
 abbrev pub unseen_record : Key → Child → Option Logged
 unseen_record directory (name, Ok entry) = None
 unseen_record directory (name, Err e) = Some (logged Entry (member directory name ∷ []) (Refused e))
 
--- the listing shows the members; their records follow that of the call, in the listing's order, and nothing else changes
+-- the members are listed; the records of those not listed follow the record of the call, in the order of the listing; nothing else changes
 pub record Lists (directory : Key) (old : Store) (listing : List (Result DirEntry FsError)) (new : Store) : Type 0 where
   pub allowed : read_dir_bar (get old.contents.tree directory) ≡ None
   pub children : List Child
@@ -119,7 +119,7 @@ pub record Lists (directory : Key) (old : Store) (listing : List (Result DirEntr
   pub told : new.log ≡ old.log ++ record_of (read_dir_call old.contents directory) Granted ∷ filter_map (unseen_record directory) children
   pub fixed : new.keeps_properties ≡ old.keeps_properties
 
--- the directory is listed, or the call is declined, or had no memory, and then nothing happened
+-- the directory is listed, or the call is declined, or memory runs out and nothing changes
 pub record ReadsDir (old : Store) (directory : Key) (answer : Result (Vec (Result DirEntry FsError) Global) FsError) (new : Store) : Type 0 where
   pub granted : IfOk answer (λ listing. Lists directory old listing.items new)
   pub declined : IfErr answer (λ e. ((e ≡ Memory) × (new ≡ old)) ⊎ Declines (read_dir_call old.contents directory) e old new)

@@ -1,4 +1,4 @@
--- What the calls of a store do that read or change dead properties (RFC 4918, sections 4.2 and 9.2), or tell the quota (RFC 4331).
+-- The calls of a store that read or change dead properties (RFC 4918, sections 4.2 and 9.2), or return the quota (RFC 4331).
 use Rattle.std.specs.Prelude.{◌≡◌, ◌≢◌, ℕ, ◌==◌, Bool, true, false, if◌then◌else◌, List, [], ◌∷◌, ◌++◌, map, length, replicate, Option, Some, None, IsSome, Result, Vec, ◌⊎◌, IfOk, IfErr, IsPermutation}
 use Rattle.std.specs.declared.alloc.Global.{Global}
 use Rattle.std.specs.List.{fold}
@@ -17,17 +17,17 @@ use Rattle.dav_store.specs.Logged.{Logged}
 use Rattle.dav_store.specs.Store.{Store, Contents, Node, PropertyMap, Quota, property_key}
 use Rattle.dav_store.specs.Calls.{Call, Answers, Declines, limit_of}
 
--- a property's name, as a key
+-- the name of a property, as a key
 abbrev pub name_of : DavProp → Key
 name_of prop = property_key prop.namespace prop.name
 
--- the properties of a key
+-- the dead properties at a key
 abbrev pub properties_at : Contents → Key → PropertyMap
 properties_at contents key = unwrap_or (get contents.properties key) empty
 
 -- ---- get_prop
 
--- the property has to be there
+-- the property must exist
 abbrev pub get_prop_bar : Option elements.Tree → Option FsError
 get_prop_bar (Some element) = None
 get_prop_bar None = Some NotFound
@@ -35,7 +35,7 @@ get_prop_bar None = Some NotFound
 abbrev pub get_prop_call : Contents → Key → Key → Call
 get_prop_call old key name = record { op = GetProp; keys = key ∷ []; bar = get_prop_bar (get (properties_at old key) name) }
 
--- its element, and nothing changes
+-- the result is the property's element, and the contents stay the same
 pub record IsPropertyAt (key name : Key) (element : elements.Tree) (old new : Contents) : Type 0 where
   pub answer : get (properties_at old key) name ≡ Some element
   pub same : new ≡ old
@@ -45,7 +45,7 @@ GetsProp old key name = Answers (get_prop_call old.contents key name) (IsPropert
 
 -- ---- get_props
 
--- something has to be there, and the store has to keep properties
+-- the store must support dead properties, and something must exist at the key
 abbrev pub properties_bar : Bool → Option Node → Option FsError
 properties_bar false there = Some NotFound
 properties_bar true None = Some NotFound
@@ -54,15 +54,15 @@ properties_bar true (Some node) = None
 abbrev pub get_props_call : Store → Key → Call
 get_props_call old key = record { op = GetProps; keys = key ∷ []; bar = properties_bar old.keeps_properties (get old.contents.tree key) }
 
--- a property's name and element
+-- the name and the element of a property
 abbrev pub named_element : DavProp → Key × Option elements.Tree
 named_element prop = (name_of prop, prop.element)
 
--- each has its element's prefix
+-- each property has an element, and has the prefix of that element
 abbrev pub HavePrefixes : List DavProp → Type 0
 HavePrefixes props = map (λ (p : DavProp). Some p.prefix) props ≡ map (λ (p : DavProp). option_map (λ (e : elements.Tree). e.tag.prefix) p.element) props
 
--- each property once with its element and that one's prefix, in some order, and nothing changes
+-- each property once, with its element and the prefix of that, in any order; the contents stay the same
 pub record ArePropertiesAt (key : Key) (props : List DavProp) (old new : Contents) : Type 0 where
   pub each_once : IsPermutation (map (λ e. (e.0, Some e.1)) (entries (properties_at old key))) (map named_element props)
   pub prefixes : HavePrefixes props
@@ -73,16 +73,16 @@ GetsProps old key = Answers (get_props_call old key) (λ props. ArePropertiesAt 
 
 -- ---- patch_props
 
--- a property that is to be set, or to be removed
+-- a property to set (`true`) or to remove (`false`)
 abbrev pub Patch : Type 0
 Patch = Bool × DavProp
 
--- what is to be set has an element
+-- a property to set has an element
 abbrev pub IsWhole : Patch → Type 0
 IsWhole (true, prop) = IsSome prop.element
 IsWhole (false, prop) = Unit {0}
 
--- the properties after one change, and after all of them in order
+-- the properties after one change, and after all changes in order
 abbrev pub patch : PropertyMap → Patch → PropertyMap
 patch properties (true, prop) = put_at properties (name_of prop) prop.element
 patch properties (false, prop) = remove properties (name_of prop)
@@ -90,14 +90,14 @@ patch properties (false, prop) = remove properties (name_of prop)
 abbrev pub patched : List Patch → PropertyMap → PropertyMap
 patched patches properties = fold patch properties patches
 
--- no properties are no map of them
+-- no map, if there are no properties
 abbrev pub some_properties : PropertyMap → Option PropertyMap
 some_properties properties = if len properties == 0 then None else Some properties
 
 abbrev pub patch_props_call : Store → Key → Call
 patch_props_call old key = record { op = PatchProps; keys = key ∷ []; bar = properties_bar old.keeps_properties (get old.contents.tree key) }
 
--- the record of a call that answered statuses
+-- the record of a call that returned statuses
 abbrev pub patch_record : Key → Outcome → List ℕ → Logged
 patch_record key outcome statuses = record { op = PatchProps; keys = key ∷ []; outcome = outcome; statuses = statuses }
 
@@ -107,7 +107,7 @@ pub record IsPatchedAt (key : Key) (patches : List Patch) (old new : Contents) :
   pub properties : new.properties ≡ put_at old.properties key (some_properties (patched patches (properties_at old key)))
   pub limit : limit_of new ≡ limit_of old
 
--- each change is answered 200, and all are made
+-- all changes are made, and each status is 200
 pub record Patches (key : Key) (patches : List Patch) (statuses : List ℕ) (old new : Store) : Type 0 where
   pub allowed : (patch_props_call old key).bar ≡ None
   pub answered : statuses ≡ replicate (length patches) 200
@@ -115,7 +115,7 @@ pub record Patches (key : Key) (patches : List Patch) (statuses : List ℕ) (old
   pub told : new.log ≡ old.log ++ patch_record key Granted statuses ∷ []
   pub fixed : new.keeps_properties ≡ old.keeps_properties
 
--- each change is answered, not all with 200, and none is made
+-- no change is made; there is a status for each, and not all are 200
 pub record DropsPatches (key : Key) (patches : List Patch) (statuses : List ℕ) (old new : Store) : Type 0 where
   pub answered : length statuses ≡ length patches
   pub not_all : statuses ≢ replicate (length patches) 200
@@ -123,14 +123,14 @@ pub record DropsPatches (key : Key) (patches : List Patch) (statuses : List ℕ)
   pub told : new.log ≡ old.log ++ patch_record key (Refused GeneralFailure) statuses ∷ []
   pub fixed : new.keeps_properties ≡ old.keeps_properties
 
--- all changes are made or none, with a status for each; or the call is declined, or had no memory, and then nothing happened
+-- all changes are made or none, with a status for each; or the call is declined, or memory runs out and nothing changes
 pub record PatchesProps (old : Store) (key : Key) (patches : List Patch) (answer : Result (Vec ℕ Global) FsError) (new : Store) : Type 0 where
   pub granted : IfOk answer (λ statuses. Patches key patches statuses.items old new ⊎ DropsPatches key patches statuses.items old new)
   pub declined : IfErr answer (λ e. ((e ≡ Memory) × (new ≡ old)) ⊎ Declines (patch_props_call old key) e old new)
 
 -- ---- get_quota
 
--- there has to be a quota
+-- the store must have a quota
 abbrev pub get_quota_bar : Option Quota → Option FsError
 get_quota_bar None = Some NotImplemented
 get_quota_bar (Some quota) = None
@@ -138,7 +138,7 @@ get_quota_bar (Some quota) = None
 abbrev pub get_quota_call : Contents → Call
 get_quota_call old = record { op = GetQuota; keys = []; bar = get_quota_bar old.quota }
 
--- how many bytes are used, and how many there are, where there is a limit
+-- the result is the number of used bytes and, if there is a limit, the total number of bytes
 pub record IsQuota (answer : ℕ × Option ℕ) (old new : Contents) : Type 0 where
   pub answer_is : old.quota ≡ Some (record { used = answer.0; total = answer.1 })
   pub same : new ≡ old

@@ -1,4 +1,4 @@
--- What contracts see of a store (RFC 4918, section 5): a tree of resources with their properties, and a log.
+-- What contracts see of a store (RFC 4918, section 5): a tree of files and directories with their properties, and a log.
 use Rattle.std.specs.Prelude.{◌≡◌, ◌≢◌, ◌&&◌, not, nat_eq, nat_le, ℕ, Bool, true, false, IsTrue, List, [], ◌∷◌, length, Option, Some, None}
 use Rattle.std.specs.List.{list_all}
 use Rattle.std.specs.Option.{ForSome}
@@ -9,7 +9,7 @@ use Rattle.dav_resource.specs.Tree as elements
 use Rattle.dav_resource.specs.declared.meta.Meta.{Meta}
 use Rattle.dav_store.specs.Logged.{Logged}
 
--- what stands at a key
+-- a file with its bytes, or a directory
 pub data Node : Type 0 where
   File : List ℕ → Node
   Directory : Node
@@ -17,54 +17,55 @@ pub data Node : Type 0 where
 abbrev pub Tree : Type 0
 Tree = FinMap key_cmp Node
 
--- a property's name, as a key: without namespace first, then by namespace, then by name
+-- the name of a property, as a key: properties without a namespace sort first, then by namespace, then by name
 abbrev pub property_key : Option (List ℕ) → List ℕ → Key
 property_key None name = [] ∷ name ∷ []
 property_key (Some namespace) name = (1 ∷ namespace) ∷ name ∷ []
 
--- dead properties (RFC 4918, section 4.2): elements by the properties' names
+-- dead properties (RFC 4918, section 4.2): their elements, by the names of the properties
 abbrev pub PropertyMap : Type 0
 PropertyMap = FinMap key_cmp elements.Tree
 
--- those of each key that has some
+-- the dead properties of each key that has some
 abbrev pub Properties : Type 0
 Properties = FinMap key_cmp PropertyMap
 
--- how many bytes are used, and how many there are, where there is a limit (RFC 4331)
+-- the number of used bytes and, if there is a limit, the total number of bytes (RFC 4331)
 pub record Quota : Type 0 where
   pub used : ℕ
   pub total : Option ℕ
 
--- what a store holds
+-- what a store contains
 pub record Contents : Type 0 where
   pub tree : Tree
   pub properties : Properties
   pub metas : Key → Option Meta
   pub quota : Option Quota
 
--- what it holds, whether it keeps properties at all, and the records of the calls so far, the oldest first
+-- its contents, whether it supports dead properties, and its log, the oldest record first
 pub record Store : Type 0 where
   pub contents : Contents
   pub keeps_properties : Bool
   pub log : List Logged
 
--- ---- what always holds
+-- ---- invariants
 
--- a byte of an entity tag's text (RFC 7232, section 2.3): visible ASCII but the quote
+-- a byte of an entity tag between its quotes (RFC 7232, section 2.3): visible ASCII except the quote
 abbrev pub is_tag_byte : ℕ → Bool
 is_tag_byte b = nat_le 33 b && nat_le b 126 && not (nat_eq b 34)
 
 abbrev pub IsTagText : List ℕ → Type 0
 IsTagText bytes = IsTrue (list_all is_tag_byte bytes)
 
--- the metadata says what stands there
+-- there is metadata exactly if something exists; it has the right kind and, for a file, the right length; its entity tag has only the bytes above
 abbrev pub MetaFits : Option Node → Option Meta → Type 0
 MetaFits None meta = meta ≡ None
 MetaFits (Some node) None = ⊥
 MetaFits (Some Directory) (Some meta) = (meta.dir ≡ true) × ForSome meta.etag IsTagText
 MetaFits (Some (File bytes)) (Some meta) = (meta.dir ≡ false) × (meta.len ≡ length bytes) × ForSome meta.etag IsTagText
 
--- the root is a directory, and so is the parent of each other key; properties stand on what is there, and no key has an empty map of them
+-- the root is a directory, and so is the parent of each other key at which something exists; only such keys have properties, and no key has an empty
+-- map of them; the metadata fits the tree
 pub record IsWellFormed (contents : Contents) : Type 0 where
   pub root : get contents.tree [] ≡ Some Directory
   pub parents : (key : Key) → get contents.tree key ≢ None → get contents.tree (parent key) ≡ Some Directory

@@ -1,4 +1,4 @@
--- What the calls of a store do that copy a file, or rename what stands at a key (RFC 4918, sections 9.8 and 9.9).
+-- The calls of a store that copy a file, or rename a file or a directory (RFC 4918, sections 9.8 and 9.9).
 use Rattle.std.specs.Prelude.{◌≡◌, false, if◌then◌else◌, [], ◌∷◌, ◌++◌, Option, Some, None, Result}
 use Rattle.std.specs.FinMap.{FinMap, get, insert}
 use Rattle.dav_resource.specs.Key.{Key, key_cmp, parent}
@@ -11,7 +11,7 @@ use Rattle.dav_store.specs.Calls.{Call, Answers, limit_of, bytes_at, create_dir_
 
 -- ---- copy
 
--- a file is copied, below a directory, to where a file or nothing is
+-- a file is copied into a directory, to a key where a file or nothing exists
 abbrev pub copy_bar : Option Node → Option Node → Option Node → Option FsError
 copy_bar None there above = Some NotFound
 copy_bar (Some node) there None = Some NotFound
@@ -24,7 +24,7 @@ copy_bar (Some (File bytes)) None (Some Directory) = None
 abbrev pub copy_call : Contents → Key → Key → Call
 copy_call old from to = record { op = Copy; keys = from ∷ to ∷ []; bar = copy_bar (get old.tree from) (get old.tree to) (get old.tree (parent to)) }
 
--- a file has the bytes of the other, and exactly its properties
+-- the copy has the bytes of the other file, and exactly its properties
 pub record IsCopiedTo (from to : Key) (old new : Contents) : Type 0 where
   pub tree : new.tree ≡ insert old.tree to (File (bytes_at (get old.tree from)))
   pub properties : new.properties ≡ put_at old.properties to (get old.properties from)
@@ -35,7 +35,7 @@ Copies old from to = Answers (copy_call old.contents from to) (λ _. IsCopiedTo 
 
 -- ---- rename
 
--- what is there and isn't the root goes to where a directory may be made, but not to a place below itself
+-- whatever exists at a key other than the root may be renamed, to a key at which a directory may be created and which is not below the old one
 abbrev pub rename_bar : Key → Key → Option Node → Option Node → Option Node → Option FsError
 rename_bar from to None there above = Some NotFound
 rename_bar [] to (Some node) there above = Some Forbidden
@@ -44,13 +44,13 @@ rename_bar (segment ∷ from) to (Some node) there above = if is_below to (segme
 abbrev pub rename_call : Contents → Key → Key → Call
 rename_call old from to = record { op = Rename; keys = from ∷ to ∷ []; bar = rename_bar from to (get old.tree from) (get old.tree to) (get old.tree (parent to)) }
 
--- what stood at a key and below it stands at another and below that, and nothing else changes
+-- what was at or below the one key is now at or below the other, and nothing is left at or below the one; values at all other keys stay the same
 pub record IsMoved {X : Type 0} (from to : Key) (old new : FinMap key_cmp X) : Type 0 where
   pub moved : (below : Key) → get new (to ++ below) ≡ get old (from ++ below)
   pub gone : (below : Key) → get new (from ++ below) ≡ None
   pub rest : (key : Key) → is_at_or_below key from ≡ false → is_at_or_below key to ≡ false → get new key ≡ get old key
 
--- with the properties
+-- the tree and the properties are moved
 pub record IsRenamedTo (from to : Key) (old new : Contents) : Type 0 where
   pub tree : IsMoved from to old.tree new.tree
   pub properties : IsMoved from to old.properties new.properties

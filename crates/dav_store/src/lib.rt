@@ -1,4 +1,4 @@
-//! What a store and a lock system promise the engine.
+//! The contracts that a store and a lock system fulfil for the engine.
 #![tactic(auto)]
 
 mod lock;

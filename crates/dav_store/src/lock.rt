@@ -9,29 +9,29 @@ use dav_resource::{DavPath, Element, Text};
 use std::alloc::{AllocError, AllocFailed};
 use thiserror::Error;
 
-/// A write lock (RFC 4918, section 7), which covers its path's key and, where it is deep, all keys below.
+/// A write lock (RFC 4918, section 7). It covers the key of its path and, if it is deep, all keys below that.
 #[derive(Drop, Debug)]
 pub struct DavLock {
     /// The lock token (RFC 4918, section 6.5).
     pub token: Text,
     /// The path that was locked (RFC 4918, section 14.12).
     pub path: DavPath,
-    /// Who locked it, where that is known.
+    /// The principal that created the lock, if it is known.
     pub principal: Option<Text>,
-    /// What the client said of who holds it (RFC 4918, section 14.17).
+    /// The `owner` element, with what the client says about the lock's creator (RFC 4918, section 14.17).
     pub owner: Option<Element>,
-    /// How long it was asked for, in seconds (RFC 4918, section 10.7); none is without end.
+    /// The timeout in seconds (RFC 4918, section 10.7). `None` means no timeout.
     pub timeout: Option<u64>,
-    /// When that time has passed, in whole seconds since 1970, at most the greatest `u64`.
+    /// When the timeout ends, in whole seconds since 1970 and at most `u64::MAX`.
     pub timeout_at: Option<u64>,
-    /// Whether others may hold shared locks too (RFC 4918, section 6.2).
+    /// Whether the lock is shared, which allows other shared locks beside it (RFC 4918, section 6.2).
     pub shared: bool,
-    /// Whether it covers all keys below (RFC 4918, section 7.4).
+    /// Whether the lock also covers all keys below its own (RFC 4918, section 7.4).
     pub deep: bool,
 }
 
 impl DavLock {
-    /// A value of the same contents. Only memory can be lacking.
+    /// Returns a copy of the lock. Fails only if memory runs out.
     pub fn clone(&self) -> Result<DavLock, AllocError>
         ensures { IfOk result (λ copy. copy ≡ self.now) }
     {
@@ -47,7 +47,7 @@ impl DavLock {
         })
     }
 
-    /// Whether it covers what stands at the path.
+    /// Whether the lock covers the path.
     pub fn covers(&self, path: &DavPath) -> bool
         ensures { result ≡ covers self.now path.now.key }
     {
@@ -58,14 +58,15 @@ impl DavLock {
         }
     }
 
-    /// Whether its own path is at this one or below it.
+    /// Whether the lock's own path is at or below this path.
     pub fn is_at_or_below(&self, path: &DavPath) -> bool
         ensures { result ≡ is_at_or_below self.now.path.key path.now.key }
     {
         self.path.is_at_or_below(path)
     }
 
-    /// Whether its token is among these and, unless that is ignored, its principal is this one.
+    /// Whether the lock's token is one of these and its principal is this one. With `ignore_principal` the
+    /// token suffices.
     pub fn is_submitted(
         &self,
         principal: Option<&str>,
@@ -77,7 +78,7 @@ impl DavLock {
         self.is_among(tokens) && (ignore_principal || is_text(self.principal.as_ref(), principal))
     }
 
-    /// Whether its token is among these.
+    /// Whether the lock's token is one of these.
     fn is_among(&self, tokens: &[Text]) -> bool
         ensures { result ≡ list_any (bytes_eq self.now.token) tokens.now }
     {
@@ -86,28 +87,28 @@ impl DavLock {
             .any(|token| self.token.as_str() == token.as_str())
     }
 
-    /// Whether it can't stand beside the other.
+    /// Whether the two locks conflict: they do unless both are shared.
     pub fn conflicts(&self, other: &DavLock) -> bool
         ensures { result ≡ conflicts self.now other.now }
     {
         !(self.shared && other.shared)
     }
 
-    /// Whether it has this token.
+    /// Whether the lock has this token.
     pub fn has_token(&self, token: &str) -> bool
         ensures { result ≡ has_token token.now self.now }
     {
         token == self.token.as_str()
     }
 
-    /// Whether it has this token and stands at the path or above it.
+    /// Whether the lock has this token and its own path is this path or above it.
     pub fn is_named(&self, path: &DavPath, token: &str) -> bool
         ensures { result ≡ is_named path.now.key token.now self.now }
     {
         self.has_token(token) && path.is_at_or_below(&self.path)
     }
 
-    /// Gives it a timeout that begins now.
+    /// Gives the lock a timeout that begins at `now`.
     pub fn refresh(&mut self, timeout: Option<u64>, now: u64)
         ensures { self.new ≡ refreshed timeout now self.old }
     {
@@ -116,14 +117,14 @@ impl DavLock {
     }
 }
 
-/// When a timeout that begins now has passed.
+/// Returns when a timeout that begins at `now` ends, at most `u64::MAX`. Without a timeout it returns `None`.
 pub fn timeout_end(now: u64, timeout: Option<u64>) -> Option<u64>
     ensures { result ≡ timeout_end now timeout }
 {
     timeout.map(|seconds| now.saturating_add(seconds))
 }
 
-/// Whether both are none, or one text.
+/// Whether both are `None`, or both are the same string.
 fn is_text(text: Option<&Text>, other: Option<&str>) -> bool
     ensures { result ≡ option_eq bytes_eq (option_copied text.entry) (option_copied other.entry) }
 {
@@ -134,7 +135,7 @@ fn is_text(text: Option<&Text>, other: Option<&str>) -> bool
     }
 }
 
-/// The same principal again, where there is one.
+/// Returns a copy of the principal, if there is one. Fails only if memory runs out.
 fn clone_principal(principal: Option<&Text>) -> Result<Option<Text>, AllocError>
     ensures { IfOk result (λ copy. copy ≡ option_copied principal.entry) }
 {
@@ -144,7 +145,7 @@ fn clone_principal(principal: Option<&Text>) -> Result<Option<Text>, AllocError>
     }
 }
 
-/// The same owner again, where there is one.
+/// Returns a copy of the owner, if there is one. Fails only if memory runs out.
 pub fn clone_owner(owner: Option<&Element>) -> Result<Option<Element>, AllocError>
     ensures { IfOk result (λ copy. copy ≡ option_copied owner.entry) }
 {
@@ -154,24 +155,24 @@ pub fn clone_owner(owner: Option<&Element>) -> Result<Option<Element>, AllocErro
     }
 }
 
-/// Why a lock system refused a call.
+/// Why a call of a lock system failed.
 #[derive(Clone, Copy, Debug, PartialEq, Eq, Error)]
 pub enum LockError {
-    /// Another lock stands against it, or has the token already.
+    /// The lock conflicts with another one, or its token is in use.
     #[error("a lock conflicts")]
     Conflict,
-    /// No lock there has the token.
+    /// No lock at or above the path has the token.
     #[error("no such lock")]
     NotFound,
     /// The lock system failed.
     #[error("the lock system failed")]
     Failed,
-    /// Memory was lacking, and nothing happened.
+    /// Memory ran out, and nothing changed.
     #[error("out of memory")]
     Memory,
 }
 
-/// Want of memory.
+/// A failed allocation becomes `LockError::Memory`.
 impl From<AllocError> for LockError {
     ghost use Rattle.dav_store.specs.declared.lock.LockError.TheVariants.{Memory};
 
@@ -182,7 +183,7 @@ impl From<AllocError> for LockError {
     }
 }
 
-/// Want of memory.
+/// A failed allocation becomes `LockError::Memory`.
 impl<T: Drop> From<AllocFailed<T>> for LockError {
     ghost use Rattle.dav_store.specs.declared.lock.LockError.TheVariants.{Memory};
 

@@ -7,18 +7,27 @@ ghost use Rattle.dav_store.specs.LockCalls.{HasDistinctTokens, asked_lock, AddsL
 use crate::{DavLock, LockError};
 use dav_resource::{DavPath, Element, Items, Text};
 
-/// A list of locks with distinct tokens (RFC 4918, section 6), the oldest first.
+/// A lock system: a list of locks with distinct tokens (RFC 4918, section 6), the oldest first.
 ///
-/// No lock ends by itself. A call that answers an error changes nothing, and no call changes whether the
-/// lock system is dependable: one that is doesn't fail to remove a lock.
+/// Locks do not expire. A lock stays, also after its timeout, until a call removes it. A call that returns an
+/// error changes nothing.
+///
+/// A lock system is reliable (`dependable` in the contracts) or not, and no call changes that. A reliable one
+/// never fails to remove a lock that exists: `unlock` returns an error only if there is no such lock, and
+/// `delete` always succeeds.
 pub trait DavLockSystem {
-    /// The locks, and whether the lock system is dependable.
+    /// What the contracts see of the lock system: its locks, and whether it is reliable.
     ghost seen: { Self → Locks };
 
-    /// Whether the locks let a request at this path go on, that hands in these tokens in the name of this
-    /// principal (RFC 4918, section 7). A lock is submitted where its token is handed in and, unless the
-    /// principal is ignored, its principal is this one. Each exclusive lock that covers the path has to be
-    /// submitted and, where any lock covers it, one; for a deep request each lock at or below the path too.
+    /// Whether the locks allow a request at this path that submits these tokens as this principal (RFC 4918,
+    /// section 7).
+    ///
+    /// A lock is submitted if its token is one of these and its principal is this one (or both are `None`).
+    /// With `ignore_principal` the token suffices. The request is allowed if all of these conditions are met:
+    ///
+    /// - Each exclusive lock that covers the path is submitted.
+    /// - If any lock covers the path, at least one lock that covers it is submitted.
+    /// - If the request is deep, each lock at or below the path is submitted, shared or exclusive.
     fn check(
         &self,
         path: &DavPath,
@@ -29,10 +38,13 @@ pub trait DavLockSystem {
     ) -> bool
         ensures { result ≡ permits (seen self.now).list path.now.key (option_copied principal.entry) ignore_principal deep tokens.now };
 
-    /// Grants a lock, and answers a copy of it (RFC 4918, section 9.10). The timeout is in seconds, and the
-    /// moment in whole seconds since 1970. `Conflict`: the token is in use, or a lock that covers the path
-    /// conflicts or, for a deep one, a lock at or below it; two conflict unless both are shared. Else only
-    /// memory can be lacking (`Memory`).
+    /// Grants a lock and returns a copy of it (RFC 4918, section 9.10). The timeout is in seconds, and `now`
+    /// is in whole seconds since 1970. The lock has the values passed here, and `timeout_at` is as
+    /// `timeout_end` computes it. It is added at the end of the list.
+    ///
+    /// `Conflict`: the token is in use, or the lock conflicts with a lock that covers its path or, if it is
+    /// deep, with a lock at or below its path. Two locks conflict unless both are shared. The only other
+    /// error is `Memory`.
     fn lock(
         &mut self,
         path: &DavPath,
@@ -49,16 +61,20 @@ pub trait DavLockSystem {
         ensures err { OnErr result (seen self.new ≡ seen self.old) }
         ensures cause { IfErr result (RefusesLock (seen self.old) (asked_lock path.now (option_copied principal.entry) (option_copied owner.entry) timeout shared deep token.now now)) };
 
-    /// Removes the lock with this token, whose path is at the given one or above it (RFC 4918, section
-    /// 9.11), whether or not it is deep. `NotFound`: there is none. `Failed`: the lock system isn't
-    /// dependable, or there is none.
+    /// Removes the lock with this token, if its path is this path or above it (RFC 4918, section 9.11). The
+    /// lock need not be deep.
+    ///
+    /// `NotFound`: there is no such lock. `Failed`: the lock system is not reliable, or there is no such
+    /// lock.
     fn unlock(&mut self, path: &DavPath, token: &str) -> Result<(), LockError>
         ensures removed { OnOk result (RemovesLock path.now.key token.now (seen self.old) (seen self.new)) }
         ensures err { OnErr result (seen self.new ≡ seen self.old) }
         ensures cause { IfErr result (RefusesUnlock path.now.key token.now (seen self.old)) };
 
-    /// Gives the lock with this token, found as by `unlock`, a timeout that begins now, and answers a copy
-    /// of it (RFC 4918, section 9.10.2). `NotFound`: there is none. Else only memory can be lacking (`Memory`).
+    /// Gives the lock with this token a timeout that begins at `now`, and returns a copy of the lock (RFC
+    /// 4918, section 9.10.2). The lock is found as in `unlock`.
+    ///
+    /// `NotFound`: there is no such lock. The only other error is `Memory`.
     fn refresh(
         &mut self,
         path: &DavPath,
@@ -70,18 +86,19 @@ pub trait DavLockSystem {
         ensures err { OnErr result (seen self.new ≡ seen self.old) }
         ensures cause { IfErr result (RefusesRefresh path.now.key token.now (seen self.old)) };
 
-    /// Copies of the locks that cover the path, in order (RFC 4918, section 15.8). Only memory can be
-    /// lacking (`Memory`).
+    /// Returns copies of the locks that cover the path, in the order of the list (RFC 4918, section 15.8).
+    /// The only error is `Memory`.
     fn discover(&self, path: &DavPath) -> Result<Items<DavLock>, LockError>
         ensures ok { IfOk result (λ locks. locks ≡ covering (seen self.now).list path.now.key) }
         ensures err { IfErr result (λ e. e ≡ LockError.Memory) };
 
-    /// Removes the locks at the path and below it. `Failed`: the lock system isn't dependable.
+    /// Removes the locks at and below the path. `Failed`: the lock system is not reliable. There is no other
+    /// error.
     fn delete(&mut self, path: &DavPath) -> Result<(), LockError>
         ensures removed { OnOk result (RemovesLocks path.now.key (seen self.old) (seen self.new)) }
         ensures err { OnErr result (seen self.new ≡ seen self.old) }
         ensures cause { IfErr result (RefusesDelete (seen self.old)) };
 
-    /// No two locks have one token.
+    /// No two locks have the same token.
     ghost distinct: { (locks : Self) → HasDistinctTokens (seen locks).list };
 }

@@ -1,10 +1,11 @@
-//! The paths of a call's record.
+//! The paths in the record of a call.
 ghost use Rattle.std.specs.Prelude.{◌≡◌, ◌∷◌, [], IfOk};
 
 use dav_resource::{DavPath, Items};
 use std::alloc::{AllocError, Global};
 
-/// A copy of the path of a call that has one. Only memory can be lacking.
+/// Returns a list with a copy of one path, for the record of a call that has one. Fails only if memory runs
+/// out.
 pub fn one_path(alloc: Global, path: &DavPath) -> Result<Items<DavPath>, AllocError>
     ensures { IfOk result (λ paths. paths ≡ path.now ∷ []) }
 {
@@ -13,7 +14,8 @@ pub fn one_path(alloc: Global, path: &DavPath) -> Result<Items<DavPath>, AllocEr
     Ok(Items::from_vec(paths))
 }
 
-/// Copies of both paths of a call that has two, in order. Only memory can be lacking.
+/// Returns a list with copies of two paths, in order, for the record of a call that has two. Fails only if
+/// memory runs out.
 pub fn two_paths(alloc: Global, from: &DavPath, to: &DavPath) -> Result<Items<DavPath>, AllocError>
     ensures { IfOk result (λ paths. paths ≡ from.now ∷ to.now ∷ []) }
 {

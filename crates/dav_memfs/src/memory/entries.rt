@@ -1,4 +1,4 @@
-//! The resources of a store in memory, in one map ordered by their keys, and the sum of their lengths.
+//! The resources of an in-memory store, in one map ordered by their keys, and the total length of the files.
 ghost use Rattle.std.specs.Prelude.{◌≡◌, ◌<◌, ◌+◌, ◌^◌, false, [], length, OnOk, OnErr, IfOk, Some, None};
 ghost use Rattle.std.specs.Option.{option_copied};
 ghost use Rattle.std.specs.FinMap as map;
@@ -16,8 +16,8 @@ use std::alloc::{AllocError, Global};
 use std::collections::BTreeMap;
 use std::marker::Model;
 
-/// Resources by their whole keys, in byte order segment by segment, so that those at a key and below it stand
-/// together; and how many bytes all files have.
+/// Resources by their whole keys, and the total number of bytes in all files. Keys are ordered segment by
+/// segment, in byte order, so that a key and the keys below it are adjacent.
 #[derive(Debug, Drop)]
 pub struct Entries {
     alloc: Global,
@@ -42,7 +42,7 @@ impl Model for Entries {
 }
 
 impl Entries {
-    /// No resources.
+    /// Creates a map without resources.
     pub fn new(alloc: Global) -> Entries
         ensures { result ≡ map.empty }
     {
@@ -53,22 +53,22 @@ impl Entries {
         }
     }
 
-    /// How many bytes all files have.
+    /// Returns the number of bytes in all files.
     pub fn used(&self) -> u128
         ensures { result ≡ used_by self.now }
     {
         self.used
     }
 
-    /// What is kept at a key. One lookup.
+    /// Returns the resource at a key. Makes one lookup.
     pub fn get(&self, key: &[String]) -> Option<&Entry>
         ensures { option_copied result ≡ map.get self.now (texts key.now) }
     {
         self.map.get(key)
     }
 
-    /// Keeps a resource at a key, in the place of what is kept there. Only memory can be lacking, and then
-    /// nothing changes. One lookup, and a copy of the key.
+    /// Stores a resource at a key, replacing the resource there, if any. Fails only if memory runs out, and
+    /// then nothing changes. Makes one lookup and one copy of the key.
     pub fn insert(&mut self, key: &[String], entry: Entry) -> Result<(), AllocError>
         ensures ok { OnOk result (self.new ≡ map.insert self.old (texts key.now) entry) }
         ensures err { OnErr result (self.new ≡ self.old) }
@@ -77,14 +77,14 @@ impl Entries {
         self.put(key, entry)
     }
 
-    /// `insert` at a key that it takes whole. Where nothing is lacking but memory for a new key, a resource
-    /// always finds room in the place of another.
+    /// Stores a resource as `insert` does, but takes the key by value. Fails only if memory runs out and no
+    /// resource exists at the key: replacing an existing resource always succeeds.
     fn put(&mut self, key: Vec<String>, entry: Entry) -> Result<(), AllocError>
         ensures ok { OnOk result (self.new ≡ map.insert self.old (texts key.items) entry) }
         ensures err { OnErr result (self.new ≡ self.old) }
         ensures new_key { OnErr result (map.get self.old (texts key.items) ≡ None) }
     {
-        // Each of fewer than 2^63 files has fewer than 2^63 bytes, so that no sum wraps.
+        // There are fewer than 2^63 files of fewer than 2^63 bytes each, so no arithmetic overflows.
         let _count = self.map.len();
         let len = entry.len() as u128;
         let old = match self.map.insert(key, entry)? {
@@ -95,7 +95,7 @@ impl Entries {
         Ok(())
     }
 
-    /// Takes out what is kept at a key. One lookup.
+    /// Removes and returns the resource at a key. Makes one lookup.
     pub fn remove(&mut self, key: &[String]) -> Option<Entry>
         ensures value { result ≡ map.get self.old (texts key.now) }
         ensures removed { self.new ≡ map.remove self.old (texts key.now) }
@@ -105,7 +105,8 @@ impl Entries {
         Some(entry)
     }
 
-    /// Empties the file at a key, by a change of this number at a moment. One lookup.
+    /// Truncates the file at a key to no bytes, as change number `version` at time `now`. Does nothing if no
+    /// resource exists at the key. Makes one lookup.
     pub fn empty(&mut self, key: &[String], version: u64, now: u64)
         requires { (s : Stored) → map.get self.old (texts key.now) ≡ Some s → is_directory s.node ≡ false }
         ensures { self.new ≡ change_at (texts key.now) (with_bytes [] version now) self.old }
@@ -117,8 +118,9 @@ impl Entries {
         }
     }
 
-    /// Writes bytes at a place of the file at a key, by a change of this number at a moment. Only memory can be
-    /// lacking, and then nothing changes. One lookup, and what the file's own growth costs.
+    /// Writes bytes at an offset of the file at a key, as change number `version` at time `now`. Does nothing
+    /// if no resource exists at the key. Fails only if memory runs out, and then nothing changes. Makes one
+    /// lookup, and may reallocate the file's bytes.
     pub fn write(
         &mut self,
         key: &[String],
@@ -132,7 +134,7 @@ impl Entries {
         ensures ok { OnOk result (self.new ≡ change_at (texts key.now) (λ s. with_bytes (written_at (bytes_at (Some s.node)) place more.now) version now s) self.old) }
         ensures err { OnErr result (self.new ≡ self.old) }
     {
-        // Each of fewer than 2^63 files has fewer than 2^63 bytes, so that no sum wraps.
+        // There are fewer than 2^63 files of fewer than 2^63 bytes each, so no arithmetic overflows.
         let _count = self.map.len();
         if let Some(entry) = self.map.get_mut(key) {
             let old = entry.len() as u128;
@@ -143,8 +145,9 @@ impl Entries {
         Ok(())
     }
 
-    /// Sets and removes properties of what is kept at a key, in order. Only memory can be lacking, and then
-    /// nothing changes. One lookup, and what `Properties::patch` costs.
+    /// Sets and removes properties of the resource at a key, in order. Does nothing if no resource exists at
+    /// the key. Fails only if memory runs out, and then nothing changes. Makes one lookup, and costs what
+    /// `Properties::patch` costs.
     pub fn patch(&mut self, key: &[String], patches: &[(bool, DavProp)]) -> Result<(), AllocError>
         ensures ok { OnOk result (self.new ≡ change_at (texts key.now) (λ s. with_properties (patched patches.now s.properties) s) self.old) }
         ensures err { OnErr result (self.new ≡ self.old) }

@@ -1,4 +1,4 @@
-//! What a store in memory keeps of a resource.
+//! One resource of an in-memory store.
 ghost use Rattle.std.specs.Prelude.{◌≡◌, ◌<◌, ◌+◌, ◌^◌, IfOk, OnOk, OnErr, false, [], ◌++◌, ◌-◌, ◌≤◌, length, take, drop, replicate, string_bytes, Vec};
 ghost use Rattle.std.specs.Option.{option_copied, option_map};
 ghost use Rattle.dav_store.specs.Store.{File, Directory};
@@ -12,15 +12,15 @@ use dav_resource::{DavProp, Meta, Text};
 use std::alloc::{AllocError, Global};
 use std::marker::Model;
 
-/// What stands at a key.
+/// The node at a key: a file with its bytes, or a directory.
 #[derive(Debug, Drop)]
 enum Resource {
     File(Vec<u8>),
     Directory,
 }
 
-/// A resource, the number of its last change, the moments of its making and of its last change, and its
-/// properties.
+/// A resource: its node, the number of its last counted change, the times of its creation and of its last
+/// counted change, and its properties.
 #[derive(Debug, Drop)]
 pub struct Entry {
     resource: Resource,
@@ -45,7 +45,7 @@ impl Model for Entry {
 }
 
 impl Entry {
-    /// A directory that is made at a moment.
+    /// Creates a directory, as change number `version` at time `now`.
     pub fn directory(alloc: Global, version: u64, now: u64) -> Entry
         ensures { result ≡ fresh Directory version now }
     {
@@ -58,7 +58,7 @@ impl Entry {
         }
     }
 
-    /// An empty file that is made at a moment.
+    /// Creates an empty file, as change number `version` at time `now`.
     pub fn file(alloc: Global, version: u64, now: u64) -> Entry
         ensures { result ≡ fresh (File []) version now }
     {
@@ -71,14 +71,14 @@ impl Entry {
         }
     }
 
-    /// Whether it is a directory.
+    /// Returns whether the resource is a directory.
     pub fn is_directory(&self) -> bool
         ensures { result ≡ is_directory self.now.node }
     {
         matches!(self.resource, Resource::Directory)
     }
 
-    /// A file's length in bytes; a directory's is 0.
+    /// Returns a file's length in bytes, or 0 for a directory.
     pub fn len(&self) -> u64
         ensures value { result ≡ size_of self.now.node }
         ensures small { result < 2 ^ 63 }
@@ -89,21 +89,21 @@ impl Entry {
         }
     }
 
-    /// When it was made.
+    /// Returns the creation time.
     pub fn created(&self) -> u64
         ensures { result ≡ self.now.created }
     {
         self.created
     }
 
-    /// Its properties.
+    /// Returns the properties.
     pub fn properties(&self) -> &Properties
         ensures { result.now ≡ self.now.properties }
     {
         &self.properties
     }
 
-    /// Changes its properties, as `Properties::patch` does.
+    /// Sets and removes properties, as `Properties::patch` does.
     pub fn patch(&mut self, patches: &[(bool, DavProp)]) -> Result<(), AllocError>
         ensures ok { OnOk result (self.new ≡ with_properties (patched patches.now self.old.properties) self.old) }
         ensures err { OnErr result (self.new ≡ self.old) }
@@ -111,7 +111,7 @@ impl Entry {
         self.properties.patch(patches)
     }
 
-    /// What is known of it. Only memory can be lacking.
+    /// Returns the metadata. Fails only if memory runs out.
     pub fn meta(&self, alloc: Global) -> Result<Meta, AllocError>
         ensures { IfOk result (λ meta. meta ≡ meta_of self.now) }
     {
@@ -128,7 +128,7 @@ impl Entry {
         })
     }
 
-    /// A copy of a file's bytes; nothing of a directory. Only memory can be lacking.
+    /// Returns a copy of a file's bytes, or `None` for a directory. Fails only if memory runs out.
     pub fn bytes(&self) -> Result<Option<Vec<u8>>, AllocError>
         ensures { IfOk result (λ bytes. node_of bytes ≡ self.now.node) }
     {
@@ -138,8 +138,8 @@ impl Entry {
         }
     }
 
-    /// The same bytes and properties again, as they are made at a moment by a change of this number in the place
-    /// of what was made when `created` says. Only memory can be lacking.
+    /// Returns a copy with the same bytes and properties, created at time `created` and changed at time `now`
+    /// by change number `version`. Fails only if memory runs out.
     pub fn copy(&self, created: u64, version: u64, now: u64) -> Result<Entry, AllocError>
         ensures { IfOk result (λ copy. copy ≡ record self.now { version = version; created = created; modified = now }) }
     {
@@ -156,7 +156,7 @@ impl Entry {
         })
     }
 
-    /// Empties the file, by a change of this number at a moment.
+    /// Truncates the file to no bytes, as change number `version` at time `now`.
     pub fn empty(&mut self, version: u64, now: u64)
         requires { is_directory self.old.node ≡ false }
         ensures { self.new ≡ with_bytes [] version now self.old }
@@ -168,8 +168,8 @@ impl Entry {
         self.modified = now;
     }
 
-    /// Writes bytes at a place of the file, by a change of this number at a moment. Only memory can be
-    /// lacking, and then nothing changes.
+    /// Writes bytes at an offset of the file, as change number `version` at time `now`. Fails only if memory
+    /// runs out, and then nothing changes.
     pub fn write(
         &mut self,
         place: u64,
@@ -191,14 +191,15 @@ impl Entry {
     }
 }
 
-/// A number in lower case hexadecimal.
+/// Formats a number in lower-case hexadecimal.
 fn tag_text(alloc: Global, version: u64) -> Result<String, AllocError>
     ensures { IfOk result (λ text. string_bytes text ≡ tag_text version) }
 {
     format!(in alloc; "{version:x}")
 }
 
-/// Writes bytes at a place; zeros fill a gap. The room is asked for at once, and without it nothing changes.
+/// Writes bytes at an offset, filling a gap with zeros. Requests all capacity at once. If that fails, nothing
+/// changes.
 fn write_at(bytes: &mut Vec<u8>, place: usize, more: &[u8]) -> Result<(), AllocError>
     requires { place + length more.now < 2 ^ 64 }
     ensures ok { OnOk result (bytes.new.items ≡ written_at bytes.old.items place more.now) }
@@ -212,7 +213,7 @@ fn write_at(bytes: &mut Vec<u8>, place: usize, more: &[u8]) -> Result<(), AllocE
     Ok(())
 }
 
-/// Adds zeros up to a length, where it is less.
+/// Appends zeros up to a length. Bytes that are at least that long stay as they are.
 fn lengthen(bytes: &mut Vec<u8>, len: usize) -> Result<(), AllocError>
     ensures ok { OnOk result (bytes.new.items ≡ bytes.old.items ++ replicate (len - length bytes.old.items) 0) }
     ensures err { OnErr result (bytes.new.items ≡ bytes.old.items) }
@@ -223,7 +224,7 @@ fn lengthen(bytes: &mut Vec<u8>, len: usize) -> Result<(), AllocError>
     Ok(())
 }
 
-/// Puts bytes in the place of those that stand there.
+/// Overwrites bytes from an offset on.
 fn overwrite(bytes: &mut Vec<u8>, place: usize, more: &[u8])
     requires { place + length more.now ≤ length bytes.old.items }
     ensures { bytes.new.items ≡ take place bytes.old.items ++ more.now ++ drop (place + length more.now) bytes.old.items }

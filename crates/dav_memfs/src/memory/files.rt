@@ -1,4 +1,4 @@
-//! What a store in memory does of open files.
+//! The in-memory store's calls on open files.
 ghost use Rattle.std.specs.Prelude.{◌≡◌, ◌<◌, ◌+◌, ◌^◌, IsTrue, false, length, IfOk, MatchResult, Some, None, ◌||◌, if◌then◌else◌};
 ghost use Rattle.std.specs.FinMap.{get};
 ghost use Rattle.dav_store.specs.Calls.{place_of};
@@ -32,7 +32,9 @@ impl MemFs {
         Ok(file)
     }
 
-    /// Opens what stands at a path.
+    /// Opens the existing resource at a path, and truncates it if the options say so, which counts as a
+    /// change. Returns `Exists` if the options require a new file, and `Forbidden` if the resource is a
+    /// directory.
     fn open_old(&mut self, path: &DavPath, directory: bool, options: &OpenOptions) -> FsResult<()>
         requires { (s : Stored) × (get (memory_of self.old).resources path.now.key ≡ Some s) × (directory ≡ is_directory s.node) }
         ensures log { self.new.log ≡ self.old.log }
@@ -52,7 +54,8 @@ impl MemFs {
         Ok(())
     }
 
-    /// Makes the file that is to be opened.
+    /// Creates the file to be opened at a path where nothing exists, which counts as a change. Returns
+    /// `NotFound` if the parent is not a directory, or if the options do not allow creation.
     fn open_new(&mut self, path: &DavPath, options: &OpenOptions) -> FsResult<()>
         requires { get (memory_of self.old).resources path.now.key ≡ None }
         ensures log { self.new.log ≡ self.old.log }
@@ -69,7 +72,8 @@ impl MemFs {
         self.keep(path, entry, version)
     }
 
-    /// Moves the place of a file that is there.
+    /// Sets the offset of an open file. Returns `NotFound` if the file no longer exists, and then the offset
+    /// stays.
     pub(super) fn move_place(&self, file: &mut DavFile, pos: u64) -> FsResult<()>
         ensures answer { Gives (file_error file.old.path.key (memory_of self.now)) kept (memory_of self.now) result (memory_of self.now) }
         ensures place { MatchResult result (λ _. file.new ≡ record file.old { pos = pos }) (λ _. file.new ≡ file.old) }
@@ -94,7 +98,7 @@ impl MemFs {
         Ok(())
     }
 
-    /// Sees to it that the file is there.
+    /// Checks that an open file still exists, and returns `NotFound` if it does not.
     pub(super) fn check_file(&self, file: &DavFile) -> FsResult<()>
         ensures { Gives (file_error file.now.path.key (memory_of self.now)) kept (memory_of self.now) result (memory_of self.now) }
     {
@@ -109,7 +113,7 @@ impl MemFs {
         Ok(self.file(file)?.meta(*self.log.allocator())?)
     }
 
-    /// What is kept of an open file.
+    /// Returns the stored file that an open file refers to, or `NotFound` if there is no file at its path.
     fn file(&self, file: &DavFile) -> FsResult<&Entry>
         ensures { MatchResult result (λ entry. IsFileAt file.now.path.key (memory_of self.now).resources entry.now) (λ e. file_error file.now.path.key (memory_of self.now) ≡ Some e) }
     {
@@ -123,7 +127,7 @@ impl MemFs {
     }
 }
 
-/// Where the next write to a file goes.
+/// Returns the offset of the next write to a file.
 fn place_in(entry: &Entry, file: &DavFile) -> u64
     ensures value { result ≡ (if file.now.append then size_of entry.now.node else file.now.pos) }
     ensures small { IsTrue file.now.append → result < 2 ^ 63 }
@@ -131,7 +135,7 @@ fn place_in(entry: &Entry, file: &DavFile) -> u64
     if file.append { entry.len() } else { file.pos }
 }
 
-/// Whether a file that isn't there may be made.
+/// Returns whether the options allow a missing file to be created.
 fn may_make(options: &OpenOptions) -> bool
     ensures { result ≡ (options.now.create || options.now.create_new) }
 {

@@ -1,4 +1,4 @@
-//! What a store in memory does of dead properties.
+//! The in-memory store's calls on dead properties.
 ghost use Rattle.std.specs.Prelude.{◌≡◌, length, replicate, IfOk, Some};
 ghost use Rattle.std.specs.FinMap.{get};
 ghost use Rattle.dav_memfs.specs.MemFs.{memory_of};
@@ -12,7 +12,7 @@ use http::StatusCode;
 use std::alloc::{AllocError, Global};
 
 impl MemFs {
-    /// The element of a property.
+    /// Returns the element of a property.
     pub(super) fn find_prop(&self, path: &DavPath, prop: &DavProp) -> FsResult<Element>
         ensures element { IfOk result (λ element. get (properties_at (contents_of (memory_of self.now)) path.now.key) (name_of prop.now) ≡ Some element) }
         ensures answer { Gives (get_prop_error path.now.key (name_of prop.now) (memory_of self.now)) kept (memory_of self.now) result (memory_of self.now) }
@@ -27,7 +27,7 @@ impl MemFs {
         }
     }
 
-    /// All properties of a path.
+    /// Returns all properties of a path.
     pub(super) fn list_props(&self, path: &DavPath) -> FsResult<Vec<DavProp>>
         ensures props { IfOk result (λ props. IsPropertyList (properties_at (contents_of (memory_of self.now)) path.now.key) props.items) }
         ensures answer { Gives (properties_error path.now.key (memory_of self.now)) kept (memory_of self.now) result (memory_of self.now) }
@@ -38,8 +38,8 @@ impl MemFs {
         }
     }
 
-    /// Sets and removes properties, in order. Only memory can be lacking, and then nothing changes. Costs what
-    /// `Properties::patch` does.
+    /// Sets and removes properties, in order. Returns `NotFound` if nothing exists at the path, and `Memory`
+    /// if memory runs out. After an error nothing has changed. Costs what `Properties::patch` costs.
     pub(super) fn patch(
         &mut self,
         path: &DavPath,
@@ -58,7 +58,7 @@ impl MemFs {
     }
 }
 
-/// So many times 200.
+/// Returns `count` times the status 200.
 pub(super) fn all_ok(alloc: Global, count: usize) -> Result<Vec<StatusCode>, AllocError>
     ensures { IfOk result (λ statuses. statuses.items ≡ replicate count 200) }
 {

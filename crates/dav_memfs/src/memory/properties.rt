@@ -1,4 +1,4 @@
-//! The dead properties of a resource that a store in memory keeps.
+//! The dead properties of a resource of an in-memory store.
 ghost use Rattle.std.specs.Prelude.{◌≡◌, ◌==◌, Some, IfOk, OnOk, OnErr, is_some, string_bytes};
 ghost use Rattle.std.specs.Option.{option_copied, option_map};
 ghost use Rattle.std.specs.FinMap as map;
@@ -15,15 +15,16 @@ use std::alloc::{AllocError, Global};
 use std::collections::BTreeMap;
 use std::marker::Model;
 
-/// A property's name: its namespace, where it has one, and its local name (Namespaces in XML 1.0, section 2.1).
-/// Names without a namespace come first, then they go by namespace, then by local name, in byte order.
+/// A property's name: its namespace, if it has one, and its local name (Namespaces in XML 1.0, section 2.1).
+/// Names are ordered by namespace, none first, and then by local name, in byte order.
 #[derive(Debug, Drop, PartialEq, Eq, PartialOrd, Ord)]
 struct PropertyName {
     namespace: Option<String>,
     name: String,
 }
 
-/// Elements by the names of properties, which others may hold too, and the allocator that names are kept by.
+/// Dead properties: elements by property name, and the allocator for the names. The elements may be shared
+/// with other owners.
 #[derive(Debug, Drop)]
 pub struct Properties {
     alloc: Global,
@@ -47,7 +48,7 @@ impl Model for Properties {
 }
 
 impl Properties {
-    /// No properties.
+    /// Creates a map without properties.
     pub fn new(alloc: Global) -> Properties
         ensures { result ≡ map.empty }
     {
@@ -57,15 +58,15 @@ impl Properties {
         }
     }
 
-    /// Whether there are none.
+    /// Returns whether there are no properties.
     pub fn is_empty(&self) -> bool
         ensures { result ≡ (map.len self.now == 0) }
     {
         self.map.is_empty()
     }
 
-    /// The element of the property of this name. Only memory can be lacking. Costs a copy of the name, and as
-    /// many comparisons as the logarithm of the number of properties.
+    /// Returns the element of the property with this name. Fails only if memory runs out. Copies the name,
+    /// and makes a number of comparisons logarithmic in the number of properties.
     pub fn get(&self, prop: &DavProp) -> Result<Option<&SharedElement>, AllocError>
         ensures { IfOk result (λ element. option_copied element ≡ map.get self.now (name_of prop.now)) }
     {
@@ -73,7 +74,8 @@ impl Properties {
         Ok(self.map.get(&name))
     }
 
-    /// The same properties again. Only memory can be lacking. Costs a copy of each name.
+    /// Returns a copy of the properties. Fails only if memory runs out. Copies each name, and shares the
+    /// elements.
     pub fn clone(&self) -> Result<Properties, AllocError>
         ensures { IfOk result (λ copy. copy ≡ self.now) }
     {
@@ -82,8 +84,9 @@ impl Properties {
         Ok(copy)
     }
 
-    /// Each property with its element, whose prefix is the property's: those without a namespace first, then by
-    /// namespace, then by name. Only memory can be lacking. Costs a copy of each name.
+    /// Returns each property with its element. The property's prefix is the element's. Properties without a
+    /// namespace come first, then the order is by namespace, then by name. Fails only if memory runs out.
+    /// Copies each name.
     pub fn list(&self, alloc: Global) -> Result<Vec<DavProp>, AllocError>
         ensures { IfOk result (λ props. IsPropertyList self.now props.items) }
     {
@@ -94,14 +97,15 @@ impl Properties {
         Ok(props)
     }
 
-    /// Whether there is one of this name.
+    /// Returns whether there is a property with this name.
     fn has(&self, name: &PropertyName) -> bool
         ensures { result ≡ is_some (map.get self.now (key_of name.now)) }
     {
         self.map.contains_key(name)
     }
 
-    /// Puts copies of these properties into others. Only memory can be lacking, and then some are put.
+    /// Copies these properties into others, replacing those with the same names. Fails only if memory runs
+    /// out, and then some of them may have been copied.
     fn put_into(&self, others: &mut Properties) -> Result<(), AllocError>
         ensures ok { OnOk result (ArePut self.now others.old others.new) }
         ensures rest { AreKept self.now others.old others.new }
@@ -112,7 +116,7 @@ impl Properties {
         Ok(())
     }
 
-    /// Takes what has the names of these properties out of others.
+    /// Removes the properties with these properties' names from others.
     fn take_out_of(&self, others: &mut Properties)
         ensures { AreTaken self.now others.old others.new }
     {
@@ -121,7 +125,7 @@ impl Properties {
         }
     }
 
-    /// Puts an element at a name. Only memory can be lacking, and then nothing changes.
+    /// Stores an element under a name. Fails only if memory runs out, and then nothing changes.
     fn insert(&mut self, name: PropertyName, element: SharedElement) -> Result<(), AllocError>
         ensures ok { OnOk result (self.new ≡ map.insert self.old (key_of name) element) }
         ensures err { OnErr result (self.new ≡ self.old) }
@@ -130,14 +134,14 @@ impl Properties {
         Ok(())
     }
 
-    /// Takes out what is at a name.
+    /// Removes the property with a name, if there is one.
     fn remove(&mut self, name: &PropertyName)
         ensures { self.new ≡ map.remove self.old (key_of name.now) }
     {
         let _ = self.map.remove(name);
     }
 
-    /// Gives the property of a name, where there is one, this element.
+    /// Replaces the element of the property with a name, if there is one.
     fn replace(&mut self, name: &PropertyName, element: SharedElement)
         ensures { self.new ≡ put_at self.old (key_of name.now) (replaced_by (Some (Some element)) (map.get self.old (key_of name.now))) }
     {
@@ -148,7 +152,7 @@ impl Properties {
 }
 
 impl PropertyName {
-    /// The name of a property. Only memory can be lacking.
+    /// Returns the name of a property. Fails only if memory runs out.
     fn of(prop: &DavProp) -> Result<PropertyName, AllocError>
         ensures { IfOk result (λ name. key_of name ≡ name_of prop.now) }
     {
@@ -158,7 +162,7 @@ impl PropertyName {
         })
     }
 
-    /// The same name again. Only memory can be lacking.
+    /// Returns a copy of the name. Fails only if memory runs out.
     fn clone(&self) -> Result<PropertyName, AllocError>
         ensures { IfOk result (λ copy. key_of copy ≡ key_of self.now) }
     {
@@ -168,7 +172,8 @@ impl PropertyName {
         })
     }
 
-    /// The property of this name with this element, whose prefix it has. Only memory can be lacking.
+    /// Returns the property with this name, this element and the element's prefix. Fails only if memory runs
+    /// out.
     fn with_element(&self, element: &SharedElement) -> Result<DavProp, AllocError>
         ensures named { IfOk result (λ prop. named_element prop ≡ (key_of self.now, Some element.now)) }
         ensures prefix { IfOk result (λ prop. prop.prefix ≡ element.now.tag.prefix) }
@@ -182,7 +187,7 @@ impl PropertyName {
     }
 }
 
-/// A copy of a text as a string, where there is one.
+/// Copies a `Text` to a `String`, if there is one.
 fn string_of(text: Option<&Text>) -> Result<Option<String>, AllocError>
     ensures { IfOk result (λ copy. option_map string_bytes copy ≡ option_copied text.entry) }
 {
@@ -192,7 +197,7 @@ fn string_of(text: Option<&Text>) -> Result<Option<String>, AllocError>
     }
 }
 
-/// The same string again, where there is one.
+/// Copies a `String`, if there is one.
 fn clone_string(text: Option<&String>) -> Result<Option<String>, AllocError>
     ensures { IfOk result (λ copy. option_map string_bytes copy ≡ option_map string_bytes (option_copied text.entry)) }
 {
@@ -202,7 +207,7 @@ fn clone_string(text: Option<&String>) -> Result<Option<String>, AllocError>
     }
 }
 
-/// A copy of a string as a text, where there is one.
+/// Copies a `String` to a `Text`, if there is one.
 fn text_of(text: Option<&String>) -> Result<Option<Text>, AllocError>
     ensures { IfOk result (λ copy. copy ≡ option_map string_bytes (option_copied text.entry)) }
 {

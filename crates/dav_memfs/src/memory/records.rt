@@ -1,4 +1,4 @@
-//! What a store in memory writes of each call.
+//! The records that an in-memory store writes of its calls.
 ghost use Rattle.std.specs.Prelude.{◌≡◌, ◌<◌, ◌∷◌, ◌++◌, [], vec_len, vec_capacity, OnOk, IfOk, IfErr};
 ghost use Rattle.dav_memfs.specs.MemFs.{memory_of};
 ghost use Rattle.dav_memfs.specs.MemoryCalls.{Tells, TellsWith, outcome_of};
@@ -10,7 +10,7 @@ use dav_store::{one_path, two_paths};
 use http::StatusCode;
 
 impl MemFs {
-    /// Makes room for a record of a call on this path, and its copy of the path.
+    /// Reserves capacity for the record of a call on a path, and returns the record's copy of the path.
     pub(super) fn begin_record(&mut self, path: &DavPath) -> FsResult<Items<DavPath>>
         ensures memory { memory_of self.new ≡ memory_of self.old }
         ensures log { self.new.log.items ≡ self.old.log.items }
@@ -22,7 +22,7 @@ impl MemFs {
         Ok(one_path(*self.log.allocator(), path)?)
     }
 
-    /// Makes room for a record of a call on both paths, and its copies of them.
+    /// Reserves capacity for the record of a call on two paths, and returns the record's copies of them.
     pub(super) fn begin_record_of_two(
         &mut self,
         from: &DavPath,
@@ -38,7 +38,7 @@ impl MemFs {
         Ok(two_paths(*self.log.allocator(), from, to)?)
     }
 
-    /// Makes room for a record of a call that has no path.
+    /// Reserves capacity for the record of a call that has no path, and returns an empty list of paths.
     pub(super) fn begin_record_of_none(&mut self) -> FsResult<Items<DavPath>>
         ensures memory { memory_of self.new ≡ memory_of self.old }
         ensures log { self.new.log.items ≡ self.old.log.items }
@@ -50,7 +50,8 @@ impl MemFs {
         Ok(Items::from_vec(Vec::new(*self.log.allocator())))
     }
 
-    /// Writes the record of an answer without statuses, but for a want of memory.
+    /// Writes the record of a result without statuses, and returns the result. The error `Memory` is not
+    /// recorded.
     pub(super) fn end_record<T>(
         &mut self,
         op: Op,
@@ -66,7 +67,8 @@ impl MemFs {
         self.end_record_with(op, paths, none, answer)
     }
 
-    /// Writes the record of an answer with these statuses, which an error hasn't, but for a want of memory.
+    /// Writes the record of a result, and returns the result. A success is recorded with these statuses, an
+    /// error without statuses. The error `Memory` is not recorded.
     pub(super) fn end_record_with<T>(
         &mut self,
         op: Op,
@@ -90,7 +92,7 @@ impl MemFs {
         answer
     }
 
-    /// Writes a record.
+    /// Appends a record to the log.
     fn tell(&mut self, op: Op, paths: Items<DavPath>, outcome: Outcome, statuses: Items<StatusCode>)
         requires { vec_len self.old.log < vec_capacity self.old.log }
         ensures memory { memory_of self.new ≡ memory_of self.old }
@@ -107,7 +109,8 @@ impl MemFs {
     }
 }
 
-/// How a call is recorded that answers an error: no row gives `GeneralFailure`, which is the store's own.
+/// Returns the outcome that is recorded for an error. `GeneralFailure` is the store's own error, which bars
+/// no call, and is recorded as refused. Any other error is recorded as barred.
 fn outcome_of(error: FsError) -> Outcome
     ensures { result ≡ outcome_of error }
 {

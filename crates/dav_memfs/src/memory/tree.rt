@@ -1,4 +1,4 @@
-//! What a store in memory does of what stands in the tree: it looks, lists, makes, takes out, copies and renames.
+//! The in-memory store's calls on the tree: lookup, listing, creation, removal, copying, renaming and quota.
 ghost use Rattle.std.specs.Prelude.{◌≡◌, ◌≢◌, ◌↔◌, ◌+◌, IsTrue, IfOk, IfErr, OnOk, MatchResult, None, Some, Err};
 ghost use Rattle.std.specs.Option.{option_copied};
 ghost use Rattle.std.specs.FinMap.{get, insert};
@@ -25,7 +25,7 @@ impl MemFs {
         }
     }
 
-    /// The members of a directory.
+    /// Returns the members of a directory.
     pub(super) fn list(&self, path: &DavPath) -> FsResult<Vec<FsResult<DirEntry>>>
         ensures listing { IfOk result (λ listing. IsListing path.now.key (memory_of self.now).resources listing.items) }
         ensures answer { Gives (read_dir_error path.now.key (memory_of self.now)) kept (memory_of self.now) result (memory_of self.now) }
@@ -39,7 +39,7 @@ impl MemFs {
         Ok(self.entries.list(*self.log.allocator(), path.segments())?)
     }
 
-    /// Whether a directory stands at a key.
+    /// Returns whether there is a directory at a key.
     pub(super) fn is_directory(&self, key: &[String]) -> bool
         ensures { IsTrue result ↔ (get (tree_of (memory_of self.now).resources) (texts key.now) ≡ Some Directory) }
     {
@@ -49,7 +49,7 @@ impl MemFs {
         }
     }
 
-    /// The number of the next change, where one is left.
+    /// Returns the number of the next change, or `GeneralFailure` if the counter is at `u64::MAX`.
     pub(super) fn next_version(&self) -> FsResult<u64>
         ensures { MatchResult result (λ version. (version ≡ (memory_of self.now).version + 1) × (change_error None (memory_of self.now) ≡ None)) (λ e. change_error None (memory_of self.now) ≡ Some e) }
     {
@@ -74,8 +74,8 @@ impl MemFs {
         self.keep(path, entry, version)
     }
 
-    /// Keeps a resource below a directory, in no directory's place. Only memory can be lacking, and then nothing
-    /// changes.
+    /// Stores a resource, as change number `version`, at a path whose parent is a directory. It may replace a
+    /// file there, but not a directory. Fails only if memory runs out, and then nothing changes.
     pub(super) fn keep(&mut self, path: &DavPath, entry: Entry, version: u64) -> FsResult<()>
         requires free { get (tree_of (memory_of self.old).resources) path.now.key ≢ Some Directory }
         requires above { get (tree_of (memory_of self.old).resources) (parent path.now.key) ≡ Some Directory }
@@ -88,7 +88,7 @@ impl MemFs {
         Ok(())
     }
 
-    /// Takes a file out.
+    /// Removes a file.
     pub(super) fn take_file(&mut self, path: &DavPath) -> FsResult<()>
         ensures log { self.new.log ≡ self.old.log }
         ensures memory { result ≢ Err FsError.Memory }
@@ -104,7 +104,7 @@ impl MemFs {
         Ok(())
     }
 
-    /// Takes a directory out that has no members.
+    /// Removes a directory that has no members.
     pub(super) fn take_directory(&mut self, path: &DavPath) -> FsResult<()>
         ensures log { self.new.log ≡ self.old.log }
         ensures removed { Gives (remove_dir_error path.now.key (memory_of self.old)) (without path.now.key) (memory_of self.old) result (memory_of self.new) }
@@ -128,7 +128,7 @@ impl MemFs {
         Ok(())
     }
 
-    /// Copies a file onto a file, or to where nothing is.
+    /// Copies a file over another file, or to a path where nothing exists.
     pub(super) fn copy_file(&mut self, from: &DavPath, to: &DavPath) -> FsResult<()>
         ensures log { self.new.log ≡ self.old.log }
         ensures copied { Gives (copy_error from.now.key to.now.key (memory_of self.old)) (copied from.now.key to.now.key) (memory_of self.old) result (memory_of self.new) }
@@ -151,7 +151,7 @@ impl MemFs {
         self.keep(to, entry, version)
     }
 
-    /// Renames what stands at a path and below it.
+    /// Moves the resource at a path, and everything below it, to a path where nothing exists.
     pub(super) fn move_all(&mut self, from: &DavPath, to: &DavPath) -> FsResult<()>
         ensures log { self.new.log ≡ self.old.log }
         ensures renamed { Yields (rename_error from.now.key to.now.key (memory_of self.old)) (IsRenamed from.now.key to.now.key) (memory_of self.old) result (memory_of self.new) }
@@ -176,7 +176,8 @@ impl MemFs {
         Ok(())
     }
 
-    /// How many bytes all files have, at most the greatest u64, and how many there may be.
+    /// Returns the number of bytes in all files, at most `u64::MAX`, and the quota's limit. Returns
+    /// `NotImplemented` if there is no quota.
     pub(super) fn tell_quota(&self) -> FsResult<(u64, Option<u64>)>
         ensures quota { IfOk result (λ quota. quota_of (memory_of self.now) ≡ Some (record { used = quota.0; total = quota.1 })) }
         ensures answer { Gives (quota_error (memory_of self.now)) kept (memory_of self.now) result (memory_of self.now) }
@@ -189,14 +190,14 @@ impl MemFs {
     }
 }
 
-/// Whether a path is below another.
+/// Returns whether a path is below another.
 fn is_below(path: &DavPath, other: &DavPath) -> bool
     ensures { result ≡ is_below path.now.key other.now.key }
 {
     path.is_at_or_below(other) && !path.same_key(other)
 }
 
-/// When what is there was made; else the moment.
+/// Returns the creation time of the existing resource, or the current time if there is none.
 fn made_when(there: Option<&Entry>, now: u64) -> u64
     ensures { result ≡ made_when (option_copied there.entry) now }
 {
@@ -206,7 +207,7 @@ fn made_when(there: Option<&Entry>, now: u64) -> u64
     }
 }
 
-/// The key without its last segment; the root's is the root.
+/// Returns the key without its last segment. The root's parent is the root.
 pub(super) fn parent_key(key: &[String]) -> &[String]
     ensures { texts result.now ≡ parent (texts key.now) }
 {

@@ -1,4 +1,4 @@
-//! Numbers by keys.
+//! Numbers by key.
 ghost use Rattle.std.specs.Prelude.{◌≡◌, ◌&&◌, [], OnOk, OnErr};
 ghost use Rattle.std.specs.Option.{option_copied};
 ghost use Rattle.std.proofs.Props.{props};
@@ -12,10 +12,10 @@ use std::alloc::{AllocError, Global};
 use std::collections::BTreeMap;
 use std::collections::btree_map::Range;
 
-/// Ascending numbers for each key, which has an entry only while it has numbers. The entries are ordered by their
-/// keys, segment by segment, so that those at a key and below it stand together. A look takes as many comparisons
-/// of keys as the logarithm of the number of entries, and each of them goes no further than to the first segment
-/// in which the two differ.
+/// Ascending numbers for each key. A key has an entry only while it has numbers. The entries are ordered by
+/// key, segment by segment, so those at or below a key are adjacent. A lookup takes as many comparisons of
+/// keys as the logarithm of the number of entries. Each comparison ends at the first segment in which the two
+/// keys differ.
 #[derive(Debug, Drop)]
 pub struct ByKey {
     map: BTreeMap<Vec<String>, Numbers>,
@@ -25,7 +25,7 @@ pub struct ByKey {
 impl ByKey {
     ghost use Rattle.dav_memls.specs.ByKey.{numbers_at, HasRun, KeepsNumbers, JoinsNumber, LeavesNumber};
 
-    /// No numbers for any key.
+    /// Creates a map without numbers.
     pub fn new(alloc: Global) -> ByKey
         ensures { (key : Key) → numbers_at result key ≡ [] }
     {
@@ -34,15 +34,15 @@ impl ByKey {
         }
     }
 
-    /// The numbers of a key, where it has some.
+    /// Returns the numbers of a key, if it has any.
     pub fn get(&self, key: &[String]) -> Option<&Numbers>
         ensures { listed (option_copied result) ≡ numbers_at self.now (texts key.now) }
     {
         self.map.get(key)
     }
 
-    /// Entries in the order of their keys, among them all at a key and below it: those from this key on, for which
-    /// the key is copied, and all entries where memory for the copy is lacking.
+    /// Returns entries in the order of their keys, among them all at or below this key. They are the entries
+    /// from this key on, for which the key is copied. If memory for the copy runs out, they are all entries.
     pub fn run(&self, alloc: Global, key: &[String]) -> Range<'_, Vec<String>, Numbers>
         ensures { HasRun (texts key.now) self.now result }
     {
@@ -52,7 +52,8 @@ impl ByKey {
         }
     }
 
-    /// Puts a number behind those of a key. Only memory can be lacking, and then nothing changes.
+    /// Adds a number after those of a key. It must be greater than they are. Fails only if memory runs out,
+    /// and then nothing changes.
     pub fn join(&mut self, alloc: Global, key: &[String], number: u64) -> Result<(), AllocError>
         requires { IsAbove number (numbers_at self.old (texts key.now)) }
         ensures ok { OnOk result (JoinsNumber (λ k. is_same_key k (texts key.now)) number self.old self.new) }
@@ -69,8 +70,8 @@ impl ByKey {
         Ok(())
     }
 
-    /// Puts a number behind those of a key, if it belongs there. Only memory can be lacking, and then nothing
-    /// changes.
+    /// Adds a number after those of a key, as `join` does, if it belongs there. Fails only if memory runs
+    /// out, and then nothing changes.
     pub fn join_if(
         &mut self,
         belongs: bool,
@@ -88,7 +89,7 @@ impl ByKey {
         Ok(())
     }
 
-    /// Takes a number from those of a key.
+    /// Removes a number from those of a key.
     pub fn leave(&mut self, key: &[String], number: u64)
         ensures { LeavesNumber (λ k. is_same_key k (texts key.now)) number self.old self.new }
     {
@@ -101,7 +102,7 @@ impl ByKey {
         }
     }
 
-    /// Takes a number from those of a key, if it belongs there.
+    /// Removes a number from those of a key, if it belongs there.
     pub fn leave_if(&mut self, belongs: bool, key: &[String], number: u64)
         ensures { LeavesNumber (λ k. belongs && is_same_key k (texts key.now)) number self.old self.new }
     {

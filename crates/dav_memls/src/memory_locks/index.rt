@@ -16,19 +16,19 @@ use std::alloc::{AllocError, Global};
 use std::collections::HashMap;
 use std::collections::btree_map::Range;
 
-/// Which locks one register of an index has.
+/// Which locks a register of an index contains.
 #[derive(Clone, Copy, Debug)]
 pub enum Register {
     /// All locks.
     All,
-    /// Those of Depth infinity.
+    /// The deep locks (Depth infinity).
     Deep,
-    /// Those that aren't shared.
+    /// The exclusive locks.
     Exclusive,
 }
 
-/// What finds the numbers of locks: by a token, and by a lock's own key, in a register of all locks, in one of the
-/// deep and in one of the exclusive ones.
+/// An index that finds the numbers of locks: by token, and by a lock's own key in a register of all locks, of
+/// the deep ones or of the exclusive ones.
 #[derive(Debug, Drop)]
 pub struct LockIndex {
     tokens: HashMap<String, u64>,
@@ -38,7 +38,7 @@ pub struct LockIndex {
 }
 
 impl LockIndex {
-    /// The index of no lock.
+    /// Creates an index without locks.
     pub fn new(alloc: Global) -> LockIndex
         ensures { IsIndexed result [] }
     {
@@ -50,22 +50,23 @@ impl LockIndex {
         }
     }
 
-    /// The number of the lock with this token.
+    /// Returns the number of the lock with this token.
     pub fn number(&self, token: &str) -> Option<u64>
         ensures { result ≡ get_by_text self.now.tokens token.now }
     {
         self.tokens.get(token).copied()
     }
 
-    /// The numbers of the register's locks whose own key is this one, the oldest first.
+    /// Returns the numbers of the register's locks whose own key is this one, the oldest first.
     pub fn at(&self, register: Register, key: &[String]) -> Option<&Numbers>
         ensures { listed (option_copied result) ≡ found_at self.now register (texts key.now) }
     {
         self.register(register).get(key)
     }
 
-    /// The numbers of the register's locks by their own keys, in the order of these, among them all at a key and
-    /// below it: those from this key on, for which the key is copied, and all where memory for the copy is lacking.
+    /// Returns the numbers of the register's locks by their own keys, in the order of the keys, among them
+    /// all at or below this key. They are those from this key on, for which the key is copied. If memory for
+    /// the copy runs out, they are those of all keys.
     pub fn run(
         &self,
         register: Register,
@@ -87,8 +88,8 @@ impl LockIndex {
         }
     }
 
-    /// Has a lock be found by this number, which is above those that are. Only memory can be lacking, and
-    /// then nothing changes.
+    /// Adds a lock under this number, which must be greater than all numbers in the index. Its token must not
+    /// be in use. Fails only if memory runs out, and then nothing changes.
     pub fn enter(&mut self, alloc: Global, lock: &DavLock, number: u64) -> Result<(), AllocError>
         requires token { by_token self.old lock.now.token ≡ [] }
         requires above { (register : Register) (key : Key) → IsAbove number (found_at self.old register key) }
@@ -102,8 +103,7 @@ impl LockIndex {
         entered
     }
 
-    /// Has a lock be found by this number, as `enter` does, but leaves it where it was put before memory was
-    /// lacking.
+    /// Adds a lock under this number, as `enter` does. If memory runs out, the registers may keep the number.
     fn try_enter(&mut self, alloc: Global, lock: &DavLock, number: u64) -> Result<(), AllocError>
         requires token { by_token self.old lock.now.token ≡ [] }
         requires above { (register : Register) (key : Key) → IsAbove number (found_at self.old register key) }
@@ -119,7 +119,7 @@ impl LockIndex {
         Ok(())
     }
 
-    /// Has a lock be found by this number no more.
+    /// Removes a lock and its number from the index.
     pub fn leave(&mut self, lock: &DavLock, number: u64)
         ensures { LeavesIndex lock.now number self.old self.new }
     {

@@ -1,4 +1,4 @@
-//! Locks with an index.
+//! Locks by number, with an index.
 ghost use Rattle.std.specs.Prelude.{◌≡◌, ◌≤◌, ◌^◌, ℕ, true, false, [], ◌∷◌, ◌++◌, None, IfOk, IfSome, MatchOption, OnOk, OnErr, Bool};
 ghost use Rattle.std.specs.BTreeMap.{IsOrdered};
 ghost use Rattle.std.specs.List.{filter, find, list_any};
@@ -24,10 +24,10 @@ use std::alloc::{AllocError, Global};
 use std::collections::btree_map::Values;
 use std::collections::{BTreeMap, BTreeSet};
 
-/// Locks by their numbers. A newer lock has a greater number, and keeps it while it is held. An index finds the
-/// numbers by a token and by keys. A look at a number, to find its lock, to change it or to take it out, takes as many
-/// comparisons of numbers as the logarithm of how many locks there are, and moves no other lock. A look above a path
-/// goes no further down than locks were ever put: each lock's own key has fewer segments than `reach`.
+/// Locks by number, with an index that finds the numbers by token and by key. A newer lock has a greater
+/// number, and a lock keeps its number while it exists. To find, change or remove the lock of a number takes
+/// as many comparisons of numbers as the logarithm of the number of locks. Lookups above a path go no deeper
+/// than the deepest path ever locked: the own key of each lock has fewer segments than `reach`.
 #[derive(Debug, Drop)]
 pub struct IndexedLocks {
     locks: BTreeMap<u64, DavLock>,
@@ -42,7 +42,7 @@ pub struct IndexedLocks {
 impl IndexedLocks {
     ghost use Rattle.dav_memls.specs.IndexedLocks.{locks_in};
 
-    /// No locks.
+    /// Creates an empty list of locks.
     pub fn new(alloc: Global) -> IndexedLocks
         ensures { locks_in result ≡ [] }
     {
@@ -54,28 +54,29 @@ impl IndexedLocks {
         }
     }
 
-    /// The locks, the oldest first.
+    /// Returns the locks, the oldest first.
     pub fn values(&self) -> Values<'_, u64, DavLock>
         ensures { result ≡ locks_in self.now }
     {
         self.locks.values()
     }
 
-    /// The allocator that the locks are kept by.
+    /// Returns the allocator of the locks.
     pub fn allocator(&self) -> Global {
         self.alloc
     }
 
-    // ---- what is found
+    // ---- lookups
 
-    /// Whether a lock has this token: a look into the index.
+    /// Whether a lock has this token. It makes one lookup in the index.
     pub fn has_token(&self, token: &str) -> bool
         ensures { result ≡ list_any (has_token token.now) (locks_in self.now) }
     {
         self.index.number(token).is_some()
     }
 
-    /// The lock with this token, if it stands at the path or above it, and its number: a look into the index.
+    /// Returns the lock with this token and its number, if its own path is this path or above it. It makes
+    /// one lookup in the index.
     pub fn named(&self, path: &DavPath, token: &str) -> Option<(u64, &DavLock)>
         ensures { MatchOption result (has_named path.now.key token.now (locks_in self.now) ≡ false) (λ found. IsNamedLock path.now.key token.now self.now.locks.entries found.0 found.1.now) }
     {
@@ -88,7 +89,7 @@ impl IndexedLocks {
         }
     }
 
-    /// The lock with this token: a look into the index.
+    /// Returns the lock with this token. It makes one lookup in the index.
     pub fn with_token(&self, token: &str) -> Option<&DavLock>
         ensures { option_to_list (option_copied result) ≡ filter (has_token token.now) (locks_in self.now) }
     {
@@ -96,8 +97,9 @@ impl IndexedLocks {
         self.of_number(number)
     }
 
-    /// A lock that covers the path, where one does: the oldest at it, or else the oldest deep one of the first path
-    /// above it, from the root on, that has one. A look into the index for each of these that is asked.
+    /// Returns a lock that covers the path, if there is one: the oldest at the path, or else the oldest deep
+    /// one at the first path above it, from the root down, that has one. It makes one lookup in the index for
+    /// each path that it tries.
     pub fn some_covering(&self, path: &DavPath) -> Option<&DavLock>
         ensures { MatchOption result (covering (locks_in self.now) path.now.key ≡ []) (λ lock. IsIn lock.now (covering (locks_in self.now) path.now.key)) }
     {
@@ -113,7 +115,7 @@ impl IndexedLocks {
         None
     }
 
-    /// The oldest lock of the register whose own key is this one: a look into the index.
+    /// Returns the oldest lock of the register whose own key is this one. It makes one lookup in the index.
     fn first_at(&self, register: Register, key: &[String]) -> Option<&DavLock>
         ensures { option_copied result ≡ find (among register (is_of_key (texts key.now))) (locks_in self.now) }
     {
@@ -121,9 +123,9 @@ impl IndexedLocks {
         self.of_number(number)
     }
 
-    /// Whether a lock of the register, at the path or below it, passes the test: a look into the index, for which
-    /// the path is copied, and the test of these locks. Where memory for the copy is lacking, the keys of all locks
-    /// of the register are gone through.
+    /// Whether a lock of the register, at or below the path, passes the test. It makes one lookup in the
+    /// index, for which it copies the path, and tests these locks. If memory for the copy runs out, it
+    /// searches the keys of all locks of the register.
     pub fn any_below<F: Fn(&DavLock) -> bool>(
         &self,
         register: Register,
@@ -146,8 +148,8 @@ impl IndexedLocks {
         false
     }
 
-    /// The number of a lock at the path or below it, found as `any_below` finds them. It is the oldest of those at
-    /// the first key that has some, which no contract promises.
+    /// Returns the number of a lock at or below the path, if there is one. The search is that of `any_below`.
+    /// The lock is the oldest at the first key that has one, which no contract promises.
     pub fn some_below(&self, path: &DavPath) -> Option<u64>
         ensures { MatchOption result (at_or_below (locks_in self.now) path.now.key ≡ []) (StandsBelow path.now.key self.now.locks.entries) }
     {
@@ -164,7 +166,7 @@ impl IndexedLocks {
         None
     }
 
-    /// Whether a lock of one of these numbers passes the test.
+    /// Whether a lock with one of these numbers passes the test.
     fn any_of<F: Fn(&DavLock) -> bool>(&self, numbers: &Numbers, test: &F) -> bool
         requires { F.IsAlwaysCallable test.now }
         ensures { (p : DavLock → Bool) → Computes (F.post test.now) p → result ≡ list_any p (locks_of_numbers numbers.now.set.keys self.now.locks.entries) }
@@ -179,7 +181,7 @@ impl IndexedLocks {
         false
     }
 
-    /// The lock of this number.
+    /// Returns the lock of this number.
     fn of_number(&self, number: u64) -> Option<&DavLock>
         ensures { option_copied result ≡ lock_of number self.now.locks.entries }
     {
@@ -188,8 +190,8 @@ impl IndexedLocks {
 
     // ---- the locks that cover a path
 
-    /// Copies of the locks that cover the path, in order: a look into the index for the path and each above it, and
-    /// the time to put those found in order.
+    /// Returns copies of the locks that cover the path, the oldest first. It makes one lookup in the index
+    /// for the path and for each path above it, and sorts the numbers found.
     pub fn covering(&self, path: &DavPath) -> Result<Vec<DavLock>, AllocError>
         ensures { IfOk result (λ copies. copies.items ≡ covering (locks_in self.now) path.now.key) }
     {
@@ -203,7 +205,8 @@ impl IndexedLocks {
         Ok(copies)
     }
 
-    /// The numbers of the locks that cover the path: of all at it, and of the deep ones above it.
+    /// Returns the numbers of the locks that cover the path: all locks at the path, and the deep ones above
+    /// it.
     fn covering_numbers(&self, path: &DavPath) -> Result<BTreeSet<u64>, AllocError>
         ensures { IfOk result (λ found. HasNumbers found (numbers_of (λ lock. covers lock path.now.key) self.now.locks.entries)) }
     {
@@ -216,9 +219,10 @@ impl IndexedLocks {
         Ok(found)
     }
 
-    // ---- what changes
+    // ---- changes
 
-    /// Puts a lock behind the others. Only memory can be lacking, numbers included, and then nothing changes.
+    /// Adds a lock as the newest one. Its token must not be in use. Fails only if memory runs out or no
+    /// greater `u64` is left for its number, and then nothing changes.
     pub fn push(&mut self, lock: DavLock) -> Result<(), AllocError>
         requires { list_any (has_token lock.token) (locks_in self.old) ≡ false }
         ensures ok { OnOk result (locks_in self.new ≡ locks_in self.old ++ lock ∷ []) }
@@ -238,7 +242,7 @@ impl IndexedLocks {
         Ok(())
     }
 
-    /// A number above those of all locks; `None` where no `u64` is.
+    /// Returns a number greater than those of all locks, or `None` if no `u64` is.
     fn next_number(&self) -> Option<u64>
         ensures above { IfSome result (λ n. IsAbove n (keys_of self.now.locks.entries)) }
         ensures full { result ≡ None → (n : ℕ) → IsAbove n (keys_of self.now.locks.entries) → 2 ^ 64 ≤ n }
@@ -249,7 +253,7 @@ impl IndexedLocks {
         }
     }
 
-    /// Takes the lock of a number out, where there is one.
+    /// Removes the lock of a number, if there is one.
     pub fn remove(&mut self, number: u64)
         ensures { locks_in self.new ≡ locks_without number self.old.locks.entries }
     {
@@ -258,7 +262,7 @@ impl IndexedLocks {
         }
     }
 
-    /// Gives the lock of a number, where there is one, a timeout that begins now.
+    /// Gives the lock of a number, if there is one, a timeout that begins at `now`.
     pub fn refresh(&mut self, number: u64, timeout: Option<u64>, now: u64)
         ensures { locks_in self.new ≡ locks_refreshed number timeout now self.old.locks.entries }
     {
@@ -268,7 +272,7 @@ impl IndexedLocks {
     }
 }
 
-/// Adds the numbers at a key, if there are some, to those found.
+/// Adds the numbers at a key, if it has any, to those found. Fails only if memory runs out.
 fn add(found: &mut BTreeSet<u64>, numbers: Option<&Numbers>) -> Result<(), AllocError>
     ensures { OnOk result (AddsNumbers (listed (option_copied numbers.entry)) found.old found.new) }
 {

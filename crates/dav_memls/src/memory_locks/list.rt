@@ -1,4 +1,4 @@
-//! What is asked of the locks.
+//! Whether the locks allow a request, and whether a lock is granted.
 ghost use Rattle.std.specs.Prelude.{◌≡◌, ◌&&◌, ◌||◌};
 ghost use Rattle.std.specs.List.{filter, list_all, list_any};
 ghost use Rattle.dav_store.specs.Locks.{covers, covering, at_or_below, has_token, permits_at, conflicts, grants, AreCompatible};
@@ -11,10 +11,11 @@ use super::submitted::Submitted;
 use dav_resource::DavPath;
 use dav_store::DavLock;
 
-// ---- whether a request may go on
+// ---- whether the locks permit a request
 
-/// Whether the locks that cover the path let a request go on. Of locks that cover one path an exclusive one stands
-/// alone, so one of them tells what is asked: itself, or any.
+/// Whether the locks that cover the path allow a request. An exclusive lock that covers a path is the only
+/// one that covers it, so one covering lock decides. If it is exclusive, it must be submitted. If it is
+/// shared, some lock that covers the path must be.
 pub fn permits_at(locks: &IndexedLocks, path: &DavPath, submitted: &Submitted) -> bool
     requires { AreCompatible (locks_in locks.now) }
     ensures { result ≡ permits_at (covering (locks_in locks.now) path.now.key) (passes submitted.now) }
@@ -29,14 +30,15 @@ pub fn permits_at(locks: &IndexedLocks, path: &DavPath, submitted: &Submitted) -
     }
 }
 
-/// Whether each lock at the path or below it is submitted.
+/// Whether each lock at or below the path is submitted.
 pub fn permits_below(locks: &IndexedLocks, path: &DavPath, submitted: &Submitted) -> bool
     ensures { result ≡ list_all (passes submitted.now) (at_or_below (locks_in locks.now) path.now.key) }
 {
     !locks.any_below(Register::All, path, |lock| !submitted.has(lock))
 }
 
-/// Whether a lock that covers the path is submitted: a look for each token, however many the locks are.
+/// Whether a lock that covers the path is submitted. It makes one lookup for each token, however many locks
+/// exist.
 fn one_is_submitted(locks: &IndexedLocks, path: &DavPath, submitted: &Submitted) -> bool
     ensures { result ≡ list_any (passes submitted.now) (covering (locks_in locks.now) path.now.key) }
 {
@@ -46,7 +48,7 @@ fn one_is_submitted(locks: &IndexedLocks, path: &DavPath, submitted: &Submitted)
         .any(|token| lets_on(locks, path, submitted, token.as_str()))
 }
 
-/// Whether the lock with this token covers the path and its principal is the request's, unless that is ignored.
+/// Whether the lock with this token covers the path and its principal is that of the request or is ignored.
 fn lets_on(locks: &IndexedLocks, path: &DavPath, submitted: &Submitted, token: &str) -> bool
     ensures { result ≡ list_any (λ lock. covers lock path.now.key && is_from submitted.now lock) (filter (has_token token.now) (locks_in locks.now)) }
 {
@@ -58,7 +60,7 @@ fn lets_on(locks: &IndexedLocks, path: &DavPath, submitted: &Submitted, token: &
 
 // ---- whether a lock is granted
 
-/// Whether the lock may stand beside these.
+/// Whether the lock can be granted beside these locks.
 pub fn grants(locks: &IndexedLocks, lock: &DavLock) -> bool
     requires { AreCompatible (locks_in locks.now) }
     ensures { result ≡ grants (locks_in locks.now) lock.now }
@@ -68,7 +70,8 @@ pub fn grants(locks: &IndexedLocks, lock: &DavLock) -> bool
         && !(lock.deep && conflicts_below(locks, lock))
 }
 
-/// Whether the lock conflicts with one that covers its path: with one it does, or with all.
+/// Whether the lock conflicts with a lock that covers its path. It conflicts with all of these or with none,
+/// so it is enough to find one.
 fn conflicts_above(locks: &IndexedLocks, lock: &DavLock) -> bool
     requires { AreCompatible (locks_in locks.now) }
     ensures { result ≡ list_any (conflicts lock.now) (covering (locks_in locks.now) lock.now.path.key) }
@@ -79,8 +82,8 @@ fn conflicts_above(locks: &IndexedLocks, lock: &DavLock) -> bool
     }
 }
 
-/// Whether the lock conflicts with one at its path or below it: a shared lock with an exclusive one, an exclusive
-/// lock with any.
+/// Whether the lock conflicts with a lock at or below its path. A shared lock conflicts with exclusive ones,
+/// and an exclusive lock with all.
 fn conflicts_below(locks: &IndexedLocks, lock: &DavLock) -> bool
     ensures { result ≡ list_any (conflicts lock.now) (at_or_below (locks_in locks.now) lock.now.path.key) }
 {

@@ -10,8 +10,8 @@ use std::alloc::{AllocError, Global};
 use std::collections::BTreeSet;
 use std::collections::btree_set::Iter;
 
-/// Numbers, each above those before it. One is put to them or taken out by as many comparisons as the logarithm of
-/// how many they are.
+/// A set of numbers in ascending order. To add or remove a number takes as many comparisons as the logarithm
+/// of the size of the set.
 #[derive(Debug, Drop)]
 pub struct Numbers {
     set: BTreeSet<u64>,
@@ -19,7 +19,7 @@ pub struct Numbers {
 }
 
 impl Numbers {
-    /// No numbers.
+    /// Creates an empty set.
     pub fn new(alloc: Global) -> Numbers
         ensures { result.set.keys ≡ [] }
     {
@@ -28,28 +28,29 @@ impl Numbers {
         }
     }
 
-    /// The numbers, the least first.
+    /// Returns the numbers, the least first.
     pub fn iter(&self) -> Iter<'_, u64>
         ensures { result ≡ self.now.set.keys }
     {
         self.set.iter()
     }
 
-    /// The least number.
+    /// Returns the least number.
     pub fn first(&self) -> Option<u64>
         ensures { result ≡ slice_get self.now.set.keys 0 }
     {
         self.set.first().copied()
     }
 
-    /// Whether there is no number.
+    /// Whether the set is empty.
     pub fn is_empty(&self) -> bool
         ensures { IsTrue result ↔ (self.now.set.keys ≡ []) }
     {
         self.set.is_empty()
     }
 
-    /// Puts a number above them at the end. Only memory can be lacking, and then nothing changes.
+    /// Adds a number that is greater than all others. Fails only if memory runs out, and then nothing
+    /// changes.
     pub fn push(&mut self, number: u64) -> Result<(), AllocError>
         requires { IsAbove number self.old.set.keys }
         ensures ok { OnOk result (self.new.set.keys ≡ self.old.set.keys ++ number ∷ []) }
@@ -59,7 +60,7 @@ impl Numbers {
         Ok(())
     }
 
-    /// Takes a number out, where it is one of them.
+    /// Removes a number, if it is in the set.
     pub fn remove(&mut self, number: u64)
         ensures { self.new.set.keys ≡ without number self.old.set.keys }
     {

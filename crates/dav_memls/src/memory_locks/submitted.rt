@@ -11,12 +11,12 @@ use dav_store::DavLock;
 use std::alloc::{AllocError, Global};
 use std::collections::BTreeSet;
 
-/// More tokens than these are put in order.
+/// More tokens than this are sorted.
 const FEW: usize = 8;
 
-/// What a request submits: tokens, and who sends it, unless that is ignored. Of many tokens one is sought by as
-/// many comparisons as the logarithm of their number, if the memory is there to put them in order, and else
-/// among them one by one.
+/// What a request submits: its tokens, and its principal unless that is ignored. Many tokens are sorted, so
+/// that one is found with as many comparisons as the logarithm of their number. If memory for that runs out,
+/// they are compared one by one.
 #[derive(Drop)]
 pub struct Submitted<'a> {
     principal: Option<&'a str>,
@@ -29,7 +29,7 @@ pub struct Submitted<'a> {
 impl<'a> Submitted<'a> {
     ghost use Rattle.dav_memls.specs.Submitted.{is_from, passes};
 
-    /// What these tokens and this principal submit.
+    /// Creates the value for these tokens and this principal.
     pub fn new(
         alloc: Global,
         principal: Option<&'a str>,
@@ -51,15 +51,15 @@ impl<'a> Submitted<'a> {
         }
     }
 
-    /// The tokens, in the request's order.
+    /// Returns the tokens, in the order of the request.
     pub fn tokens(&self) -> &[Text]
         ensures { result.now ≡ self.now.tokens.now }
     {
         self.tokens
     }
 
-    /// Whether the lock is submitted: its token is among the tokens and, unless that is ignored, its principal
-    /// is the request's.
+    /// Whether the lock is submitted: its token is one of the tokens, and its principal is that of the
+    /// request or is ignored.
     pub fn has(&self, lock: &DavLock) -> bool
         ensures { result ≡ passes self.now lock.now }
     {
@@ -76,7 +76,7 @@ impl<'a> Submitted<'a> {
         }
     }
 
-    /// Whether the lock's principal is the request's, unless that is ignored.
+    /// Whether the lock's principal is that of the request or is ignored.
     pub fn is_from(&self, lock: &DavLock) -> bool
         ensures { result ≡ is_from self.now lock.now }
     {
@@ -91,7 +91,7 @@ impl<'a> Submitted<'a> {
     }
 }
 
-/// The tokens in order. Only memory can be lacking.
+/// Returns the tokens in a sorted set. Fails only if memory runs out.
 fn in_order<'a>(alloc: Global, tokens: &'a [Text]) -> Result<BTreeSet<&'a str>, AllocError>
     ensures { IfOk result (HasTokens tokens.now) }
 {

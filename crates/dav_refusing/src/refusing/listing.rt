@@ -1,4 +1,4 @@
-//! What a plan leaves of a listing.
+//! How a plan changes a listing.
 ghost use Rattle.std.specs.Prelude.{◌≡◌, [], ◌++◌, map, IfOk, IfErr};
 ghost use Rattle.dav_resource.specs.PathText.{IsSegment};
 ghost use Rattle.dav_store.specs.Members.{member};
@@ -10,17 +10,17 @@ use super::slot::Slot;
 use dav_resource::{DavPath, DirEntry, FsError, FsResult, Items, Op, Outcome, Record};
 use std::alloc::Global;
 
-/// The members that a listing doesn't show.
+/// The members that a listing does not list.
 #[derive(Drop)]
 pub(super) struct Unseen {
-    /// The records of all of them, in the listing's order.
+    /// The records of all of them, in the order of the listing.
     pub(super) records: Vec<Record>,
-    /// The slots of those that the plan refuses, whose refusals are to be used up.
+    /// The slots of those that the plan refuses. These refusals are to be used up.
     pub(super) refused: Vec<Slot>,
 }
 
 impl Unseen {
-    /// None so far.
+    /// Creates a value without members.
     fn new(alloc: Global) -> Unseen
         ensures records { result.records.items ≡ [] }
         ensures refused { result.refused.items ≡ [] }
@@ -32,10 +32,11 @@ impl Unseen {
     }
 }
 
-/// Refuses each member of a directory for which the plan has a refusal, and gives those that aren't shown. `hidden` are
-/// the records of those that weren't shown before. The plan stays as it is.
+/// Refuses each listed member for which the plan has a refusal, and returns all members that are not listed.
+/// `hidden` holds the records of those that were not listed before. The plan stays the same.
 ///
-/// Only memory can be lacking; then the listing may be anything. One lookup for each member.
+/// Fails only if memory runs out. The contents of the listing are then unspecified. It makes at most one
+/// lookup for each member.
 pub(super) fn refuse_members(
     path: &DavPath,
     plan: &Plan,
@@ -66,8 +67,8 @@ pub(super) fn refuse_members(
     Ok(unseen)
 }
 
-/// The error that the plan refuses to show a member with, where it does; then the member is unseen. Where the plan is
-/// empty no memory is taken.
+/// Returns the error with which the plan refuses to list a member, if it does, and then adds the member to
+/// `unseen`. It allocates nothing if the plan is empty.
 fn refuse_member(
     path: &DavPath,
     plan: &Plan,

@@ -1,4 +1,4 @@
-//! What a store that refuses is to refuse yet.
+//! The refusals that are still to come.
 ghost use Rattle.std.specs.Prelude.{◌≡◌, ◌-◌, ◌≤◌, map, OnOk, OnErr, Some, None, IfSome, IfOk};
 ghost use Rattle.std.specs.Option.{option_map};
 ghost use Rattle.std.proofs.Props.{props};
@@ -9,17 +9,17 @@ use super::slot::Slot;
 use dav_resource::{DavPath, FsError, Op};
 use std::alloc::{AllocError, Global};
 
-/// A call that is to be refused by its number.
+/// A call to be refused by its number.
 #[derive(Clone, Copy, Debug)]
 pub(crate) struct NumberedRefusal {
-    /// How many calls go before it.
+    /// How many calls come before it.
     before: u64,
-    /// What it is refused with.
+    /// The error with which it is refused.
     error: FsError,
     ghost own: { IsOwn error } by { Prim.hlevel props },
 }
 
-/// What is to be refused: one call by its number, where one is, and the calls of a plan.
+/// The refusals that are still to come: at most one call by its number, and the calls of a plan.
 #[derive(Debug, Drop)]
 pub(crate) struct Pending {
     numbered: Option<NumberedRefusal>,
@@ -31,7 +31,7 @@ impl Pending {
     ghost use Rattle.dav_refusing.specs.Slots.{slot_call};
     ghost use Rattle.dav_refusing.specs.Pending.{numbered_of, pending_of, error_now, due, after_call, passed_by};
 
-    /// Nothing.
+    /// Creates a value without refusals.
     pub(crate) fn new(alloc: Global) -> Pending
         ensures { pending_of result ≡ record { numbered = None; plan = no_refusals } }
     {
@@ -41,14 +41,15 @@ impl Pending {
         }
     }
 
-    /// What is planned.
+    /// Returns the plan.
     pub(super) fn plan(&self) -> &Plan
         ensures { result.now ≡ self.now.plan }
     {
         &self.plan
     }
 
-    /// Puts a refusal at the end of the plan. Only memory can be lacking, and then nothing changes.
+    /// Adds a refusal to the plan, after those of the same kind and key. Fails only if memory runs out, and
+    /// then nothing changes.
     pub(crate) fn add(&mut self, op: Op, path: DavPath, error: FsError) -> Result<(), AllocError>
         requires { IsOwn error }
         ensures ok { OnOk result (pending_of self.new ≡ record (pending_of self.old) { plan = with_last op (planned_key op path.key) error (pending_of self.old).plan }) }
@@ -57,7 +58,7 @@ impl Pending {
         self.plan.add(op, path, error)
     }
 
-    /// Has the nth call refused, counted from 1, and no other one by its number.
+    /// Plans to refuse the nth call, counted from 1. This replaces an earlier numbered refusal.
     pub(crate) fn refuse_call(&mut self, n: u64, error: FsError)
         requires counted { 1 ≤ n }
         requires own { IsOwn error }
@@ -69,8 +70,9 @@ impl Pending {
         });
     }
 
-    /// The error that a call is to be refused with, where one is due. It is used up then, and the call is counted; else
-    /// nothing changes. Only memory can be lacking, and then nothing changes either.
+    /// Returns the error with which a call is to be refused, if one is due. The refusal is then used up, and
+    /// the call is counted. Otherwise nothing changes. Fails only if `Slot::of_call` does, and then nothing
+    /// changes either.
     pub(crate) fn take(&mut self, op: Op, paths: &[DavPath]) -> Result<Option<FsError>, AllocError>
         ensures error { IfOk result (λ error. error ≡ due op (first_key paths.now) (pending_of self.old)) }
         ensures left { IfOk result (λ error. IfSome error (λ _. pending_of self.new ≡ after_call op (first_key paths.now) (pending_of self.old))) }
@@ -92,7 +94,7 @@ impl Pending {
         Ok(Some(error))
     }
 
-    /// The error of the call that is to be refused by its number, where it is the next one.
+    /// Returns the error of the numbered call, if the next call is that one.
     fn due_by_number(&self) -> Option<FsError>
         ensures error { result ≡ error_now (option_map numbered_of self.now.numbered) }
         ensures own { IfSome result IsOwn }

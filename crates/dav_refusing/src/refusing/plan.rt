@@ -1,4 +1,4 @@
-//! The plan of a store that refuses by plan.
+//! A plan of calls to refuse.
 ghost use Rattle.std.specs.Prelude.{◌≡◌, ◌↔◌, [], IsTrue, OnOk, OnErr, IfSome, map};
 ghost use Rattle.std.proofs.Props.{props};
 ghost use Rattle.dav_store.specs.Calls.{IsOwn};
@@ -10,8 +10,8 @@ use dav_resource::{DavPath, FsError, Op};
 use std::alloc::{AllocError, Global};
 use std::collections::{BTreeMap, VecDeque};
 
-/// The calls that are to be refused by a plan: for those of each slot their errors, the first planned first. A slot has a
-/// queue only while it has errors.
+/// The calls to refuse by plan: for each slot its errors, the first planned first. A slot has a queue only
+/// while it has errors.
 #[derive(Debug, Drop)]
 pub(super) struct Plan {
     alloc: Global,
@@ -23,7 +23,7 @@ impl Plan {
     ghost use Rattle.dav_refusing.specs.Plans.{no_refusals, planned_key, refusal_for, with_last, without_first, without_firsts};
     ghost use Rattle.dav_refusing.specs.Slots.{plan_in, slot_call, slot_key};
 
-    /// A plan that refuses nothing.
+    /// Creates a plan without refusals.
     pub(super) fn new(alloc: Global) -> Plan
         ensures { plan_in result.queues ≡ no_refusals }
     {
@@ -33,7 +33,8 @@ impl Plan {
         }
     }
 
-    /// Puts a refusal at the end. Only memory can be lacking, and then nothing changes. At most two lookups.
+    /// Adds a refusal at the end of the queue of its slot. Fails only if memory runs out, and then nothing
+    /// changes. It makes at most two lookups.
     pub(super) fn add(&mut self, op: Op, path: DavPath, error: FsError) -> Result<(), AllocError>
         requires { IsOwn error }
         ensures ok { OnOk result (plan_in self.new.queues ≡ with_last op (planned_key op path.key) error (plan_in self.old.queues)) }
@@ -51,7 +52,7 @@ impl Plan {
         Ok(())
     }
 
-    /// The error that the next call of this slot is to be refused with, if at all. One lookup.
+    /// Returns the error with which the next call of this slot is to be refused, if any. It makes one lookup.
     pub(super) fn first(&self, slot: &Slot) -> Option<FsError>
         ensures error { result ≡ refusal_for slot.now.op (slot_key slot.now) (plan_in self.now.queues) }
         ensures own { IfSome result IsOwn }
@@ -60,7 +61,7 @@ impl Plan {
         Some(planned.error)
     }
 
-    /// Takes the first refusal for the calls of this slot out, and gives its error. At most two lookups.
+    /// Removes the first refusal of this slot, if any, and returns its error. It makes at most two lookups.
     pub(super) fn take(&mut self, slot: &Slot) -> Option<FsError>
         ensures error { result ≡ refusal_for slot.now.op (slot_key slot.now) (plan_in self.old.queues) }
         ensures left { plan_in self.new.queues ≡ without_first slot.now.op (slot_key slot.now) (plan_in self.old.queues) }
@@ -74,7 +75,7 @@ impl Plan {
         Some(first?.error)
     }
 
-    /// Takes the first refusal for the calls of each of these slots out. At most two lookups for each.
+    /// Removes the first refusal of each of these slots. It makes at most two lookups for each.
     pub(super) fn take_all(&mut self, slots: &[Slot])
         ensures { plan_in self.new.queues ≡ without_firsts (map slot_call slots.now) (plan_in self.old.queues) }
     {
@@ -83,14 +84,14 @@ impl Plan {
         }
     }
 
-    /// Whether there is no queue, and so nothing that is to be refused.
+    /// Whether the plan has no refusals.
     pub(super) fn is_empty(&self) -> bool
         ensures { IsTrue result ↔ (plan_in self.now.queues ≡ no_refusals) }
     {
         self.queues.is_empty()
     }
 
-    /// The allocator that the refusals are kept by.
+    /// Returns the allocator of the plan.
     pub(super) fn allocator(&self) -> Global {
         self.alloc
     }

@@ -1,4 +1,4 @@
-//! The calls of a store that go by the same refusals of a plan.
+//! The calls of a store that share the refusals of a plan.
 ghost use Rattle.std.specs.Prelude.{◌≡◌, IfOk, refl};
 ghost use Rattle.std.specs.Ordering.{eq_by_cmp, as_partial_cmp};
 ghost use Rattle.std.specs.Cmp.{eq_by_cmp_equiv, partial_equiv_from_equiv, partial_order_from_total};
@@ -12,7 +12,7 @@ use std::cmp::Ordering;
 
 /// The calls of one kind whose first paths have one key. Those of `Op::GetQuota` have no path.
 ///
-/// Slots are ordered by the kinds of calls and then by the keys; nothing else of a path counts.
+/// Slots are ordered by the kind of call and then by the key. Nothing else of a path counts.
 #[derive(Debug, Drop)]
 pub(super) struct Slot {
     op: Op,
@@ -20,8 +20,9 @@ pub(super) struct Slot {
 }
 
 impl Slot {
-    /// The slot of a call of this kind on these paths. It takes no memory, as both have the path's segments in common;
-    /// the error stands for more copies of a path at once than a `usize` counts.
+    /// Returns the slot of a call of this kind on these paths. It allocates nothing, because the slot shares
+    /// the segments of the path. It fails only if the number of copies of a path at one time does not fit in
+    /// a `usize`.
     pub(super) fn of_call(op: Op, paths: &[DavPath]) -> Result<Slot, AllocError>
         ensures { IfOk result (λ slot. slot_call slot ≡ (op, first_key paths.now)) }
     {
@@ -32,7 +33,7 @@ impl Slot {
         Ok(Slot { op, path })
     }
 
-    /// The slot of the calls that a refusal of this kind at this path is for.
+    /// Returns the slot of the calls that a refusal of this kind at this path is for.
     pub(super) fn of_refusal(op: Op, path: DavPath) -> Slot
         ensures { slot_call result ≡ (op, planned_key op path.key) }
     {
@@ -43,7 +44,7 @@ impl Slot {
         Slot { op, path }
     }
 
-    /// The segments of the key, first to last; where there is no path, none.
+    /// Returns the segments of the key, first to last. Without a path there are none.
     fn key(&self) -> &[String]
         ensures { texts result.now ≡ slot_key self.now }
     {

@@ -1,4 +1,4 @@
-//! The members of a directory, and copies of all that a store in memory keeps.
+//! The members of a directory, and copies of all resources of an in-memory store.
 ghost use Rattle.std.specs.Prelude.{◌≡◌, ◌==◌, ◌++◌, ◌∷◌, [], not, length, ℕ, List, Some, None, IfOk, OnOk, IfSome, MatchOption, slice_get, string_bytes};
 ghost use Rattle.std.specs.Option.{option_map};
 ghost use Rattle.std.specs.FinMap as map;
@@ -17,7 +17,8 @@ use dav_resource::{DavPath, DavProp, DirEntry, FsResult, Text};
 use std::alloc::{AllocError, Global};
 
 impl Entries {
-    /// Whether a directory has members. Only memory can be lacking. Looks at its first member alone.
+    /// Returns whether a directory has members. Looks for the first member only. Fails only if memory runs
+    /// out.
     pub fn has_members(&self, alloc: Global, directory: &[String]) -> Result<bool, AllocError>
         ensures { IfOk result (λ found. found ≡ not (length (members (tree_of self.now) (texts directory.now)) == 0)) }
     {
@@ -25,8 +26,8 @@ impl Entries {
         Ok(self.next_member(directory, &mut place)?.is_some())
     }
 
-    /// The members of a directory in the order of their names, each with what is known of it. Only memory can be
-    /// lacking. Costs its members, and not what stands below them.
+    /// Returns the members of a directory in the order of their names, each with its metadata. Fails only if
+    /// memory runs out. Makes one lookup for each member, and skips what is below the members.
     pub fn list(
         &self,
         alloc: Global,
@@ -44,7 +45,7 @@ impl Entries {
         Ok(listing)
     }
 
-    /// A copy of each resource, in the order of the keys. Only memory can be lacking.
+    /// Returns a copy of each resource, in the order of the keys. Fails only if memory runs out.
     pub fn dump(
         &self,
         alloc: Global,
@@ -59,8 +60,8 @@ impl Entries {
         Ok(dumped)
     }
 
-    /// The next member of a directory from a place in it on, and what is kept of it; the place moves behind it.
-    /// Only memory can be lacking. Passes over what stands below a member.
+    /// Returns the next member of a directory, from a search position on, with its name and its resource.
+    /// Moves the position past the member and everything below it. Fails only if memory runs out.
     fn next_member(
         &self,
         directory: &[String],
@@ -82,7 +83,7 @@ impl Entries {
         Ok(None)
     }
 
-    /// The first key at or behind a place, and what is kept there.
+    /// Returns the first key at or after a search position, and the resource there.
     fn first_from(&self, place: &Vec<String>) -> Option<(&Vec<String>, &Entry)>
         ensures first { option_map (λ p. texts p.0.now.items) result ≡ slice_get (keys_from (texts place.now.items) (map.keys self.now)) 0 }
         ensures kept { IfSome result (λ p. map.get self.now (texts p.0.now.items) ≡ Some p.1.now) }
@@ -91,14 +92,14 @@ impl Entries {
     }
 }
 
-/// What follows a directory in a key below it: a segment, and the rest.
+/// Splits a key below a directory: returns the segment after the directory's key, and the rest.
 fn below<'a>(key: &'a [String], directory: &[String]) -> Option<(&'a String, &'a [String])>
     ensures { MatchOption result ((n : List ℕ) (w : Key) → texts key.now ≡ texts directory.now ++ n ∷ w → ⊥) (λ p. texts key.now ≡ texts directory.now ++ string_bytes p.0.now ∷ texts p.1.now) }
 {
     key.strip_prefix(directory)?.split_first()
 }
 
-/// The place before all members of a directory: that of the empty name.
+/// Returns the search position before all members of a directory: the key of a member with an empty name.
 fn first_place(alloc: Global, directory: &[String]) -> Result<Vec<String>, AllocError>
     ensures { IfOk result (λ place. texts place.items ≡ member (texts directory.now) []) }
 {
@@ -110,7 +111,8 @@ fn first_place(alloc: Global, directory: &[String]) -> Result<Vec<String>, Alloc
     Ok(place)
 }
 
-/// Moves a place behind a name in its directory: to the least name behind that. Only memory can be lacking.
+/// Moves a search position past a name in its directory, to the least name greater than it. Fails only if
+/// memory runs out.
 fn go_behind(place: &mut Vec<String>, name: &String) -> Result<(), AllocError>
     ensures { OnOk result (texts place.new.items ≡ member (parent (texts place.old.items)) (string_bytes name.now ++ 0 ∷ [])) }
 {
@@ -121,7 +123,7 @@ fn go_behind(place: &mut Vec<String>, name: &String) -> Result<(), AllocError>
     Ok(())
 }
 
-/// Takes the last segment off, where there is one.
+/// Removes the last segment, if there is one.
 #[tactic(auto, using(crate::proofs::MemberLists::parent_texts))]
 fn drop_last(key: &mut Vec<String>)
     ensures { texts key.new.items ≡ parent (texts key.old.items) }
@@ -129,7 +131,7 @@ fn drop_last(key: &mut Vec<String>)
     key.pop();
 }
 
-/// A copy of what is kept at a key. Only memory can be lacking.
+/// Returns a copy of the resource at a key. Fails only if memory runs out.
 fn dump_of(
     alloc: Global,
     key: &[String],
@@ -144,7 +146,7 @@ fn dump_of(
     Ok((path, bytes, properties))
 }
 
-/// A path of a key. Only memory can be lacking.
+/// Returns a path with this key. Fails only if memory runs out.
 fn path_of(alloc: Global, key: &[String]) -> Result<DavPath, AllocError>
     requires { IsKey (texts key.now) }
     ensures { IfOk result (λ path. path.key ≡ texts key.now) }

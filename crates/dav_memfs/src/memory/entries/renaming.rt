@@ -1,4 +1,4 @@
-//! Renaming what is kept at a key and below it.
+//! Renaming of the resource at a key and everything below it.
 ghost use Rattle.std.specs.Prelude.{◌≡◌, ◌++◌, ℕ, false, take, IfOk, OnOk, OnErr, IsSome, None};
 ghost use Rattle.std.specs.FinMap as map;
 ghost use Rattle.std.specs.List.{fold};
@@ -12,7 +12,7 @@ use super::Entries;
 use crate::memory::entry::Entry;
 use std::alloc::{AllocError, Global};
 
-/// A key, and the key to which what is kept there goes.
+/// The move of one resource: its key, and its destination.
 #[derive(Drop)]
 struct Step {
     from: Vec<String>,
@@ -22,9 +22,9 @@ struct Step {
 impl Entries {
     ghost use Rattle.dav_memfs.specs.Moves.{moves, moves_of, hold, release, shift, CanShift, AreFree};
 
-    /// Moves what is kept at a key and below it to another, where nothing is kept. Only memory can be lacking, and
-    /// then nothing changes. Costs a few lookups, and the copies of two keys and one more, for each resource that is
-    /// moved; the rest is not looked at.
+    /// Moves the resource at a key, and everything below it, to another key. Nothing may exist there. Fails
+    /// only if memory runs out, and then nothing changes. Makes a few lookups and three copies of keys for
+    /// each resource moved, and does not scan the other resources.
     pub fn rename(
         &mut self,
         alloc: Global,
@@ -45,7 +45,7 @@ impl Entries {
         Ok(())
     }
 
-    /// The steps of a renaming, in the order of the keys. Only memory can be lacking.
+    /// Returns the moves of a renaming, in the order of the keys. Fails only if memory runs out.
     fn plan(&self, alloc: Global, from: &[String], to: &[String]) -> Result<Vec<Step>, AllocError>
         ensures { IfOk result (λ plan. moves plan.items ≡ moves_of (texts from.now) (texts to.now) self.now) }
     {
@@ -63,8 +63,8 @@ impl Entries {
         Ok(plan)
     }
 
-    /// Holds a place for each resource that is to go somewhere. Only memory can be lacking, and then some places
-    /// are held.
+    /// Inserts a placeholder at the destination of each move. Fails only if memory runs out, and then some
+    /// placeholders may have been inserted.
     fn hold(&mut self, alloc: Global, plan: &[Step]) -> Result<(), AllocError>
         ensures ok { OnOk result (self.new ≡ fold hold self.old (moves plan.now)) }
         ensures err { OnErr result ((k : ℕ) × (self.new ≡ fold hold self.old (take k (moves plan.now)))) }
@@ -75,7 +75,7 @@ impl Entries {
         Ok(())
     }
 
-    /// Takes out what is kept where something was to go.
+    /// Removes the resource at the destination of each move.
     fn release(&mut self, plan: &[Step])
         ensures { self.new ≡ fold release self.old (moves plan.now) }
     {
@@ -84,7 +84,7 @@ impl Entries {
         }
     }
 
-    /// Moves each resource to the place that is held for it.
+    /// Moves each resource onto its placeholder.
     fn shift_all(&mut self, plan: Vec<Step>)
         requires { CanShift self.old (moves plan.items) }
         ensures { self.new ≡ fold shift self.old (moves plan.items) }
@@ -94,7 +94,7 @@ impl Entries {
         }
     }
 
-    /// Moves a resource to the place that is held for it.
+    /// Moves a resource onto its placeholder.
     fn shift(&mut self, from: &[String], to: Vec<String>)
         requires apart { eq_by_cmp key_cmp (texts to.items) (texts from.now) ≡ false }
         requires held { IsSome (map.get self.old (texts to.items)) }
@@ -105,7 +105,7 @@ impl Entries {
         }
     }
 
-    /// Keeps a resource in the place of the one at a key.
+    /// Replaces the resource at a key.
     fn replace(&mut self, key: Vec<String>, entry: Entry)
         requires { IsSome (map.get self.old (texts key.items)) }
         ensures { self.new ≡ map.insert self.old (texts key.items) entry }
@@ -114,7 +114,7 @@ impl Entries {
     }
 }
 
-/// A key behind another. Only memory can be lacking.
+/// Returns a key appended to another. Fails only if memory runs out.
 fn joined(alloc: Global, above: &[String], below: &[String]) -> Result<Vec<String>, AllocError>
     ensures { IfOk result (λ key. texts key.items ≡ texts above.now ++ texts below.now) }
 {

@@ -1,4 +1,4 @@
-//! Changing properties, all as they are asked for or none.
+//! Changes to properties: all requested changes are made, or none.
 ghost use Rattle.std.specs.Prelude.{◌≡◌, Some, None, IfOk, OnOk, OnErr, true, false};
 ghost use Rattle.std.specs.FinMap as map;
 ghost use Rattle.dav_store.specs.Below.{put_at};
@@ -11,8 +11,8 @@ use dav_resource::{DavProp, SharedElement};
 use std::alloc::AllocError;
 use std::collections::BTreeMap;
 
-/// What is to become of properties: those that are to be added where there are none of their names, and, by
-/// name, what those that are there are replaced by, an element, or nothing where they are removed.
+/// Planned changes. `added` has the properties to add, none of which exists yet. `changed` has the changes of
+/// existing properties by name: the new element, or `None` to remove the property.
 #[derive(Drop)]
 struct Plan {
     added: Properties,
@@ -20,10 +20,10 @@ struct Plan {
 }
 
 impl Properties {
-    /// Sets (`true`) or removes (`false`) properties, in order: a property that is set has the element that is
-    /// given with it, and without one it is removed. Only memory can be lacking, and then nothing changes. Costs
-    /// for each change a few lookups among the properties and among the changes, and at most two copies of its
-    /// name; a property that isn't changed costs nothing.
+    /// Sets (`true`) or removes (`false`) properties, in order. A property that is set gets the element that
+    /// the change has, and is removed if the change has none. Fails only if memory runs out, and then nothing
+    /// changes. Each change makes a few lookups among the properties and among the changes, and at most two
+    /// copies of its name. Properties that are not changed cost nothing.
     pub fn patch(&mut self, patches: &[(bool, DavProp)]) -> Result<(), AllocError>
         ensures ok { OnOk result (self.new ≡ patched patches.now self.old) }
         ensures err { OnErr result (self.new ≡ self.old) }
@@ -34,7 +34,7 @@ impl Properties {
         Ok(())
     }
 
-    /// What these changes come to. Only memory can be lacking.
+    /// Returns the combined effect of these changes. Fails only if memory runs out.
     fn plan(&self, patches: &[(bool, DavProp)]) -> Result<Plan, AllocError>
         ensures { IfOk result (λ plan. IsPlan self.now plan.added (changes_of plan.changed) (patched patches.now self.now)) }
     {
@@ -54,8 +54,8 @@ impl Properties {
         Ok(plan)
     }
 
-    /// Adds copies of these properties to others, among which there are none of their names. Only memory can be
-    /// lacking, and then nothing changes.
+    /// Adds copies of these properties to others, which have none of these names. Fails only if memory runs
+    /// out, and then nothing changes.
     fn add_to(&self, others: &mut Properties) -> Result<(), AllocError>
         requires { AreOthers self.now others.old }
         ensures ok { OnOk result (ArePut self.now others.old others.new) }
@@ -68,7 +68,8 @@ impl Properties {
         Ok(())
     }
 
-    /// Replaces or removes the properties of these names that are there.
+    /// Replaces or removes the existing properties with these names. A change of a property that does not
+    /// exist has no effect.
     fn change_all(&mut self, changed: BTreeMap<PropertyName, Option<SharedElement>>)
         ensures { AreChanged (changes_of changed) self.old self.new }
     {
@@ -77,7 +78,8 @@ impl Properties {
         }
     }
 
-    /// Replaces the property of a name by one with this element, where it is there, or removes it.
+    /// Replaces the element of the property with a name, if it exists, or removes the property if there is no
+    /// element.
     fn change(&mut self, name: &PropertyName, element: Option<SharedElement>)
         ensures { self.new ≡ put_at self.old (key_of name.now) (replaced_by (Some element) (map.get self.old (key_of name.now))) }
     {
@@ -89,7 +91,7 @@ impl Properties {
 }
 
 impl Plan {
-    /// Notes what a property that is there is replaced by. Only memory can be lacking.
+    /// Notes the change of an existing property. Fails only if memory runs out.
     fn change(
         &mut self,
         name: PropertyName,
@@ -102,8 +104,8 @@ impl Plan {
         Ok(())
     }
 
-    /// Notes that a property is to be added that isn't there, or, without an element, that it isn't. Only memory
-    /// can be lacking.
+    /// Notes that a property that does not exist is to be added, or, without an element, that it is not.
+    /// Fails only if memory runs out.
     fn add(&mut self, name: PropertyName, element: Option<SharedElement>) -> Result<(), AllocError>
         ensures added { OnOk result (self.new.added ≡ put_at self.old.added (key_of name) element) }
         ensures changed { self.new.changed ≡ self.old.changed }
@@ -116,7 +118,7 @@ impl Plan {
     }
 }
 
-/// The element that a change gives its property, where it gives one. Only memory can be lacking.
+/// Returns the element that a change gives its property, if any. Fails only if memory runs out.
 fn wanted(set: bool, prop: &DavProp) -> Result<Option<SharedElement>, AllocError>
     ensures { IfOk result (λ element. element ≡ wanted (set, prop.now)) }
 {
