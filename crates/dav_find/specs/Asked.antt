@@ -1,5 +1,5 @@
--- What a PROPFIND asks for (RFC 4918, sections 9.1, 14.2, 14.8, 14.18, 14.20 and 14.21; the properties that are told where none is named are this
--- project's own choice). Elements are known by their local names alone, but for the outermost one.
+-- What a PROPFIND asks for (RFC 4918, sections 9.1, 14.2, 14.8, 14.18, 14.20 and 14.21). Which properties the server adds is this project's own
+-- choice. The elements `propname`, `prop`, `allprop` and `include` are recognized by their local names only, the root element also by its namespace.
 use Rattle.std.specs.Prelude.{ℕ, Bool, true, false, ◌&&◌, ◌||◌, nat_eq, if◌then◌else◌, List, [], ◌∷◌, ◌++◌, map, length, codes, bytes_eq, Option, Some, None, Result, Ok, Err}
 use Rattle.std.specs.List.{list_any, fold, find}
 use Rattle.std.specs.Option.{option_eq, option_map_or}
@@ -16,11 +16,11 @@ use Rattle.dav_find.specs.declared.search.AskedProperty.{AskedProperty}
 
 -- ---- properties by their names
 
--- both name one property: the namespace and the name are equal
+-- both elements name the same property: their namespaces and local names are equal
 abbrev pub is_same : Tree → Tree → Bool
 is_same one other = option_eq bytes_eq one.tag.namespace other.tag.namespace && bytes_eq one.tag.name other.tag.name
 
--- the element stands in this namespace
+-- the element has this namespace
 abbrev pub is_of : List ℕ → Tree → Bool
 is_of namespace element = option_eq bytes_eq element.tag.namespace (Some namespace)
 
@@ -35,18 +35,18 @@ asked_by_request element = record { element = element; listed = false }
 abbrev pub asked_by_server : Tree → AskedProperty
 asked_by_server element = record { element = element; listed = true }
 
--- one more, unless it is asked already
+-- one more property, unless the list already has it
 abbrev pub ask_once : List AskedProperty → AskedProperty → List AskedProperty
 ask_once asked more = if list_any (λ (a : AskedProperty). is_same more.element a.element) asked then asked else asked ++ more ∷ []
 
--- ---- how they are sought
+-- ---- the kinds of search
 
--- their names alone
+-- properties are reported by name only, without values
 abbrev pub names_only : FindKind → Bool
 names_only PropName = true
 names_only _ = false
 
--- those that the request names alone
+-- only properties that the request names are reported
 abbrev pub named_only : FindKind → Bool
 named_only Prop = true
 named_only _ = false
@@ -57,41 +57,41 @@ abbrev pub property : List ℕ → List ℕ → List ℕ → Tree
 property prefix namespace name =
     record { tag = record { name = name; prefix = Some prefix; namespace = Some namespace; attributes = [] }; children = no_nodes }
 
--- of WebDAV (RFC 4918, section 15)
+-- a property of the namespace `DAV:` (RFC 4918, section 15)
 abbrev pub dav_property : List ℕ → Tree
 dav_property = property (codes "D") (codes "DAV:")
 
 abbrev pub microsoft_property : List ℕ → Tree
 microsoft_property = property (codes "Z") (codes "urn:schemas-microsoft-com:")
 
--- those of RFC 4918
+-- the properties of RFC 4918
 abbrev pub dav_properties : List Tree
 dav_properties =
     dav_property (codes "creationdate") ∷ dav_property (codes "displayname") ∷ dav_property (codes "getcontentlanguage") ∷ dav_property (codes "getcontentlength")
     ∷ dav_property (codes "getcontenttype") ∷ dav_property (codes "getetag") ∷ dav_property (codes "getlastmodified") ∷ dav_property (codes "lockdiscovery")
     ∷ dav_property (codes "resourcetype") ∷ dav_property (codes "supportedlock") ∷ []
 
--- what is told by name alone, besides: the quota's (RFC 4331), and one of Apache's and of Microsoft's namespace
+-- the further properties of `propname`, for every client: those of the quota (RFC 4331), and one each of Apache's and Microsoft's namespaces
 abbrev pub named_besides : List Tree
 named_besides =
     dav_property (codes "quota-available-bytes") ∷ dav_property (codes "quota-used-bytes")
     ∷ property (codes "A") (codes "http://apache.org/dav/props/") (codes "executable") ∷ microsoft_property (codes "Win32LastAccessTime") ∷ []
 
--- what clients of Microsoft read, besides
+-- the further properties of `allprop` for a Microsoft client
 abbrev pub microsoft_properties : List Tree
 microsoft_properties =
     microsoft_property (codes "Win32CreationTime") ∷ microsoft_property (codes "Win32FileAttributes")
     ∷ microsoft_property (codes "Win32LastAccessTime") ∷ microsoft_property (codes "Win32LastModifiedTime") ∷ []
 
--- the server's own list, by what is asked for and who asks
+-- the server's own list, by the kind of search and the client
 abbrev pub server_properties : FindKind → Option (List ℕ) → List Tree
 server_properties Prop user_agent = []
 server_properties PropName user_agent = dav_properties ++ named_besides
 server_properties AllProp user_agent = if names_microsoft user_agent then dav_properties ++ microsoft_properties else dav_properties
 
--- ---- what the body asks for
+-- ---- what the body requests
 
--- the kind of search, and the properties that are sought: those that the request names, and then the server's, each once
+-- the kind of search, and the requested properties: first those that the request names, then the server's, each once
 pub record Asking : Type 0 where
   pub kind : FindKind
   pub asked : List AskedProperty
@@ -100,19 +100,19 @@ abbrev pub asking : FindKind → List Tree → Option (List ℕ) → Asking
 asking kind own user_agent =
     record { kind = kind; asked = fold ask_once [] (map asked_by_request own ++ map asked_by_server (server_properties kind user_agent)) }
 
--- an element that says what is asked for
+-- an element that decides the kind of search
 abbrev pub says_kind : Tree → Bool
 says_kind tree = is_named (codes "propname") tree || is_named (codes "prop") tree || is_named (codes "allprop") tree
 
--- the properties that an element names, where there is one: those that stand in it
+-- the properties that an element names, if there is one: its child elements
 abbrev pub named_in : Option Tree → List Tree
 named_in element = option_map_or (λ (t : Tree). elements_of t.children) element []
 
--- the first `include` in the outermost element
+-- the first `include` in the root element
 abbrev pub include_in : Tree → Option Tree
 include_in root = find (is_named (codes "include")) (elements_of root.children)
 
--- by the first element that says it
+-- what the first element that decides the kind asks for
 abbrev pub asking_by : Option (List ℕ) → Tree → Tree → Asking
 asking_by user_agent root said =
     if is_named (codes "propname") said then asking PropName [] user_agent
@@ -123,14 +123,14 @@ abbrev pub asking_or_not : Option (List ℕ) → Tree → Option Tree → Result
 asking_or_not user_agent root None = Err XmlParseError
 asking_or_not user_agent root (Some said) = Ok (asking_by user_agent root said)
 
--- the outermost element has this name, and stands in the namespace of WebDAV
+-- the root element is a `propfind` of the namespace `DAV:`
 abbrev pub is_propfind : Tree → Bool
 is_propfind root = is_named (codes "propfind") root && is_of (codes "DAV:") root
 
 abbrev pub asking_in : Option (List ℕ) → Tree → Result Asking DavError
 asking_in user_agent root = if is_propfind root then asking_or_not user_agent root (find says_kind (elements_of root.children)) else Err XmlParseError
 
--- a body of no bytes is none, and asks for all properties
+-- without a body, or with an empty one, all properties are requested
 abbrev pub asking_of : ReqBody → Option (List ℕ) → Result Asking DavError
 asking_of bodies.None user_agent = Ok (asking AllProp [] user_agent)
 asking_of (bodies.Bytes bytes) user_agent = if nat_eq (length bytes) 0 then Ok (asking AllProp [] user_agent) else Err XmlParseError

@@ -1,4 +1,4 @@
--- What a `Finder` is seen as, and how it takes a store's answers: this project's own choice.
+-- The view of a `Finder`, and how it interprets a store's results: this project's own choice.
 use Rattle.std.specs.Prelude.{◌≡◌, ◌≢◌, ℕ, Bool, List, [], ◌∷◌, ◌++◌, Result, Ok, Err, IfOk, IfErr}
 use Rattle.std.specs.Option.{option_copied}
 use Rattle.dav_resource.specs.Errors.{fs_status}
@@ -14,7 +14,7 @@ use Rattle.dav_parts.specs.Conditions.{locks_in}
 use Rattle.dav_find.specs.Finding.{View}
 use Rattle.dav_find.specs.declared.finding.Finder.{Finder}
 
--- how it seeks, over a store that keeps properties or doesn't
+-- the view of a finder, over a store that keeps properties or does not
 abbrev pub view_of : {C L : Type 0} → (L → Locks) → Finder C L → Bool → View
 view_of seen finder keeps =
     record {
@@ -25,7 +25,7 @@ view_of seen finder keeps =
       user_agent = option_copied finder.user_agent;
     }
 
--- the status of a refusal; what isn't there is 404
+-- the status of a call's outcome: that of the error if the call was refused, otherwise 404
 abbrev pub refusal_of : Outcome → ℕ
 refusal_of Granted = 404
 refusal_of (Barred e) = 404
@@ -35,7 +35,7 @@ refusal_of (Refused e) = fs_status e
 abbrev pub IsLast : Logged → List Logged → Type 0
 IsLast record_of log = (before : List Logged) × (log ≡ before ++ record_of ∷ [])
 
--- what a store answered, or that memory was lacking, or the status by which the log's last record tells why it wasn't granted
+-- the store's value, or `Memory` if memory ran out, or otherwise the status of the log's last record, if the log has one
 pub record TellsAnswer {A : Type 0} (log : List Logged) (answer : Result A FsError) (told : Result (Result A ℕ) DavError) : Type 0 where
   pub granted : IfOk answer (λ a. told ≡ Ok (Ok a))
   pub lacked : answer ≡ Err fs.Memory → told ≡ Err dav.Memory

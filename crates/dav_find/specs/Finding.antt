@@ -1,5 +1,5 @@
--- What is found of the properties that are asked for, and by which calls (RFC 4918, sections 9.1 and 15; RFC 4331): each live one that the server
--- knows, and each one that the store keeps and tells.
+-- What is found for the requested properties, and by which calls (RFC 4918, sections 9.1 and 15; RFC 4331): live properties whose values the server
+-- knows, and properties that the store keeps and returns.
 use Rattle.std.specs.Prelude.{ℕ, Bool, true, ◌&&◌, not, if◌then◌else◌, List, [], ◌∷◌, map, Option, Some, None, Result, Ok, Err, IsPermutation}
 use Rattle.std.specs.FinMap.{get, entries}
 use Rattle.std.specs.Option.{option_map, ok_or}
@@ -25,7 +25,7 @@ use Rattle.dav_find.specs.declared.search.AskedProperty.{AskedProperty}
 use Rattle.dav_find.specs.declared.finding.Found.{Found}
 use Rattle.dav_find.specs.Asked.{names_only, named_only}
 
--- how properties are sought, whether the store keeps any, the locks where there is a lock system, and who asks
+-- the kind of search, whether the store keeps properties, the locks if there is a lock system, and the principal and client of the request
 pub record View : Type 0 where
   pub kind : FindKind
   pub keeps : Bool
@@ -33,35 +33,35 @@ pub record View : Type 0 where
   pub principal : Option (List ℕ)
   pub user_agent : Option (List ℕ)
 
--- ---- what a call tells
+-- ---- what a call returns
 
--- what is there, where the call is granted; else the status of a refusal, or that nothing is there
+-- the value if the call was granted, 404 if there is none or the call was barred, the status of the error if the call was refused
 abbrev pub told_by : {A : Type 0} → Outcome → Option A → Result A ℕ
 told_by Granted there = ok_or there 404
 told_by (Barred e) there = Err 404
 told_by (Refused e) there = Err (fs_status e)
 
--- how many bytes are used, and how many there are where there is a limit; or the status for which that isn't told
+-- the bytes used, and the total if there is a limit, or the status for which the quota is not reported
 abbrev pub QuotaTold : Type 0
 QuotaTold = Result (ℕ × Option ℕ) ℕ
 
 abbrev pub quota_pair : Quota → ℕ × Option ℕ
 quota_pair quota = (quota.used, quota.total)
 
--- the quota is asked for once
+-- the store is asked for its quota once
 abbrev pub ask_quota : Contents → Option QuotaTold → Dialogue QuotaTold
 ask_quota contents (Some told) = Passed told
 ask_quota contents None = Asks (get_quota_call contents) (λ outcome. Passed (told_by outcome (option_map quota_pair contents.quota)))
 
 -- ---- a live property
 
--- the quota, where it was told
+-- the quota, if the store reported it
 abbrev pub quota_in : Option QuotaTold → Option (ℕ × Option ℕ)
 quota_in None = None
 quota_in (Some (Ok quota)) = Some quota
 quota_in (Some (Err status)) = None
 
--- the status for which it wasn't
+-- the status for which the quota was not reported, otherwise 404
 abbrev pub quota_status : Option QuotaTold → ℕ
 quota_status None = 404
 quota_status (Some (Ok quota)) = 404
@@ -70,12 +70,12 @@ quota_status (Some (Err status)) = status
 abbrev pub asker_with : View → Option QuotaTold → Asker
 asker_with view quota = record { principal = view.principal; user_agent = view.user_agent; quota = quota_in quota }
 
--- the property as it is told, or why it isn't
+-- the property as it is reported, or if its value is not known, the status in `quota` if there is one, otherwise 404
 abbrev pub live_told : View → Resource → Tree → LiveProperty → Option QuotaTold → Result Tree ℕ
 live_told view here element property quota =
     ok_or (live_value property element (names_only view.kind) (asker_with view quota) view.locks here.path.key here.meta) (quota_status quota)
 
--- of the store's quota, which is asked for where it wasn't yet
+-- a property of the store's quota, which the store is asked for if it was not yet
 abbrev pub find_quota : View → Contents → Resource → Tree → LiveProperty → Option QuotaTold → Dialogue (Result Tree ℕ × Option QuotaTold)
 find_quota view contents here element property quota =
     ask_quota contents quota >>= λ told. Passed (live_told view here element property (Some told), Some told)
@@ -84,12 +84,12 @@ abbrev pub find_live : View → Contents → Resource → Tree → LiveProperty 
 find_live view contents here element property quota =
     if is_quota property then find_quota view contents here element property quota else Passed (live_told view here element property None, quota)
 
--- ---- a property that the store keeps
+-- ---- a dead property
 
 abbrev pub name_in : Tree → Key
 name_in element = property_key element.tag.namespace element.tag.name
 
--- it is looked up where the request names it, if the store can keep it
+-- the property is looked up only for `prop`, if the store keeps properties and can keep this one
 abbrev pub is_looked_up : View → Tree → Bool
 is_looked_up view element = view.keeps && named_only view.kind && is_kept element
 
@@ -99,7 +99,7 @@ find_kept view contents here element =
     then Asks (get_prop_call contents here.path.key (name_in element)) (λ outcome. Passed (told_by outcome (get (properties_at contents here.path.key) (name_in element))))
     else Passed (Err 404)
 
--- ---- each property that is asked for
+-- ---- each requested property
 
 abbrev pub find_by : View → Contents → Resource → Tree → Option LiveProperty → Option QuotaTold → Dialogue (Result Tree ℕ × Option QuotaTold)
 find_by view contents here element (Some property) quota = find_live view contents here element property quota
@@ -108,7 +108,7 @@ find_by view contents here element None quota = find_kept view contents here ele
 abbrev pub find_one : View → Contents → Resource → Tree → Option QuotaTold → Dialogue (Result Tree ℕ × Option QuotaTold)
 find_one view contents here element quota = find_by view contents here element (live_property_of element.tag.namespace element.tag.name) quota
 
--- a property that was sought, and what came of it: as it is told, or the status for which it isn't
+-- a requested property, and what was found for it: the element to report, or the status that says why there is none
 pub record Finding : Type 0 where
   pub asked : AskedProperty
   pub told : Result Tree ℕ
@@ -116,12 +116,12 @@ pub record Finding : Type 0 where
 abbrev pub finding_of : Found → Finding
 finding_of found = record { asked = found.asked.now; told = found.told }
 
--- those that were found, where nothing failed
+-- the findings of a result, or its error
 abbrev pub findings_in : Result (List Found × Option QuotaTold) DavError → Result (List Finding × Option QuotaTold) DavError
 findings_in (Ok found) = Ok (map finding_of found.0, found.1)
 findings_in (Err e) = Err e
 
--- one after the other, and what the quota was told to be
+-- each property in order, and what the store reported as its quota so far
 unfoldable pub find_each : View → Contents → Resource → List AskedProperty → Option QuotaTold → Dialogue (List Finding × Option QuotaTold)
 find_each view contents here [] quota = Passed ([], quota)
 find_each view contents here (asked ∷ more) quota =
@@ -129,21 +129,21 @@ find_each view contents here (asked ∷ more) quota =
     find_each view contents here more one.1 >>= λ others.
     Passed (record { asked = asked; told = one.0 } ∷ others.0, others.1)
 
--- ---- all that the store keeps
+-- ---- all dead properties
 
--- each of them once, in some order
+-- the elements of all properties stored at the key, each once, in some order
 abbrev pub AreKept : Contents → Key → List Tree → Type 0
 AreKept contents key kept = IsPermutation (map (λ e. e.1) (entries (properties_at contents key))) kept
 
--- the call, of a store that keeps properties
+-- the `get_props` call, of a store that keeps properties
 abbrev pub props_call : Contents → Key → Call
 props_call contents key = get_props_call (record { contents = contents; keeps_properties = true; log = [] }) key
 
--- it is asked for all, unless the request names those that it seeks
+-- the store is asked for all properties that it keeps, unless the request names the properties (`prop`)
 abbrev pub is_all_sought : View → Bool
 is_all_sought view = view.keeps && not (named_only view.kind)
 
--- in the order in which the store tells them
+-- all stored properties, in the order in which the store returns them, or none if the store is not asked
 abbrev pub find_stored : View → Contents → Key → List Tree → Dialogue (Result (List Tree) ℕ)
 find_stored view contents key kept =
     if is_all_sought view then Asks (props_call contents key) (λ outcome. Passed (told_by outcome (Some kept))) else Passed (Ok [])

@@ -1,4 +1,4 @@
--- By which names properties are told apart (Namespaces in XML 1.0, section 2.1): this project's own choice.
+-- How properties are distinguished by their names (Namespaces in XML 1.0, section 2.1): this project's own choice.
 use Rattle.std.specs.Prelude.{◌≡◌, ◌&&◌, ℕ, Bool, List, map, bytes_eq}
 use Rattle.std.specs.Cmp.Lexicographic.{slice_cmp}
 use Rattle.std.specs.List.{list_any}
@@ -11,11 +11,11 @@ use Rattle.dav_resource.specs.Tree.{Tree}
 use Rattle.dav_find.specs.declared.names.PropertyName.{PropertyName}
 use Rattle.dav_find.specs.declared.search.AskedProperty.{AskedProperty}
 
--- texts compare byte by byte
+-- strings compare byte by byte
 abbrev pub text_cmp : Bor (List ℕ) → Bor (List ℕ) → Ordering
 text_cmp a b = slice_cmp nat_cmp a.now b.now
 
--- names compare by their namespaces, none first, and then by their local names
+-- names compare first by namespace, where no namespace is the least, then by local name
 abbrev pub name_cmp : PropertyName → PropertyName → Ordering
 name_cmp a b = ordering_then (option_cmp text_cmp a.namespace b.namespace) (text_cmp a.name b.name)
 

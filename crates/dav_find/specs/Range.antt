@@ -1,5 +1,5 @@
--- Which resources a PROPFIND tells, and which directories it lists for that, whatever the store refuses (RFC 4918, sections 9.1 and 10.2). Below the
--- resource `top` that is asked of, a key is said by the path x that leads down to it.
+-- Which resources a PROPFIND reports, and which directories it lists for that, whatever the store refuses (RFC 4918, sections 9.1 and 10.2). A key at
+-- or below the target `top` is given by the path x that leads from `top` down to it.
 use Rattle.std.specs.Prelude.{◌≡◌, ◌≢◌, ◌⊎◌, Bool, true, List, [], ◌∷◌, ◌++◌, filter_map, Option, None, Some}
 use Rattle.std.specs.FinMap.{get}
 use Rattle.dav_resource.specs.Key.{Key}
@@ -15,37 +15,37 @@ use Rattle.dav_find.specs.Visiting.{is_shown, is_listed, is_deep}
 
 -- ---- what the Depth reaches
 
--- the resource itself, its members, and what is further below
+-- the target itself, its members, and everything further below
 abbrev pub reaches : Depth → Key → Bool
 reaches depth [] = is_shown depth
 reaches depth (name ∷ []) = is_listed depth
 reaches depth (name ∷ next ∷ x) = is_deep depth
 
--- the members of what is there
+-- whether the members of the resource at this path are reached
 abbrev pub reaches_members : Depth → Key → Bool
 reaches_members depth [] = is_listed depth
 reaches_members depth (name ∷ x) = is_deep depth
 
--- ---- what is hidden
+-- ---- members that are not listed
 
--- a call of this kind on the key wasn't granted
+-- a record of this kind for the key has an outcome other than granted
 pub record WasDeclined (records : List Logged) (op : Op) (key : Key) : Type 0 where
   pub outcome : Outcome
   pub called : IsIn (logged op (key ∷ []) outcome) records
   pub declined : outcome ≢ Granted
 
--- each call was granted
+-- every record has the outcome granted
 abbrev pub AllGranted : List Logged → Type 0
 AllGranted records = (r : Logged) → IsIn r records → r.outcome ≡ Granted
 
--- on the way down to the key some listing was refused, or didn't show the next
+-- on the way from `top` down to the key, some listing was not granted, or did not show the next member
 abbrev pub IsHidden : List Logged → Key → Key → Type 0
 IsHidden records top [] = ⊥
 IsHidden records top (name ∷ x) = WasDeclined records ReadDir top ⊎ WasDeclined records Entry (member top name) ⊎ IsHidden records (member top name) x
 
--- ---- what is listed
+-- ---- the listed directories
 
--- the directory that a call lists
+-- the directory that a call lists, whatever its outcome
 abbrev pub listed_by : Op → List Key → Option Key
 listed_by ReadDir (key ∷ []) = Some key
 listed_by _ _ = None
@@ -53,13 +53,13 @@ listed_by _ _ = None
 abbrev pub listed_key : Logged → Option Key
 listed_key record_of = listed_by record_of.op record_of.keys
 
--- those that are listed, in order
+-- the directories that are listed, in order
 abbrev pub listed_in : List Logged → List Key
 listed_in records = filter_map listed_key records
 
 -- ---- the range
 
--- none comes again, or behind one below it
+-- no key comes twice, and none comes after a key that is below it
 abbrev pub AreDownwards : List Key → Type 0
 AreDownwards [] = Unit {0}
 AreDownwards (key ∷ keys) = ((later : Key) → IsIn later keys → (x : Key) → key ≢ later ++ x) × AreDownwards keys
@@ -77,13 +77,13 @@ pub record AreReached (Reached : Key → Bool) (Kind : Key → Type 0) (records 
   pub unhidden : (x : Key) → IsIn (top ++ x) keys → IsHidden records top x → ⊥
   pub each : (x : Key) → Reached x ≡ true → Kind (top ++ x) → (IsHidden records top x → ⊥) → IsIn (top ++ x) keys
 
--- none is elsewhere
+-- every key is at or below `top`
 abbrev pub AreWithin : Key → List Key → Type 0
 AreWithin top keys = (key : Key) → IsIn key keys → (x : Key) × (key ≡ top ++ x)
 
--- What stands in the Depth's range and isn't hidden is told, and nothing else: each once, and a directory before what is below it. So where each call
--- was granted, all that stands in the range is told. Each directory of which the members are in the range, and that isn't hidden, is listed, and
--- nothing else: each once.
+-- Exactly the resources in the Depth's range that are not hidden are reported: each once, and a directory before everything below it. So if every
+-- record is granted, every resource in the range is reported. Exactly the directories whose members are in the range, and that are not hidden, are
+-- listed: each once.
 pub record TellsRange (contents : Contents) (depth : Depth) (top : Key) (records : List Logged) (told : List Key) : Type 0 where
   pub once : AreDistinct told
   pub downwards : AreDownwards told

@@ -1,4 +1,4 @@
--- What a PROPFIND's range is made of: keys apart, lists of them, and what its calls hide. This project's own choice.
+-- Lemmas for a PROPFIND's range: keys that are apart, lists of keys, and what calls hide. This project's own choice.
 use Rattle.std.proofs.Common.{◌≡◌, ◌≢◌, ◌∙◌, ◌⊎◌, ℕ, List, [], ◌∷◌, ◌++◌, map, inl, inr, refl, sym, ap, subst, append-nil}
 use Rattle.std.proofs.lemmas.List.{append_assoc, append_cancel_left}
 use Rattle.dav_resource.specs.Key.{Key}
@@ -61,7 +61,7 @@ out_map f y [] i = absurd i
 out_map f y (x ∷ xs) (inl e) = (x, inl refl, sym e)
 out_map f y (x ∷ xs) (inr i) = let p = out_map f y xs i in (p.0, inr p.1, p.2)
 
--- each of the keys apart from each other
+-- the keys are pairwise apart
 abbrev pub AreAllApart : List Key → Type 0
 AreAllApart [] = Unit {0}
 AreAllApart (key ∷ keys) = ((other : Key) → IsIn other keys → AreApart key other) × AreAllApart keys
@@ -80,9 +80,9 @@ pub distinct_downwards : (keys : List Key) → AreDownwards keys → AreDistinct
 distinct_downwards [] down = tt
 distinct_downwards (key ∷ keys) down = ((λ i. down.0 key i [] (sym (append-nil key))), distinct_downwards keys down.1)
 
--- ---- what calls hide
+-- ---- members that calls do not list
 
--- no call lists at or below the key, and none below it is a member that wasn't shown
+-- no record is of a listing at or below the key, or of a member below it that a listing did not show
 pub record IsFar (records : List Logged) (key : Key) : Type 0 where
   pub listings : (x : Key) (outcome : Outcome) → IsIn (logged ReadDir ((key ++ x) ∷ []) outcome) records → ⊥
   pub entries : (name : List ℕ) (x : Key) (outcome : Outcome) → IsIn (logged Entry ((key ++ name ∷ x) ∷ []) outcome) records → ⊥

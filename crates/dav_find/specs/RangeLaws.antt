@@ -1,4 +1,5 @@
--- The law of a PROPFIND's range: exactly what the Depth reaches and nothing hides is told, each once and a directory before what is below it.
+-- The law of a PROPFIND's range: exactly the resources that the Depth reaches and that are not hidden are reported, each once, and a directory before
+-- everything below it.
 use Rattle.std.proofs.Common.{◌≡◌, ◌≢◌, ◌∙◌, ◌⊎◌, ℕ, Bool, true, false, ◌&&◌, if◌then◌else◌, List, [], ◌∷◌, ◌++◌, Option, None, Some, map, inl, inr, refl, sym, ap, subst, append-nil}
 use Rattle.std.specs.FinMap.{get}
 use Rattle.std.specs.Option.{option_map}
@@ -28,10 +29,10 @@ both : (a b : Bool) → (a && b) ≡ true → (a ≡ true) × (b ≡ true)
 both true b is = (refl, is)
 both false b is = absurd cc
 
--- ---- what stands
+-- ---- what exists
 
 module _ (contents : Contents) (formed : IsWellFormed contents) where
-  -- what stands above it, where something stands below
+  -- if a resource exists at or below a key, one exists at the key
   stands_above : (key x : Key) → Stands contents (key ++ x) → Stands contents key
   stands_above key [] stands = subst (Stands contents) (append-nil key) stands
   stands_above key (name ∷ x) stands = λ none.
@@ -42,7 +43,7 @@ module _ (contents : Contents) (formed : IsWellFormed contents) where
   directory_above : (key x : Key) (name : List ℕ) → Stands contents (member key name ++ x) → IsDirectory contents key
   directory_above key x name stands = subst (λ k. get contents.tree k ≡ Some Directory) (parent-member key name) (formed.parents (member key name) (stands_above (member key name) x stands))
 
-  -- of what metadata tells
+  -- what follows from a resource's metadata
   stands_by : (resource : Resource) → contents.metas resource.path.key ≡ Some resource.meta → Stands contents resource.path.key
   stands_by resource there none = let no : None ≡ Some resource.meta = sym (subst (λ node. MetaFits node (contents.metas resource.path.key)) none (formed.metas resource.path.key)) ∙ there in cc
 
@@ -54,26 +55,27 @@ module _ (contents : Contents) (formed : IsWellFormed contents) where
   is_directory_by : (resource : Resource) → contents.metas resource.path.key ≡ Some resource.meta → (resource.meta.dir ≡ true → IsDirectory contents resource.path.key) × (IsDirectory contents resource.path.key → resource.meta.dir ≡ true)
   is_directory_by resource there = directory_by (get contents.tree resource.path.key) resource.meta (subst (MetaFits (get contents.tree resource.path.key)) there (formed.metas resource.path.key))
 
-  -- ---- what is told or listed at and below the keys that wait
+  -- ---- what is reported or listed at and below the pending keys
 
   abbrev IsBelowOne : List Key → Key → Type 0
   IsBelowOne waiting key = (top : Key) × IsIn top waiting × (x : Key) × (key ≡ top ++ x)
 
-  -- each of these keys is below one that waits, and below each of those are exactly the ones that are reached, of this kind and not hidden
+  -- each of these keys is at or below a pending one, and at or below each pending one are exactly the keys that are reached, of this kind and not
+  -- hidden
   record Covers (Reached : Key → Bool) (Kind : Key → Type 0) (records : List Logged) (waiting keys : List Key) : Type 0 where
     downwards : AreDownwards keys
     within : (key : Key) → IsIn key keys → IsBelowOne waiting key
     each : (top : Key) → IsIn top waiting → AreReached Reached Kind records top keys
 
-  -- the listings and what they don't show are below those that wait
+  -- each listing is at or below a pending key, and each member that a listing did not show is below one
   record AreCalledBelow (records : List Logged) (waiting : List Key) : Type 0 where
     listings : (key : Key) (outcome : Outcome) → IsIn (logged ReadDir (key ∷ []) outcome) records → IsBelowOne waiting key
     entries : (key : Key) (outcome : Outcome) → IsIn (logged Entry (key ∷ []) outcome) records → (top : Key) × IsIn top waiting × (name : List ℕ) × (x : Key) × (key ≡ top ++ name ∷ x)
 
-  -- one step, and then its members and the others
+  -- one step, then its members and the other pending keys
   module _ (here : Key) (waiting : List Key) (entered wanted : Bool) (first others : List Logged) (names : List (List ℕ)) (step : IsStep contents here entered first names)
       (apart : (other : Key) → IsIn other waiting → AreApart here other) (called : AreCalledBelow others (map (member here) names ++ waiting)) where
-    -- one that waits isn't above the resource
+    -- no pending key is at or above the resource
     not_above : (top : Key) → IsIn top (map (member here) names ++ waiting) → (x : Key) → here ≢ top ++ x
     not_above top i x e = which (in_either top (map (member here) names) waiting i)
       where
@@ -165,7 +167,7 @@ module _ (contents : Contents) (formed : IsWellFormed contents) where
         by_entered true is = is
         by_entered false is = absurd (subst (IsIn name) (step.unlisted is) found)
 
-    -- what is told, or what is listed: the resource itself where `head` says so, and then the others
+    -- the keys that are reported, or that are listed: the resource itself if `head` is true, then the others
     module _ (Kind : Key → Type 0) (stands_of : (key : Key) → Kind key → Stands contents key) (here_reached reached : Key → Bool) (wants : entered ≡ true → wanted ≡ true)
         (enters : wanted ≡ true → IsDirectory contents here → entered ≡ true) (down : (name : List ℕ) (x : Key) → here_reached (name ∷ x) ≡ (wanted && reached x)) (head : Bool)
         (head_is : head ≡ true → (here_reached [] ≡ true) × Kind here) (is_head : here_reached [] ≡ true → Kind here → head ≡ true) (keys : List Key)
@@ -288,12 +290,12 @@ module _ (contents : Contents) (formed : IsWellFormed contents) where
             subst (λ k. AreReached reached Kind (first ++ others) k ((if head then here ∷ [] else []) ++ keys)) e (covers_here Kind stands_of reached reached wants enters down head head_is is_head keys covers)
         each_top top (inr j) = covers_waiting Kind stands_of reached reached wants enters down head head_is is_head keys covers top j
 
-  -- ---- all that wait
+  -- ---- everything pending
 
   abbrev keys_of : List Resource → List Key
   keys_of waiting = map (λ (r : Resource). r.path.key) waiting
 
-  -- what is told of those that wait: each itself, and with `deep` what is below it
+  -- what is reached from each pending key: itself, and with `deep` everything below it
   abbrev reached_all : Bool → Key → Bool
   reached_all deep [] = true
   reached_all deep (name ∷ x) = deep
@@ -314,7 +316,7 @@ module _ (contents : Contents) (formed : IsWellFormed contents) where
   stands_directory : (key : Key) → IsDirectory contents key → Stands contents key
   stands_directory key is none = let no : None ≡ Some Directory = sym none ∙ is in cc
 
-  -- nothing is hidden where each call was granted
+  -- nothing is hidden if every record is granted
   none_declined : (records : List Logged) (op : Op) (key : Key) → AllGranted records → WasDeclined records op key → ⊥
   none_declined records op key all d = d.declined (all _ d.called)
 
@@ -365,7 +367,7 @@ module _ (contents : Contents) (formed : IsWellFormed contents) where
           lists = subst (Covers (λ x. deep) (IsDirectory contents) (first ++ others) (key ∷ waiting)) (sym listed_are) lists;
         }
 
-    -- each of those that wait is there, and they are apart
+    -- each pending resource exists, and their keys are pairwise apart
     record AreWaiting (waiting : List Resource) : Type 0 where
       there : AreThere contents waiting
       apart : AreAllApart (keys_of waiting)
@@ -404,7 +406,7 @@ module _ (contents : Contents) (formed : IsWellFormed contents) where
             rw (waits, called, same) (walked_more deep here rest members quota next first others told vs (here_are.there here (inl refl)) here_are.apart.0 visited (walked vs refl))
     walk deep waiting quota records end visits (stops here rest waits part is) whole are = absurd (let no : None ≡ Some visits = sym is ∙ whole in cc)
 
-    -- ---- from the resource that is asked of
+    -- ---- from the target
 
     depth_down : (depth : Depth) (name : List ℕ) (x : Key) → reaches depth (name ∷ x) ≡ (is_listed depth && reached_all (is_deep depth) x)
     depth_down Zero name [] = refl
@@ -473,7 +475,7 @@ module _ (contents : Contents) (formed : IsWellFormed contents) where
               entered entered_is enters (listed_in others) lists);
         })
 
-    -- what a PROPFIND tells, whatever the store refuses
+    -- what a PROPFIND reports, whatever the store refuses
     pub tells_range : (target : Resource) (depth : Depth) (records : List Logged) (visits : List Visit) → VisitsFrom view contents asked target depth records (Some visits) → contents.metas target.path.key ≡ Some target.meta
         → TellsRange contents depth target.path.key records (told_keys visits)
     tells_range target depth records visits (begins first others told next members later called visited further is) there = go later further is
@@ -485,7 +487,7 @@ module _ (contents : Contents) (formed : IsWellFormed contents) where
             rw (called, same) (range_of target depth first others told vs next members there visited v)
     tells_range target depth records visits (breaks part is) there = absurd (let no : Some visits ≡ None = is in cc)
 
--- ---- behind calls that list nothing
+-- ---- after calls that list nothing
 
 far_none : (records : List Logged) (key : Key) → HasNoListing records → IsFar records key
 far_none records key none = record {
@@ -501,7 +503,7 @@ reached_behind Reached Kind first others top keys none are = record {
   each = λ x is kind shown. are.each x is kind (λ h. shown (hidden_more first others top x h));
 }
 
--- the range is the same
+-- earlier calls that list nothing do not change the range
 pub range_behind : (contents : Contents) (depth : Depth) (top : Key) (first others : List Logged) (told : List Key) → HasNoListing first → TellsRange contents depth top others told → TellsRange contents depth top (first ++ others) told
 range_behind contents depth top first others told none range =
     let listed_are : listed_in (first ++ others) ≡ listed_in others = filter_map-append listed_key first others ∙ ap (λ ks. ks ++ listed_in others) (none_listed first none) in

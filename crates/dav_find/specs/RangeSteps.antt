@@ -1,4 +1,4 @@
--- One step of a PROPFIND's walk: which calls tell a resource and list its members, and which members it finds. This project's own choice.
+-- One step of a PROPFIND's walk: which calls report a resource and list its members, and which members it finds. This project's own choice.
 use Rattle.std.proofs.Common.{◌≡◌, ◌≢◌, ◌∙◌, ◌⊎◌, ℕ, Bool, true, false, if◌then◌else◌, List, [], ◌∷◌, ◌++◌, Option, None, Some, Ok, Err, map, filter_map, inl, inr, refl, sym, ap, subst}
 use Rattle.std.proofs.lemmas.List.Elements.{filter_map-append}
 use Rattle.dav_resource.specs.Key.{Key}
@@ -33,7 +33,7 @@ is_listing ReadDir = true
 is_listing Entry = true
 is_listing _ = false
 
--- no record of a listing or of a member that wasn't shown
+-- no record is of a listing, or of a member that a listing did not show
 abbrev pub HasNoListing : List Logged → Type 0
 HasNoListing records = (r : Logged) → IsIn r records → is_listing r.op ≡ false
 
@@ -102,7 +102,7 @@ pub none_listed : (records : List Logged) → HasNoListing records → listed_in
 none_listed [] none = refl
 none_listed (r ∷ records) none = rw (none_listed_by r.op r.keys (none r (inl refl))) (none_listed records (λ s i. none s (inr i)))
 
--- ---- the members that a listing shows
+-- ---- the members in a listing
 
 abbrev shown_name : Child → Option (List ℕ)
 shown_name (name, Ok entry) = Some name
@@ -127,7 +127,7 @@ shown_once [] once = tt
 shown_once ((n, Ok entry) ∷ children) once = ((λ i. once.0 (shown_is_name children n i)), shown_once children once.1)
 shown_once ((n, Err e) ∷ children) once = shown_once children once.1
 
--- a member is shown or withheld
+-- a member is shown, or the store does not list it
 shown_or_not : (children : List Child) (name : List ℕ) → IsIn name (names_of children) → IsIn name (shown_names children) ⊎ ((e : FsError) × IsIn {X = Child} (name, Err e) children)
 shown_or_not [] name i = absurd i
 shown_or_not ((n, Ok entry) ∷ children) name (inl e) = inl (inl e)
@@ -153,7 +153,7 @@ withheld_unshown ((n, Err d) ∷ children) name e once (inl is) j =
     once.0 (subst (λ m. IsIn m (names_of children)) (sym (ap (λ (c : Child). c.0) is)) (shown_is_name children name j))
 withheld_unshown ((n, Err d) ∷ children) name e once (inr i) j = withheld_unshown children name e once.1 i j
 
--- the record of one that is withheld
+-- a member that the store does not list has a record
 withheld_called : (directory : Key) (children : List Child) (name : List ℕ) (e : FsError) → IsIn {X = Child} (name, Err e) children → IsIn (logged Entry (member directory name ∷ []) (Refused e)) (filter_map (unseen_record directory) children)
 withheld_called directory [] name e i = absurd i
 withheld_called directory ((n, Ok entry) ∷ children) name e (inl is) = absurd (let no : Ok entry ≡ Err e = ap (λ (c : Child). c.1) is in cc)
@@ -164,7 +164,7 @@ withheld_called directory ((n, Err d) ∷ children) name e (inl is) =
     inl (λ i. logged Entry (member directory (ap (λ (c : Child). c.0) is i) ∷ []) (Refused (same i)))
 withheld_called directory ((n, Err d) ∷ children) name e (inr i) = inr (withheld_called directory children name e i)
 
--- and each record behind that of the listing is of one
+-- and each record after that of the listing is of such a member
 withheld_by : (directory : Key) (children : List Child) (r : Logged) → IsIn r (filter_map (unseen_record directory) children) → (name : List ℕ) × (e : FsError) × IsIn {X = Child} (name, Err e) children × (r ≡ logged Entry (member directory name ∷ []) (Refused e))
 withheld_by directory [] r i = absurd i
 withheld_by directory ((n, Ok entry) ∷ children) r i = let p = withheld_by directory children r i in (p.0, p.1, inr p.2, p.3)
@@ -176,7 +176,7 @@ withheld_lists_none directory [] = refl
 withheld_lists_none directory ((n, Ok entry) ∷ children) = withheld_lists_none directory children
 withheld_lists_none directory ((n, Err e) ∷ children) = withheld_lists_none directory children
 
--- the members that wait are those that are shown
+-- the members that become pending are those that the listing shows
 members_are : (contents : Contents) (directory : PathValue) (children : List Child) → ((c : Child) → IsIn c children → (entry : DirEntry) → c.1 ≡ Ok entry → entry.name ≡ c.0)
     → map (λ (r : Resource). r.path.key) (shown_in directory (map (λ (c : Child). c.1) children)) ≡ map (member directory.key) (shown_names children)
 members_are contents directory [] named = refl
@@ -184,7 +184,7 @@ members_are contents directory ((n, Ok entry) ∷ children) named =
     (λ i. member directory.key (named (n, Ok entry) (inl refl) entry refl i) ∷ members_are contents directory children (λ c j. named c (inr j)) i)
 members_are contents directory ((n, Err e) ∷ children) named = members_are contents directory children (λ c j. named c (inr j))
 
--- each of them is there
+-- each of them exists with its metadata
 shown_there : (contents : Contents) (directory : PathValue) (children : List Child) → ((c : Child) → IsIn c children → IsShownAs contents directory.key c)
     → (r : Resource) → IsIn r (shown_in directory (map (λ (c : Child). c.1) children)) → contents.metas r.path.key ≡ Some r.meta
 shown_there contents directory [] shown r i = absurd i
@@ -196,18 +196,18 @@ shown_there contents directory ((n, Err e) ∷ children) shown r i = shown_there
 
 -- ---- a step
 
--- the calls that tell a resource and list it, where it is listed, and the names of the members that are found
+-- the calls that report a resource and list it, if it is listed, and the names of the members that are found
 pub record IsStep (contents : Contents) (here : Key) (listed : Bool) (records : List Logged) (names : List (List ℕ)) : Type 0 where
   pub once : AreDistinct names
-  -- each listing is of the resource, and each record of a member is of one that isn't found
+  -- each listing is of the resource, and one that is not granted finds no members. Each record of a member is of one that is not found.
   pub listings : (key : Key) (outcome : Outcome) → IsIn (logged ReadDir (key ∷ []) outcome) records → (key ≡ here) × (outcome ≢ Granted → names ≡ [])
   pub entries : (key : Key) (outcome : Outcome) → IsIn (logged Entry (key ∷ []) outcome) records → (name : List ℕ) × (key ≡ member here name) × (IsIn name names → ⊥)
-  -- a member is found, or it is withheld
+  -- each member is found, unless the listing was not granted or did not show it
   pub finds : listed ≡ true → (name : List ℕ) → Stands contents (member here name) → IsIn name names ⊎ WasDeclined records ReadDir here ⊎ WasDeclined records Entry (member here name)
   pub unlisted : listed ≡ false → names ≡ []
   pub keys : listed_in records ≡ (if listed then here ∷ [] else [])
 
--- the members that are found, by their names
+-- the members that are found, with their names
 pub record FindsStep (contents : Contents) (here : Key) (listed : Bool) (records : List Logged) (members_found : List Resource) : Type 0 where
   pub names : List (List ℕ)
   pub step : IsStep contents here listed records names
@@ -298,7 +298,7 @@ module _ (contents : Contents) where
       entry_is key out (inl e) = absurd (let no : ReadDir ≡ Entry = ap op_of e in cc)
       entry_is key out (inr i) = absurd i
 
-  -- what is called before lists nothing
+  -- earlier calls that list nothing do not change the step
   behind_none : (here : Key) (entered : Bool) (first rest : List Logged) (names : List (List ℕ)) → HasNoListing first → IsStep contents here entered rest names → IsStep contents here entered (first ++ rest) names
   behind_none here entered first rest names none step = record {
     once = step.once;
@@ -345,7 +345,7 @@ module _ (contents : Contents) where
         there = finds.there;
       }
 
--- the keys of the resources that are told, in order
+-- the keys of the reported resources, in order
 abbrev pub told_keys : List Visit → List Key
 told_keys visits = map (λ (v : Visit). v.path.key) visits
 

@@ -1,4 +1,4 @@
--- What a resource is told by: one response, of what is found of it (RFC 4918, sections 9.1 and 14.24).
+-- What is reported for one resource: a single response, with what was found (RFC 4918, sections 9.1 and 14.24).
 use Rattle.std.specs.Prelude.{ℕ, List, Option, Some, None, Result}
 use Rattle.dav_resource.specs.Key.{Key}
 use Rattle.dav_resource.specs.Tree.{Tree}
@@ -13,37 +13,37 @@ use Rattle.dav_find.specs.declared.finding.Found.{Found}
 use Rattle.dav_find.specs.Finding.{View, QuotaTold, AreKept, find_each, find_stored, findings_in}
 use Rattle.dav_find.specs.Telling.{told_of}
 
--- the calls for the properties that are asked for, and then the one for all that the store keeps, which tells them in this order
+-- the calls for the requested properties, then the one for all stored properties, which returns them in the order of `kept`
 abbrev pub response_rules : View → Contents → List AskedProperty → Resource → Option QuotaTold → List Tree → Dialogue (List Told × Option QuotaTold)
 response_rules view contents asked here quota kept =
     find_each view contents here asked quota >>= λ found.
     find_stored view contents here.path.key kept >>= λ stored.
     Passed (told_of view.kind found.0 stored, found.1)
 
--- over these records a dialogue ends in this value, or memory ran out on the way
+-- over these records a dialogue ends in this value, or memory ran out on the way (`None`)
 abbrev pub ComesTo : {A : Type 0} → Dialogue A → List Logged → Option A → Type 0
 ComesTo dialogue records (Some a) = LeadsTo dialogue records (Passed a)
 ComesTo {A} dialogue records None = (left : Dialogue A) × LeadsTo dialogue records left
 
--- over these records the resource is told so, with what the quota was told to be; or memory ran out on the way
+-- over these records this is reported for the resource, with the quota as the store reported it so far, or memory ran out on the way
 pub record Responds (view : View) (contents : Contents) (asked : List AskedProperty) (here : Resource) (quota : Option QuotaTold) (records : List Logged) (end : Option (List Told × Option QuotaTold)) : Type 0 where
   pub kept : List Tree
   pub are : AreKept contents here.path.key kept
   pub comes : ComesTo (response_rules view contents asked here quota kept) records end
 
--- ---- the same of stores
+-- ---- the same for stores
 
--- each property that is asked for was sought, in order
+-- the requested properties were looked up in order, or memory ran out, and nothing changed except the log
 abbrev pub FindsEach : View → Resource → List AskedProperty → Option QuotaTold → Store → Result (List Found × Option QuotaTold) DavError → Store → Type 0
 FindsEach view here asked quota old verdict new = Judges (find_each view old.contents here asked quota) old (findings_in verdict) new
 
--- all that the store keeps was asked for, where it is sought
+-- the store was asked for all its properties, if they are requested, or memory ran out, and nothing changed except the log
 pub record FindsStored (view : View) (key : Key) (old : Store) (verdict : Result (Result (List Tree) ℕ) DavError) (new : Store) : Type 0 where
   pub kept : List Tree
   pub are : AreKept old.contents key kept
   pub held : Judges (find_stored view old.contents key kept) old verdict new
 
--- the resource is told so, or memory ran out, and nothing changed but the log
+-- this is reported for the resource, or memory ran out, and nothing changed except the log
 pub record IsResponse (view : View) (asked : List AskedProperty) (here : Resource) (quota : Option QuotaTold) (old : Store) (verdict : Result (List Told × Option QuotaTold) DavError) (new : Store) : Type 0 where
   pub kept : List Tree
   pub are : AreKept old.contents here.path.key kept

@@ -1,4 +1,4 @@
--- What a `Search` is seen as: this project's own choice.
+-- What a `Search` asks for, as an `Asking`: this project's own choice.
 use Rattle.dav_find.specs.declared.search.Search.{Search}
 use Rattle.dav_find.specs.Asked.{Asking}
 

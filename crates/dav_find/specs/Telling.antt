@@ -1,4 +1,4 @@
--- How what was found is told, each property by its status (RFC 4918, sections 9.1, 14.2, 14.18, 14.21 and 14.22).
+-- How what was found is reported, each property with its status (RFC 4918, sections 9.1, 14.2, 14.18, 14.21 and 14.22).
 use Rattle.std.specs.Prelude.{ℕ, ◌||◌, not, if◌then◌else◌, List, [], ◌∷◌, ◌++◌, map, filter, filter_map, Option, Some, None, Result, Ok, Err}
 use Rattle.std.specs.List.{flat_map}
 use Rattle.dav_resource.specs.Tree.{Tree}
@@ -11,17 +11,19 @@ use Rattle.dav_find.specs.declared.search.AskedProperty.{AskedProperty}
 use Rattle.dav_find.specs.Asked.{is_among}
 use Rattle.dav_find.specs.Finding.{Finding}
 
--- what the store told that it keeps
+-- the stored properties that the store returned, none if the call failed
 abbrev pub kept_in : Result (List Tree) ℕ → List Tree
 kept_in (Ok kept) = kept
 kept_in (Err status) = []
 
--- why a property isn't told: where all that the store keeps was asked for, a refusal of that counts for what it can keep
+-- the status of a property that was not found: that of the failed call for all stored properties, if the store can keep this one, otherwise its own
+-- status
 abbrev pub missing_status : Result (List Tree) ℕ → Tree → ℕ → ℕ
 missing_status (Ok kept) element status = status
 missing_status (Err refused) element status = if is_kept element then refused else status
 
--- one that was found is told by 200; one that wasn't by why, unless it is told among those that the store keeps, or the server's own list alone names it
+-- a property that was found is reported with 200. One that was not is reported by name with its status, unless it is among the returned stored
+-- properties, or only the server's own list names it.
 abbrev pub tell_by : Result (List Tree) ℕ → AskedProperty → Result Tree ℕ → List Told
 tell_by stored asked (Ok element) = (200, element) ∷ []
 tell_by stored asked (Err status) =
@@ -30,7 +32,7 @@ tell_by stored asked (Err status) =
 abbrev pub tell_one : Result (List Tree) ℕ → Finding → List Told
 tell_one stored found = tell_by stored found.asked found.told
 
--- the properties that were found
+-- the requested properties that were found
 abbrev pub given_by : AskedProperty → Result Tree ℕ → Option Tree
 given_by asked (Ok told) = Some asked.element
 given_by asked (Err status) = None
@@ -38,7 +40,8 @@ given_by asked (Err status) = None
 abbrev pub given_in : List Finding → List Tree
 given_in found = filter_map (λ (one : Finding). given_by one.asked one.told) found
 
--- what the store keeps, without what is told already; or by names alone
+-- `allprop`: the stored properties, except those that were found already. `propname`: the names of all stored properties, also of those that were
+-- found already.
 abbrev pub tell_kept : FindKind → List Finding → List Tree → List Told
 tell_kept AllProp found kept = map (λ element. (200, element)) (filter (λ element. not (is_among element (given_in found))) kept)
 tell_kept PropName found kept = map (λ element. (200, bare element)) kept

@@ -1,4 +1,4 @@
--- What a writer has written, where resources were told into it: this project's own choice.
+-- What a writer has written after resources were reported: this project's own choice.
 use Rattle.std.specs.Prelude.{◌≡◌, ◌++◌, ◌<◌, Bool, List, map, Option, Some, None, Result, Ok, Err}
 use Rattle.std.specs.FinMap.{keys}
 use Rattle.dav_resource.specs.Tree.{Tree}
@@ -19,11 +19,11 @@ use Rattle.dav_find.specs.Finder.{view_of}
 use Rattle.dav_find.specs.Finding.{View, QuotaTold}
 use Rattle.dav_find.specs.Visiting.{Visit, response_of, Shows, Visits, VisitsInPart, VisitsAll, VisitsFrom}
 
--- the responses of these, behind what had been written
+-- the responses of these visits, after what was written before
 abbrev pub written : Tree → List Visit → Tree
 written before visits = with_elements before (map response_of visits)
 
--- the store was read over these records, and nothing changed but the log
+-- the store was read over these records, and nothing changed except the log
 pub record IsRead (Over : List Logged → Type 0) (old new : Store) : Type 0 where
   pub records : List Logged
   pub told : new.log ≡ old.log ++ records
@@ -32,13 +32,13 @@ pub record IsRead (Over : List Logged → Type 0) (old new : Store) : Type 0 whe
   pub over : Over records
 
 module _ (view : View) (asked : List AskedProperty) where
-  -- the resource is told, where it is to be, and its response written
+  -- the resource is reported, if it is to be shown, and its response is written
   pub record IsShown (shown : Bool) (here : Resource) (quota : Option QuotaTold) (before : Tree) (old : Store) (after : PropWriter) (next : Option QuotaTold) (new : Store) : Type 0 where
     pub visits : List Visit
     pub read : IsRead (λ records. Shows view old.contents asked shown here quota records visits next) old new
     pub tree : after.tree ≡ written before visits
 
-  -- and its members wait
+  -- the same, and its members become the next pending resources
   pub record IsVisited (shown listed : Bool) (here : Resource) (quota : Option QuotaTold) (waits : List Resource) (before : Tree) (old : Store) (after : PropWriter) (next : Option QuotaTold) (wait : List Resource) (new : Store) : Type 0 where
     pub visits : List Visit
     pub members : List Resource
@@ -50,26 +50,26 @@ module _ (view : View) (asked : List AskedProperty) where
   abbrev pub IsVisitedInPart : Bool → Bool → Resource → Option QuotaTold → Store → Store → Type 0
   IsVisitedInPart shown listed here quota old new = IsRead (λ records. VisitsInPart view old.contents asked shown listed here quota records) old new
 
-  -- what was told is written; or memory ran out
+  -- the visits are written, or memory ran out
   abbrev pub Writes : Tree → Result PropWriter DavError → Option (List Visit) → Type 0
   Writes before (Ok writer) (Some visits) = writer.tree ≡ written before visits
   Writes before (Ok writer) None = ⊥
   Writes before (Err e) (Some visits) = ⊥
   Writes before (Err e) None = e ≡ Memory
 
-  -- all that wait are told
+  -- the walk over all pending resources is written, or memory ran out
   pub record WritesAll (deep : Bool) (waiting : List Resource) (quota : Option QuotaTold) (before : Tree) (old : Store) (answer : Result PropWriter DavError) (new : Store) : Type 0 where
     pub end : Option (List Visit)
     pub read : IsRead (λ records. VisitsAll view old.contents asked deep waiting quota records end) old new
     pub writes : Writes before answer end
 
-  -- all that the Depth reaches from the target is told
+  -- the walk from the target, as far as the Depth reaches, is written, or memory ran out
   pub record WritesFrom (target : Resource) (depth : Depth) (before : Tree) (old : Store) (answer : Result PropWriter DavError) (new : Store) : Type 0 where
     pub end : Option (List Visit)
     pub read : IsRead (λ records. VisitsFrom view old.contents asked target depth records end) old new
     pub writes : Writes before answer end
 
--- ---- by a finder, over a lock system that is seen so
+-- ---- by a finder, over a lock system
 
 module _ {C L : Type 0} (seen : L → Locks) (finder : Finder C L) where
   abbrev pub ShowsBy : Bool → Resource → Option QuotaTold → Tree → Store → PropWriter × Option QuotaTold → Store → Type 0
@@ -83,7 +83,7 @@ module _ {C L : Type 0} (seen : L → Locks) (finder : Finder C L) where
   abbrev pub StopsBy : Bool → Bool → Resource → Option QuotaTold → Store → Store → Type 0
   StopsBy shown listed here quota old new = IsVisitedInPart (view_of seen finder old.keeps_properties) finder.search.now.asked.items shown listed here quota old new
 
--- fewer keys wait, where the resource is there
+-- if the resource exists, fewer keys are pending afterwards
 abbrev pub TakesAway : Contents → Resource → List Resource → List Resource → Type 0
 TakesAway contents here before after =
     contents.metas here.path.key ≡ Some here.meta → 0 < count_below here.path.key (keys contents.tree) → AreFewer contents here.path.key before after

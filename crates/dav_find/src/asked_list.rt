@@ -1,4 +1,4 @@
-//! Properties that are sought, each once.
+//! The list of requested properties, each once.
 ghost use Rattle.std.specs.Prelude.{◌≡◌, [], IfOk};
 ghost use Rattle.std.proofs.Props.{props};
 ghost use Rattle.dav_find.specs.Asked.{ask_once as ask_once_more};
@@ -9,7 +9,7 @@ use crate::search::AskedProperty;
 use dav_resource::Element;
 use std::alloc::{AllocError, Global};
 
-/// Properties that are sought, in order, each once, beside the set of their names.
+/// The requested properties in order, each once, with the set of their names.
 #[derive(Drop, Debug)]
 pub(crate) struct AskedList<'e> {
     asked: Vec<AskedProperty>,
@@ -18,7 +18,7 @@ pub(crate) struct AskedList<'e> {
 }
 
 impl<'e> AskedList<'e> {
-    /// None.
+    /// Creates an empty list.
     pub(crate) fn new(alloc: Global) -> AskedList<'e>
         ensures { result.asked.items ≡ [] }
     {
@@ -28,7 +28,8 @@ impl<'e> AskedList<'e> {
         }
     }
 
-    /// With a copy of one more, unless it is asked already; `listed` says that the server's own list names it.
+    /// Appends a copy of the property, unless the list already has one of its namespace and name. `listed`
+    /// says that the property comes from the server's own list. Fails only if memory runs out.
     pub(crate) fn ask_once(
         self,
         element: &'e Element,
@@ -47,7 +48,7 @@ impl<'e> AskedList<'e> {
         Ok(AskedList { asked, names })
     }
 
-    /// The properties, in order.
+    /// Returns the properties, in order.
     pub(crate) fn into_vec(self) -> Vec<AskedProperty>
         ensures { result ≡ self.entry.asked }
     {

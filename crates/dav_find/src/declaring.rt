@@ -1,4 +1,4 @@
-//! The prefixes that a reply declares, besides `D`.
+//! The namespace prefixes that a response declares besides `D`.
 ghost use Rattle.std.specs.Prelude.{◌≡◌, IfOk, IfErr};
 ghost use Rattle.std.specs.List.{list_any};
 ghost use Rattle.dav_resource.specs.declared.error.DavError.TheVariants.{Memory};
@@ -9,8 +9,9 @@ use crate::search::{AskedProperty, Search, is_of};
 use dav_props::PropWriter;
 use dav_resource::DavResult;
 
-/// The writer, whose tree declares the prefix of each of four namespaces that an asked property has: Apache's,
-/// Microsoft's, Nextcloud's and ownCloud's (Namespaces in XML 1.0, section 3). The only error is `Memory`.
+/// Declares a prefix on the writer's tree for each of four namespaces that a property of the search has:
+/// Apache's (`A`), Microsoft's (`Z`), Nextcloud's (`nc`) and ownCloud's (`oc`) (Namespaces in XML 1.0,
+/// section 3). The only error is `Memory`.
 pub fn declare_prefixes(writer: PropWriter, search: &Search) -> DavResult<PropWriter>
     ensures declared { IfOk result (λ declared. declared.tree ≡ with_prefixes search.now.asked.items writer.tree) }
     ensures err { IfErr result (λ e. e ≡ Memory) }
@@ -22,7 +23,8 @@ pub fn declare_prefixes(writer: PropWriter, search: &Search) -> DavResult<PropWr
     Ok(writer)
 }
 
-/// The writer, whose tree declares the prefix where an asked property has its namespace.
+/// Declares the prefix on the writer's tree if a property of the search has the namespace. The only error is
+/// `Memory`.
 fn declare(
     writer: PropWriter,
     search: &Search,
@@ -39,7 +41,7 @@ fn declare(
     Ok(writer)
 }
 
-/// Whether one of the properties has this namespace.
+/// Returns whether one of the properties has this namespace.
 fn has_namespace(asked: &[AskedProperty], namespace: &str) -> bool
     ensures { result ≡ list_any (λ (a : AskedProperty). is_of namespace.now a.element) asked.now }
 {

@@ -1,4 +1,4 @@
-//! What is found of the properties that are asked for.
+//! Finding the requested properties of a resource.
 ghost use Rattle.std.specs.Prelude.{◌≡◌, ◌++◌, Bool, filter_map, IfOk, IfErr};
 ghost use Rattle.std.specs.Option.{option_to_list};
 ghost use Rattle.dav_resource.specs.declared.error.DavError.TheVariants.{Memory};
@@ -17,38 +17,44 @@ use dav_walks::Resource;
 use http::StatusCode;
 use std::alloc::{AllocError, Global};
 
-/// A property that was sought, and what came of it.
+/// A requested property, and what was found for it.
 #[derive(Drop, Debug)]
 pub struct Found<'r> {
-    /// The property that was asked for.
+    /// The requested property.
     pub asked: &'r AskedProperty,
-    /// The property as it is told, or the status for which it isn't.
+    /// The element to report, or the status that says why there is none.
     pub told: Result<Element, StatusCode>,
 }
 
-/// What the store told of its quota, or the status for which it didn't (RFC 4331).
+/// The quota as the store reported it (the bytes used, and the total if there is a limit), or the status that
+/// says why it did not (RFC 4331).
 pub(crate) type QuotaTold = Result<(u64, Option<u64>), StatusCode>;
 
-/// Who asks for which properties of resources.
+/// A search for properties of resources: which properties, for which client, and with which lock system.
 #[derive(Clone, Copy, Debug)]
 pub struct Finder<'r, C, L> {
-    /// Where memory is taken from.
+    /// The allocator.
     pub alloc: Global,
-    /// What is asked for.
+    /// What the request asks for.
     pub search: &'r Search,
-    /// Who asks, where that is known.
+    /// The principal of the request, if known.
     pub principal: Option<&'r str>,
-    /// The field User-Agent of the request, where it has one (RFC 9110, section 10.1.5).
+    /// The request's `User-Agent` field, if it has one (RFC 9110, section 10.1.5).
     pub user_agent: Option<&'r str>,
-    /// The lock system, where there is one.
+    /// The lock system, if there is one.
     pub ls: Option<&'r L>,
-    /// What the store knows the caller by.
+    /// The credentials that are passed to each call of the store.
     pub credentials: &'r C,
 }
 
 impl<'r, C, L: DavLockSystem> Finder<'r, C, L> {
-    /// What is found of one property that is asked for, and what the store told of its quota so far. The only error is
-    /// `Memory`.
+    /// Finds one property. Returns the element to report or a status, and the quota as the store reported it
+    /// so far.
+    ///
+    /// A live property has a value if the server knows it, otherwise the status is 404. A property of the
+    /// quota needs `get_quota`, which is called unless `quota` already holds its result. If the store refused
+    /// that call, the status is that of the refusal. Any other property is looked up in the store, as
+    /// `find_kept` says. The only error is `Memory`.
     pub(crate) fn find_one<F: GuardedFileSystem<C>>(
         &self,
         fs: &mut F,
@@ -68,7 +74,7 @@ impl<'r, C, L: DavLockSystem> Finder<'r, C, L> {
         }
     }
 
-    /// What is found of a property of the store's quota, and what the store told of that.
+    /// Finds a property of the store's quota. Also returns what the store reported as its quota.
     fn find_quota<F: GuardedFileSystem<C>>(
         &self,
         fs: &mut F,
@@ -85,7 +91,7 @@ impl<'r, C, L: DavLockSystem> Finder<'r, C, L> {
         Ok((told, quota))
     }
 
-    /// What the store tells of its quota, asked once.
+    /// Returns the store's quota. Calls `get_quota` only if `quota` does not hold its result yet.
     fn ask_quota<F: GuardedFileSystem<C>>(
         &self,
         fs: &mut F,
@@ -103,7 +109,8 @@ impl<'r, C, L: DavLockSystem> Finder<'r, C, L> {
         }
     }
 
-    /// A live property as it is told, or the status for which it isn't.
+    /// Returns a live property as it is reported. If its value is not known, returns the status in `quota` if
+    /// there is one, otherwise 404.
     fn live_told(
         &self,
         here: &Resource,
@@ -126,7 +133,10 @@ impl<'r, C, L: DavLockSystem> Finder<'r, C, L> {
         Ok(value.ok_or(quota_status(quota)))
     }
 
-    /// What the store tells of a property that it may keep, where the request names it.
+    /// Looks up a stored property with `get_prop`, if `is_looked_up` says so.
+    ///
+    /// If the store refused the call, the status is that of the refusal. It is 404 if the call was barred
+    /// (the resource has no such property), and if no call was made.
     fn find_kept<F: GuardedFileSystem<C>>(
         &self,
         fs: &mut F,
@@ -144,8 +154,8 @@ impl<'r, C, L: DavLockSystem> Finder<'r, C, L> {
         told_by(fs, answer)
     }
 
-    /// What is found of each property that is asked for, in order, and what the store told of its quota so far. The only
-    /// error is `Memory`.
+    /// Finds each requested property in order. Also returns the quota as the store reported it so far. The
+    /// only error is `Memory`.
     pub(crate) fn find_each<F: GuardedFileSystem<C>>(
         &self,
         fs: &mut F,
@@ -164,8 +174,11 @@ impl<'r, C, L: DavLockSystem> Finder<'r, C, L> {
         Ok((Items::from_vec(found), quota))
     }
 
-    /// What the store tells of all properties that it keeps, unless the request names those that it seeks. The only error
-    /// is `Memory`.
+    /// Returns the elements of all properties that the store keeps for the path, by one `get_props` call.
+    ///
+    /// For `prop`, and if the store keeps no properties, there is no call and the result is empty. If the
+    /// call failed, the result is a status: that of the refusal if the store refused the call, 404 if it was
+    /// barred. The only error is `Memory`.
     pub(crate) fn find_stored<F: GuardedFileSystem<C>>(
         &self,
         fs: &mut F,
@@ -184,14 +197,15 @@ impl<'r, C, L: DavLockSystem> Finder<'r, C, L> {
         }
     }
 
-    /// Whether the store is asked for all properties, if it keeps any.
+    /// Returns whether the store is asked for all properties it keeps. `keeps` says whether it keeps any.
     fn is_all_sought(&self, keeps: bool) -> bool
         ensures { result ≡ is_all_sought_in (view_of L.seen self.now keeps) }
     {
         keeps && !self.search.kind.named_only()
     }
 
-    /// Whether the store is asked for this property, if it keeps any.
+    /// Returns whether the store is asked for this property by its name: for `prop`, if the store can keep
+    /// it. `keeps` says whether the store keeps any.
     fn is_looked_up(&self, keeps: bool, element: &Element) -> bool
         ensures { result ≡ is_looked_up_in (view_of L.seen self.now keeps) element.now }
     {
@@ -199,7 +213,7 @@ impl<'r, C, L: DavLockSystem> Finder<'r, C, L> {
     }
 }
 
-/// The quota, where it was told.
+/// Returns the quota, if the store reported it.
 fn quota_in(quota: &Option<QuotaTold>) -> Option<(u64, Option<u64>)>
     ensures { result ≡ quota_in_told quota.now }
 {
@@ -209,7 +223,7 @@ fn quota_in(quota: &Option<QuotaTold>) -> Option<(u64, Option<u64>)>
     }
 }
 
-/// The status for which it wasn't.
+/// Returns the status for which the quota was not reported, otherwise 404.
 fn quota_status(quota: &Option<QuotaTold>) -> StatusCode
     ensures { result ≡ status_of_quota quota.now }
 {
@@ -219,7 +233,7 @@ fn quota_status(quota: &Option<QuotaTold>) -> StatusCode
     }
 }
 
-/// The elements of properties.
+/// Returns the elements of those properties that have one, in order.
 fn kept_elements(alloc: Global, props: Vec<DavProp>) -> Result<Items<SharedElement>, AllocError>
     ensures { IfOk result (λ elements. elements ≡ filter_map (λ (p : DavProp). p.element) props.items) }
 {
@@ -230,7 +244,7 @@ fn kept_elements(alloc: Global, props: Vec<DavProp>) -> Result<Items<SharedEleme
     Ok(Items::from_vec(elements))
 }
 
-/// With one more element, where there is one.
+/// Appends the element, if there is one.
 fn keep_element(
     mut elements: Vec<SharedElement>,
     element: Option<SharedElement>,

@@ -1,4 +1,5 @@
-//! The properties that a PROPFIND asks for, of which resources, and how they are told (RFC 4918, section 9.1).
+//! The properties that a PROPFIND reports, and the resources that it reports them for (RFC 4918, section
+//! 9.1).
 #![tactic(auto)]
 
 mod asked_list;

@@ -1,4 +1,4 @@
-//! The properties that the server adds to those that a request names.
+//! The properties that the server adds to those that the request names.
 ghost use Rattle.std.specs.Prelude.{◌≡◌, ◌++◌, codes, IfOk};
 ghost use Rattle.std.specs.Option.{option_copied};
 ghost use Rattle.dav_find.specs.Asked.{property as property_of, dav_properties as properties_of_dav, named_besides as names_besides, microsoft_properties as properties_of_microsoft, server_properties as properties_of_server};
@@ -8,7 +8,12 @@ use dav_live::is_microsoft;
 use dav_resource::Element;
 use std::alloc::{AllocError, Global};
 
-/// The server's own list, by what is asked for and who asks. Only memory can be lacking.
+/// Returns the server's own list of properties, by the kind of search and the client. Fails only if memory
+/// runs out.
+///
+/// - `prop`: none.
+/// - `propname`: `dav_properties` and `named_besides`, for every client.
+/// - `allprop`: `dav_properties`, and for a Microsoft client `microsoft_properties` too.
 pub(crate) fn server_properties(
     alloc: Global,
     kind: FindKind,
@@ -26,7 +31,7 @@ pub(crate) fn server_properties(
     }
 }
 
-/// One list behind the other.
+/// Appends the second list to the first.
 fn joined(mut elements: Vec<Element>, more: Vec<Element>) -> Result<Vec<Element>, AllocError>
     ensures { IfOk result (λ all. all.items ≡ elements.items ++ more.items) }
 {
@@ -36,7 +41,7 @@ fn joined(mut elements: Vec<Element>, more: Vec<Element>) -> Result<Vec<Element>
     Ok(elements)
 }
 
-/// Those of RFC 4918, section 15.
+/// Returns the properties of RFC 4918, section 15.
 fn dav_properties(alloc: Global) -> Result<Vec<Element>, AllocError>
     ensures { IfOk result (λ elements. elements.items ≡ properties_of_dav) }
 {
@@ -54,7 +59,8 @@ fn dav_properties(alloc: Global) -> Result<Vec<Element>, AllocError>
     ]?)
 }
 
-/// What is told by name alone, besides.
+/// Returns the further properties of `propname`: those of the quota, and one each of Apache's and
+/// Microsoft's.
 fn named_besides(alloc: Global) -> Result<Vec<Element>, AllocError>
     ensures { IfOk result (λ elements. elements.items ≡ names_besides) }
 {
@@ -66,7 +72,7 @@ fn named_besides(alloc: Global) -> Result<Vec<Element>, AllocError>
     ]?)
 }
 
-/// What clients of Microsoft read, besides.
+/// Returns the further properties of `allprop` for a Microsoft client.
 fn microsoft_properties(alloc: Global) -> Result<Vec<Element>, AllocError>
     ensures { IfOk result (λ elements. elements.items ≡ properties_of_microsoft) }
 {
@@ -90,7 +96,7 @@ fn microsoft_property(alloc: Global, name: &str) -> Result<Element, AllocError>
     property(alloc, "Z", "urn:schemas-microsoft-com:", name)
 }
 
-/// The element that names a property, which declares nothing.
+/// Returns an empty element of this name, without attributes. It declares no namespace.
 fn property(alloc: Global, prefix: &str, namespace: &str, name: &str) -> Result<Element, AllocError>
     ensures { IfOk result (λ element. element ≡ property_of prefix.now namespace.now name.now) }
 {

@@ -1,4 +1,4 @@
-//! Names of properties.
+//! The names of properties.
 ghost use Rattle.std.specs.Prelude.{◌≡◌, ◌++◌, ◌∷◌, List, [], not, IfOk, OnOk};
 ghost use Rattle.std.specs.Option.{option_copied};
 ghost use Rattle.dav_resource.specs.Tree.{Tree};
@@ -9,7 +9,8 @@ use dav_resource::Element;
 use std::alloc::{AllocError, Global};
 use std::collections::BTreeSet;
 
-/// The name of a property: its namespace, where it has one, and its local name (Namespaces in XML 1.0, section 2.1).
+/// The name of a property: its namespace, if it has one, and its local name (Namespaces in XML 1.0, section
+/// 2.1).
 #[derive(Clone, Copy, Debug, PartialEq, Eq, PartialOrd, Ord)]
 pub(crate) struct PropertyName<'e> {
     namespace: Option<&'e str>,
@@ -17,7 +18,7 @@ pub(crate) struct PropertyName<'e> {
 }
 
 impl<'e> PropertyName<'e> {
-    /// The name of the property that an element names.
+    /// Returns the name of the property that an element names.
     fn of(element: &'e Element) -> PropertyName<'e>
         ensures namespace { option_copied result.namespace ≡ element.now.tag.namespace }
         ensures name { result.name.now ≡ element.now.tag.name }
@@ -29,14 +30,14 @@ impl<'e> PropertyName<'e> {
     }
 }
 
-/// The names of some properties, each once. A look takes as many comparisons as the logarithm of their number.
+/// A set of property names. A lookup makes O(log n) comparisons for n names.
 #[derive(Drop, Debug)]
 pub(crate) struct PropertyNames<'e> {
     names: BTreeSet<PropertyName<'e>>,
 }
 
 impl<'e> PropertyNames<'e> {
-    /// None.
+    /// Creates an empty set.
     pub(crate) fn new(alloc: Global) -> PropertyNames<'e>
         ensures { AreNamesOf result.names [] }
     {
@@ -45,7 +46,8 @@ impl<'e> PropertyNames<'e> {
         }
     }
 
-    /// Adds the name of the property that an element names, and says whether it is a new one. Only memory can be lacking.
+    /// Adds the name of the property that an element names, and returns whether it is new. Fails only if
+    /// memory runs out.
     pub(crate) fn insert(&mut self, element: &'e Element) -> Result<bool, AllocError>
         ensures added { (elements : List Tree) → AreNamesOf self.old.names elements → IfOk result (λ added. added ≡ not (is_among element.now elements)) }
         ensures names { (elements : List Tree) → AreNamesOf self.old.names elements → OnOk result (AreNamesOf self.new.names (elements ++ element.now ∷ [])) }
@@ -53,7 +55,7 @@ impl<'e> PropertyNames<'e> {
         Ok(self.names.insert(PropertyName::of(element))?)
     }
 
-    /// Whether the property that an element names has one of these names.
+    /// Returns whether the set has the name of the property that an element names.
     pub(crate) fn has(&self, element: &'e Element) -> bool
         ensures { (elements : List Tree) → AreNamesOf self.now.names elements → result ≡ is_among element.now elements }
     {

@@ -1,4 +1,4 @@
-//! Why a call of a store told nothing.
+//! The status of a store's failed call.
 ghost use Rattle.std.specs.Prelude.{◌≡◌, IfErr};
 ghost use Rattle.dav_resource.specs.declared.error.DavError.TheVariants.{Memory};
 ghost use Rattle.dav_store.specs.Logged.{Logged};
@@ -8,8 +8,10 @@ use dav_resource::{DavError, DavResult, FsError, FsResult, Outcome};
 use dav_store::GuardedFileSystem;
 use http::StatusCode;
 
-/// What a call told, or the status for which it didn't: that of a refusal, or 404. The only error is `Memory`, where the
-/// call had none.
+/// Returns the value of the store's last call, or the status for which the call failed.
+///
+/// The status comes from the log's last record: that of the error if the store refused the call, 404 if the
+/// call was barred. The only error is `Memory`, if the call failed with `Memory`.
 pub(crate) fn told_by<C, F: GuardedFileSystem<C>, T: Drop>(
     fs: &F,
     answer: FsResult<T>,
@@ -26,7 +28,7 @@ pub(crate) fn told_by<C, F: GuardedFileSystem<C>, T: Drop>(
     }
 }
 
-/// The status of the last call, where it was refused; 404 where it was barred.
+/// Returns the status of the log's last record: that of the error if the call was refused, otherwise 404.
 fn refusal_status<C, F: GuardedFileSystem<C>>(fs: &F) -> StatusCode
     ensures { (last : Logged) → IsLast last (F.seen fs.now).log → result ≡ refusal_of last.outcome }
 {

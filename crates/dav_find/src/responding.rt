@@ -1,4 +1,4 @@
-//! What a resource is told by.
+//! The properties that are reported for one resource.
 ghost use Rattle.std.specs.Prelude.{◌≡◌, IfErr};
 ghost use Rattle.dav_resource.specs.declared.error.DavError.TheVariants.{Memory};
 ghost use Rattle.dav_find.specs.Finder.{view_of};
@@ -11,7 +11,8 @@ use dav_store::{DavLockSystem, GuardedFileSystem};
 use dav_walks::Resource;
 
 impl<'r, C, L: DavLockSystem> Finder<'r, C, L> {
-    /// What a resource is told by, and what the store told of its quota so far. The only error is `Memory`.
+    /// Returns the properties that are reported for a resource, each with its status, and the quota as the
+    /// store reported it so far. The only error is `Memory`.
     pub(crate) fn respond<F: GuardedFileSystem<C>>(
         &self,
         fs: &mut F,

@@ -14,19 +14,24 @@ use dav_parts::is_named;
 use dav_resource::{DavError, DavResult, Element, ReqBody};
 use std::alloc::{AllocError, Global};
 
-/// How properties are sought (RFC 4918, section 14.20).
+/// The kind of a PROPFIND (RFC 4918, section 14.20).
 #[derive(Clone, Copy, Debug, PartialEq, Eq)]
 pub enum FindKind {
-    /// All properties: those of RFC 4918, and what the store keeps (section 14.2).
+    /// `allprop`: the server's own list (the properties of RFC 4918, and four more for a Microsoft client),
+    /// the properties of `include`, and all that the store keeps (section 14.2).
     AllProp,
-    /// Their names alone (section 14.21).
+    /// `propname`: the names of the server's own list and of all stored properties, without values (section
+    /// 14.21).
+    ///
+    /// A live property is reported only if its value is known. A stored property whose name is that of a
+    /// reported live property appears twice.
     PropName,
-    /// Those that are named (section 14.18).
+    /// `prop`: the properties that the request names (section 14.18).
     Prop,
 }
 
 impl FindKind {
-    /// Whether the names of properties are told alone.
+    /// Returns whether properties are reported by name only, without values.
     pub(crate) fn names_only(self) -> bool
         ensures { result ≡ names_only self }
     {
@@ -36,7 +41,7 @@ impl FindKind {
         }
     }
 
-    /// Whether properties are told alone that the request names.
+    /// Returns whether only properties that the request names are reported.
     pub(crate) fn named_only(self) -> bool
         ensures { result ≡ named_only self }
     {
@@ -47,17 +52,17 @@ impl FindKind {
     }
 }
 
-/// A property that is sought.
+/// A requested property. The request or the server's own list names it.
 #[derive(Drop, Debug)]
 pub struct AskedProperty {
     /// The element that names it.
     pub element: Element,
-    /// Whether the server's own list names it, and not the request.
+    /// Whether only the server's own list names it, and not the request.
     pub listed: bool,
 }
 
 impl AskedProperty {
-    /// A value of the same contents. Only memory can be lacking.
+    /// Returns a copy. Fails only if memory runs out.
     pub fn clone(&self) -> Result<AskedProperty, AllocError>
         ensures { IfOk result (λ copy. copy ≡ self.now) }
     {
@@ -68,19 +73,23 @@ impl AskedProperty {
     }
 }
 
-/// What a PROPFIND asks for: each property once, those that the request names before the server's.
+/// What a PROPFIND asks for: each property once, first those that the request names, then the server's.
 #[derive(Drop, Debug)]
 pub struct Search {
-    /// How they are sought.
+    /// The kind of the PROPFIND.
     pub kind: FindKind,
-    /// The properties that are sought.
+    /// The requested properties.
     pub asked: Vec<AskedProperty>,
 }
 
-/// What a body asks for: all properties where there is none. The first `propname`, `prop` or `allprop` in it decides,
-/// and beside `allprop` the first `include` names more. `user_agent` is who asks, where that is known.
+/// Reads from the body which properties a PROPFIND asks for.
 ///
-/// Errors: `XmlParseError` for a body that is no `propfind` of `DAV:`, or has none of the three; else `Memory` alone.
+/// Without a body, or with an empty one, it asks for all properties. Otherwise the first `propname`, `prop`
+/// or `allprop` in the root element decides, and with `allprop` the first `include` names further properties.
+/// These elements are recognized by their local names only. `user_agent` is the client, if known.
+///
+/// Errors: `XmlParseError` if the body is not a `propfind` element of `DAV:`, or has none of the three
+/// elements. Otherwise only `Memory`.
 pub fn read_search(alloc: Global, body: &ReqBody, user_agent: Option<&str>) -> DavResult<Search>
     ensures { GivesBy asking_for result (asking_of body.now (option_copied user_agent.entry)) }
 {
@@ -103,7 +112,7 @@ fn is_propfind(root: &Element) -> bool
     is_named(root, "propfind") && is_of(root, "DAV:")
 }
 
-/// Whether an element stands in this namespace.
+/// Returns whether an element has this namespace.
 pub(crate) fn is_of(element: &Element, namespace: &str) -> bool
     ensures { result ≡ is_of namespace.now element.now }
 {
@@ -113,7 +122,7 @@ pub(crate) fn is_of(element: &Element, namespace: &str) -> bool
     }
 }
 
-/// What the outermost element asks for.
+/// Reads what the root element asks for.
 fn read_propfind(alloc: Global, root: &Element, user_agent: Option<&str>) -> DavResult<Search>
     requires { is_propfind_tree root.now ≡ true }
     ensures { GivesBy asking_for result (asking_in (option_copied user_agent.entry) root.now) }
@@ -124,7 +133,7 @@ fn read_propfind(alloc: Global, root: &Element, user_agent: Option<&str>) -> Dav
     }
 }
 
-/// The first element that says what is asked for, where there is one.
+/// Returns the first child element that decides the kind of search, if there is one.
 fn said_in(root: &Element) -> Option<&Element>
     ensures { option_copied result ≡ find says_kind_tree (elements_of root.now.children) }
 {
@@ -142,7 +151,7 @@ fn says_kind(element: &Element) -> bool
     is_named(element, "propname") || is_named(element, "prop") || is_named(element, "allprop")
 }
 
-/// The first `include`, where there is one.
+/// Returns the first `include` child, if there is one.
 fn include_in(root: &Element) -> Option<&Element>
     ensures { option_copied result ≡ find (is_named_tree (codes "include")) (elements_of root.now.children) }
 {
@@ -154,7 +163,7 @@ fn include_in(root: &Element) -> Option<&Element>
     None
 }
 
-/// What the element that says it asks for.
+/// Returns the search that the deciding element `said` asks for.
 fn search_by(
     alloc: Global,
     root: &Element,
@@ -170,7 +179,8 @@ fn search_by(
     }
 }
 
-/// A search of this kind for the properties that stand in an element, where there is one, and then the server's.
+/// Builds a search of this kind: the properties that are children of `own`, if it is given, and then the
+/// server's own list, each once.
 fn search_for(
     alloc: Global,
     kind: FindKind,
@@ -187,7 +197,7 @@ fn search_for(
     })
 }
 
-/// The properties that stand in an element, where there is one, each once.
+/// Lists the properties that are children of `own`, if it is given, each once.
 fn ask_own<'e>(alloc: Global, own: Option<&'e Element>) -> Result<AskedList<'e>, AllocError>
     ensures { IfOk result (λ list. list.asked.items ≡ fold ask_once [] (map asked_by_request (named_in (option_copied own.entry)))) }
 {
@@ -201,7 +211,7 @@ fn ask_own<'e>(alloc: Global, own: Option<&'e Element>) -> Result<AskedList<'e>,
     Ok(list)
 }
 
-/// With the server's own properties, each that isn't asked already.
+/// Appends the server's own properties, except those that the list already has.
 fn ask_listed<'e>(
     mut list: AskedList<'e>,
     elements: &'e [Element],

@@ -1,4 +1,4 @@
-//! How what was found is told.
+//! The report of what was found for a resource.
 ghost use Rattle.std.specs.Prelude.{◌≡◌, ◌++◌, ◌∷◌, [], not, map, filter, IfOk};
 ghost use Rattle.std.specs.List.{flat_map};
 ghost use Rattle.dav_props.specs.Property.{bare};
@@ -15,11 +15,11 @@ use dav_resource::{Element, Items, SharedElement};
 use http::StatusCode;
 use std::alloc::{AllocError, Global};
 
-/// A property by its status.
+/// A status, and the property that is reported with it.
 pub(crate) type Told = (StatusCode, Element);
 
-/// What is told of a resource: of each property that was sought, and then of what the store told that it keeps. Only
-/// memory can be lacking.
+/// Returns what is reported for a resource: first the requested properties, then the stored ones. Fails only
+/// if memory runs out.
 pub(crate) fn tell(
     alloc: Global,
     kind: FindKind,
@@ -32,7 +32,7 @@ pub(crate) fn tell(
     tell_kept(alloc, told, kind, found, kept_in(stored))
 }
 
-/// What is told of the properties that were sought.
+/// Returns what is reported of the requested properties.
 fn tell_found<'e>(
     alloc: Global,
     found: &'e [Found<'_>],
@@ -48,7 +48,11 @@ fn tell_found<'e>(
     Ok(told)
 }
 
-/// With what is told of one that was sought; `kept` has the names of what the store told that it keeps.
+/// Appends what is reported of one requested property. `kept` has the names of the stored properties that the
+/// store returned.
+///
+/// A property that was found is reported with 200. One that was not is reported by its name, with the status
+/// of `missing_status`. It is left out if `kept` has its name, or if only the server's own list names it.
 fn tell_one<'e>(
     alloc: Global,
     mut told: Vec<Told>,
@@ -75,7 +79,8 @@ fn tell_one<'e>(
     }
 }
 
-/// Why a property isn't told.
+/// Returns the status of a property that was not found: that of the failed `get_props` call if the store
+/// could keep the property, otherwise `status`.
 fn missing_status(
     stored: &Result<Items<SharedElement>, StatusCode>,
     element: &Element,
@@ -89,7 +94,7 @@ fn missing_status(
     }
 }
 
-/// What the store told that it keeps.
+/// Returns the stored properties that the store returned, none if the call failed.
 fn kept_in(stored: &Result<Items<SharedElement>, StatusCode>) -> &[SharedElement]
     ensures { result.now ≡ kept_of stored.now }
 {
@@ -99,7 +104,7 @@ fn kept_in(stored: &Result<Items<SharedElement>, StatusCode>) -> &[SharedElement
     }
 }
 
-/// With what is told of what the store keeps.
+/// Appends what is reported of the stored properties.
 fn tell_kept(
     alloc: Global,
     told: Vec<Told>,
@@ -116,7 +121,8 @@ fn tell_kept(
     }
 }
 
-/// With each that isn't told already.
+/// Appends each stored property with its value, except those of the name of a requested property that was
+/// found.
 fn tell_values<'e>(
     alloc: Global,
     mut told: Vec<Told>,
@@ -134,7 +140,7 @@ fn tell_values<'e>(
     Ok(told)
 }
 
-/// With the name of each.
+/// Appends the name of each stored property, also if a live property of that name is already reported.
 fn tell_names(
     alloc: Global,
     mut told: Vec<Told>,
@@ -148,7 +154,7 @@ fn tell_names(
     Ok(told)
 }
 
-/// The names of these properties.
+/// Returns the names of these properties.
 fn names_of<'e>(
     alloc: Global,
     elements: &'e [SharedElement],
@@ -162,7 +168,7 @@ fn names_of<'e>(
     Ok(names)
 }
 
-/// The names of those that were found.
+/// Returns the names of the requested properties that were found.
 fn names_given<'e>(alloc: Global, found: &'e [Found<'_>]) -> Result<PropertyNames<'e>, AllocError>
     ensures { IfOk result (λ names. AreNamesOf names.names (given_in (map finding_of found.now))) }
 {

@@ -1,4 +1,4 @@
-//! The resources that are told, one after the other.
+//! The walk of a PROPFIND over the resources that it reports.
 ghost use Rattle.std.specs.Prelude.{◌≡◌, ◌&&◌, Bool, Some, IfOk, IfErr, OnOk, OnErr};
 ghost use Rattle.dav_resource.specs.declared.error.DavError.TheVariants.{Memory};
 ghost use Rattle.dav_walks.specs.Listing.{AreThere, in_turn};
@@ -13,12 +13,18 @@ use dav_store::{DavLockSystem, GuardedFileSystem};
 use dav_walks::{Resource, add_members, take_next};
 
 impl<'r, C, L: DavLockSystem> Finder<'r, C, L> {
-    /// Writes a response for each resource that the Depth reaches (RFC 4918, sections 9.1 and 10.2): the target, unless no
-    /// Depth is given; its members, unless the Depth is 0; and all below them, where it is infinity. A directory comes
-    /// before what is below it, and its members in the order of its listing. A listing that the store refuses is passed
-    /// over, and so is a member that it doesn't show.
+    /// Writes a response for each resource that the Depth reaches (RFC 4918, sections 9.1 and 10.2).
     ///
-    /// The only error is `Memory`. Nothing changes but the store's log.
+    /// - Depth 0: the target.
+    /// - Depth 1: the target and its members.
+    /// - Depth infinity: the target and everything below it.
+    /// - No Depth (`Default`): only the target's members.
+    ///
+    /// A directory comes before everything below it, and its members in the order of its listing. If a
+    /// directory's listing fails, its members are left out, with everything below them. So is a member that
+    /// the store does not list.
+    ///
+    /// The only error is `Memory`. Nothing changes except the store's log.
     pub fn propfind_directory<F: GuardedFileSystem<C>>(
         &self,
         fs: &mut F,
@@ -36,7 +42,8 @@ impl<'r, C, L: DavLockSystem> Finder<'r, C, L> {
         self.visit_all(fs, waiting, is_deep(depth), quota, writer)
     }
 
-    /// Tells all that wait, one after the other, and with `deep` the members of each directory before the next.
+    /// Reports all pending resources in turn. With `deep`, the members of each directory come before the next
+    /// pending resource.
     fn visit_all<F: GuardedFileSystem<C>>(
         &self,
         fs: &mut F,
@@ -59,7 +66,8 @@ impl<'r, C, L: DavLockSystem> Finder<'r, C, L> {
         }
     }
 
-    /// Tells a resource, where it is to be shown, and then has its members wait, where they are to be listed.
+    /// Reports a resource if `shown` is set, then adds its members to the pending resources if `listed` is
+    /// set.
     fn visit<F: GuardedFileSystem<C>>(
         &self,
         fs: &mut F,
@@ -84,7 +92,7 @@ impl<'r, C, L: DavLockSystem> Finder<'r, C, L> {
         Ok((writer, quota))
     }
 
-    /// Tells a resource, where it is to be shown.
+    /// Reports a resource if `shown` is set: writes its response.
     fn show<F: GuardedFileSystem<C>>(
         &self,
         fs: &mut F,
@@ -107,28 +115,28 @@ impl<'r, C, L: DavLockSystem> Finder<'r, C, L> {
     }
 }
 
-/// Whether the target itself is told.
+/// Returns whether the target itself is reported.
 fn is_shown(depth: Depth) -> bool
     ensures { result ≡ is_shown_at depth }
 {
     depth != Depth::Default
 }
 
-/// Whether the target's members are told.
+/// Returns whether the target's members are reported.
 fn is_listed(depth: Depth) -> bool
     ensures { result ≡ is_listed_at depth }
 {
     depth != Depth::Zero
 }
 
-/// Whether all below the members is told.
+/// Returns whether everything below the members is reported.
 fn is_deep(depth: Depth) -> bool
     ensures { result ≡ is_deep_at depth }
 {
     depth == Depth::Infinity
 }
 
-/// Whether a resource's members are sought, where those of a directory are.
+/// Returns whether a resource's members are listed: if `listed` is set and the resource is a directory.
 fn is_entered(listed: bool, here: &Resource) -> bool
     ensures { result ≡ (listed && here.now.meta.dir) }
 {

@@ -1,4 +1,4 @@
--- A live property of one resource, as a reply tells it (RFC 4918, sections 9.1 and 15; RFC 4331; RFC 5397, section 3).
+-- A live property of one resource, as a response reports it (RFC 4918, sections 9.1 and 15; RFC 4331; RFC 5397, section 3).
 use Rattle.std.specs.Prelude.{ℕ, Bool, ◌&&◌, not, if◌then◌else◌, List, [], ◌∷◌, codes, Option, Some, is_some}
 use Rattle.std.specs.Option.{option_map}
 use Rattle.dav_resource.specs.Key.{Key}
@@ -13,16 +13,16 @@ use Rattle.dav_live.specs.Rows.{live_text}
 use Rattle.dav_live.specs.declared.property.LiveProperty.{LiveProperty}
 use Rattle.dav_live.specs.declared.property.LiveProperty.TheVariants.{LockDiscovery, ResourceType, SupportedLock, CurrentUserPrincipal}
 
--- an element of this name that holds the text, where there is one
+-- an element of this name that holds the string, if there is one
 abbrev pub text_property : List ℕ → Bool → Option (List ℕ) → Option Tree
 text_property name names_only text = option_map (λ t. if names_only then prefixed_element name else text_element name t) text
 
--- the element that was asked for, with `D:collection` in it for a directory
+-- the requested element, for a directory with `D:collection` appended unless only names are reported
 abbrev pub resource_type : Tree → Bool → Bool → Tree
 resource_type asked names_only dir =
     if dir && not names_only then with_elements asked (prefixed_element (codes "D:collection") ∷ []) else asked
 
--- the element that was asked for, with the principal in it, where there is one
+-- the requested element with the principal appended, if there is one, unless only names are reported
 abbrev pub current_user_principal : Tree → Bool → Option (List ℕ) → Option Tree
 current_user_principal asked names_only principal =
     option_map (λ text. if names_only then asked else with_elements asked (text_element (codes "D:href") text ∷ [])) principal
@@ -31,11 +31,11 @@ current_user_principal asked names_only principal =
 abbrev pub locks_of : Bool → Option (List DavLock) → Key → Tree
 locks_of names_only locks key = if names_only then prefixed_element (codes "D:lockdiscovery") else lock_discovery (covering_in locks key)
 
--- the locks that there may be, where there is a lock system
+-- the kinds of locks that are supported, if there is a lock system
 abbrev pub lock_kinds : Bool → Bool → Tree
 lock_kinds names_only present = if names_only then prefixed_element (codes "D:supportedlock") else supported_lock present
 
--- the property as it is told, or none where its value isn't known; the element that named it stands for itself where no text does
+-- the property as it is reported, or `None` if its value is not known; `resourcetype` and `current-user-principal` keep the requested element
 abbrev pub live_value : LiveProperty → Tree → Bool → Asker → Option (List DavLock) → Key → Meta → Option Tree
 live_value ResourceType asked names_only asker locks key meta = Some (resource_type asked names_only meta.dir)
 live_value CurrentUserPrincipal asked names_only asker locks key meta = current_user_principal asked names_only asker.principal

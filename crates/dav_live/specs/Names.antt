@@ -1,4 +1,4 @@
--- Which properties are live, by namespace and name, and how each is named in a reply (RFC 4918, section 15; RFC 4331, sections 3 and 4; RFC 5397,
+-- Which properties are live, by namespace and name, and how a response names each (RFC 4918, section 15; RFC 4331, sections 3 and 4; RFC 5397,
 -- section 3; the properties of Apache's and Microsoft's namespaces are those that their clients ask for).
 use Rattle.std.specs.Prelude.{ℕ, Bool, true, false, if◌then◌else◌, List, codes, bytes_eq, Option, Some, None}
 use Rattle.dav_live.specs.declared.property.LiveProperty.{LiveProperty}
@@ -32,7 +32,7 @@ named_in_microsoft name =
     else (if is (codes "Win32LastAccessTime") then Some Win32LastAccessTime
     else (if is (codes "Win32LastModifiedTime") then Some Win32LastModifiedTime else None)))
 
--- a name without a namespace is no live property's
+-- a name without a namespace is never that of a live property
 abbrev pub live_property_of : Option (List ℕ) → List ℕ → Option LiveProperty
 live_property_of None name = None
 live_property_of (Some namespace) name =
@@ -40,13 +40,13 @@ live_property_of (Some namespace) name =
     else (if bytes_eq namespace (codes "http://apache.org/dav/props/") then named_in_apache name
     else (if bytes_eq namespace (codes "urn:schemas-microsoft-com:") then named_in_microsoft name else None))
 
--- its value is of the store's quota
+-- its value comes from the store's quota
 abbrev pub is_quota : LiveProperty → Bool
 is_quota QuotaAvailableBytes = true
 is_quota QuotaUsedBytes = true
 is_quota _ = false
 
--- ---- in a reply, whose outermost element declares the prefixes
+-- ---- in a response, whose outermost element declares the prefixes
 
 abbrev pub shown_name : LiveProperty → List ℕ
 shown_name CreationDate = codes "D:creationdate"

@@ -1,4 +1,5 @@
--- The texts of the live properties that are told by one (RFC 4918, sections 15.1 to 15.7; RFC 4331; RFC 9110, section 5.6.7; RFC 3339, section 5.6).
+-- The values of the live properties whose value is a string (RFC 4918, sections 15.1 to 15.7; RFC 4331; RFC 9110, section 5.6.7; RFC 3339, section
+-- 5.6).
 use Rattle.std.specs.Prelude.{ℕ, List, Option, None}
 use Rattle.std.specs.Option.{option_map}
 use Rattle.dav_resource.specs.Key.{Key}
@@ -13,7 +14,7 @@ use Rattle.dav_live.specs.Quota.{available_text, used_text}
 use Rattle.dav_live.specs.declared.property.LiveProperty.{LiveProperty}
 use Rattle.dav_live.specs.declared.property.LiveProperty.TheVariants.{CreationDate, ContentLength, ContentType, ETag, LastModified, LockDiscovery, ResourceType, SupportedLock, CurrentUserPrincipal, QuotaAvailableBytes, QuotaUsedBytes, Executable, Win32CreationTime, Win32FileAttributes, Win32LastAccessTime, Win32LastModifiedTime}
 
--- none where the value isn't known, and none of what is told by a tree
+-- `None` if the value is not known, and for properties whose value is a tree
 abbrev pub live_text : LiveProperty → Asker → Key → Meta → Option (List ℕ)
 live_text CreationDate asker key meta = option_map creation_date_text (creation_moment meta)
 live_text ContentLength asker key meta = length_text meta

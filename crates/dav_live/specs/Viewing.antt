@@ -1,22 +1,22 @@
--- Who asks for properties, and what is known besides the resource: the principal (RFC 3744, section 2), the field User-Agent (RFC 9110, section 10.1.5)
--- and the store's quota (RFC 4331).
+-- The client that requests properties, and what is known besides the resource: the principal (RFC 3744, section 2), the field User-Agent (RFC 9110,
+-- section 10.1.5) and the store's quota (RFC 4331).
 use Rattle.std.specs.Prelude.{ℕ, Bool, false, ◌||◌, nat_eq, List, [], ◌∷◌, codes, Option}
 use Rattle.std.specs.List.{starts_with}
 use Rattle.std.specs.Option.{option_copied, option_map_or}
 use Rattle.dav_live.specs.declared.viewer.Viewer.{Viewer}
 
--- of the quota, how many bytes are used, and how many there are
+-- the quota is the bytes used, and the total if known
 pub record Asker : Type 0 where
   pub principal : Option (List ℕ)
   pub user_agent : Option (List ℕ)
   pub quota : Option (ℕ × Option ℕ)
 
--- what a `Viewer` is seen as
+-- the asker of a `Viewer`
 abbrev pub asker_of : Viewer → Asker
 asker_of viewer =
     record { principal = option_copied viewer.principal; user_agent = option_copied viewer.user_agent; quota = viewer.quota }
 
--- the part stands somewhere in the text
+-- the part occurs somewhere in the string
 abbrev pub has_part : List ℕ → List ℕ → Bool
 has_part part [] = starts_with nat_eq [] part
 has_part part (b ∷ text) = starts_with nat_eq (b ∷ text) part || has_part part text
@@ -25,6 +25,6 @@ has_part part (b ∷ text) = starts_with nat_eq (b ∷ text) part || has_part pa
 abbrev pub names_microsoft : Option (List ℕ) → Bool
 names_microsoft user_agent = option_map_or (has_part (codes "Microsoft")) user_agent false
 
--- the client is the file system of macOS
+-- the client is the macOS file system
 abbrev pub names_webdavfs : Option (List ℕ) → Bool
 names_webdavfs user_agent = option_map_or (has_part (codes "WebDAVFS")) user_agent false

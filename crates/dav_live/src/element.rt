@@ -1,4 +1,4 @@
-//! A live property of a resource, as a reply tells it.
+//! A live property of a resource, as a response reports it.
 ghost use Rattle.std.specs.Prelude.{◌≡◌, IfOk, IfErr};
 ghost use Rattle.std.specs.Option.{option_copied};
 ghost use Rattle.dav_resource.specs.declared.error.DavError.TheVariants.{Memory};
@@ -16,9 +16,11 @@ use dav_resource::{DavPath, DavResult, Element, Meta};
 use dav_store::DavLockSystem;
 use std::alloc::Global;
 
-/// A live property of the resource at the path, of which the store told `meta`, as a reply tells it; none where its
-/// value isn't known (RFC 4918, sections 9.1 and 15). `asked` is the element that named the property, and
-/// `names_only` leaves its value out. The only error is `Memory`, where memory is lacking.
+/// Returns a live property of the resource at the path, as a response reports it, or `None` if its value is
+/// not known (RFC 4918, sections 9.1 and 15).
+///
+/// `asked` is the element that named the property, and `meta` is the store's metadata of the resource. With
+/// `names_only` no value is added. The only error is `Memory`.
 pub fn live_element<L: DavLockSystem>(
     alloc: Global,
     property: LiveProperty,

@@ -1,4 +1,4 @@
-//! The live properties of a resource: those whose values the server knows.
+//! The live properties of a resource: those whose values come from the server.
 #![tactic(auto)]
 
 mod element;

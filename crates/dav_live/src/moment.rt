@@ -1,4 +1,4 @@
-//! The moments that are told of a resource.
+//! The times that are reported for a resource.
 ghost use Rattle.std.specs.Prelude.{◌≡◌, ◌≤◌, IfOk, IfSome, option_map};
 ghost use Rattle.dav_dates.specs.Moment.{last_shown, shown_moment};
 ghost use Rattle.dav_dates.specs.HttpDate.{http_date_text};
@@ -9,7 +9,10 @@ use dav_dates::{creation_date, http_date, shown_moment};
 use dav_resource::{Meta, Text};
 use std::alloc::{AllocError, Global};
 
-/// When it was made, as far as that is known.
+/// Returns the creation time of a resource in seconds since 1970, if it is known.
+///
+/// If the store does not know it, the time of the last metadata change counts, or that of the last
+/// modification if that is earlier. A time after `LAST_SHOWN` counts as unknown.
 pub(crate) fn creation_moment(meta: &Meta) -> Option<u64>
     ensures exact { result ≡ creation_moment meta.now }
     ensures shown { IfSome result (λ secs. secs ≤ last_shown) }
@@ -23,7 +26,7 @@ pub(crate) fn creation_moment(meta: &Meta) -> Option<u64>
     }
 }
 
-/// The first moment, or the second where that is known and less.
+/// Returns the first time, or the second if both are known and it is earlier.
 fn earlier(moment: Option<u64>, other: Option<u64>) -> Option<u64>
     requires { IfSome moment (λ secs. secs ≤ last_shown) }
     ensures exact { result ≡ earlier_moment moment other }
@@ -35,7 +38,7 @@ fn earlier(moment: Option<u64>, other: Option<u64>) -> Option<u64>
     }
 }
 
-/// A moment as a date of HTTP.
+/// Formats a time as an HTTP date.
 pub(crate) fn date_text(alloc: Global, moment: Option<u64>) -> Result<Option<Text>, AllocError>
     requires { IfSome moment (λ secs. secs ≤ last_shown) }
     ensures { IfOk result (λ text. text ≡ option_map http_date_text moment) }
@@ -46,7 +49,7 @@ pub(crate) fn date_text(alloc: Global, moment: Option<u64>) -> Result<Option<Tex
     }
 }
 
-/// A moment as the property `DAV:creationdate` has it.
+/// Formats a time for the property `DAV:creationdate`.
 pub(crate) fn creation_text(alloc: Global, moment: Option<u64>) -> Result<Option<Text>, AllocError>
     requires { IfSome moment (λ secs. secs ≤ last_shown) }
     ensures { IfOk result (λ text. text ≡ option_map creation_date_text moment) }

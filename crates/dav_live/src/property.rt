@@ -1,11 +1,11 @@
-//! Which properties are live, and how each is named in a reply.
+//! Which properties are live, and how a response names them.
 ghost use Rattle.std.specs.Prelude.{◌≡◌};
 ghost use Rattle.dav_live.specs.Names.{live_property_of, named_in_dav, named_in_apache, named_in_microsoft, is_quota, shown_name};
 
 use dav_resource::Element;
 
-/// A live property, whose value the server knows (RFC 4918, section 15; RFC 4331; RFC 5397; and those that clients of
-/// Apache's and Microsoft's namespaces ask for).
+/// A live property: its value comes from the server (RFC 4918, section 15; RFC 4331; RFC 5397; and those that
+/// clients of Apache's and Microsoft's namespaces ask for).
 #[derive(Clone, Copy, Debug, PartialEq, Eq)]
 pub enum LiveProperty {
     /// `DAV:creationdate` (RFC 4918, section 15.1).
@@ -43,7 +43,7 @@ pub enum LiveProperty {
 }
 
 impl LiveProperty {
-    /// The live property of this namespace and name; none where no live property is named so.
+    /// Returns the live property of this namespace and name, or `None` if there is none.
     pub fn of_element(prop: &Element) -> Option<LiveProperty>
         ensures { result ≡ live_property_of prop.now.tag.namespace prop.now.tag.name }
     {
@@ -58,7 +58,7 @@ impl LiveProperty {
         }
     }
 
-    /// Whether its value is of the store's quota (RFC 4331).
+    /// Returns whether its value comes from the store's quota (RFC 4331).
     pub fn is_quota(self) -> bool
         ensures { result ≡ is_quota self }
     {
@@ -68,7 +68,7 @@ impl LiveProperty {
         }
     }
 
-    /// Its prefix and name in a reply whose outermost element declares the prefixes.
+    /// Returns its prefix and name in a response whose root element declares the prefixes.
     pub(crate) fn shown_name(self) -> &'static str
         ensures { result.now ≡ shown_name self }
     {

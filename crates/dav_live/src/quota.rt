@@ -1,4 +1,4 @@
-//! The quota of a store, as it is told of a resource (RFC 4331).
+//! The store's quota, as it is reported for a resource (RFC 4331).
 ghost use Rattle.std.specs.Prelude.{◌≡◌, IfOk};
 ghost use Rattle.std.specs.Fmt.{decimal};
 ghost use Rattle.dav_live.specs.Viewing.{asker_of};
@@ -10,7 +10,8 @@ use crate::viewer::{Viewer, is_webdavfs};
 use dav_resource::{DavPath, Meta, Text};
 use std::alloc::{AllocError, Global};
 
-/// How many bytes may still be used, where the store told how many there are.
+/// Returns the quota's total less the bytes that `used_bytes` gives for the path, at least 0. Returns `None`
+/// if the store did not report a total.
 pub(crate) fn available_text(
     alloc: Global,
     viewer: &Viewer<'_>,
@@ -31,7 +32,8 @@ pub(crate) fn available_text(
     }
 }
 
-/// How many bytes are used, where the store told its quota: of 14 digits or more for the file system of macOS.
+/// Returns the bytes that `used_bytes` gives for the path, or `None` if the store did not report its quota.
+/// For the macOS file system the number has at least 14 digits.
 pub(crate) fn used_text(
     alloc: Global,
     viewer: &Viewer<'_>,
@@ -51,7 +53,8 @@ pub(crate) fn used_text(
     }
 }
 
-/// What is used at a path: all that the store uses at its root, else the length of what stands there.
+/// Returns the bytes used at a path: at the root all that the store uses, elsewhere the resource's own
+/// length.
 fn used_bytes(used: u64, path: &DavPath, meta: &Meta) -> u64
     ensures { result ≡ used_at used path.now.key meta.now }
 {
@@ -61,7 +64,7 @@ fn used_bytes(used: u64, path: &DavPath, meta: &Meta) -> u64
     }
 }
 
-/// A number of 14 digits or more.
+/// Formats a number with at least 14 digits.
 fn padded_text(alloc: Global, number: u64) -> Result<Text, AllocError>
     ensures { IfOk result (λ text. text ≡ zero_padded 14 (decimal number)) }
 {

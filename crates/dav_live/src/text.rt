@@ -1,4 +1,4 @@
-//! The live properties that are told by a text.
+//! The live properties whose value is a string.
 ghost use Rattle.std.specs.Prelude.{◌≡◌, false, IfOk, option_map};
 ghost use Rattle.std.specs.Fmt.{decimal, digits};
 ghost use Rattle.dav_live.specs.Viewing.{asker_of};
@@ -13,7 +13,8 @@ use dav_dates::shown_moment;
 use dav_resource::{DavPath, Meta, Text};
 use std::alloc::{AllocError, Global};
 
-/// The text of a live property, where there is one; none of those that are told by a tree.
+/// Returns the value of a live property as a string. Returns `None` if the value is not known, and for
+/// properties whose value is a tree.
 pub(crate) fn live_text(
     alloc: Global,
     property: LiveProperty,
@@ -44,14 +45,14 @@ pub(crate) fn live_text(
     }
 }
 
-/// A number in decimal digits.
+/// Formats a number in decimal digits.
 pub(crate) fn number_text(alloc: Global, number: u64) -> Result<Text, AllocError>
     ensures { IfOk result (λ text. text ≡ decimal number) }
 {
     Ok(Text::from_string(format!(in alloc; "{number}")?))
 }
 
-/// The length of a file.
+/// Returns the length of a file in bytes, `None` for a directory.
 fn length_text(alloc: Global, meta: &Meta) -> Result<Option<Text>, AllocError>
     ensures { IfOk result (λ text. text ≡ text_of_length meta.now) }
 {
@@ -62,7 +63,7 @@ fn length_text(alloc: Global, meta: &Meta) -> Result<Option<Text>, AllocError>
     }
 }
 
-/// The media type by the path's extension, or the one that stands for a directory.
+/// Returns the media type for the path's extension, or `httpd/unix-directory` for a directory.
 fn type_text(alloc: Global, path: &DavPath, meta: &Meta) -> Result<Option<Text>, AllocError>
     ensures { IfOk result (λ text. text ≡ text_of_type path.now.key meta.now) }
 {
@@ -74,7 +75,7 @@ fn type_text(alloc: Global, path: &DavPath, meta: &Meta) -> Result<Option<Text>,
     Ok(Some(copied(alloc, media_type)?))
 }
 
-/// The entity tag in its quotes.
+/// Returns the entity tag in quotes, if there is one.
 fn tag_text(alloc: Global, meta: &Meta) -> Result<Option<Text>, AllocError>
     ensures { IfOk result (λ text. text ≡ text_of_tag meta.now) }
 {
@@ -84,14 +85,14 @@ fn tag_text(alloc: Global, meta: &Meta) -> Result<Option<Text>, AllocError>
     }
 }
 
-/// The text in quotes.
+/// Returns the string in quotes.
 fn quoted(alloc: Global, text: &str) -> Result<Text, AllocError>
     ensures { IfOk result (λ quoted. quoted ≡ quoted_tag text.now) }
 {
     Ok(Text::from_string(format!(in alloc; "\"{text}\"")?))
 }
 
-/// Whether it may be executed.
+/// Returns `T` or `F` for whether the resource is executable, if that is known.
 fn executable_text(alloc: Global, meta: &Meta) -> Result<Option<Text>, AllocError>
     ensures { IfOk result (λ text. text ≡ text_of_executable meta.now) }
 {
@@ -101,7 +102,7 @@ fn executable_text(alloc: Global, meta: &Meta) -> Result<Option<Text>, AllocErro
     }
 }
 
-/// The attributes of the file, as 8 hexadecimal digits.
+/// Returns the file attributes as 8 hexadecimal digits.
 fn attributes_text(alloc: Global, path: &DavPath, meta: &Meta) -> Result<Option<Text>, AllocError>
     ensures { IfOk result (λ text. text ≡ text_of_attributes path.now.key meta.now) }
 {
@@ -109,7 +110,8 @@ fn attributes_text(alloc: Global, path: &DavPath, meta: &Meta) -> Result<Option<
     Ok(Some(hexadecimal(alloc, attributes)?))
 }
 
-/// The attributes that Microsoft's file systems know: 2 for a hidden file, 16 for a directory, 32 for another file.
+/// Returns the attributes that Microsoft's file systems use: 16 for a directory or 32 for a file, plus 2 if
+/// it is hidden.
 fn file_attributes(name: &[u8], dir: bool) -> u64
     ensures { result ≡ attributes_of name.now dir }
 {
@@ -118,7 +120,7 @@ fn file_attributes(name: &[u8], dir: bool) -> u64
     hidden + kind
 }
 
-/// Whether the name begins with a `.`.
+/// Returns whether the name begins with `.`.
 fn is_hidden(name: &[u8]) -> bool
     ensures { result ≡ is_hidden_name name.now }
 {
@@ -128,14 +130,14 @@ fn is_hidden(name: &[u8]) -> bool
     }
 }
 
-/// A number in hexadecimal digits, 8 or more.
+/// Formats a number with at least 8 hexadecimal digits.
 fn hexadecimal(alloc: Global, number: u64) -> Result<Text, AllocError>
     ensures { IfOk result (λ text. text ≡ zero_padded 8 (digits 16 false number)) }
 {
     Ok(Text::from_string(format!(in alloc; "{number:08x}")?))
 }
 
-/// A text of these characters.
+/// Copies the string.
 fn copied(alloc: Global, text: &str) -> Result<Text, AllocError>
     ensures { IfOk result (λ copy. copy ≡ text.now) }
 {

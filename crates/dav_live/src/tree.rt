@@ -1,4 +1,4 @@
-//! The live properties that are told by a tree.
+//! The live properties whose value is a tree.
 ghost use Rattle.std.specs.Prelude.{◌≡◌, ◌∷◌, [], codes, IfOk, IfErr};
 ghost use Rattle.std.specs.Option.{option_copied};
 ghost use Rattle.dav_resource.specs.declared.error.DavError.TheVariants.{Memory};
@@ -12,7 +12,8 @@ use dav_resource::{DavPath, DavResult, Element, Text};
 use dav_store::DavLockSystem;
 use std::alloc::{AllocError, Global};
 
-/// The property of a text, where there is one, under this prefix and name.
+/// Returns a property of this prefix and name with the string as its value, or `None` without a string. With
+/// `names_only` the value is left out.
 pub(crate) fn text_property(
     alloc: Global,
     name: &str,
@@ -31,7 +32,7 @@ pub(crate) fn text_property(
     }
 }
 
-/// The element that was asked for, with `D:collection` in it for a directory.
+/// Returns the requested element, for a directory with `D:collection` appended unless `names_only` is set.
 pub(crate) fn resource_type(
     alloc: Global,
     asked: &Element,
@@ -48,7 +49,7 @@ pub(crate) fn resource_type(
     }
 }
 
-/// With `D:collection` behind what stands in it.
+/// Appends `D:collection` to the children of the element.
 fn with_collection(alloc: Global, mut element: Element) -> Result<Element, AllocError>
     ensures { IfOk result (λ told. told ≡ with_elements element (prefixed_element (codes "D:collection") ∷ [])) }
 {
@@ -56,7 +57,8 @@ fn with_collection(alloc: Global, mut element: Element) -> Result<Element, Alloc
     Ok(element)
 }
 
-/// The element that was asked for, with the principal as `D:href` in it, where there is one.
+/// Returns the requested element with the principal appended as `D:href`, or `None` without a principal. With
+/// `names_only` the principal is left out.
 pub(crate) fn current_user_principal(
     alloc: Global,
     asked: &Element,
@@ -75,7 +77,8 @@ pub(crate) fn current_user_principal(
     Ok(Some(told))
 }
 
-/// The locks that cover the path.
+/// Returns `D:lockdiscovery` with the locks that cover the path. With `names_only` the element is empty. The
+/// only error is `Memory`.
 pub(crate) fn lock_discovery<L: DavLockSystem>(
     alloc: Global,
     names_only: bool,
@@ -92,7 +95,8 @@ pub(crate) fn lock_discovery<L: DavLockSystem>(
     }
 }
 
-/// The locks that there may be, where a lock system is present.
+/// Returns `D:supportedlock` with the kinds of locks that are supported. With `names_only`, or if no lock
+/// system is present, the element is empty. The only error is `Memory`.
 pub(crate) fn supported_lock(alloc: Global, names_only: bool, present: bool) -> DavResult<Element>
     ensures ok { IfOk result (λ told. told ≡ tree_of_kinds names_only present) }
     ensures err { IfErr result (λ e. e ≡ Memory) }

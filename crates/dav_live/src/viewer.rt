@@ -1,21 +1,21 @@
-//! Who asks for properties, and what is known besides the resource.
+//! The client that requests properties, and what is known besides the resource.
 ghost use Rattle.std.specs.Prelude.{◌≡◌, ◌++◌, ◌↔◌, IsTrue};
 ghost use Rattle.std.specs.Option.{option_copied};
 ghost use Rattle.dav_live.specs.Viewing.{names_microsoft, names_webdavfs};
 
-/// Who asks for properties, and what the store told of its quota.
+/// The client that requests properties, and the store's quota.
 #[derive(Clone, Copy, Debug)]
 pub struct Viewer<'r> {
-    /// Who asks, where that is known.
+    /// The principal of the request, if known.
     pub principal: Option<&'r str>,
-    /// The field User-Agent of the request, where it has one (RFC 9110, section 10.1.5).
+    /// The request's `User-Agent` field, if it has one (RFC 9110, section 10.1.5).
     pub user_agent: Option<&'r str>,
-    /// How many bytes the store uses, and how many there are in all where that is known; none where the store didn't
-    /// tell its quota (RFC 4331).
+    /// The bytes that the store uses, and the total if known. `None` if the store did not report its quota
+    /// (RFC 4331).
     pub quota: Option<(u64, Option<u64>)>,
 }
 
-/// Whether a client is the file system of macOS, which names itself `WebDAVFS`.
+/// Returns whether the client is the macOS file system, whose User-Agent contains `WebDAVFS`.
 pub(crate) fn is_webdavfs(user_agent: Option<&str>) -> bool
     ensures { result ≡ names_webdavfs (option_copied user_agent.entry) }
 {
@@ -25,7 +25,7 @@ pub(crate) fn is_webdavfs(user_agent: Option<&str>) -> bool
     }
 }
 
-/// Whether a client is one of Microsoft's, which name themselves by it.
+/// Returns whether the client is one of Microsoft's, whose User-Agent contains `Microsoft`.
 pub fn is_microsoft(user_agent: Option<&str>) -> bool
     ensures { result ≡ names_microsoft (option_copied user_agent.entry) }
 {

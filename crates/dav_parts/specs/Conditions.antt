@@ -1,4 +1,4 @@
--- Conditions of a request (RFC 7232, sections 3.1 and 3.2; RFC 4918, section 10.4), and which of them are asked of a store.
+-- Conditions of a request (RFC 7232, sections 3.1 and 3.2; RFC 4918, section 10.4), and the calls to a store that evaluate them.
 use Rattle.std.specs.Prelude.{ℕ, nat_eq, Bool, true, false, not, ◌&&◌, if◌then◌else◌, List, [], ◌∷◌, codes, Option, Some, None, Err, is_some, option_map}
 use Rattle.std.specs.Option.{option_map_or}
 use Rattle.std.specs.List.{list_any, filter_map, starts_with, flat_map}
@@ -28,31 +28,31 @@ use Rattle.dav_parts.specs.Dialogue.{Dialogue, Refuses, Passed, look, ◌>>=◌}
 
 -- ---- If-Match, If-None-Match, If-Range
 
--- the tag is there, and strongly equal to this one
+-- there is a current tag, and it is strongly equal to this one
 abbrev pub is_tagged : ETag → Option ETag → Bool
 is_tagged tag current = option_map_or (strongly_equal tag) current false
 
--- `*` is true of what is there; else one of the tags has to be the current one
+-- `*` matches if the resource exists. A list matches if one of its tags is strongly equal to the current one.
 abbrev pub list_matches : ETagList → Bool → Option ETag → Bool
 list_matches Star exists current = exists
 list_matches (Tags tags) exists current = list_any (λ tag. is_tagged tag current) tags
 
--- the entity tag of what was found
+-- the entity tag in the metadata that was found
 abbrev pub current_tag : Option Meta → Option ETag
 current_tag found = option_map_or (λ (m : Meta). option_map strong_tag m.etag) found None
 
--- an answer that isn't new to a GET or a HEAD is 304, each other condition that fails 412
+-- if If-None-Match fails: 304 for GET and HEAD, 412 for every other method
 abbrev pub none_match_status : Option DavMethod → ℕ
 none_match_status (Some Get) = 304
 none_match_status (Some Head) = 304
 none_match_status _ = 412
 
--- what If-Match refuses, where it is there: all that it doesn't match
+-- If-Match rejects the request: it is present and does not match
 abbrev pub if_match_fails : Option ETagList → Bool → Option ETag → Bool
 if_match_fails None exists current = false
 if_match_fails (Some tags) exists current = not (list_matches tags exists current)
 
--- what If-None-Match refuses, where it is there: all that it matches
+-- If-None-Match rejects the request: it is present and matches
 abbrev pub if_none_match_fails : Option ETagList → Bool → Option ETag → Bool
 if_none_match_fails None exists current = false
 if_none_match_fails (Some tags) exists current = list_matches tags exists current
@@ -61,14 +61,14 @@ abbrev pub none_match_verdict : DavRequest → Bool → Option ETag → Option �
 none_match_verdict request exists current =
     if if_none_match_fails (if_none_match_of request.headers) exists current then Some (none_match_status (method_of request.method)) else None
 
--- the status that refuses: If-Match's, which is judged first, else If-None-Match's
+-- the status that rejects the request: 412 by If-Match, which is evaluated first, else that of If-None-Match
 abbrev pub http_verdict : DavRequest → Option Meta → Option ℕ
 http_verdict request found =
     if if_match_fails (if_match_of request.headers) (is_some found) (current_tag found) then Some 412 else none_match_verdict request (is_some found) (current_tag found)
 
 -- ---- If
 
--- the state tokens among conditions, in order, whether or not `Not` stands before them
+-- the state tokens of conditions, in order, also those under `Not`
 abbrev pub token_of : IfItem → Option (List ℕ)
 token_of (StateToken text) = Some text
 token_of (EntityTag tag) = None
@@ -80,28 +80,29 @@ abbrev pub all_tokens : Option (List IfList) → List (List ℕ)
 all_tokens None = []
 all_tokens (Some lists) = flat_map (λ (list : IfList). tokens_in list.conditions) lists
 
--- the tokens that a request submits: all of its header If, in order
+-- the tokens that a request submits: all in its header If, in order
 abbrev pub submitted_tokens : DavRequest → List (List ℕ)
 submitted_tokens request = all_tokens (if_of request.headers)
 
--- the locks, where there is a lock system
+-- the locks, if there is a lock system
 abbrev pub locks_in : {L : Type 0} → (L → Locks) → Option L → Option (List DavLock)
 locks_in seen ls = option_map (λ l. (seen l).list) ls
 
--- a state token holds at a key where the locks let one write there with that token alone, whoever it is; no token of the `DAV:` scheme does
+-- A state token holds at a key if the locks allow any principal to write there with only this token submitted. One that starts with `DAV:` never
+-- holds.
 abbrev pub token_holds : Option (List DavLock) → Key → List ℕ → Bool
 token_holds locks key token = not (starts_with nat_eq token (codes "DAV:")) && option_map_or (λ list. permits list key None true false (token ∷ [])) locks false
 
--- an entity tag holds at a key where a look at it is granted, and the tag is the current one
+-- an entity tag holds at a key if a lookup of the key is granted, and the tag is strongly equal to the one found
 abbrev pub tag_holds : Contents → Key → ETag → Dialogue Bool
 tag_holds contents key tag = look contents key >>= λ found. Passed (is_tagged tag (current_tag found))
 
--- the opposite, where `Not` stands before it
+-- the negation, if the condition has `Not`
 abbrev pub turned : Bool → Bool → Bool
 turned true holds = not holds
 turned false holds = holds
 
--- go on, or stop with this
+-- go on, or stop with this value
 abbrev pub while_true : Bool → Dialogue Bool → Dialogue Bool
 while_true true rest = rest
 while_true false rest = Passed false
@@ -110,7 +111,8 @@ abbrev pub until_true : Bool → Dialogue Bool → Dialogue Bool
 until_true true rest = Passed true
 until_true false rest = rest
 
--- the key that a list is about: that of its own tag, below the request's prefix, else that of the list before it (RFC 4918, section 10.4.2)
+-- The key that a list applies to: that of its own tag, below the request's prefix, else that of the list before it (RFC 4918, section 10.4.2). None
+-- if the tag cannot be parsed.
 abbrev pub key_of_list : Option Key → PathValue → Option (List ℕ) → Option Key
 key_of_list before path None = before
 key_of_list before path (Some tag) = option_map (λ p. p.key) (tagged_path tag path.prefix)
@@ -120,33 +122,33 @@ module _ (contents : Contents) (locks : Option (List DavLock)) where
   item_holds key (StateToken token) = Passed (token_holds locks key token)
   item_holds key (EntityTag tag) = tag_holds contents key tag
 
-  -- nothing holds, and nothing is asked, where it can't be read which key it is about
+  -- if the key could not be parsed, the item does not hold, and no call is made
   abbrev pub item_holds_at : Option Key → IfItem → Dialogue Bool
   item_holds_at None item = Passed false
   item_holds_at (Some key) item = item_holds key item
 
-  -- `Not` turns it
+  -- `Not` negates it
   abbrev pub condition_holds : Option Key → IfCondition → Dialogue Bool
   condition_holds key condition = item_holds_at key condition.item >>= λ holds. Passed (turned condition.not holds)
 
-  -- each condition holds; none is asked after the first that doesn't
+  -- Each condition holds. None is evaluated after the first that does not.
   abbrev pub all_hold : Option Key → List IfCondition → Dialogue Bool
   all_hold key [] = Passed true
   all_hold key (condition ∷ conditions) = condition_holds key condition >>= λ holds. while_true holds (all_hold key conditions)
 
-  -- a list of no conditions doesn't hold
+  -- a list without conditions does not hold
   abbrev pub conditions_hold : Option Key → List IfCondition → Dialogue Bool
   conditions_hold key [] = Passed false
   conditions_hold key (first ∷ others) = all_hold key (first ∷ others)
 
-  -- some list holds; none is asked after it; `before` is what a first list without a tag is about
+  -- Some list holds. None is evaluated after it. `before` is the key that a first list without a tag applies to.
   abbrev pub any_holds : PathValue → Option Key → List IfList → Dialogue Bool
   any_holds path before [] = Passed false
   any_holds path before (list ∷ lists) =
       let about = key_of_list before path list.resource_tag in
       conditions_hold about list.conditions >>= λ holds. until_true holds (any_holds path about lists)
 
-  -- without a readable header nothing is asked; the lists before any tag are about the request's key
+  -- Without a readable header it holds, and no call is made. The lists before the first tag apply to the request's key.
   abbrev pub lists_hold : PathValue → Option (List IfList) → Dialogue Bool
   lists_hold path None = Passed true
   lists_hold path (Some lists) = any_holds path (Some path.key) lists
@@ -154,18 +156,18 @@ module _ (contents : Contents) (locks : Option (List DavLock)) where
   abbrev pub if_holds : DavRequest → PathValue → Dialogue Bool
   if_holds request path = lists_hold path (if_of request.headers)
 
--- ---- together
+-- ---- all conditions
 
--- what refuses a request whose header If has been judged: 412 where it doesn't hold
+-- the status that rejects a request after its header If was evaluated: 412 if it does not hold
 abbrev pub verdict_after : Bool → DavRequest → Option Meta → Option ℕ
 verdict_after holds request found = if holds then http_verdict request found else Some 412
 
--- a status that refuses, or what is asked without one
+-- reject the request with the status if there is one, else go on
 abbrev pub unless_refused : {A : Type 0} → Option ℕ → Dialogue A → Dialogue A
 unless_refused (Some status) next = Refuses (Err (Status status))
 unless_refused None next = next
 
--- the tokens, where the header holds
+-- the tokens if the header If holds, else 412
 abbrev pub tokens_where : Bool × List (List ℕ) → Dialogue (List (List ℕ))
 tokens_where told = if told.0 then Passed told.1 else Refuses (Err (Status 412))
 
@@ -174,10 +176,10 @@ module _ (contents : Contents) (locks : Option (List DavLock)) (request : DavReq
   abbrev pub dav_if_match : PathValue → Dialogue (Bool × List (List ℕ))
   dav_if_match path = if_holds contents locks request path >>= λ holds. Passed (holds, submitted_tokens request)
 
-  -- If is judged first, whatever the others say
+  -- If is evaluated first, and then If-Match and If-None-Match
   abbrev pub if_match : Option Meta → PathValue → Dialogue (Option ℕ)
   if_match found path = if_holds contents locks request path >>= λ holds. Passed (verdict_after holds request found)
 
-  -- If-Match and If-None-Match are judged first, and where they refuse nothing is asked
+  -- If-Match and If-None-Match are evaluated first. If they reject the request, no call is made.
   abbrev pub conditions : Option Meta → PathValue → Dialogue (List (List ℕ))
   conditions found path = unless_refused (http_verdict request found) (dav_if_match path >>= tokens_where)

@@ -1,4 +1,5 @@
--- Elements of a request's body, by their local names, and of a reply's: these have the prefix `D`, which the outermost one declares (RFC 4918, section 14; Namespaces in XML 1.0, section 3).
+-- Elements of a request's body, recognized by their local names, and of a response's body, with the prefix `D`, which the outermost one declares (RFC
+-- 4918, section 14; Namespaces in XML 1.0, section 3).
 use Rattle.std.specs.Prelude.{ℕ, Bool, List, bytes_eq, codes}
 use Rattle.dav_resource.specs.PathText.{PathValue, url_text}
 use Rattle.dav_resource.specs.PathForms.{prefixed}
@@ -8,7 +9,7 @@ use Rattle.dav_resource.specs.Tree.{Tree, prefixed_element, with_attribute, with
 abbrev pub is_named : List ℕ → Tree → Bool
 is_named name tree = bytes_eq tree.tag.name name
 
--- the element with these elements behind what stands in it
+-- the element with these elements after its content
 abbrev pub with_elements : Tree → List Tree → Tree
 with_elements tree more = with_children tree (elements more)
 
@@ -20,6 +21,6 @@ declaring_element name = with_attribute (prefixed_element name) (codes "xmlns:D"
 abbrev pub text_element : List ℕ → List ℕ → Tree
 text_element name text = with_children (prefixed_element name) (one_text text)
 
--- a path, with its prefix
+-- the `D:href` of a path, including its prefix
 abbrev pub href_element : PathValue → Tree
 href_element path = text_element (codes "D:href") (url_text (prefixed path))

@@ -1,4 +1,4 @@
--- One dialogue, and after another.
+-- A dialogue followed by another: what their records say together.
 use Rattle.std.proofs.Common.{◌≡◌, Bool, true, false, if◌then◌else◌, List, [], ◌∷◌, ◌++◌, Result, Ok, Err, inl, inr, refl, sym, subst, append-nil, append_assoc, ◌≢◌, Some}
 use Rattle.std.specs.Result.{IsErrAnd}
 use Rattle.std.proofs.lemmas.Result.{err_from_is_err_and}
@@ -13,7 +13,7 @@ use Rattle.dav_store.specs.Logged.{Logged}
 use Rattle.dav_store.specs.Store.{Store}
 use Rattle.dav_parts.specs.Dialogue.{Dialogue, Asks, Refuses, Passed, needs, ◌>>=◌, refusing, told_by, LeadsTo, EndsIn, Judges, Reaches}
 
--- more records go on from what is left
+-- more records continue with what is left
 pub LeadsTo-more : {A : Type 0} (dialogue mid left : Dialogue A) (records more : List Logged) → LeadsTo dialogue records mid → LeadsTo mid more left → LeadsTo dialogue (records ++ more) left
 LeadsTo-more {A} dialogue mid left [] more e h = let P : Dialogue A → Type 0 = λ d. LeadsTo d more left in subst P e h
 LeadsTo-more (Asks call next) mid left (logged ∷ records) more h g = (h.0, h.1, LeadsTo-more (next logged.outcome) mid left records more h.2 g)
@@ -21,7 +21,7 @@ LeadsTo-more (Refuses e) mid left (logged ∷ records) more h g = absurd h
 LeadsTo-more (Passed a) mid left (logged ∷ records) more h g = absurd h
 
 module _ {A B : Type 0} (after : A → Dialogue B) where
-  -- what is left of the first is left before the other
+  -- what is left of the first is left of both, with the other after it
   LeadsTo-first : (first left : Dialogue A) (records : List Logged) → LeadsTo first records left → LeadsTo (first >>= after) records (left >>= after)
   unfolding ◌>>=◌
   LeadsTo-first first left [] e = λ i. e i >>= after
@@ -44,13 +44,13 @@ module _ {A B : Type 0} (after : A → Dialogue B) where
   EndsIn-then first records more a (Err e) h (inl g) = inl (LeadsTo-then first records more a (Refuses (Err e)) h g)
   EndsIn-then first records more a (Err e) h (inr g) = inr (g.0, (g.1.0, LeadsTo-then first records more a g.1.0 h g.1.1))
 
-  -- the first ends it, by the exit of a `?`
+  -- the first ends both, by the exit of a `?`
   pub judges_exit : (first : Dialogue A) (old new : Store) (e : DavError) (verdict : Result B DavError) → IsErrAnd verdict (λ d. d ≡ e) → Judges first old (Err e) new → Judges (first >>= after) old verdict new
   judges_exit first old new e verdict is h =
       let p = err_from_is_err_and verdict is in
       rw (p.1, p.2) (record { records = h.records; told = h.told; same = h.same; fixed = h.fixed; ends = EndsIn-err first h.records e h.ends })
 
-  -- the first ends in a value, and the other ends it
+  -- the first ends in a value, and the other ends both
   pub judges_then : (first : Dialogue A) (old mid new : Store) (a : A) (verdict : Result B DavError) → Judges first old (Ok a) mid → Judges (after a) mid verdict new → Judges (first >>= after) old verdict new
   judges_then first old mid new a verdict h g = record {
     records = h.records ++ g.records;
@@ -60,7 +60,7 @@ module _ {A B : Type 0} (after : A → Dialogue B) where
     ends = EndsIn-then first h.records g.records a verdict h.ends g.ends;
   }
 
--- where both ended in a value, the first ended in one, and the other with it
+-- if the two ended in a value, the first ended in some value, and the other, given that, in this value
 pub LeadsTo-last : {A B : Type 0} (first : Dialogue A) (after : A → Dialogue B) (records : List Logged) (b : B) → LeadsTo (first >>= after) records (Passed b)
     → (a : A) × (head rest : List Logged) × LeadsTo first head (Passed a) × LeadsTo (after a) rest (Passed b)
 unfolding ◌>>=◌
@@ -73,7 +73,7 @@ LeadsTo-last (Asks call next) after (logged ∷ records) b h =
 LeadsTo-last (Refuses e) after (logged ∷ records) b h = absurd h
 LeadsTo-last (Passed a) after (logged ∷ records) b h = (a, [], logged ∷ records, refl, h)
 
--- ---- a dialogue whose refusals are told in another way
+-- ---- a dialogue whose rejections are mapped
 
 module _ {A : Type 0} (change : DavError → DavError) where
   LeadsTo-refusing : (dialogue left : Dialogue A) (records : List Logged) → LeadsTo dialogue records left → LeadsTo (refusing change dialogue) records (refusing change left)
@@ -83,7 +83,7 @@ module _ {A : Type 0} (change : DavError → DavError) where
   LeadsTo-refusing (Refuses e) left (logged ∷ records) h = absurd h
   LeadsTo-refusing (Passed a) left (logged ∷ records) h = absurd h
 
-  -- it ends in the same values
+  -- if it ends in a value, the original dialogue ends in the same value
   pub LeadsTo-unrefused : (dialogue : Dialogue A) (records : List Logged) (a : A) → LeadsTo (refusing change dialogue) records (Passed a) → LeadsTo dialogue records (Passed a)
   unfolding refusing
   LeadsTo-unrefused (Asks call next) [] a h = absurd cc
@@ -103,43 +103,43 @@ module _ {A : Type 0} (change : DavError → DavError) where
   judges_refusing dialogue old new verdict memory h =
       record { records = h.records; told = h.told; same = h.same; fixed = h.fixed; ends = EndsIn-refusing dialogue h.records verdict memory h.ends }
 
--- a dialogue that asks nothing
+-- a dialogue that makes no call
 pub judges_pure : {A : Type 0} (dialogue : Dialogue A) (store : Store) (verdict : Result A DavError) → EndsIn dialogue [] verdict → Judges dialogue store verdict store
 judges_pure dialogue store verdict h = record { records = []; told = sym (append-nil store.log); same = refl; fixed = refl; ends = h }
 
--- memory ran out, wherever the dialogue is
+-- memory ran out before the dialogue's first call
 pub judges_memory : {A : Type 0} (dialogue : Dialogue A) (store : Store) (verdict : Result A DavError) → IsErrAnd verdict (λ d. d ≡ Memory) → Judges dialogue store verdict store
 judges_memory dialogue store verdict is =
     let p = err_from_is_err_and verdict is in
     rw (p.1, p.2) (judges_pure dialogue store (Err Memory) (inr (refl, (dialogue, refl))))
 
--- what is given, or no memory
+-- the result is the expected value, or memory ran out
 pub judges_given : {A : Type 0} (a : A) (store : Store) (verdict : Result A DavError) → GivesBy (λ x. x) verdict (Ok a) → Judges (Passed a) store verdict store
 judges_given a store (Ok x) is = judges_pure (Passed a) store (Ok x) (let same : a ≡ x = cc in rw same)
 judges_given a store (Err e) (inl is) = absurd cc
 judges_given a store (Err e) (inr memory) = judges_pure (Passed a) store (Err e) (inr (memory, (Passed a, refl)))
 
--- a value that is to be given has no memory
+-- an error in place of an expected value is `Memory`
 pub judges_unread : {A B : Type 0} (dialogue : Dialogue A) (store : Store) (b : B) (e : DavError) (verdict : Result A DavError) → GivesBy (λ x. x) (Err e) (Ok b) → IsErrAnd verdict (λ d. d ≡ e) → Judges dialogue store verdict store
 judges_unread dialogue store b e verdict (inl given) exit = absurd cc
 judges_unread dialogue store b e verdict (inr memory) exit = judges_memory dialogue store verdict (rw memory at exit)
 
--- the value that is given is the expected one
+-- the value of the result is the expected one
 pub given_is : {A : Type 0} (a b : A) → GivesBy (λ x. x) (Ok b) (Ok a) → b ≡ a
 given_is a b is = cc
 
--- a value, or a refusal, by a test
+-- a value or a rejection, by a test
 pub judges_if : {A : Type 0} (b : Bool) (a : A) (e : DavError) (store : Store) (verdict : Result A DavError) → verdict ≡ (if b then Ok a else Err e) → Judges (if b then Passed a else Refuses (Err e)) store verdict store
 judges_if true a e store verdict is = rw is (judges_pure (Passed a) store (Ok a) refl)
 judges_if false a e store verdict is = rw is (judges_pure (Refuses (Err e)) store (Err e) (inl refl))
 
--- ---- a dialogue that is held step by step
+-- ---- a dialogue step by step
 
--- nothing was asked yet
+-- no call was made yet
 pub reaches_none : {A : Type 0} (dialogue : Dialogue A) (store : Store) → Reaches dialogue store dialogue store
 reaches_none dialogue store = record { records = []; told = sym (append-nil store.log); same = refl; fixed = refl; leads = refl }
 
--- what is left is held, too
+-- what is left is carried out too
 pub judges_left : {A : Type 0} (dialogue left : Dialogue A) (old mid new : Store) (verdict : Result A DavError) → Reaches dialogue old left mid → Judges left mid verdict new → Judges dialogue old verdict new
 judges_left {A} dialogue left old mid new verdict h g = record {
   records = h.records ++ g.records;
@@ -164,15 +164,15 @@ reaches_then dialogue next after old mid new a h g = record {
   leads = LeadsTo-more dialogue (next >>= after) (after a) h.records g.records h.leads (rw (append-nil g.records) at (LeadsTo-then after next g.records [] a (after a) g.ends refl));
 }
 
--- ---- a call that the request fails by
+-- ---- a call whose failure rejects the request
 
--- a call that isn't granted has another outcome
+-- an outcome with an error is not `Granted`
 pub unlike : (e : FsError) (outcome : Outcome) → error_of outcome ≡ Some e → outcome ≢ outcomes.Granted
 unlike e outcomes.Granted cause same = cc
 unlike e (outcomes.Barred d) cause same = cc
 unlike e (outcomes.Refused d) cause same = cc
 
--- and refuses the request
+-- a call that is not granted rejects the request
 pub needs-declined : {A : Type 0} (call : Call) (error : FsError → DavError) (next : Dialogue A) (e : FsError) (outcome : Outcome) → error_of outcome ≡ Some e → IsLawful call.bar outcome
     → LeadsTo (needs call error next) (record_of call outcome ∷ []) (Refuses (Err (error e)))
 needs-declined call error next e outcomes.Granted cause lawful = absurd cc

@@ -1,4 +1,4 @@
--- The reply that tells the status of each of several resources (RFC 4918, sections 11.1, 13 and 14.16).
+-- The response that reports the status of each of several resources (RFC 4918, sections 11.1, 13 and 14.16).
 use Rattle.std.specs.Prelude.{ℕ, ◌==◌, if◌then◌else◌, List, [], ◌∷◌, ◌++◌, map, codes, Option, Some, None, Ok, Err}
 use Rattle.std.specs.Option.{option_map_or}
 use Rattle.http.specs.StatusCode.{code_digits, reason_phrase}
@@ -15,20 +15,20 @@ use Rattle.dav_parts.specs.Reply.{Reply, Answer, bare_reply, field}
 abbrev pub Item : Type 0
 Item = PathValue × ℕ
 
--- the status of the first of them, if there is one
+-- the status of the first item, if there is one
 abbrev pub first_status : List Item → Option ℕ
 first_status [] = None
 first_status (item ∷ items) = Some item.1
 
--- the status as a reply's first line shows it, with its phrase where it has one
+-- the status as in the first line of an HTTP response, with its reason phrase if it has one
 abbrev pub status_line : ℕ → List ℕ
 status_line status = codes "HTTP/1.1 " ++ code_digits status ++ option_map_or (λ phrase. 32 ∷ phrase) (reason_phrase status) []
 
--- nothing can be left out of a multistatus for want of content: 204 is shown as 200
+-- 204 is shown as 200, since an item has no content of its own
 abbrev pub shown_status : ℕ → ℕ
 shown_status status = if status == 204 then 200 else status
 
--- the resource's path, with its prefix, and its status
+-- the resource's path, including its prefix, and its status
 abbrev pub response_element : Item → Tree
 response_element item =
     with_elements (prefixed_element (codes "D:response"))
@@ -46,7 +46,7 @@ abbrev pub multistatus_reply : List Item → Reply
 multistatus_reply items =
     record { status = 207; version = HTTP_11; headers = field (codes "content-type") xml_type ∷ []; body = Body.Tree (multistatus items) }
 
--- one status of the request's own resource is the reply's; without any there is none to tell
+-- One item with the request's own key gives the response its status, without a body. No item is an error. Otherwise the response is a 207.
 abbrev pub multi_answer : PathValue → List Item → Answer
 multi_answer path [] = Err ChanError
 multi_answer path (item ∷ []) = if is_same_key path.key item.0.key then Ok (bare_reply item.1 []) else Ok (multistatus_reply (item ∷ []))

@@ -1,4 +1,4 @@
--- Replies (RFC 9110, section 6): a status, header fields and a body.
+-- Responses (RFC 9110, section 6): a status, header fields and a body.
 use Rattle.std.specs.Prelude.{ℕ, List, [], ◌∷◌, Result, Ok, Err}
 use Rattle.http.specs.declared.version.Version.{Version}
 use Rattle.http.specs.declared.version.TheConstants.Version.{HTTP_11}
@@ -9,7 +9,7 @@ use Rattle.http_header.specs.FieldValue.{FieldValue, plain_value}
 use Rattle.dav_resource.specs.declared.error.DavError.{DavError}
 use Rattle.dav_resource.specs.declared.request.Body.{Body}
 
--- the header fields stand in the order in which they were set, each with its values
+-- the header fields are in the order in which they were set, each with its values
 pub record Reply : Type 0 where
   pub status : ℕ
   pub version : Version
@@ -25,7 +25,7 @@ reply_of response =
       body = body_of response;
     }
 
--- what a request is answered
+-- the result of a request: a response or an error
 abbrev pub Answer : Type 0
 Answer = Result Reply DavError
 
@@ -33,7 +33,7 @@ abbrev pub answer_of : Result (Response Body) DavError → Answer
 answer_of (Ok response) = Ok (reply_of response)
 answer_of (Err e) = Err e
 
--- a reply with these header fields, and no body
+-- a response with these header fields, and no body
 abbrev pub bare_reply : ℕ → Entries FieldValue → Reply
 bare_reply status headers = record { status = status; version = HTTP_11; headers = headers; body = Body.Empty }
 

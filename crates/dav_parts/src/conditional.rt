@@ -1,4 +1,4 @@
-//! The conditions of a request: If-Match, If-None-Match and If.
+//! Evaluates the conditions of a request: If-Match, If-None-Match, If-Range and If.
 ghost use Rattle.std.specs.Prelude.{◌≡◌, if◌then◌else◌, Ok, Err, IfOk, option_copied};
 ghost use Rattle.dav_resource.specs.Gives.{GivesBy};
 ghost use Rattle.dav_resource.specs.declared.error.DavError.TheVariants.{Status};
@@ -14,15 +14,17 @@ use dav_store::{DavLockSystem, GuardedFileSystem};
 use http::StatusCode;
 use std::alloc::{AllocError, Global};
 
-/// Whether the condition of If-Range (RFC 7233, section 3.2) holds: the tag is there, and strongly equal.
+/// Returns whether the condition of If-Range (RFC 7233, section 3.2) holds: the resource has an entity tag,
+/// and it is strongly equal to the header's.
 pub fn ifrange_match(hdr: &IfRange, tag: Option<&ETag>) -> bool
     ensures { result ≡ is_tagged hdr.now.tag (option_copied tag.entry) }
 {
     is_tagged(&hdr.tag, tag)
 }
 
-/// Whether the value of If-Match or If-None-Match matches (RFC 7232, sections 3.1 and 3.2): `*` where
-/// something is there, else where its tag is there and strongly equal to one of the list.
+/// Returns whether the value of If-Match or If-None-Match matches (RFC 7232, sections 3.1 and 3.2). `*`
+/// matches if the resource exists. A list matches if the resource has an entity tag that is strongly equal to
+/// one of the list.
 pub fn etaglist_match(tags: &ETagList, exists: bool, tag: Option<&ETag>) -> bool
     ensures { result ≡ list_matches tags.now exists (option_copied tag.entry) }
 {
@@ -32,7 +34,7 @@ pub fn etaglist_match(tags: &ETagList, exists: bool, tag: Option<&ETag>) -> bool
     }
 }
 
-/// Whether an entity tag is there, and strongly equal to the listed one.
+/// Returns whether there is an entity tag that is strongly equal to the listed one.
 pub(crate) fn is_tagged(listed: &ETag, tag: Option<&ETag>) -> bool
     ensures { result ≡ is_tagged listed.now (option_copied tag.entry) }
 {
@@ -42,9 +44,9 @@ pub(crate) fn is_tagged(listed: &ETag, tag: Option<&ETag>) -> bool
     }
 }
 
-/// The status that If-Match or If-None-Match refuses a request with (RFC 7232, section 6), by what was
-/// found at its path: 412 for an If-Match that doesn't match; then, for an If-None-Match that does, 304 to
-/// GET and HEAD and else 412. The only error is `Memory`.
+/// Returns the status with which If-Match or If-None-Match rejects a request (RFC 7232, section 6), or
+/// `None`. `meta` is the metadata found at the request's path. An If-Match that does not match gives 412.
+/// After that an If-None-Match that matches gives 304 for GET and HEAD, else 412. The only error is `Memory`.
 pub fn http_if_match(
     alloc: Global,
     req: &DavRequest,
@@ -60,7 +62,7 @@ pub fn http_if_match(
     none_match_verdict(alloc, req, meta.is_some(), tag.as_ref())
 }
 
-/// The entity tag of what was found.
+/// Returns the entity tag in the metadata, if there is one. Fails only if memory runs out.
 pub(crate) fn current_tag(meta: Option<&Meta>) -> Result<Option<ETag>, AllocError>
     ensures { IfOk result (λ tag. tag ≡ current_tag (option_copied meta.entry)) }
 {
@@ -86,7 +88,7 @@ fn none_match_verdict(
     Ok(Some(none_match_status(method)))
 }
 
-/// Whether If-Match refuses: it is there, and doesn't match.
+/// Returns whether If-Match rejects the request: it is present and does not match.
 fn if_match_fails(tags: Option<&ETagList>, exists: bool, tag: Option<&ETag>) -> bool
     ensures { result ≡ fails_if_match (option_copied tags.entry) exists (option_copied tag.entry) }
 {
@@ -96,7 +98,7 @@ fn if_match_fails(tags: Option<&ETagList>, exists: bool, tag: Option<&ETag>) -> 
     }
 }
 
-/// Whether If-None-Match refuses: it is there, and matches.
+/// Returns whether If-None-Match rejects the request: it is present and matches.
 fn if_none_match_fails(tags: Option<&ETagList>, exists: bool, tag: Option<&ETag>) -> bool
     ensures { result ≡ fails_if_none_match (option_copied tags.entry) exists (option_copied tag.entry) }
 {
@@ -115,11 +117,13 @@ fn none_match_status(method: Option<DavMethod>) -> StatusCode
     }
 }
 
-/// Whether the header If holds (RFC 4918, section 10.4), and the state tokens of all of its lists, in
-/// order: those under `Not` and those of lists that don't hold, too. Without a readable header it holds.
+/// Evaluates the header If (RFC 4918, section 10.4). Returns whether it holds, and the state tokens of all
+/// its lists in order, also those under `Not` and those of lists that do not hold. Without a readable header
+/// it holds.
 ///
-/// Lists are judged in order until one holds, a list until its first condition that doesn't; a condition
-/// on an entity tag is one look at the path that its list is about. The only error is `Memory`.
+/// Lists are evaluated in order up to the first that holds. A list is evaluated up to its first condition
+/// that does not hold. A condition on an entity tag looks up the path that its list applies to, once. If that
+/// path cannot be parsed, there is no lookup. The only error is `Memory`.
 pub fn dav_if_match<C, F: GuardedFileSystem<C>, L: DavLockSystem>(
     alloc: Global,
     req: &DavRequest,
@@ -137,8 +141,9 @@ pub fn dav_if_match<C, F: GuardedFileSystem<C>, L: DavLockSystem>(
     Ok((holds, tokens))
 }
 
-/// The status that the conditions of a request refuse it with: the header If is judged first, as
-/// `dav_if_match` does, with 412 where it doesn't hold, and then `http_if_match`. The only error is `Memory`.
+/// Returns the status with which the conditions of a request reject it, or `None`. The header If is evaluated
+/// first, as in `dav_if_match`, and gives 412 if it does not hold. Then `http_if_match` is evaluated. The
+/// only error is `Memory`.
 pub fn if_match<C, F: GuardedFileSystem<C>, L: DavLockSystem>(
     alloc: Global,
     req: &DavRequest,
@@ -155,7 +160,7 @@ pub fn if_match<C, F: GuardedFileSystem<C>, L: DavLockSystem>(
     verdict_after(holds, alloc, req, meta)
 }
 
-/// The status that refuses a request whose header If has been judged.
+/// Returns the status that rejects a request after its header If was evaluated, or `None`.
 fn verdict_after(
     holds: bool,
     alloc: Global,
@@ -171,10 +176,12 @@ fn verdict_after(
     }
 }
 
-/// The state tokens that a request submits, where its conditions hold: `http_if_match` is judged first,
-/// and where it refuses nothing is asked of the store; then the header If, as `dav_if_match` does.
+/// Returns the state tokens that a request submits, if its conditions hold. `http_if_match` is evaluated
+/// first. If it rejects the request, no call is made to the store. Then the header If is evaluated, as in
+/// `dav_if_match`.
 ///
-/// Errors: `Status` of the status that refuses (RFC 7232, section 6; 412 where If doesn't hold); `Memory`.
+/// Errors: `Status` with the status that rejects the request (RFC 7232, section 6, and 412 if If does not
+/// hold), or `Memory` if memory runs out.
 pub fn if_match_get_tokens<C, F: GuardedFileSystem<C>, L: DavLockSystem>(
     alloc: Global,
     req: &DavRequest,
@@ -194,7 +201,7 @@ pub fn if_match_get_tokens<C, F: GuardedFileSystem<C>, L: DavLockSystem>(
     tokens_where(holds, tokens)
 }
 
-/// The tokens, where the header If holds.
+/// Returns the tokens if the header If holds, else the status 412 as an error.
 fn tokens_where(holds: bool, tokens: Items<Text>) -> DavResult<Items<Text>>
     ensures { result ≡ (if holds then Ok tokens else Err (Status 412)) }
 {

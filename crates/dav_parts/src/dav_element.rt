@@ -1,5 +1,5 @@
-//! Elements of a request's body, by their local names, and of a reply's, which have the prefix `D` (RFC 4918,
-//! section 14).
+//! Elements of a request's body, recognized by their local names, and elements of a response's body, with the
+//! prefix `D` (RFC 4918, section 14).
 ghost use Rattle.std.specs.Prelude.{◌≡◌, [], ◌∷◌, IfOk};
 ghost use Rattle.dav_resource.specs.Tree.{prefixed_element};
 ghost use Rattle.dav_parts.specs.DavElement.{with_elements, declaring_element as element_that_declares, text_element as element_of_text, href_element as element_of_path, is_named as is_named_tree};
@@ -7,28 +7,29 @@ ghost use Rattle.dav_parts.specs.DavElement.{with_elements, declaring_element as
 use dav_resource::{DavPath, Element};
 use std::alloc::{AllocError, Global};
 
-/// Whether this is the element's local name, whatever its prefix and namespace are.
+/// Returns whether the element has this local name, whatever its prefix and namespace.
 pub fn is_named(element: &Element, name: &str) -> bool
     ensures { result ≡ is_named_tree name.now element.now }
 {
     element.name.as_str() == name
 }
 
-/// An element of this name that declares the prefix. Only memory can be lacking.
+/// Creates an element of this name that declares the prefix `D`. Fails only if memory runs out.
 pub fn declaring_element(alloc: Global, name: &str) -> Result<Element, AllocError>
     ensures { IfOk result (λ element. element ≡ element_that_declares name.now) }
 {
     Element::new2(alloc, name)?.ns("D", "DAV:")
 }
 
-/// An element of this name that holds a text. Only memory can be lacking.
+/// Creates an element of this name that holds a text. Fails only if memory runs out.
 pub fn text_element(alloc: Global, name: &str, text: &str) -> Result<Element, AllocError>
     ensures { IfOk result (λ element. element ≡ element_of_text name.now text.now) }
 {
     Element::new2(alloc, name)?.text(text)
 }
 
-/// The element `D:href` of a path, with its prefix (RFC 4918, section 14.7). Only memory can be lacking.
+/// Creates the element `D:href` of a path, including the path's prefix (RFC 4918, section 14.7). Fails only
+/// if memory runs out.
 pub fn href_element(alloc: Global, path: &DavPath) -> Result<Element, AllocError>
     ensures { IfOk result (λ element. element ≡ element_of_path path.now) }
 {
@@ -36,7 +37,7 @@ pub fn href_element(alloc: Global, path: &DavPath) -> Result<Element, AllocError
     text_element(alloc, "D:href", href.as_str())
 }
 
-/// An element of this name that holds one element. Only memory can be lacking.
+/// Creates an element of this name that holds one element. Fails only if memory runs out.
 pub(crate) fn outer_element(
     alloc: Global,
     name: &str,

@@ -1,4 +1,4 @@
-//! The header If, judged list by list.
+//! Evaluates the header If, list by list.
 ghost use Rattle.std.specs.Prelude.{◌≡◌, ◌++◌, Some, Ok, IfOk, option_map, option_copied};
 ghost use Rattle.dav_resource.specs.Gives.{GivesBy};
 ghost use Rattle.dav_parts.specs.Dialogue.{Judges};
@@ -11,7 +11,7 @@ use dav_resource::{DavPath, DavResult, ETag, Items, Text};
 use dav_store::{DavLockSystem, GuardedFileSystem};
 use std::alloc::{AllocError, Global};
 
-/// The state tokens of all lists, in order.
+/// Returns the state tokens of all lists, in order. Fails only if memory runs out.
 pub(crate) fn submitted_tokens(
     alloc: Global,
     lists: Option<&Items<IfList>>,
@@ -27,7 +27,7 @@ pub(crate) fn submitted_tokens(
     Ok(Items::from_vec(tokens))
 }
 
-/// Appends the state tokens among these conditions.
+/// Appends the state tokens of these conditions.
 fn append_tokens(tokens: &mut Vec<Text>, conditions: &[IfCondition]) -> Result<(), AllocError>
     ensures { IfOk result (λ _. tokens.new.items ≡ tokens.old.items ++ tokens_in conditions.now) }
 {
@@ -39,7 +39,7 @@ fn append_tokens(tokens: &mut Vec<Text>, conditions: &[IfCondition]) -> Result<(
     Ok(())
 }
 
-/// The state token of a condition, where it has one, whether or not `Not` stands before it.
+/// Returns the state token of a condition, if it has one, also under `Not`.
 fn token_of(condition: &IfCondition) -> Option<&Text>
     ensures { option_copied result ≡ token_of condition.now.item }
 {
@@ -49,7 +49,7 @@ fn token_of(condition: &IfCondition) -> Option<&Text>
     }
 }
 
-/// Whether the header If holds: it isn't there, or one of its lists holds.
+/// Returns whether the header If holds: there is no readable one, or one of its lists holds.
 pub(crate) fn if_holds<C, F: GuardedFileSystem<C>, L: DavLockSystem>(
     alloc: Global,
     lists: Option<&Items<IfList>>,
@@ -66,8 +66,8 @@ pub(crate) fn if_holds<C, F: GuardedFileSystem<C>, L: DavLockSystem>(
     }
 }
 
-/// Whether one of the lists holds, each at the path that it is about. Each tag is read once, where
-/// its list is reached.
+/// Returns whether one of the lists holds, each at the path that it applies to. Each resource tag is parsed
+/// once, when its list is reached.
 fn any_holds<C, F: GuardedFileSystem<C>, L: DavLockSystem>(
     alloc: Global,
     lists: &[IfList],
@@ -89,8 +89,8 @@ fn any_holds<C, F: GuardedFileSystem<C>, L: DavLockSystem>(
     Ok(false)
 }
 
-/// The path that a list is about: its own tag's, else that of the list before it. None where the tag
-/// can't be read.
+/// Returns the path that a list applies to: that of its own resource tag, else that of the list before it.
+/// Returns `None` if the tag cannot be parsed.
 fn path_of_list(
     alloc: Global,
     list: &IfList,
@@ -105,7 +105,7 @@ fn path_of_list(
     }
 }
 
-/// Whether there are conditions, and all hold.
+/// Returns whether there is a condition, and all conditions hold.
 fn conditions_hold<C, F: GuardedFileSystem<C>, L: DavLockSystem>(
     conditions: &[IfCondition],
     fs: &mut F,
@@ -138,7 +138,8 @@ fn all_hold<C, F: GuardedFileSystem<C>, L: DavLockSystem>(
     Ok(true)
 }
 
-/// Whether a condition holds at a path, or none where that couldn't be read.
+/// Returns whether a condition holds at a path, with `Not` applied. Without a path, because it could not be
+/// parsed, the token or tag of the condition does not hold.
 fn condition_holds<C, F: GuardedFileSystem<C>, L: DavLockSystem>(
     condition: &IfCondition,
     fs: &mut F,
@@ -152,7 +153,7 @@ fn condition_holds<C, F: GuardedFileSystem<C>, L: DavLockSystem>(
     Ok(turned(condition.not, holds))
 }
 
-/// The opposite, where `Not` stands before it.
+/// Negates the value if the condition has `Not`.
 fn turned(not: bool, holds: bool) -> bool
     ensures { result ≡ turned_by not holds }
 {
@@ -189,8 +190,8 @@ fn item_holds<C, F: GuardedFileSystem<C>, L: DavLockSystem>(
     }
 }
 
-/// Whether a state token holds at a path: there is a lock system, and it lets one write there with that
-/// token alone, whoever it is. No token of the `DAV:` scheme does.
+/// Returns whether a state token holds at a path: there is a lock system, and with only this token submitted
+/// it allows any principal to write there. A token that starts with `DAV:` never holds.
 fn token_holds<L: DavLockSystem>(ls: Option<&L>, path: &DavPath, token: &Text) -> bool
     ensures { result ≡ token_holds (locks_in L.seen (option_copied ls.entry)) path.now.key token.now }
 {
@@ -203,7 +204,8 @@ fn token_holds<L: DavLockSystem>(ls: Option<&L>, path: &DavPath, token: &Text) -
     }
 }
 
-/// Whether an entity tag holds at a path: it is strongly equal to that of what a look at the path finds.
+/// Returns whether an entity tag holds at a path: a lookup finds a resource there, whose own tag is strongly
+/// equal to it.
 fn tag_holds<C, F: GuardedFileSystem<C>>(
     fs: &mut F,
     path: &DavPath,

@@ -1,5 +1,5 @@
-//! What several methods share: the conditions of a request, the statuses of several resources, the trees that
-//! tell of locks, and the header fields of a reply.
+//! Parts that several methods share: the conditions of a request, the statuses of several resources, the XML
+//! of locks, and the header fields of a response.
 #![tactic(auto)]
 
 mod conditional;

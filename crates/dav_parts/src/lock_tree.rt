@@ -1,4 +1,4 @@
-//! The trees that tell of locks (RFC 4918, sections 14.1 to 14.13, 15.8 and 15.10).
+//! XML elements that describe locks (RFC 4918, sections 14.1 to 14.13, 15.8 and 15.10).
 ghost use Rattle.std.specs.Prelude.{◌≡◌, IfOk, IfErr, option_copied, string_bytes};
 ghost use Rattle.dav_resource.specs.declared.error.DavError.TheVariants.{Memory};
 ghost use Rattle.dav_parts.specs.Conditions.{locks_in};
@@ -9,9 +9,9 @@ use dav_resource::{DavError, DavPath, DavResult, Element};
 use dav_store::{DavLock, DavLockSystem};
 use std::alloc::{AllocError, Global};
 
-/// The tree that tells of a lock: in full, as the reply to the request that asked for it, the property
-/// `D:lockdiscovery` of this one lock in a `D:prop` that declares the prefix; else the lock's `D:activelock`
-/// alone (RFC 4918, sections 9.10.1, 14.1 and 15.8). The only error is `Memory`, where memory is lacking.
+/// Returns the XML that describes a lock (RFC 4918, sections 9.10.1, 14.1 and 15.8). With `full`, as in the
+/// response to LOCK, it is a `D:prop` that declares the prefix and holds the property `D:lockdiscovery` with
+/// this lock only. Otherwise it is only the lock's `D:activelock`. The only error is `Memory`.
 pub fn build_lock_prop(alloc: Global, lock: &DavLock, full: bool) -> DavResult<Element>
     ensures ok { IfOk result (λ tree. tree ≡ shown_lock lock.now full) }
     ensures err { IfErr result (λ e. e ≡ Memory) }
@@ -19,8 +19,8 @@ pub fn build_lock_prop(alloc: Global, lock: &DavLock, full: bool) -> DavResult<E
     Ok(lock_prop(alloc, lock, full)?)
 }
 
-/// The property `D:lockdiscovery` of a path (RFC 4918, section 15.8): a `D:activelock` for each lock that
-/// covers it, the oldest first; none without a lock system. The only error is `Memory`, where memory is lacking.
+/// Returns the property `D:lockdiscovery` of a path (RFC 4918, section 15.8): a `D:activelock` for each lock
+/// that covers the path, the oldest first. Without a lock system it is empty. The only error is `Memory`.
 pub fn list_lockdiscovery<L: DavLockSystem>(
     alloc: Global,
     ls: Option<&L>,
@@ -38,8 +38,8 @@ pub fn list_lockdiscovery<L: DavLockSystem>(
     }
 }
 
-/// The property `D:supportedlock` (RFC 4918, section 15.10): exclusive and then shared write locks, where a
-/// lock system is present; else nothing. The only error is `Memory`, where memory is lacking.
+/// Returns the property `D:supportedlock` (RFC 4918, section 15.10): exclusive and then shared write locks if
+/// a lock system is present, else nothing. The only error is `Memory`.
 pub fn list_supportedlock(alloc: Global, present: bool) -> DavResult<Element>
     ensures ok { IfOk result (λ tree. tree ≡ tree_of_entries present) }
     ensures err { IfErr result (λ e. e ≡ Memory) }
@@ -47,7 +47,8 @@ pub fn list_supportedlock(alloc: Global, present: bool) -> DavResult<Element>
     Ok(supported_lock(alloc, present)?)
 }
 
-/// How a timeout is shown, which is in seconds (RFC 4918, sections 10.7 and 14.29). Only memory can be lacking.
+/// Formats a timeout in seconds (RFC 4918, sections 10.7 and 14.29). `None` is infinite. Fails only if memory
+/// runs out.
 pub fn timeout_text(alloc: Global, timeout: Option<u64>) -> Result<String, AllocError>
     ensures { IfOk result (λ text. string_bytes text ≡ text_of_timeout timeout) }
 {
@@ -69,7 +70,7 @@ fn lock_prop(alloc: Global, lock: &DavLock, full: bool) -> Result<Element, Alloc
     Ok(prop)
 }
 
-/// A `D:activelock` for each lock, in order.
+/// Returns a `D:lockdiscovery` with a `D:activelock` for each lock, in order.
 fn lock_discovery(alloc: Global, locks: &[DavLock]) -> Result<Element, AllocError>
     ensures { IfOk result (λ tree. tree ≡ tree_of_locks locks.now) }
 {
@@ -80,7 +81,7 @@ fn lock_discovery(alloc: Global, locks: &[DavLock]) -> Result<Element, AllocErro
     Ok(tree)
 }
 
-/// What a lock is, with its owner last, where there is one.
+/// Returns the `D:activelock` of a lock, with its owner last, if it has one.
 fn active_lock(alloc: Global, lock: &DavLock) -> Result<Element, AllocError>
     ensures { IfOk result (λ tree. tree ≡ tree_of_lock lock.now) }
 {
@@ -98,7 +99,7 @@ fn active_lock(alloc: Global, lock: &DavLock) -> Result<Element, AllocError>
     Ok(tree)
 }
 
-/// Whether others may hold shared locks too.
+/// Returns the scope of a lock: shared, so that others may hold shared locks too, or exclusive.
 fn lock_scope(alloc: Global, shared: bool) -> Result<Element, AllocError>
     ensures { IfOk result (λ scope. scope ≡ scope_of_lock shared) }
 {
@@ -106,21 +107,21 @@ fn lock_scope(alloc: Global, shared: bool) -> Result<Element, AllocError>
     outer_element(alloc, "D:lockscope", Element::new2(alloc, name)?)
 }
 
-/// Each lock is a write lock.
+/// Returns the type of a lock: each is a write lock.
 fn lock_type(alloc: Global) -> Result<Element, AllocError>
     ensures { IfOk result (λ kind. kind ≡ type_of_lock) }
 {
     outer_element(alloc, "D:locktype", Element::new2(alloc, "D:write")?)
 }
 
-/// How far below its path a lock reaches.
+/// Returns the depth of a lock: whether it covers everything below its path.
 fn depth_text(deep: bool) -> &'static str
     ensures { result.now ≡ text_of_depth deep }
 {
     if deep { "Infinity" } else { "0" }
 }
 
-/// The token, as it is.
+/// Returns the token, as it is.
 fn lock_token(alloc: Global, token: &str) -> Result<Element, AllocError>
     ensures { IfOk result (λ element. element ≡ element_of_token token.now) }
 {
@@ -128,14 +129,14 @@ fn lock_token(alloc: Global, token: &str) -> Result<Element, AllocError>
     outer_element(alloc, "D:locktoken", href)
 }
 
-/// The path that was locked.
+/// Returns the path that was locked.
 fn lock_root(alloc: Global, path: &DavPath) -> Result<Element, AllocError>
     ensures { IfOk result (λ element. element ≡ element_of_root path.now) }
 {
     outer_element(alloc, "D:lockroot", href_element(alloc, path)?)
 }
 
-/// Exclusive locks and then shared ones, where a lock system is present.
+/// Returns a `D:supportedlock` with exclusive and then shared locks, if a lock system is present.
 fn supported_lock(alloc: Global, present: bool) -> Result<Element, AllocError>
     ensures { IfOk result (λ tree. tree ≡ tree_of_entries present) }
 {
@@ -147,7 +148,7 @@ fn supported_lock(alloc: Global, present: bool) -> Result<Element, AllocError>
     Ok(tree)
 }
 
-/// One kind of lock.
+/// Returns a `D:lockentry` for locks of one scope.
 fn lock_entry(alloc: Global, shared: bool) -> Result<Element, AllocError>
     ensures { IfOk result (λ entry. entry ≡ entry_of_scope shared) }
 {

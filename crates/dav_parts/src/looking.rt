@@ -1,13 +1,13 @@
-//! A look at a path.
+//! Lookup of a path.
 ghost use Rattle.std.specs.Prelude.{◌≡◌, OnErr};
 ghost use Rattle.dav_parts.specs.Dialogue.{Judges, look as look_of};
 
 use dav_resource::{DavError, DavPath, DavResult, FsError, Meta};
 use dav_store::GuardedFileSystem;
 
-/// What is known of what stands at a path; a refusal of the store counts as nothing there.
+/// Returns the metadata of a path. If the lookup fails, returns `None`, as if nothing existed there.
 ///
-/// The only error is `Memory`, and then nothing happened.
+/// The only error is `Memory`, and then the store is unchanged, and so is its log.
 pub fn look<C, F: GuardedFileSystem<C>>(
     fs: &mut F,
     path: &DavPath,

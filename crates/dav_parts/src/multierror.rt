@@ -1,4 +1,4 @@
-//! The statuses of several resources, collected and answered.
+//! Collects the statuses of several resources, and builds the response that reports them.
 ghost use Rattle.std.specs.Prelude.{◌≡◌, [], ◌∷◌, ◌++◌, drop, length, OnOk, OnErr, IfErr};
 ghost use Rattle.dav_resource.specs.Errors.{dav_status};
 ghost use Rattle.dav_resource.specs.Gives.{GivesBy};
@@ -28,7 +28,7 @@ impl Model for MultiError {
 }
 
 impl MultiError {
-    /// No status yet.
+    /// Creates a collection without a status.
     pub fn new(alloc: Global) -> MultiError
         ensures { result ≡ [] }
     {
@@ -37,8 +37,7 @@ impl MultiError {
         }
     }
 
-    /// Adds the status of a resource, as the last one. The only error is `Memory`, where memory is lacking,
-    /// and then nothing has changed.
+    /// Appends the status of a resource. The only error is `Memory`, and then nothing has changed.
     pub fn add_status<E: Into<DavError>>(&mut self, path: &DavPath, status: E) -> DavResult<()>
         ensures ok { OnOk result ((e : DavError) × E.converts status e × (self.new ≡ self.old ++ (path.now, dav_status e) ∷ [])) }
         ensures err { IfErr result (λ e. e ≡ Memory) }
@@ -50,14 +49,14 @@ impl MultiError {
         Ok(())
     }
 
-    /// How many statuses were added.
+    /// Returns the number of statuses.
     pub fn len(&self) -> usize
         ensures { result ≡ length self.now }
     {
         self.items.len()
     }
 
-    /// The first status that was added after this many, if there is one.
+    /// Returns the first status after the first `count` ones, if there is one.
     pub fn first_status_after(&self, count: usize) -> Option<StatusCode>
         ensures { result ≡ first_status (drop count self.now) }
     {
@@ -67,7 +66,7 @@ impl MultiError {
         }
     }
 
-    /// The resources with their statuses, in the order in which they were added.
+    /// Returns the resources with their statuses, in the order in which they were added.
     pub fn into_items(self) -> Vec<(DavPath, StatusCode)>
         ensures { result.items ≡ self }
     {
@@ -75,11 +74,11 @@ impl MultiError {
     }
 }
 
-/// The reply that tells the statuses of resources (RFC 4918, sections 11.1 and 13): one status of the
-/// request's own resource, whose key `req_path` has, is the reply's own, with no body; else it is 207 with a
-/// `multistatus` that has a response for each item in order, in which 204 is shown as 200.
+/// Builds the response that reports the statuses of resources (RFC 4918, sections 11.1 and 13). If there is
+/// one item and its path has the key of `req_path`, the response has its status and no body. Otherwise it is
+/// a 207 whose `multistatus` has a `response` for each item, in order, where 204 is shown as 200.
 ///
-/// Errors: `ChanError` where there is no item; `Memory`.
+/// Errors: `ChanError` if there is no item, `Memory` if memory runs out.
 pub fn multi_error(
     alloc: Global,
     req_path: &DavPath,

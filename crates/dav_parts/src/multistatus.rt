@@ -1,4 +1,4 @@
-//! The replies that tell statuses, and the trees in them (RFC 4918, sections 11.1, 13 and 14).
+//! Responses that report statuses, and the XML in them (RFC 4918, sections 11.1, 13 and 14).
 ghost use Rattle.std.specs.Prelude.{◌≡◌, ◌++◌, codes, [], ◌∷◌, IfOk, OnOk, OnErr, IfErr, string_bytes};
 ghost use Rattle.dav_resource.specs.declared.error.DavError.TheVariants.{Memory};
 ghost use Rattle.dav_parts.specs.Reply.{reply_of, bare_reply as reply_without_body, field};
@@ -12,7 +12,7 @@ use http::{Response, StatusCode};
 use http_header::{CONTENT_TYPE, HeaderMap, HeaderValue};
 use std::alloc::{AllocError, Global};
 
-/// A reply of this status, with no header field and no body.
+/// Returns a response with this status, no header fields and no body.
 pub(crate) fn bare_reply(alloc: Global, status: StatusCode) -> Response<Body>
     ensures { reply_of result ≡ reply_without_body status [] }
 {
@@ -21,7 +21,7 @@ pub(crate) fn bare_reply(alloc: Global, status: StatusCode) -> Response<Body>
     reply
 }
 
-/// 207, with a response for each item in order. The only error is `Memory`, where memory is lacking.
+/// Returns a 207 with a `response` for each item, in order. The only error is `Memory`.
 pub(crate) fn multistatus_reply(
     alloc: Global,
     items: &[(DavPath, StatusCode)],
@@ -37,8 +37,8 @@ pub(crate) fn multistatus_reply(
     Ok(reply)
 }
 
-/// The header fields of a reply whose body is a tree: `content-type` alone, which says that the body is XML in
-/// UTF-8 (RFC 4918, section 8.2). The only error is `Memory`, where memory is lacking.
+/// Returns the header fields of a response with an XML body: only `content-type`, for XML in UTF-8 (RFC 4918,
+/// section 8.2). The only error is `Memory`.
 pub fn xml_headers(alloc: Global) -> DavResult<HeaderMap<HeaderValue>>
     ensures ok { IfOk result (λ headers. headers ≡ field (codes "content-type") xml_type ∷ []) }
     ensures err { IfErr result (λ e. e ≡ Memory) }
@@ -48,8 +48,8 @@ pub fn xml_headers(alloc: Global) -> DavResult<HeaderMap<HeaderValue>>
     Ok(headers)
 }
 
-/// Says in `content-type` that the body is XML in UTF-8 (RFC 4918, section 8.2). The only error is `Memory`, where
-/// memory is lacking, and then the fields stay as they are.
+/// Appends the header field `content-type` for XML in UTF-8 (RFC 4918, section 8.2). The only error is
+/// `Memory`, and then the fields are unchanged.
 pub fn add_xml_type(headers: &mut HeaderMap<HeaderValue>) -> DavResult<()>
     requires { HasRoomFor headers.old (codes "content-type") }
     ensures ok { OnOk result (headers.new ≡ headers.old ++ field (codes "content-type") xml_type ∷ []) }
@@ -60,7 +60,7 @@ pub fn add_xml_type(headers: &mut HeaderMap<HeaderValue>) -> DavResult<()>
     add_header(headers, CONTENT_TYPE, Some(xml))
 }
 
-/// A response for each item, in order.
+/// Returns a `multistatus` with a `response` for each item, in order.
 fn multistatus(alloc: Global, items: &[(DavPath, StatusCode)]) -> Result<Element, AllocError>
     ensures { IfOk result (λ tree. tree ≡ tree_of_items items.now) }
 {
@@ -71,7 +71,7 @@ fn multistatus(alloc: Global, items: &[(DavPath, StatusCode)]) -> Result<Element
     Ok(tree)
 }
 
-/// The resource's path, with its prefix, and its status.
+/// Returns a `response` with the resource's path, including its prefix, and its status.
 fn response_element(
     alloc: Global,
     path: &DavPath,
@@ -86,8 +86,8 @@ fn response_element(
     Ok(response)
 }
 
-/// The status as a reply's first line shows it, with its phrase where it has one (RFC 4918, section 14.28). Only memory
-/// can be lacking.
+/// Returns the status as in the first line of an HTTP response, with its reason phrase if it has one (RFC
+/// 4918, section 14.28). Fails only if memory runs out.
 pub fn status_line(alloc: Global, status: StatusCode) -> Result<String, AllocError>
     ensures { IfOk result (λ line. string_bytes line ≡ line_of_status status) }
 {
@@ -98,7 +98,8 @@ pub fn status_line(alloc: Global, status: StatusCode) -> Result<String, AllocErr
     }
 }
 
-/// Nothing can be left out of a multistatus for want of content: 204 is shown as 200.
+/// Returns the status that a multistatus shows: 200 in place of 204, since an item has no content of its own,
+/// and every other status as it is.
 fn shown_status(status: StatusCode) -> StatusCode
     ensures { result ≡ status_shown_for status }
 {

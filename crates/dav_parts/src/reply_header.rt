@@ -1,4 +1,4 @@
-//! The header fields of a reply, set one after the other.
+//! Sets the header fields of a response, one after the other.
 ghost use Rattle.std.specs.Prelude.{◌≡◌, ◌++◌, OnOk, OnErr, IfOk, IfErr, string_bytes};
 ghost use Rattle.http_header.specs.FieldValue.{IsFieldValue, plain_value};
 ghost use Rattle.dav_resource.specs.declared.error.DavError.TheVariants.{Memory};
@@ -7,8 +7,8 @@ ghost use Rattle.dav_parts.specs.ReplyHeader.{HasRoomFor, optional_field};
 use dav_resource::DavResult;
 use http_header::{HeaderMap, HeaderName, HeaderValue};
 
-/// Sets one more header field, the last, where there is a value for it; else the fields stay as they are.
-/// The only error is `Memory`, where memory is lacking, and then they stay too.
+/// Appends a header field if there is a value for it, else leaves the fields unchanged. The only error is
+/// `Memory`, and then the fields are unchanged.
 pub fn add_header(
     headers: &mut HeaderMap<HeaderValue>,
     name: HeaderName,
@@ -26,7 +26,7 @@ pub fn add_header(
     Ok(())
 }
 
-/// The value of a header field that shows this text. The only error is `Memory`, where memory is lacking.
+/// Returns the value of a header field with this string. The only error is `Memory`.
 pub fn header_value(text: String) -> DavResult<HeaderValue>
     requires { IsFieldValue (string_bytes text) }
     ensures ok { IfOk result (λ value. value ≡ plain_value (string_bytes text)) }

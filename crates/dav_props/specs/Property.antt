@@ -1,9 +1,9 @@
--- A property by its name, and as a store keeps it (RFC 4918, sections 4.3, 4.4 and 14.18; Namespaces in XML 1.0, section 3).
+-- The name of a property, and a property as it is stored (RFC 4918, sections 4.3, 4.4 and 14.18; Namespaces in XML 1.0, section 3).
 use Rattle.std.specs.Prelude.{ℕ, List, [], Option, Some, None, unwrap_or}
 use Rattle.dav_resource.specs.Tree.{Tree, no_nodes, with_attribute, xmlns_name}
 use Rattle.dav_resource.specs.declared.property.DavProp.{DavProp}
 
--- an element of this one's name, prefix and namespace, with nothing else
+-- an element with only the name, prefix and namespace of this one
 abbrev pub named_alone : Tree → Tree
 named_alone prop =
     record {
@@ -11,7 +11,7 @@ named_alone prop =
       children = no_nodes;
     }
 
--- the same, which declares its namespace, where it has one, under its prefix
+-- the same, with a declaration of its namespace, if it has one, under its prefix
 abbrev pub bare : Tree → Tree
 bare prop = declare prop.tag.namespace
   where

@@ -1,4 +1,4 @@
--- How the properties of a resource are told: grouped by their statuses (RFC 4918, sections 13, 14.16, 14.18, 14.22 and 14.24).
+-- How the properties of a resource are reported: grouped by status (RFC 4918, sections 13, 14.16, 14.18, 14.22 and 14.24).
 use Rattle.std.specs.Prelude.{ℕ, nat_eq, List, [], ◌∷◌, map, filter, codes}
 use Rattle.std.specs.Ordering.{nat_cmp}
 use Rattle.std.specs.FinMap.{keys, from_entries}
@@ -9,15 +9,15 @@ use Rattle.dav_parts.specs.Multistatus.{status_line}
 
 -- ---- properties by their statuses
 
--- a property, as it is told, and its status
+-- a reported property, with its status
 abbrev pub Told : Type 0
 Told = ℕ × Tree
 
--- some properties and the status that they have
+-- a status and the properties that have it
 abbrev pub Group : Type 0
 Group = ℕ × List Tree
 
--- those of this status, in order
+-- the properties of this status, in order
 abbrev pub of_status : ℕ → List Told → List Tree
 of_status status told = map (λ (t : Told). t.1) (filter (λ (t : Told). nat_eq t.0 status) told)
 
@@ -25,7 +25,7 @@ of_status status told = map (λ (t : Told). t.1) (filter (λ (t : Told). nat_eq 
 abbrev pub statuses : List Told → List ℕ
 statuses told = keys (from_entries {R = nat_cmp} told)
 
--- the properties of each
+-- each status with its properties
 abbrev pub grouped : List Told → List Group
 grouped told = map (λ status. (status, of_status status told)) (statuses told)
 
@@ -37,10 +37,10 @@ propstat group =
     with_elements (prefixed_element (codes "D:propstat"))
     (with_elements (prefixed_element (codes "D:prop")) group.1 ∷ text_element (codes "D:status") (status_line group.0) ∷ [])
 
--- a resource's path, with its prefix, and its properties by their statuses
+-- a resource's path, including its prefix, and its properties grouped by status
 abbrev pub property_response : PathValue → List Group → Tree
 property_response path groups = with_elements (prefixed_element (codes "D:response")) (href_element path ∷ map propstat groups)
 
--- responses, in order
+-- each response, in order
 abbrev pub property_multistatus : List Tree → Tree
 property_multistatus responses = with_elements (declaring_element (codes "D:multistatus")) responses

@@ -1,4 +1,4 @@
--- What the body of a PROPPATCH asks for (RFC 4918, sections 9.2, 14.18, 14.19, 14.23 and 14.26). Elements are known by their local names alone.
+-- What the body of a PROPPATCH requests (RFC 4918, sections 9.2, 14.18, 14.19, 14.23 and 14.26). Elements are recognized only by their local names.
 use Rattle.std.specs.Prelude.{ℕ, Bool, true, false, ◌&&◌, ◌||◌, not, nat_eq, if◌then◌else◌, List, [], ◌++◌, map, filter, codes, Some, None, Result, Ok, Err}
 use Rattle.std.specs.List.{flat_map, list_any, zip}
 use Rattle.dav_resource.specs.Tree.{Tree, elements_of}
@@ -13,7 +13,7 @@ use Rattle.dav_props.specs.Property.{bare, prop_named}
 use Rattle.dav_props.specs.Propstat.{Told}
 use Rattle.dav_props.specs.declared.update.PropertyChange.{PropertyChange}
 
--- a property that is to be set, or to be removed, and its status before the store is asked
+-- a property that is set or removed, and its status before the store is called
 pub record Change : Type 0 where
   pub set : Bool
   pub element : Tree
@@ -22,61 +22,62 @@ pub record Change : Type 0 where
 abbrev pub change_of : PropertyChange → Change
 change_of change = record { set = change.set; element = change.element.now; status = change.status }
 
--- ---- what the body asks for
+-- ---- what the body requests
 
--- the status of setting a property (true), or of removing it, where the store keeps properties or doesn't
+-- The change that sets a property (`true`) or removes it, with its status. `keeps` says whether the store supports dead properties.
 abbrev pub judged : Bool → Bool → Tree → Change
 judged keeps true prop = record { set = true; element = prop; status = set_status prop keeps }
 judged keeps false prop = record { set = false; element = prop; status = remove_status prop keeps }
 
--- the properties that a `prop` holds
+-- the properties in a `prop`, none in any other element
 abbrev pub properties_of : Tree → List Tree
 properties_of prop = if is_named (codes "prop") prop then elements_of prop.children else []
 
--- the properties that a `set` or a `remove` holds: those of each `prop` that stands in it
+-- the properties in a `set` or a `remove`: those of each `prop` directly in it
 abbrev pub properties_in : Tree → List Tree
 properties_in part = flat_map properties_of (elements_of part.children)
 
--- the changes that a part of the body asks for
+-- the changes that a part of the body requests
 abbrev pub changes_in : Bool → Tree → List Change
 changes_in keeps part =
     if is_named (codes "set") part then map (judged keeps true) (properties_in part)
     else (if is_named (codes "remove") part then map (judged keeps false) (properties_in part) else [])
 
--- all of them, in order; a body that is no `propertyupdate` can't be read
+-- All changes, in order. A body that is not a `propertyupdate` is an error.
 abbrev pub update_verdict : Bool → ReqBody → Result (List Change) DavError
 update_verdict keeps (bodies.Tree root) =
     if is_named (codes "propertyupdate") root then Ok (flat_map (changes_in keeps) (elements_of root.children)) else Err XmlParseError
 update_verdict keeps _ = Err XmlParseError
 
--- ---- which are made
+-- ---- the changes for the store
 
--- the store has to make it
+-- the store has to make the change
 abbrev pub is_dead : Change → Bool
 is_dead change = nat_eq change.status 100
 
--- it is refused before the store is asked
+-- the change is rejected before the store is called
 abbrev pub is_refused : Change → Bool
 is_refused change = not (nat_eq change.status 100 || nat_eq change.status 200)
 
--- some is: then none is made
+-- some change is rejected: then none is made
 abbrev pub some_refused : List Change → Bool
 some_refused changes = list_any is_refused changes
 
--- the live properties in order, and then the dead ones
+-- first the changes that the store does not have to make, in order, then those that it has to make
 abbrev pub live_first : List Change → List Change
 live_first changes = filter (λ change. not (is_dead change)) changes ++ filter is_dead changes
 
--- what the store is to make of them: a property that is set has its element as its value
+-- what the store has to do for a change: a property that is set has its element as its value
 abbrev pub patch_of : Change → Patch
 patch_of change = (change.set, prop_named change.element (if change.set then Some change.element else None))
 
 abbrev pub patches_of : List Change → List Patch
 patches_of changes = map patch_of (filter is_dead changes)
 
--- ---- how they are told
+-- ---- how the changes are reported
 
--- where another is refused, what would have been made fails with it: 424, and a dead property that was to be set is told with its value
+-- If some change is rejected, every change that is not rejected itself fails with 424. If the store had to set the property, it is reported with its
+-- value.
 abbrev pub failed : Change → Told
 failed change =
     if is_refused change then (change.status, bare change.element)
@@ -85,14 +86,14 @@ failed change =
 abbrev pub told_failed : List Change → List Told
 told_failed changes = map failed (live_first changes)
 
--- where none is refused, each live one has its own status
+-- if none is rejected, each change that the store does not have to make has its own status
 abbrev pub made : Change → Told
 made change = (change.status, bare change.element)
 
 abbrev pub live_made : List Change → List Told
 live_made changes = map made (filter (λ change. not (is_dead change)) changes)
 
--- and each dead one has that which the store answered
+-- and each other change has the status that the store returned for it
 abbrev pub dead_made : List Change → List ℕ → List Told
 dead_made changes statuses = zip statuses (map (λ change. bare change.element) (filter is_dead changes))
 

@@ -1,36 +1,36 @@
-//! A list of languages, the value of `DAV:getcontentlanguage` (RFC 4918, section 15.3).
+//! Parses a list of languages, the value of `DAV:getcontentlanguage` (RFC 4918, section 15.3).
 ghost use Rattle.std.specs.Prelude.{◌≡◌, ℕ, List, [], ◌∷◌, ◌++◌, codes, IsTrue};
 ghost use Rattle.std.specs.Char.{is_ascii_alphanumeric};
 ghost use Rattle.dav_headers.specs.Values.{is_blank};
 ghost use Rattle.dav_props.specs.Language.{is_subtag_length, is_language_list};
 
-/// The most letters and digits of a subtag (RFC 3066, section 2.1).
+/// The maximum number of letters and digits in a subtag (RFC 3066, section 2.1).
 const MAX_SUBTAG_LENGTH: u8 = 8;
 
-/// How far a language list has been read (RFC 9110, section 8.5).
+/// The state of parsing a language list (RFC 9110, section 8.5).
 #[derive(Clone, Copy, Debug, PartialEq, Eq)]
 pub(crate) enum LanguageList {
-    /// So many letters of a tag's first subtag; with none, a tag has to come.
+    /// This many letters of a tag's first subtag were read. With 0, a tag must follow.
     Primary(u8),
-    /// So many letters and digits of a later subtag; with none, the hyphen before it.
+    /// This many letters and digits of a later subtag were read. With 0, only the hyphen before it.
     Subtag(u8),
-    /// Blanks behind a tag.
+    /// Blanks after a tag were read.
     Behind,
-    /// What can be no language list, whatever follows.
+    /// The input is no language list, whatever follows.
     Unreadable,
 }
 
 impl LanguageList {
     ghost use Rattle.dav_props.specs.LanguageList.{accepts};
 
-    /// Nothing has been read.
+    /// Returns the state before any input.
     pub fn new() -> LanguageList
         ensures { (rest : List ℕ) → accepts result rest ≡ is_language_list rest }
     {
         LanguageList::Primary(0)
     }
 
-    /// Reads on: what may follow is what could follow the text.
+    /// Returns the state after this text. It accepts what the old state accepts after the text.
     pub fn read(self, text: &str) -> LanguageList
         ensures { (rest : List ℕ) → accepts result rest ≡ accepts self (text.now ++ rest) }
     {
@@ -41,7 +41,7 @@ impl LanguageList {
         list
     }
 
-    /// Whether what has been read is a language list.
+    /// Returns whether the input so far is a language list.
     pub fn is_whole(self) -> bool
         ensures { result ≡ accepts self [] }
     {
@@ -52,7 +52,7 @@ impl LanguageList {
         }
     }
 
-    /// With one more byte.
+    /// Returns the state after one more byte.
     fn after(self, byte: u8) -> LanguageList
         ensures { (rest : List ℕ) → accepts result rest ≡ accepts self (byte ∷ rest) }
     {
@@ -67,7 +67,7 @@ impl LanguageList {
         }
     }
 
-    /// With one more letter or digit.
+    /// Returns the state after one more letter or digit.
     fn after_letter(self, byte: u8) -> LanguageList
         requires { IsTrue (is_ascii_alphanumeric byte) }
         ensures { (rest : List ℕ) → accepts result rest ≡ accepts self (byte ∷ rest) }
@@ -91,7 +91,7 @@ impl LanguageList {
         }
     }
 
-    /// With a comma: a tag ends, and the next one has to come.
+    /// Returns the state after a comma: a tag ends, and the next one must follow.
     fn after_comma(self) -> LanguageList
         ensures { (rest : List ℕ) → accepts result rest ≡ accepts self (codes "," ++ rest) }
     {
@@ -102,7 +102,7 @@ impl LanguageList {
         }
     }
 
-    /// With a hyphen: a subtag ends, and the next one has to come.
+    /// Returns the state after a hyphen: a subtag ends, and the next one must follow.
     fn after_hyphen(self) -> LanguageList
         ensures { (rest : List ℕ) → accepts result rest ≡ accepts self (codes "-" ++ rest) }
     {
@@ -118,7 +118,7 @@ impl LanguageList {
         }
     }
 
-    /// With a blank, which may stand before a tag and behind one.
+    /// Returns the state after a blank, which may come before a tag and after one.
     fn after_blank(self, blank: u8) -> LanguageList
         requires { IsTrue (is_blank blank) }
         ensures { (rest : List ℕ) → accepts result rest ≡ accepts self (blank ∷ rest) }
@@ -141,7 +141,7 @@ impl LanguageList {
     }
 }
 
-/// Whether a subtag can have so many letters and digits.
+/// Returns whether a subtag may have this many letters and digits.
 fn is_subtag_length(count: u8) -> bool
     ensures { result ≡ is_subtag_length count }
 {

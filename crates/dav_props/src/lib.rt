@@ -1,4 +1,5 @@
-//! The properties of a resource: which of them a request may set or remove, what it asks for, and how they are told.
+//! The properties of a resource: which of them a request may set or remove, which changes it requests, and
+//! how they are reported.
 #![tactic(auto)]
 
 mod language;

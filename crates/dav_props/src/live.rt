@@ -1,4 +1,4 @@
-//! Which properties a request may set or remove (RFC 4918, sections 4.2, 9.2 and 15).
+//! Decides which properties a request may set or remove (RFC 4918, sections 4.2, 9.2 and 15).
 ghost use Rattle.std.specs.Prelude.{◌≡◌, ◌++◌, ℕ, List, is_some};
 ghost use Rattle.std.specs.List.{concat};
 ghost use Rattle.dav_resource.specs.Element.{nodes_of};
@@ -11,26 +11,32 @@ use crate::language::LanguageList;
 use dav_resource::{Element, XMLNode};
 use http::StatusCode;
 
-/// What the name of a property says of setting and removing it.
+/// What the name of a property says about setting and removing it.
 #[derive(Clone, Copy, Debug, PartialEq, Eq)]
 pub(crate) enum PropertyKind {
-    /// No live property: the store keeps what a client sets.
+    /// A dead property: the value that a client sets is stored.
     Dead,
-    /// A name for the resource to be shown by, which the store keeps (RFC 4918, section 15.2).
+    /// The name under which the resource is displayed, stored like a dead property (RFC 4918, section 15.2).
     DisplayName,
-    /// The languages of the resource, which the store keeps (RFC 4918, section 15.3).
+    /// The languages of the resource, stored like a dead property (RFC 4918, section 15.3).
     ContentLanguage,
-    /// A value that a client might set on another server, and here can't.
+    /// A property that a client may be able to set on another server, but not here.
     Fixed,
-    /// A value that clients of Microsoft set: they are told that it was, and it isn't.
+    /// A property that Microsoft's clients set. The response reports success, but the value is not stored.
     PassedOver,
-    /// The server's own.
+    /// A property that only the server sets.
     Protected,
 }
 
-/// The status of setting a property: 100 for a dead one, which the store has to set still; 200 for one that is passed
-/// over; 409 where the value can't be one; 403 for a protected one, and for `DAV:displayname` and
-/// `DAV:getcontentlanguage` where the store keeps no properties (`can_deadprop`). RFC 4918, sections 9.2.1 and 15.
+/// Returns the status of setting a property (RFC 4918, sections 9.2.1 and 15):
+///
+/// - 100 if the store has to set it. This is every dead property, and a valid `DAV:displayname` or
+///   `DAV:getcontentlanguage` if the store supports dead properties (`can_deadprop`).
+/// - 200 for a valid value of a property that Microsoft's clients set. It is not stored.
+/// - 409 for a value that is not valid. A live property that is not protected must hold text and no element,
+///   and the text of `DAV:getcontentlanguage` must be a list of languages.
+/// - 403 for every other property, and for a valid `DAV:displayname` or `DAV:getcontentlanguage` if the store
+///   does not support dead properties.
 pub fn liveprop_set(prop: &Element, can_deadprop: bool) -> StatusCode
     ensures { result ≡ set_status prop.now can_deadprop }
 {
@@ -52,9 +58,9 @@ pub fn liveprop_set(prop: &Element, can_deadprop: bool) -> StatusCode
     }
 }
 
-/// The status of removing a property: 100 for a dead one, which the store has to remove still, `DAV:displayname` and
-/// `DAV:getcontentlanguage` among them where the store keeps properties (`can_deadprop`); 403 for each other name of a
-/// live property's namespace. RFC 4918, sections 9.2.1 and 15.
+/// Returns the status of removing a property (RFC 4918, sections 9.2.1 and 15). It is 100 if the store has to
+/// remove it: a dead property, or `DAV:displayname` or `DAV:getcontentlanguage` if the store supports dead
+/// properties (`can_deadprop`). It is 403 for every other property.
 pub fn liveprop_remove(prop: &Element, can_deadprop: bool) -> StatusCode
     ensures { result ≡ remove_status prop.now can_deadprop }
 {
@@ -67,7 +73,7 @@ pub fn liveprop_remove(prop: &Element, can_deadprop: bool) -> StatusCode
     }
 }
 
-/// Whether a property of this name is the store's to keep: it is no live one, or `DAV:displayname` or
+/// Returns whether a property of this name is stored: a dead property, `DAV:displayname` or
 /// `DAV:getcontentlanguage` (RFC 4918, sections 4.2, 15.2 and 15.3).
 pub fn is_kept(prop: &Element) -> bool
     ensures { result ≡ is_kept_tree prop.now }
@@ -78,7 +84,8 @@ pub fn is_kept(prop: &Element) -> bool
     }
 }
 
-/// The status of a property that the store has to keep, where it keeps any.
+/// Returns the status of setting or removing `DAV:displayname` or `DAV:getcontentlanguage`: 100 if the store
+/// supports dead properties, else 403.
 fn dead_status(can_deadprop: bool) -> StatusCode
     ensures { result ≡ status_of_dead can_deadprop }
 {
@@ -135,7 +142,7 @@ fn kind_in_microsoft(name: &str) -> PropertyKind
     }
 }
 
-/// Whether a text stands directly in it, and no element.
+/// Returns whether the element directly holds text, and no element.
 fn holds_text_alone(prop: &Element) -> bool
     ensures { result ≡ tree_holds_text_alone prop.now }
 {
@@ -154,14 +161,14 @@ fn is_text(node: &XMLNode) -> bool
     matches!(node, XMLNode::Text(_))
 }
 
-/// Whether its texts, one behind the other, are a language list.
+/// Returns whether the texts directly in the element, joined, are a language list.
 fn holds_languages(prop: &Element) -> bool
     ensures { result ≡ tree_holds_languages prop.now }
 {
     are_languages(&prop.children)
 }
 
-/// Whether the texts among the nodes, one behind the other, are a language list.
+/// Returns whether the texts among the nodes, joined, are a language list.
 fn are_languages(nodes: &[XMLNode]) -> bool
     ensures { result ≡ is_language_list (concat (texts (nodes_of nodes.now))) }
 {
@@ -172,7 +179,7 @@ fn are_languages(nodes: &[XMLNode]) -> bool
     list.is_whole()
 }
 
-/// Reads on, where the node is a text.
+/// Returns the state after the node's text, if it is a text.
 fn read_node(list: LanguageList, node: &XMLNode) -> LanguageList
     ensures { (rest : List ℕ) → accepts result rest ≡ accepts list (node_text node.now ++ rest) }
 {

@@ -1,12 +1,12 @@
-//! A property by its name, and as a store keeps it (RFC 4918, sections 4.3 and 4.4).
+//! The name of a property, and a property as it is stored (RFC 4918, sections 4.3 and 4.4).
 ghost use Rattle.std.specs.Prelude.{◌≡◌, IfOk, None, Some, option_map, option_copied, string_bytes};
 ghost use Rattle.dav_props.specs.Property.{bare, prop_named, named_alone};
 
 use dav_resource::{DavProp, Element, SharedElement, Text};
 use std::alloc::{AllocError, Global};
 
-/// The element of a property without its value: its name, and its prefix and namespace, which it declares itself
-/// (RFC 4918, section 14.18). Only memory can be lacking.
+/// Returns the element of a property without its value: its name and prefix, and a declaration of its
+/// namespace, if it has one (RFC 4918, section 14.18). Fails only if memory runs out.
 pub fn bare_element(alloc: Global, prop: &Element) -> Result<Element, AllocError>
     ensures { IfOk result (λ element. element ≡ bare prop.now) }
 {
@@ -20,7 +20,7 @@ pub fn bare_element(alloc: Global, prop: &Element) -> Result<Element, AllocError
     }
 }
 
-/// The property of this element by its name alone. Only memory can be lacking.
+/// Returns the property of this element's name, without a value. Fails only if memory runs out.
 pub fn element_to_davprop(element: &Element) -> Result<DavProp, AllocError>
     ensures { IfOk result (λ prop. prop ≡ prop_named element.now None) }
 {
@@ -32,7 +32,8 @@ pub fn element_to_davprop(element: &Element) -> Result<DavProp, AllocError>
     })
 }
 
-/// The property of this element, with a copy of the element as its value. Only memory can be lacking.
+/// Returns the property of this element's name, with a copy of the element as its value. Fails only if memory
+/// runs out.
 pub fn element_to_davprop_full(element: &Element) -> Result<DavProp, AllocError>
     ensures { IfOk result (λ prop. prop ≡ prop_named element.now (Some element.now)) }
 {
@@ -42,7 +43,7 @@ pub fn element_to_davprop_full(element: &Element) -> Result<DavProp, AllocError>
     Ok(prop)
 }
 
-/// An element of this one's name, prefix and namespace, with nothing else.
+/// Returns an element with only the name, prefix and namespace of this one.
 fn named_alone(alloc: Global, prop: &Element) -> Result<Element, AllocError>
     ensures { IfOk result (λ element. element ≡ named_alone prop.now) }
 {
@@ -52,7 +53,7 @@ fn named_alone(alloc: Global, prop: &Element) -> Result<Element, AllocError>
     Ok(element)
 }
 
-/// The same text again, where there is one.
+/// Returns a copy of the string, if there is one.
 fn clone_string(text: Option<&String>) -> Result<Option<String>, AllocError>
     ensures { IfOk result (λ copy. option_map string_bytes copy ≡ option_map string_bytes (option_copied text.entry)) }
 {
@@ -62,7 +63,7 @@ fn clone_string(text: Option<&String>) -> Result<Option<String>, AllocError>
     }
 }
 
-/// The text of this string, where there is one.
+/// Returns a copy of the string as a `Text`, if there is one.
 fn copy_text(text: Option<&String>) -> Result<Option<Text>, AllocError>
     ensures { IfOk result (λ copy. copy ≡ option_map string_bytes (option_copied text.entry)) }
 {

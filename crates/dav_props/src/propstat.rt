@@ -1,4 +1,4 @@
-//! The properties of a resource by their statuses (RFC 4918, section 14.22).
+//! Groups the properties of a resource by status (RFC 4918, section 14.22).
 ghost use Rattle.std.specs.Prelude.{◌≡◌, IfOk, codes};
 ghost use Rattle.http.specs.StatusCode.{IsStatusCode};
 ghost use Rattle.dav_resource.specs.Tree.{prefixed_element};
@@ -12,7 +12,7 @@ use http::StatusCode;
 use std::alloc::{AllocError, Global};
 use std::collections::BTreeMap;
 
-/// The properties by their statuses, those of one status in order. Only memory can be lacking.
+/// Groups reported properties by status. Those of one status keep their order. Fails only if memory runs out.
 pub fn group_by_status(
     alloc: Global,
     told: Vec<(StatusCode, Element)>,
@@ -27,7 +27,7 @@ pub fn group_by_status(
     Ok(groups)
 }
 
-/// One more property of this status, behind those that have it.
+/// Adds a property with this status, after those that have it.
 fn add_property(
     alloc: Global,
     mut groups: BTreeMap<u16, Vec<Element>>,
@@ -46,7 +46,8 @@ fn add_property(
     Ok(groups)
 }
 
-/// The response that tells a resource's properties by their statuses. Only memory can be lacking.
+/// Returns the `response` that reports a resource's properties, grouped by status. Fails only if memory runs
+/// out.
 pub(crate) fn property_response(
     alloc: Global,
     path: &DavPath,
@@ -64,7 +65,7 @@ pub(crate) fn property_response(
     Ok(response)
 }
 
-/// The properties of one status.
+/// Returns the `propstat` with the properties of one status.
 fn propstat(
     alloc: Global,
     status: StatusCode,
@@ -79,7 +80,7 @@ fn propstat(
     Ok(propstat)
 }
 
-/// Properties, in order.
+/// Returns a `prop` with these properties, in order.
 fn prop(alloc: Global, elements: Vec<Element>) -> Result<Element, AllocError>
     ensures { IfOk result (λ tree. tree ≡ with_elements (prefixed_element (codes "D:prop")) elements.items) }
 {

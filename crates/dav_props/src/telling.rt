@@ -1,4 +1,5 @@
-//! What the store is to make of the changes of a PROPPATCH, and how each is told (RFC 4918, section 9.2.1).
+//! Decides which changes of a PROPPATCH the store has to make, and how each change is reported (RFC 4918,
+//! section 9.2.1).
 ghost use Rattle.std.specs.Prelude.{◌≡◌, map, filter, IfOk};
 ghost use Rattle.dav_props.specs.Groups.{groups_of, AreStatuses};
 ghost use Rattle.dav_props.specs.Property.{bare};
@@ -13,14 +14,15 @@ use http::StatusCode;
 use std::alloc::{AllocError, Global};
 use std::collections::BTreeMap;
 
-/// Whether a change is refused before the store is asked: then none is made (RFC 4918, section 9.2).
+/// Returns whether a change is rejected before the store is called. If so, none is made (RFC 4918, section
+/// 9.2).
 pub fn some_refused(changes: &[PropertyChange<'_>]) -> bool
     ensures { result ≡ some_refused_of (map change_of changes.now) }
 {
     changes.iter().any(is_refused)
 }
 
-/// What the store is to make: each change of a dead property, in order. Only memory can be lacking.
+/// Returns the changes that the store has to make, in order. Fails only if memory runs out.
 pub fn patches(
     alloc: Global,
     changes: &[PropertyChange<'_>],
@@ -36,8 +38,8 @@ pub fn patches(
     Ok(patches)
 }
 
-/// The properties by their statuses where a change was refused: those that would have been made failed with it (424).
-/// Only memory can be lacking.
+/// Groups the properties by status if a change was rejected. A change that was not rejected itself fails with
+/// 424. Fails only if memory runs out.
 pub fn tell_failed(
     alloc: Global,
     changes: &[PropertyChange<'_>],
@@ -59,8 +61,9 @@ pub fn tell_failed(
     group_by_status(alloc, told)
 }
 
-/// The properties by their statuses where the store was asked: it answered `statuses` for those that are dead, in order.
-/// Only memory can be lacking.
+/// Groups the properties by status if the store was called. `statuses` are those that it returned for the
+/// changes that it had to make, in order. Every other change has its own status. Fails only if memory runs
+/// out.
 pub fn tell_made(
     alloc: Global,
     changes: &[PropertyChange<'_>],
@@ -76,7 +79,7 @@ pub fn tell_made(
     group_by_status(alloc, told)
 }
 
-/// The dead properties, each by its bare element.
+/// Returns the elements, without values, of the properties that the store has to change.
 fn dead_elements(alloc: Global, changes: &[PropertyChange<'_>]) -> Result<Vec<Element>, AllocError>
     ensures { IfOk result (λ elements. elements.items ≡ map (λ change. bare change.element) (filter is_dead_change (map change_of changes.now))) }
 {
@@ -89,7 +92,7 @@ fn dead_elements(alloc: Global, changes: &[PropertyChange<'_>]) -> Result<Vec<El
     Ok(elements)
 }
 
-/// The live properties, each with its own status.
+/// Returns the elements, without values, of all other properties, each with its own status.
 fn tell_live(
     alloc: Global,
     changes: &[PropertyChange<'_>],
@@ -105,7 +108,8 @@ fn tell_live(
     Ok(told)
 }
 
-/// A change that isn't made, since another was refused.
+/// Returns how a change is reported if some change was rejected: with its own status if it was this one, else
+/// with 424.
 fn failed(alloc: Global, change: &PropertyChange<'_>) -> Result<(StatusCode, Element), AllocError>
     ensures { IfOk result (λ told. told ≡ failed_change (change_of change.now)) }
 {
@@ -120,7 +124,7 @@ fn failed(alloc: Global, change: &PropertyChange<'_>) -> Result<(StatusCode, Ele
     Ok((StatusCode::FAILED_DEPENDENCY, element))
 }
 
-/// What the store is to make of a change: a property that is set has its element as its value.
+/// Returns what the store has to do for a change. A property that is set has its element as its value.
 fn patch(change: &PropertyChange<'_>) -> Result<(bool, DavProp), AllocError>
     ensures { IfOk result (λ patch. patch ≡ patch_of (change_of change.now)) }
 {
@@ -132,14 +136,14 @@ fn patch(change: &PropertyChange<'_>) -> Result<(bool, DavProp), AllocError>
     Ok((change.set, prop))
 }
 
-/// Whether the store has to make it.
+/// Returns whether the store has to make the change.
 fn is_dead(change: &PropertyChange<'_>) -> bool
     ensures { result ≡ is_dead_change (change_of change.now) }
 {
     change.status == StatusCode::CONTINUE
 }
 
-/// Whether it is refused before the store is asked.
+/// Returns whether the change is rejected before the store is called.
 fn is_refused(change: &PropertyChange<'_>) -> bool
     ensures { result ≡ is_refused_change (change_of change.now) }
 {

@@ -1,4 +1,4 @@
-//! What the body of a PROPPATCH asks for (RFC 4918, sections 9.2 and 14.19).
+//! Reads the changes in the body of a PROPPATCH (RFC 4918, sections 9.2 and 14.19).
 ghost use Rattle.std.specs.Prelude.{◌≡◌, ◌++◌, map, IfOk, IfErr, IsErrOf};
 ghost use Rattle.std.specs.List.{flat_map};
 ghost use Rattle.dav_resource.specs.Gives.{GivesBy};
@@ -14,18 +14,19 @@ use std::alloc::{AllocError, Global};
 /// A property that a request sets or removes.
 #[derive(Clone, Copy, Debug)]
 pub struct PropertyChange<'r> {
-    /// Whether it is set; else it is removed.
+    /// `true` if it is set, `false` if it is removed.
     pub set: bool,
-    /// The property, with its value where it is set.
+    /// The property, with its value if it is set.
     pub element: &'r Element,
-    /// What `liveprop_set` or `liveprop_remove` answers: 100 for a dead property, which the store has to change.
+    /// The result of `liveprop_set` or `liveprop_remove`: 100 if the store has to make the change.
     pub status: StatusCode,
 }
 
-/// The changes that a body asks for, in order: each element in a `prop` of a `set` or a `remove`. Elements are known by
-/// their local names alone, and all others are passed over. `can_deadprop` says whether the store keeps properties.
+/// Returns the changes that a body requests, in order: one for each element in a `prop` of a `set` or a
+/// `remove`. Elements are recognized only by their local names, and every other element is skipped.
+/// `can_deadprop` says whether the store supports dead properties.
 ///
-/// Errors: `XmlParseError` where there is no body, or one that is no `propertyupdate`; else `Memory` alone.
+/// Errors: `XmlParseError` if there is no body, or it is not a `propertyupdate`. Otherwise only `Memory`.
 pub fn read_update<'r>(
     alloc: Global,
     body: &'r ReqBody,
@@ -56,7 +57,7 @@ fn read_parts<'r>(
     Ok(changes)
 }
 
-/// Adds the changes that a part asks for.
+/// Adds the changes that a part of the body requests.
 fn read_part<'r>(
     part: &'r Element,
     can_deadprop: bool,
@@ -71,7 +72,7 @@ fn read_part<'r>(
     }
 }
 
-/// Adds the changes of the properties that a part holds.
+/// Adds a change for each property in a part of the body.
 fn read_properties<'r>(
     part: &'r Element,
     set: bool,
@@ -86,7 +87,7 @@ fn read_properties<'r>(
     Ok(changes)
 }
 
-/// Adds the changes of the properties in an element, where that is a `prop`.
+/// Adds a change for each property in an element, if that is a `prop`.
 fn read_prop<'r>(
     prop: &'r Element,
     set: bool,

@@ -1,4 +1,4 @@
-//! The body of a reply that tells the properties of resources.
+//! Builds the body of a response that reports the properties of resources.
 ghost use Rattle.std.specs.Prelude.{◌≡◌, ◌++◌, ◌∷◌, [], codes, Ok, IfOk, IfErr, OnOk, OnErr};
 ghost use Rattle.dav_resource.specs.declared.error.DavError.TheVariants.{Memory};
 ghost use Rattle.dav_resource.specs.Tree.{with_attribute, xmlns_name};
@@ -16,15 +16,15 @@ use http::{Response, StatusCode};
 use std::alloc::Global;
 use std::collections::BTreeMap;
 
-/// Writes the properties of resources, one response for each, into the tree of a 207 (RFC 4918, section 13).
+/// Writes the XML of a 207, with one `response` for the properties of each resource (RFC 4918, section 13).
 #[derive(Drop, Debug)]
 pub struct PropWriter {
     tree: Element,
 }
 
 impl PropWriter {
-    /// A writer that has written no response. The reply gets the status 207, and as its last header field
-    /// `content-type`. The only error is `Memory`, where memory is lacking, and then the reply is as before.
+    /// Creates a writer without a `response`. Sets the status of `res` to 207 and appends the header field
+    /// `content-type`. The only error is `Memory`, and then `res` is unchanged.
     pub fn new(alloc: Global, res: &mut Response<Body>) -> DavResult<PropWriter>
         requires { HasRoomFor (reply_of res.old).headers (codes "content-type") }
         ensures empty { IfOk result (λ writer. writer.tree ≡ property_multistatus []) }
@@ -38,8 +38,8 @@ impl PropWriter {
         Ok(PropWriter { tree })
     }
 
-    /// The same writer, whose tree declares one more prefix (Namespaces in XML 1.0, section 3). The only error is
-    /// `Memory`, where memory is lacking.
+    /// Returns the writer with one more prefix declared (Namespaces in XML 1.0, section 3). The only error is
+    /// `Memory`.
     pub fn declare(self, prefix: &str, namespace: &str) -> DavResult<PropWriter>
         ensures declared { IfOk result (λ writer. writer.tree ≡ with_attribute self.tree (xmlns_name prefix.now) namespace.now) }
         ensures err { IfErr result (λ e. e ≡ Memory) }
@@ -49,8 +49,8 @@ impl PropWriter {
         })
     }
 
-    /// Writes one more response: a resource's path, and its properties by their statuses, the least first (RFC 4918,
-    /// section 14.24). The only error is `Memory`, where memory is lacking, and then nothing was written.
+    /// Writes one more `response`: a resource's path, and its properties grouped by status, the least status
+    /// first (RFC 4918, section 14.24). The only error is `Memory`, and then nothing was written.
     pub fn write_propresponse(
         &mut self,
         path: &DavPath,
@@ -67,7 +67,7 @@ impl PropWriter {
         Ok(())
     }
 
-    /// Does nothing: the tree is handed over as a whole.
+    /// Does nothing: `close` returns the tree as a whole.
     pub fn flush(&mut self) -> DavResult<()>
         ensures ok { result ≡ Ok tt }
         ensures same { self.new.tree ≡ self.old.tree }
@@ -75,7 +75,7 @@ impl PropWriter {
         Ok(())
     }
 
-    /// The tree with all responses.
+    /// Returns the tree with each `response` that was written.
     pub fn close(self) -> DavResult<Element>
         ensures { result ≡ Ok self.tree }
     {

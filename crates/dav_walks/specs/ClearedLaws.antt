@@ -1,4 +1,4 @@
--- Where a deletion names nothing, nothing is left; what it names has the status of a refusal.
+-- If a deletion reports nothing, all that it was to delete is removed. Each reported status is the status of a store error.
 use Rattle.std.proofs.Common.{◌≡◌, ◌≢◌, Bool, true, false, cond, Option, [], ◌∷◌, ◌++◌, append-nil, Some, None, inl, inr, refl, sym, ap, ◌∙◌, subst}
 use Rattle.std.specs.FinMap.{get, get-remove}
 use Rattle.std.specs.Option.{option_map}
@@ -22,9 +22,9 @@ use Rattle.dav_parts.specs.Multistatus.{Item}
 use Rattle.dav_walks.specs.KeyCall.{KeyCall, calls_at, same_key}
 use Rattle.dav_walks.specs.Deletion.{Calls, under, calls_below, WasRefused, IsHidden, IsLeft, named_path, named_by, named_in, Deletes, Removes}
 
--- ---- calls and their names
+-- ---- calls and the paths they report
 
--- and each of a key's calls is one of all
+-- each of the calls on a key is one of all calls
 pub record_of_call : (rs : List KeyCall) (k : Key) (c : Op × Outcome) → IsIn c (calls_at rs k) → IsIn (record { key = k; op = c.0; outcome = c.1 }) rs
 record_of_call [] k c i = absurd i
 record_of_call (r ∷ rs) k c i = go (same_key r.key k) refl (λ j. record_of_call rs k c j) i
@@ -35,13 +35,13 @@ record_of_call (r ∷ rs) k c i = go (same_key r.key k) refl (λ j. record_of_ca
     go true e further (inr j) = inr (further j)
     go false e further j = inr (further j)
 
--- a refused outcome has an error
+-- an outcome that is not granted has an error
 pub error_there : (outcome : Outcome) → WasRefused outcome → (e : FsError) × (error_of outcome ≡ Some e)
 error_there Granted refused = absurd (refused refl)
 error_there (Barred e) refused = (e, refl)
 error_there (Refused e) refused = (e, refl)
 
--- where a call was refused something is named
+-- if something was not granted, something is reported
 pub refusal_named : (path : PathValue) (calls : List KeyCall) (names : List Item) → IsPermutation (named_in path calls) names → (call : KeyCall) → IsIn call calls → WasRefused call.outcome → names ≢ []
 refusal_named path calls names bag call inside refused none =
     let error = error_there call.outcome refused in
@@ -49,9 +49,9 @@ refusal_named path calls names bag call inside refused none =
     let i = kept_in (named_by path) calls call item (ap (option_map (λ e. (named_path path call.op call.key, fs_status e))) error.1) inside in
     subst (λ (l : List Item). IsIn item l) none (IsIn-permuted _ _ _ bag i)
 
--- ---- where nothing is named
+-- ---- if nothing is reported
 
--- a withheld key is behind a refused call
+-- if a key is hidden, something was not granted
 hidden_refused : (calls : Calls) (x : Key) → IsHidden calls x → (z : Key) × (c : Op × Outcome) × IsIn c (calls z) × WasRefused c.1
 hidden_refused calls [] u = ([], (Entry, u.0), u.1, u.2)
 hidden_refused calls (n ∷ x) (inl u) = ([], (Entry, u.0), u.1, u.2)
@@ -73,11 +73,11 @@ clean_leaves_nothing path old new calls deletes x = go (get new.tree (path.key +
 
 -- ---- a deletion of any depth
 
--- which outcome a deletion of Depth 0 had
+-- how a deletion of Depth 0 ends with this outcome
 abbrev IsEndOf : Outcome → PathValue → Contents → Contents → List Item → Type 0
 IsEndOf outcome path old new names = (outcome ≡ Granted → IsRemovedAt path.key old new × (names ≡ [])) × ((e : FsError) → error_of outcome ≡ Some e → (new ≡ old) × (names ≡ (path, fs_status e) ∷ []))
 
--- where nothing is named the path is gone
+-- if nothing is reported, nothing exists at the path
 pub path_gone : (depth : Depth) (path : PathValue) (old new : Contents) (records : List Logged) → Removes depth path old new records [] → get new.tree path.key ≡ None
 path_gone Zero path old new records alone = by_outcome alone.outcome (alone.granted, alone.refused)
   where
@@ -89,14 +89,14 @@ path_gone One path old new records r = subst (λ k. get new.tree k ≡ None) (ap
 path_gone Infinity path old new records r = subst (λ k. get new.tree k ≡ None) (append-nil path.key) (clean_leaves_nothing path old new r.0 r.2 [])
 path_gone Default path old new records r = subst (λ k. get new.tree k ≡ None) (append-nil path.key) (clean_leaves_nothing path old new r.0 r.2 [])
 
--- and, unless Depth is 0, all that was below it
+-- and, unless Depth is 0, nothing exists below it
 pub all_gone : (depth : Depth) (path : PathValue) (old new : Contents) (records : List Logged) → depth ≢ Zero → Removes depth path old new records [] → (x : Key) → get new.tree (path.key ++ x) ≡ None
 all_gone Zero path old new records deep r = absurd (deep refl)
 all_gone One path old new records deep r = clean_leaves_nothing path old new r.0 r.2
 all_gone Infinity path old new records deep r = clean_leaves_nothing path old new r.0 r.2
 all_gone Default path old new records deep r = clean_leaves_nothing path old new r.0 r.2
 
--- the name of a call has the status of the call's refusal
+-- the status of an item is the status of a store error
 name_refused : (path : PathValue) (calls : List KeyCall) (names : List Item) → IsPermutation (named_in path calls) names → (item : Item) → IsIn item names → (e : FsError) × (fs_status e ≡ item.1)
 name_refused path calls names bag item inside =
     let from = come_from (named_by path) calls item (IsIn-unpermuted _ _ _ bag inside) in
@@ -120,7 +120,7 @@ alone_refused path old new names (Refused e) end item inside = (e, first (subst 
     first (inl same) = ap (λ (i : Item). i.1) same
     first (inr none) = absurd none
 
--- each name has the status of a refusal
+-- each reported status is the status of a store error
 pub names_refused : (depth : Depth) (path : PathValue) (old new : Contents) (records : List Logged) (names : List Item) → Removes depth path old new records names → (item : Item) → IsIn item names → (e : FsError) × (fs_status e ≡ item.1)
 names_refused Zero path old new records names alone = alone_refused path old new names alone.outcome (alone.granted, alone.refused)
 names_refused One path old new records names r = name_refused path r.0 names r.2.named

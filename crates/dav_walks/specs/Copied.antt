@@ -1,4 +1,4 @@
--- COPY (RFC 4918, section 9.8) of either depth: what stands at the source alone, or with all below it.
+-- COPY (RFC 4918, section 9.8) of each depth: only the resource at the source, or everything below it too.
 use Rattle.std.specs.Prelude.{◌≡◌, ◌≢◌, ◌⊎◌, List, [], ◌∷◌, ◌++◌, Option, Some, None, Result, Err, map}
 use Rattle.std.specs.FinMap.{get}
 use Rattle.dav_resource.specs.Key.{Key}
@@ -20,9 +20,9 @@ use Rattle.dav_parts.specs.Multistatus.{Item}
 use Rattle.dav_walks.specs.Deletion.{AreSomeOf, told_by_names}
 use Rattle.dav_walks.specs.Copying.{CopyStep, logged_step, snapshot, names_of_copy, IsLawfulCopy, CopiesTree}
 
--- ---- what stands at the source alone
+-- ---- only the resource at the source
 
--- the call that makes the copy: a directory is made, a file copied
+-- the call that makes the copy: a directory is made, a file is copied
 abbrev pub placing_call : Contents → Key → Key → Call
 placing_call old s d = by_node (get old.tree s)
   where
@@ -39,19 +39,20 @@ IsPlaced s d old new = by_node (get old.tree s)
     by_node (Some (File bytes)) = IsCopiedTo s d old new
     by_node None = IsCopiedTo s d old new
 
--- its refusal names the source, or the place of a directory, unless something is there already
+-- What is reported if that call is not granted: the destination for a directory, else the source. If something exists at a directory's destination
+-- (`Exists`), nothing is reported.
 abbrev pub refusal_names : PathValue → PathValue → Option Node → FsError → List Item
 refusal_names source dest (Some Directory) Exists = []
 refusal_names source dest (Some Directory) e = (dest, fs_status e) ∷ []
 refusal_names source dest _ e = (source, fs_status e) ∷ []
 
--- what came of that call
+-- the effect of each outcome of that call, and what is reported
 abbrev pub EndsAlone : PathValue → PathValue → Contents → Contents → List Item → Outcome → Type 0
 EndsAlone source dest old new names Granted = IsPlaced source.key dest.key old new × (names ≡ [])
 EndsAlone source dest old new names (Barred e) = (new ≡ old) × (names ≡ refusal_names source dest (get old.tree source.key) e)
 EndsAlone source dest old new names (Refused e) = (new ≡ old) × (names ≡ refusal_names source dest (get old.tree source.key) e)
 
--- the copy is made, where the look at the source is granted
+-- the lookup of the source is granted, and the call that makes the copy follows
 pub record PlacesAlone (source dest : PathValue) (old new : Contents) (records : List Logged) (names : List Item) : Type 0 where
   pub outcome : Outcome
   pub called : records ≡ record_of (metadata_call old source.key) Granted ∷ record_of (placing_call old source.key dest.key) outcome ∷ []
@@ -59,7 +60,7 @@ pub record PlacesAlone (source dest : PathValue) (old new : Contents) (records :
   pub lawful : IsLawful (placing_call old source.key dest.key).bar outcome
   pub ended : EndsAlone source dest old new names outcome
 
--- or the look is refused, and names the source
+-- the lookup is not granted, the source is reported, and nothing changes
 pub record IsUnlookedAlone (source : PathValue) (old new : Contents) (records : List Logged) (names : List Item) : Type 0 where
   pub outcome : Outcome
   pub error : FsError
@@ -72,29 +73,30 @@ pub record IsUnlookedAlone (source : PathValue) (old new : Contents) (records : 
 abbrev pub CopiesAlone : PathValue → PathValue → Contents → Contents → List Logged → List Item → Type 0
 CopiesAlone source dest old new records names = IsUnlookedAlone source old new records names ⊎ PlacesAlone source dest old new records names
 
--- ---- either
+-- ---- either depth
 
--- the copy of this depth, over these records
+-- the copy of this depth, with these records and these reported items
 abbrev pub CopiesAll : Depth → PathValue → PathValue → Key → Contents → Contents → List Logged → List Item → Type 0
 CopiesAll Zero source dest top old new records names = CopiesAlone source dest old new records names
 CopiesAll depth source dest top old new records names = (steps : List CopyStep) × (records ≡ map (logged_step source.key dest.key) steps) × CopiesTree source dest top old new steps names
 
--- of the source alone nothing was copied yet
+-- with Depth 0 nothing was copied yet: at most the lookup was made, and it was granted
 abbrev pub IsUnplaced : PathValue → Contents → Contents → List Logged → Type 0
 IsUnplaced source old new records = ((records ≡ []) ⊎ (records ≡ record_of (metadata_call old source.key) Granted ∷ [])) × (new ≡ old)
 
--- a copy that was broken off for want of memory, or that wasn't begun
+-- a copy that may be incomplete: it was not begun, it was stopped because memory ran out, or it came to its end
 abbrev pub CopiesInPart : Depth → PathValue → PathValue → Key → Contents → Contents → List Logged → Type 0
 CopiesInPart Zero source dest top old new records = IsUnplaced source old new records ⊎ ((names : List Item) × CopiesAlone source dest old new records names)
 CopiesInPart depth source dest top old new records = (steps : List CopyStep) × (records ≡ map (logged_step source.key dest.key) steps) × IsLawfulCopy source.key top dest.key old new steps
 
--- what such a copy has named: for Depth 0 nothing, else refused calls, each at most once; some may be missing
+-- What such a copy has reported: with Depth 0 nothing, else items that the steps report, each at most as often as they report it. Some may be
+-- missing.
 abbrev pub CopyNamesInPart : Depth → PathValue → PathValue → Key → Contents → List Logged → List Item → Type 0
 CopyNamesInPart Zero source dest top old records names = names ≡ []
 CopyNamesInPart depth source dest top old records names =
     (steps : List CopyStep) × (records ≡ map (logged_step source.key dest.key) steps) × AreSomeOf names (names_of_copy source dest (snapshot old.tree source.key top) steps)
 
--- it was broken off: of the source alone nothing was copied, and some of its names may be missing
+-- it was stopped because memory ran out: with Depth 0 nothing was copied, and some reported items may be missing
 pub record StopsCopy (depth : Depth) (source dest : PathValue) (top : Key) (old new : Contents) (records : List Logged) (had has : List Item) : Type 0 where
   pub part : CopiesInPart depth source dest top old new records
   pub alone : depth ≡ Zero → new ≡ old
@@ -102,13 +104,13 @@ pub record StopsCopy (depth : Depth) (source dest : PathValue) (top : Key) (old 
   pub added : has ≡ had ++ names
   pub named : CopyNamesInPart depth source dest top old records names
 
--- it ended and added these names, or was broken off for want of memory
+-- it came to its end and added these items, or it was stopped because memory ran out
 abbrev pub CopiesOrStops : Depth → PathValue → PathValue → Key → Contents → Contents → List Logged → List Item → List Item → Result (Unit {0}) DavError → Type 0
 CopiesOrStops depth source dest top old new records had has answer =
     ((names : List Item) × (has ≡ had ++ names) × CopiesAll depth source dest top old new records names × (answer ≡ told_by_names names))
     ⊎ ((answer ≡ Err Memory) × StopsCopy depth source dest top old new records had has)
 
--- the same from store to store, and from names to names
+-- the same between two stores, with the reported items before it (`had`) and after it (`has`)
 pub record Copying (depth : Depth) (source dest : PathValue) (top : Key) (old new : Store) (had has : List Item) (answer : Result (Unit {0}) DavError) : Type 0 where
   pub records : List Logged
   pub told : new.log ≡ old.log ++ records

@@ -1,4 +1,4 @@
--- What the steps of a copy by a list of directories do: this project's own choice.
+-- The steps of a copy that keeps a list of open directories: this project's own choice.
 use Rattle.std.specs.Prelude.{◌≡◌, ◌⊎◌, ◌<◌, ◌+◌, Bool, true, false, List, [], ◌∷◌, ◌++◌, length, get_or, Option, Some, None, Result, Ok, Err}
 use Rattle.dav_resource.specs.Key.{Key}
 use Rattle.dav_resource.specs.PathText.{PathValue}
@@ -17,14 +17,14 @@ use Rattle.dav_walks.specs.declared.copy_frame.CopyFrame.{CopyFrame}
 use Rattle.dav_walks.specs.Frames.{NamesRefusal, IsCut, path_of_entry}
 use Rattle.dav_walks.specs.Copied.{CopiesAll, StopsCopy}
 
--- one call was made: granted with its effect, or declined, and then named
+-- one call is granted with its effect, or it is declined and the path is reported
 abbrev pub Makes : Call → (Contents → Contents → Type 0) → PathValue → Store → Store → List Item → List Item → Bool → Type 0
 Makes call Effect path old new had has true = Grants call Effect old new × (has ≡ had)
 Makes call Effect path old new had has false = NamesRefusal call path old new had has
 
--- ---- the begin of a key's copy
+-- ---- the start of a key's copy
 
--- a look at the source
+-- a lookup of a path
 abbrev pub LooksAt : PathValue → Store → Store → List Item → List Item → Option Meta → Type 0
 LooksAt path old new had has (Some meta) = Grants (metadata_call old.contents path.key) (IsMetaAt path.key meta) old new × (has ≡ had)
 LooksAt path old new had has None = NamesRefusal (metadata_call old.contents path.key) path old new had has
@@ -47,26 +47,27 @@ abbrev pub ListsSource : PathValue → PathValue → Store → Store → List It
 ListsSource source dest old new had has (Some frame) = OpensCopy source dest old new had has frame
 ListsSource source dest old new had has None = NamesRefusal (read_dir_call old.contents source.key) source old new had has
 
--- the source was found, and is a directory or none
+-- the lookup of the source is granted, and it is a directory or not
 pub record Finds (dir : Bool) (source : PathValue) (old new : Store) : Type 0 where
   pub meta : Meta
   pub kind : meta.dir ≡ dir
   pub looked : Grants (metadata_call old.contents source.key) (IsMetaAt source.key meta) old new
 
--- it was a directory, and one was made at its place
+-- the source is a directory, and one was made at its destination
 pub record MakesPlaceOf (source dest : PathValue) (old new : Store) : Type 0 where
   pub mid : Store
   pub found : Finds true source old mid
   pub made : Grants (create_dir_call mid.contents dest.key) (IsMadeAt dest.key) mid new
 
--- the source was looked at; a file was copied; a directory was made and listed; up to the first refusal, which is named
+-- The source is looked up. Then a file is copied, or a directory is made at the destination and the source is listed. The first call that is declined
+-- ends this, and is reported.
 pub data EntersCopy (source dest : PathValue) (old new : Store) (had has : List Item) : Option CopyFrame → Type 0 where
   unlooked : LooksAt source old new had has None → EntersCopy source dest old new had has None
   filed : (mid : Store) (done : Bool) → Finds false source old mid → CopiesFile source dest mid new had has done → EntersCopy source dest old new had has None
   unmade : (mid : Store) → Finds true source old mid → MakesPlace dest mid new had has false → EntersCopy source dest old new had has None
   after_made : (mid : Store) (opened : Option CopyFrame) → MakesPlaceOf source dest old mid → ListsSource source dest mid new had has opened → EntersCopy source dest old new had has opened
 
--- memory was lacking in one of these calls
+-- memory ran out at one of these calls
 pub data IsCutCopy (source dest : PathValue) (old new : Store) : Type 0 where
   at_look : IsCut (metadata_call old.contents source.key) old new → IsCutCopy source dest old new
   at_file : (mid : Store) → Finds false source old mid → IsCut (copy_call mid.contents source.key dest.key) mid new → IsCutCopy source dest old new
@@ -75,11 +76,12 @@ pub data IsCutCopy (source dest : PathValue) (old new : Store) : Type 0 where
 
 -- ---- a directory's next member
 
--- what the listing shows next
+-- the next item of the listing
 abbrev pub IsNextOf : CopyFrame → Result DirEntry FsError → Type 0
 IsNextOf frame shown = (frame.next < length frame.listing.items) × (get_or frame.listing.items frame.next shown ≡ shown)
 
--- a member that isn't shown names the directory, and ends its copy; the top destination is passed over, another is entered
+-- A member that the store does not list reports the directory and ends its copy: the members after it are not visited. The top destination is
+-- skipped. Every other member is entered.
 pub data VisitsMember (frame : CopyFrame) (top : Key) (after : CopyFrame) (old new : Store) (had has : List Item) : Option CopyFrame → Type 0 where
   unshown : (e : FsError) → IsNextOf frame (Err e) → new ≡ old → has ≡ had ++ (frame.source, fs_status e) ∷ [] → after ≡ record frame { next = length frame.listing.items }
       → VisitsMember frame top after old new had has None
@@ -89,7 +91,7 @@ pub data VisitsMember (frame : CopyFrame) (top : Key) (after : CopyFrame) (old n
       → EntersCopy (path_of_entry frame.source entry) (path_of_entry frame.dest entry) old new had has opened → after ≡ record frame { next = frame.next + 1 }
       → VisitsMember frame top after old new had has opened
 
--- memory was lacking on the way to it
+-- memory ran out: the store is unchanged, or it ran out while the next member was entered
 abbrev pub IsCutMember : CopyFrame → Key → Store → Store → Type 0
 IsCutMember frame top old new =
     (new ≡ old) ⊎ ((entry : DirEntry) × IsNextOf frame (Ok entry) × ((path_of_entry frame.source entry).key ≡ top → ⊥) × IsCutCopy (path_of_entry frame.source entry) (path_of_entry frame.dest entry) old new)
@@ -105,7 +107,7 @@ pub record CopiesWhole (depth : Depth) (source dest : PathValue) (top : Key) (ol
   pub added : has ≡ had ++ names
   pub copies : CopiesAll depth source dest top old.contents new.contents records names
 
--- or was broken off for want of memory
+-- the copy of this depth was stopped because memory ran out
 pub record BreaksOffCopy (depth : Depth) (source dest : PathValue) (top : Key) (old new : Store) (had has : List Item) : Type 0 where
   pub records : List Logged
   pub told : new.log ≡ old.log ++ records

@@ -1,4 +1,4 @@
--- What follows of each copy, whatever the store refuses.
+-- Consequences for every copy, whatever the store refuses.
 use Rattle.std.proofs.Common.{◌≡◌, ◌≢◌, ◌∙◌, ◌⊎◌, Bool, true, false, Some, None, List, [], ◌∷◌, ◌++◌, Option, ap, refl, sym, inl, inr, subst}
 use Rattle.std.specs.Prelude.{not, ◌&&◌, if◌then◌else◌}
 use Rattle.std.specs.List.{cons_option}
@@ -26,14 +26,14 @@ use Rattle.dav_walks.specs.Copied.{IsPlaced, refusal_names, EndsAlone, CopiesAlo
 use Rattle.dav_walks.specs.PutLaws.{put_elsewhere, put_at_elsewhere}
 use Rattle.dav_walks.specs.RemovalLaws.{append-nothing}
 
--- a copy is one that might have been broken off at its end
+-- a copy that came to its end is one that may be incomplete
 pub whole_copy_in_part : (depth : Depth) (source dest : PathValue) (top : Key) (old new : Contents) (records : List Logged) (names : List Item) → CopiesAll depth source dest top old new records names → CopiesInPart depth source dest top old new records
 whole_copy_in_part Zero source dest top old new records names c = inr (names, c)
 whole_copy_in_part One source dest top old new records names c = (c.0, c.1, c.2.lawful)
 whole_copy_in_part Infinity source dest top old new records names c = (c.0, c.1, c.2.lawful)
 whole_copy_in_part Default source dest top old new records names c = (c.0, c.1, c.2.lawful)
 
--- ---- nothing changes but at the destination and below it
+-- ---- nothing changes except at the destination and below it
 
 module _ (source dest : PathValue) (old new : Contents) (q : Key) (apart : q ≢ dest.key) where
   made_elsewhere : IsMadeAt dest.key old new → standing new q ≡ standing old q
@@ -66,7 +66,7 @@ copies_within One source dest top old new records c q apart = c.2.others q (λ x
 copies_within Infinity source dest top old new records c q apart = c.2.others q (λ x made. apart x)
 copies_within Default source dest top old new records c q apart = c.2.others q (λ x made. apart x)
 
--- ---- each name has the status of a refusal
+-- ---- each reported status is the status of a store error
 
 module _ (source dest : PathValue) (snap : Look) where
   named_refusal : (step : CopyStep) (outcome : Outcome) (item : Item) → outcome ≡ step.outcome → IsIn item (cons_option (named_by_step source dest snap (record step { outcome = outcome })) []) → (e : FsError) × (fs_status e ≡ item.1)
@@ -130,7 +130,7 @@ copy_names_refused One source dest top old new records names c item i = names_re
 copy_names_refused Infinity source dest top old new records names c item i = names_refused_behind source dest (snapshot old.tree source.key top) false c.0 item (IsIn-unpermuted _ names item c.2.named i)
 copy_names_refused Default source dest top old new records names c item i = names_refused_behind source dest (snapshot old.tree source.key top) false c.0 item (IsIn-unpermuted _ names item c.2.named i)
 
--- ---- where nothing is named, exactly the snapshot is copied
+-- ---- if nothing is reported, exactly the snapshot is copied
 
 pub record IsCopiedWhole (s top d : Key) (old new : Contents) : Type 0 where
   pub there : (x : Key) → snapshot old.tree s top x ≢ None → standing new (d ++ x) ≡ copied (standing old (s ++ x))

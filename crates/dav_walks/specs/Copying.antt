@@ -1,5 +1,5 @@
--- COPY (RFC 4918, section 9.8): what a copy of Depth infinity calls, makes, names and misses. A key is said by the path x that
--- leads down to it from the source s; its place is where the same path leads from the destination d.
+-- COPY (RFC 4918, section 9.8) of Depth infinity: what it calls, makes, reports and misses. A key at or below the source s is given by the path x
+-- from s down to it. Its destination is the key to which x leads from the destination d.
 use Rattle.std.specs.Prelude.{◌≡◌, ◌≢◌, ◌⊎◌, ◌≤◌, ◌*◌, ◌&&◌, not, filter, ℕ, Bool, true, false, if◌then◌else◌, List, [], ◌∷◌, ◌++◌, Option, Some, None, length, map, option_map, IsPermutation}
 use Rattle.std.specs.FinMap.{get}
 use Rattle.std.specs.List.{cons_option}
@@ -20,35 +20,35 @@ use Rattle.dav_walks.specs.KeyCall.{standing, keys_below}
 use Rattle.dav_walks.specs.Deletion.{Look, WasRefused, path_at, is_call}
 use Rattle.dav_walks.specs.Trace.{HasKind}
 
--- ---- what is to be copied
+-- ---- the snapshot
 
--- what stood at the source and below it, without what is at the top destination or below that
+-- the nodes at the source and below it, without those at the top destination or below that
 abbrev pub snapshot : Tree → Key → Key → Look
 snapshot tree s top = λ x. if is_at_or_below (s ++ x) top then None else get tree (s ++ x)
 
--- its keys
+-- the keys of the snapshot
 abbrev pub keys_of_snapshot : Tree → Key → Key → List Key
 keys_of_snapshot tree s top = filter (λ key. not (is_at_or_below key top)) (keys_below tree s)
 
 -- ---- the calls
 
--- a call on a key or its place, and what came of it
+-- a call on a key or its destination, and the outcome
 pub record CopyStep : Type 0 where
   pub at : Key
   pub op : Op
   pub outcome : Outcome
 
--- a directory is made at the place, a file is copied from its key to its place, all else is asked of the key itself
+-- `create_dir` is called on the destination, `copy` on the key and its destination, every other call on the key
 abbrev pub keys_of_step : Op → Key → Key → List Key
 keys_of_step Copy from to = from ∷ to ∷ []
 keys_of_step CreateDir from to = to ∷ []
 keys_of_step _ from to = from ∷ []
 
--- its record
+-- its record in the store's log
 abbrev pub logged_step : Key → Key → CopyStep → Logged
 logged_step s d step = logged step.op (keys_of_step step.op (s ++ step.at) (d ++ step.at)) step.outcome
 
--- such a call was made, was granted, or wasn't granted
+-- on this key such a call had this outcome (`HasOutcome`), was made, was granted, or was not granted
 abbrev pub HasOutcome : Op → Outcome → Key → List CopyStep → Type 0
 HasOutcome op outcome x steps = IsIn (record { at = x; op = op; outcome = outcome }) steps
 
@@ -61,20 +61,20 @@ IsGranted op x steps = HasOutcome op Granted x steps
 abbrev pub IsDenied : Op → Key → List CopyStep → Type 0
 IsDenied op x steps = (outcome : Outcome) × WasRefused outcome × HasOutcome op outcome x steps
 
--- a member of the key wasn't shown
+-- the store did not list some member of the key
 abbrev pub HasUnseen : Key → List CopyStep → Type 0
 HasUnseen x steps = (name : List ℕ) × IsDenied Entry (member x name) steps
 
--- the key's copy was made: a file was copied, or a directory made
+-- the copy of the key was made: a file was copied, or a directory made
 abbrev pub IsMade : Key → List CopyStep → Type 0
 IsMade x steps = IsGranted Copy x steps ⊎ IsGranted CreateDir x steps
 
--- the key is a member of a directory whose listing was granted
+-- the key is directly below a directory whose listing was granted
 abbrev pub IsListed : Key → List CopyStep → Type 0
 IsListed x steps = (above : Key) × (name : List ℕ) × (x ≡ member above name) × IsGranted ReadDir above steps
 
--- When a call is made: the source and the members of listed directories are looked at; then a file is copied,
--- or a directory is made and, once it is made, listed.
+-- When a call is made: the source and the members of listed directories are looked up. After that a file is copied, or a directory is made at its
+-- destination and, once it is made, the source directory is listed.
 abbrev pub IsCalledFor : Look → Op → Key → List CopyStep → Type 0
 IsCalledFor snap Metadata x steps = (snap x ≢ None) × ((x ≡ []) ⊎ IsListed x steps)
 IsCalledFor snap Copy x steps = HasKind false (snap x) × IsGranted Metadata x steps
@@ -83,50 +83,50 @@ IsCalledFor snap ReadDir x steps = HasKind true (snap x) × IsGranted CreateDir 
 IsCalledFor snap Entry x steps = IsListed x steps
 IsCalledFor snap _ x steps = ⊥
 
--- ---- what a copy may call and change at any moment
+-- ---- what a copy may call and change at any time
 
--- what a copy is: a file has its bytes and its properties, a directory has no properties
+-- what the copy is: a file has the same bytes and properties, a directory has no properties
 abbrev pub copied : Option Node × Option PropertyMap → Option Node × Option PropertyMap
 copied (Some (File bytes), properties) = (Some (File bytes), properties)
 copied (Some Directory, properties) = (Some Directory, None)
 copied (None, properties) = (None, None)
 
 pub record IsLawfulCopy (s top d : Key) (old new : Contents) (steps : List CopyStep) : Type 0 where
-  -- each call is called for, and none is made twice on a key; in all at most three are made for each key of the snapshot
+  -- Each call is called for, and none of one kind is made twice on a key. In all at most three are made for each key of the snapshot.
   pub called_for : (step : CopyStep) → IsIn step steps → IsCalledFor (snapshot old.tree s top) step.op step.at steps
   pub once : AreDistinct {X = Key × Op} (map (λ step. (step.at, step.op)) steps)
   pub bound : length (filter (λ step. is_call step.op) steps) ≤ 3 * length (keys_of_snapshot old.tree s top)
-  -- none is barred, and each refusal is the store's own
+  -- no call is barred, each refusal is an error of the store's own, and no `Entry` is granted
   pub free : (step : CopyStep) → IsIn step steps → IsLawful None step.outcome
   pub unseen : (x : Key) → IsGranted Entry x steps → ⊥
-  -- the made copies stand at their places, and nothing else changes
+  -- Each copy that was made is at its destination. Nothing else changes, and the quota keeps its limit.
   pub made : (x : Key) → IsMade x steps → standing new (d ++ x) ≡ copied (standing old (s ++ x))
   pub others : (key : Key) → ((x : Key) → IsMade x steps → key ≢ d ++ x) → standing new key ≡ standing old key
   pub limit : limit_of new ≡ limit_of old
 
--- ---- what is named
+-- ---- what is reported
 
 abbrev pub is_directory_node : Option Node → Bool
 is_directory_node (Some Directory) = true
 is_directory_node (Some (File bytes)) = false
 is_directory_node None = false
 
--- A refused call names the key, but that which makes a directory names the place; a member that wasn't shown
--- names the directory above it.
+-- A call that was not granted reports the path of its key, except that `create_dir` reports the destination. A member that the store did not list
+-- reports the directory above it.
 abbrev pub path_of_step : PathValue → PathValue → Look → Op → Key → PathValue
 path_of_step source dest snap CreateDir x = path_at dest true (dest.key ++ x)
 path_of_step source dest snap Entry x = path_at source true (source.key ++ parent x)
 path_of_step source dest snap _ x = path_at source (is_directory_node (snap x)) (source.key ++ x)
 
--- with the status of the refusal
+-- It is reported with the status of the error. A granted call reports nothing.
 abbrev pub named_by_step : PathValue → PathValue → Look → CopyStep → Option Item
 named_by_step source dest snap step = option_map (λ e. (path_of_step source dest snap step.op step.at, fs_status e)) (error_of step.outcome)
 
--- of members that weren't shown, one behind another, only the first gives a name
+-- of consecutive members that the store did not list only the first is reported (`told`: the step before was such a member)
 abbrev pub named_once : PathValue → PathValue → Look → Bool → CopyStep → Option Item
 named_once source dest snap told step = if told && not (is_call step.op) then None else named_by_step source dest snap step
 
--- the names of the calls in order, behind a member that wasn't shown, or not
+-- The items that the steps report, in order. `told` says whether the step before them was a member that the store did not list.
 abbrev pub names_behind : PathValue → PathValue → Look → Bool → List CopyStep → List Item
 names_behind source dest snap told [] = []
 names_behind source dest snap told (step ∷ steps) = cons_option (named_once source dest snap told step) (names_behind source dest snap (not (is_call step.op)) steps)
@@ -136,8 +136,9 @@ names_of_copy source dest snap steps = names_behind source dest snap false steps
 
 -- ---- a whole copy
 
--- Nothing is left out: what was looked at is copied or made, what was made is listed, and each member of the snapshot is
--- looked at, but for those of a directory of which some member wasn't shown.
+-- Nothing is left out: each of these calls is made, whatever its outcome. The source is looked up. After a granted lookup a file is copied, and a
+-- directory is made at its destination. A directory that was made is listed. Each member of a listed directory that is in the snapshot is looked up,
+-- unless the store did not list some member of that directory.
 pub record IsWholeCopy (snap : Look) (steps : List CopyStep) : Type 0 where
   pub source : IsAsked Metadata [] steps
   pub files : (x : Key) → HasKind false (snap x) → IsGranted Metadata x steps → IsAsked Copy x steps
@@ -145,22 +146,22 @@ pub record IsWholeCopy (snap : Look) (steps : List CopyStep) : Type 0 where
   pub listings : (x : Key) → IsGranted CreateDir x steps → IsAsked ReadDir x steps
   pub members : (x : Key) (name : List ℕ) → snap (member x name) ≢ None → IsGranted ReadDir x steps → IsAsked Metadata (member x name) steps ⊎ HasUnseen x steps
 
--- one of the names is that of the key or its place, or of one above these, from the source and the destination on
+-- a reported path is that of the key or its destination, or is above one of these, up to the source or the destination
 abbrev pub IsUnderName : Key → Key → Key → List Item → Type 0
 IsUnderName s d x names = (y : Key) × (z : Key) × (x ≡ y ++ z) × (item : Item) × IsIn item names × ((item.0.key ≡ s ++ y) ⊎ (item.0.key ≡ d ++ y))
 
--- the copy of what stands at the source and of all below it, by these calls and with these names
+-- the copy of the source and everything below it, with these calls and these reported items
 pub record CopiesTree (source dest : PathValue) (top : Key) (old new : Contents) (steps : List CopyStep) (names : List Item) : Type 0 where
   pub lawful : IsLawfulCopy source.key top dest.key old new steps
   pub whole : IsWholeCopy (snapshot old.tree source.key top) steps
-  -- the names are those of the refused calls, in some order; what isn't made lies under a name
+  -- The items are those that the steps report, in some order. A key that is not copied has a reported path, as `IsUnderName` says.
   pub named : IsPermutation (names_of_copy source dest (snapshot old.tree source.key top) steps) names
   pub missed : (x : Key) → snapshot old.tree source.key top x ≢ None → IsMade x steps ⊎ IsUnderName source.key dest.key x names
 
--- ---- where a copy may be made
+-- ---- where a copy is possible
 
--- something is at the source; nothing is at the destination, but above it a directory; the destination is the top one or
--- below it, and the source isn't
+-- The source exists. Nothing exists at the destination, and its parent is a directory. The destination is the top destination or below it, and the
+-- source is neither.
 pub record HasRoom (s top d : Key) (old : Contents) : Type 0 where
   pub source : get old.tree s ≢ None
   pub free : get old.tree d ≡ None

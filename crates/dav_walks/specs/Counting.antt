@@ -1,9 +1,9 @@
--- How many keys stand at or below one: this project's own choice.
+-- How many keys of a list are at or below a key: this project's own choice.
 use Rattle.std.specs.Prelude.{ℕ, ◌+◌, Bool, cond, List, [], ◌∷◌, is_some}
 use Rattle.dav_resource.specs.Key.{Key}
 use Rattle.dav_walks.specs.KeyCall.{path_to}
 
--- the sum over a list
+-- the sum of `f` over a list
 unfoldable pub total : {X : Type 0} → (X → ℕ) → List X → ℕ
 total f [] = 0
 total f (x ∷ xs) = f x + total f xs

@@ -1,4 +1,4 @@
--- The calls of a store on one key each, as a walk makes them, and what stands at keys: this project's own choice.
+-- The calls of a walk, each on one key of a store, and the state of a key: this project's own choice.
 use Rattle.std.specs.Prelude.{Bool, List, [], ◌∷◌, cond, Option, Some, None, bytes_eq, if◌then◌else◌, filter, is_some}
 use Rattle.std.specs.Ordering.{eq_by_cmp}
 use Rattle.std.specs.FinMap.{FinMap, get, keys}
@@ -9,13 +9,13 @@ use Rattle.dav_resource.specs.declared.record.Outcome.{Outcome}
 use Rattle.dav_store.specs.Logged.{Logged, logged}
 use Rattle.dav_store.specs.Store.{Node, Tree, Contents}
 
--- a call, and what came of it
+-- a call on a key, and its outcome
 pub record KeyCall : Type 0 where
   pub key : Key
   pub op : Op
   pub outcome : Outcome
 
--- its record
+-- its record in the store's log
 abbrev pub logged_call : KeyCall → Logged
 logged_call call = logged call.op (call.key ∷ []) call.outcome
 
@@ -27,11 +27,11 @@ abbrev pub calls_at : List KeyCall → Key → List (Op × Outcome)
 calls_at [] key = []
 calls_at (call ∷ calls) key = cond (same_key call.key key) ((call.op, call.outcome) ∷ calls_at calls key) (calls_at calls key)
 
--- what stands at a key, and its properties
+-- the node at a key and its properties, where it has them
 abbrev pub standing : Contents → Key → Option Node × Option (FinMap key_cmp elements.Tree)
 standing contents key = (get contents.tree key, get contents.properties key)
 
--- the path from a key down to another, if there is one
+-- the path from a key down to another, `None` unless the other is that key or below it
 abbrev pub path_to : Key → Key → Option Key
 path_to [] key = Some key
 path_to (segment ∷ above) [] = None

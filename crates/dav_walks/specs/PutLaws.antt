@@ -1,4 +1,4 @@
--- What a map of keys has where something was put, and elsewhere.
+-- What a map of keys holds after one key was set or removed: at that key, and at every other key.
 use Rattle.std.proofs.Common.{◌≡◌, ◌≢◌, ◌∙◌, Bool, true, false, cond, Some, None, Option, ap, refl}
 use Rattle.std.specs.Ordering.{eq_by_cmp}
 use Rattle.std.specs.FinMap.{FinMap, get, insert, get-insert, get-remove}

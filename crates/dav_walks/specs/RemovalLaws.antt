@@ -1,4 +1,4 @@
--- What follows of each deletion, whatever the store refuses.
+-- Consequences for every deletion, whatever the store refuses.
 use Rattle.std.proofs.Common.{◌≡◌, ◌≢◌, ◌∙◌, Bool, true, false, cond, Some, None, List, [], ◌∷◌, ◌++◌, ap, refl, sym, inl, inr, arith}
 use Rattle.std.specs.Ordering.{eq_by_cmp}
 use Rattle.std.specs.FinMap.{FinMap, get, remove, get-remove}
@@ -18,7 +18,7 @@ use Rattle.dav_parts.specs.Multistatus.{Item}
 use Rattle.dav_walks.specs.KeyCall.{standing}
 use Rattle.dav_walks.specs.Deletion.{Removes, RemovesInPart, RemovesAlone, IsLawfulRemoval}
 
--- a map that lost another key
+-- a map without one key holds at every other key what it held before
 kept_elsewhere : {X : Type 0} (m : FinMap key_cmp X) (k q : Key) → q ≢ k → get (remove m k) q ≡ get m q
 kept_elsewhere m k q apart = get-remove key_cmp_total m k q ∙ same (eq_by_cmp key_cmp q k) refl
   where
@@ -43,7 +43,7 @@ alone_within path old new records names r q apart = by_outcome r.outcome r.grant
     by_outcome (Barred e) granted refused = ap (λ c. standing c q) (refused e refl).0
     by_outcome (Refused e) granted refused = ap (λ c. standing c q) (refused e refl).0
 
--- nothing was called yet
+-- a deletion that has made no call yet is lawful
 none_lawful : (p : Key) (old : Contents) → IsLawfulRemoval p old old []
 none_lawful p old = record {
   within = λ call i. absurd i;
@@ -69,14 +69,14 @@ nothing_removed One path old = ([], refl, none_lawful path.key old)
 nothing_removed Infinity path old = ([], refl, none_lawful path.key old)
 nothing_removed Default path old = ([], refl, none_lawful path.key old)
 
--- a deletion is one that might have been broken off at its end
+-- a deletion that came to its end is one that may be incomplete
 pub whole_in_part : (depth : Depth) (path : PathValue) (old new : Contents) (records : List Logged) (names : List Item) → Removes depth path old new records names → RemovesInPart depth path old new records
 whole_in_part Zero path old new records names r = inr (names, r)
 whole_in_part One path old new records names r = (r.0, r.1, r.2.lawful)
 whole_in_part Infinity path old new records names r = (r.0, r.1, r.2.lawful)
 whole_in_part Default path old new records names r = (r.0, r.1, r.2.lawful)
 
--- nothing changes but at the path and below it
+-- nothing changes except at the path and below it
 pub removes_within : (depth : Depth) (path : PathValue) (old new : Contents) (records : List Logged) → RemovesInPart depth path old new records → (q : Key) → ((x : Key) → q ≢ path.key ++ x) → standing new q ≡ standing old q
 removes_within Zero path old new records (inl none) q apart = ap (λ c. standing c q) none.1
 removes_within Zero path old new records (inr alone) q apart = alone_within path old new records alone.0 alone.1 q apart

@@ -1,4 +1,4 @@
--- A deletion, key by key: what was called on each key, and what became of it. It says nothing of the order of calls on different keys.
+-- A deletion, key by key: which calls were made on each key, and what became of it. The order of calls on different keys is left open.
 use Rattle.std.specs.Prelude.{◌≡◌, ◌≢◌, ℕ, Bool, true, false, List, [], ◌∷◌, ◌++◌, Option, Some, None, map, IsPermutation}
 use Rattle.std.specs.FinMap.{get}
 use Rattle.dav_resource.specs.Key.{Key}
@@ -16,45 +16,45 @@ use Rattle.dav_parts.specs.Multistatus.{Item}
 use Rattle.dav_walks.specs.KeyCall.{KeyCall, logged_call, standing}
 use Rattle.dav_walks.specs.Deletion.{Calls, Look, look_below, calls_below, under, WasRefused, named_in, IsRootRemoval, NothingRemoved, AreSomeOf, Deletes}
 
--- a file, or a directory
+-- the node is a file, or a directory
 abbrev pub HasKind : Bool → Option Node → Type 0
 HasKind false node = (bytes : List ℕ) × (node ≡ Some (File bytes))
 HasKind true node = node ≡ Some Directory
 
--- nothing was called on the key, and it is as it was
+-- no call was made on the key, and its node is unchanged
 pub record IsUntouched (old new : Look) (calls : Calls) (x : Key) : Type 0 where
   pub uncalled : calls x ≡ []
   pub same : new x ≡ old x
 
--- the same of all that is strictly below
+-- the same for every key strictly below
 abbrev pub IsUntouchedBelow : Look → Look → Calls → Type 0
 IsUntouchedBelow old new calls = (name : List ℕ) (x : Key) → IsUntouched old new calls (name ∷ x)
 
--- what a removal leaves
+-- the node after a removal with this outcome
 abbrev pub Leaves : Outcome → Option Node → Option Node → Type 0
 Leaves Granted old new = new ≡ None
 Leaves (Barred e) old new = new ≡ old
 Leaves (Refused e) old new = new ≡ old
 
--- some call on the key or below it was refused
+-- something on the key or below it was not granted (a call, or a member that the store did not list)
 abbrev pub IsRefusedWithin : Calls → Type 0
 IsRefusedWithin calls = (x : Key) × (c : Op × Outcome) × IsIn c (calls x) × WasRefused c.1
 
--- each call strictly below was granted
+-- everything strictly below was granted
 abbrev pub IsGrantedBelow : Calls → Type 0
 IsGrantedBelow calls = (name : List ℕ) (x : Key) (c : Op × Outcome) → IsIn c (calls (name ∷ x)) → c.1 ≡ Granted
 
 pub data Walked : Look → Look → Calls → Type 0 where
-  -- nothing was there
+  -- no node was at the key or below it
   absent : {old new : Look} {calls : Calls} → ((x : Key) → old x ≡ None) → ((x : Key) → IsUntouched old new calls x) → Walked old new calls
-  -- its parent's listing didn't show it
+  -- the store did not list it in its directory
   unseen : {old new : Look} {calls : Calls} (e : FsError) → old [] ≢ None → calls [] ≡ (Entry, Refused e) ∷ [] → new [] ≡ old [] → IsUntouchedBelow old new calls → Walked old new calls
   file : {old new : Look} {calls : Calls} (outcome : Outcome) → HasKind false (old []) → calls [] ≡ (RemoveFile, outcome) ∷ [] → Leaves outcome (old []) (new []) → ((name : List ℕ) (x : Key) → old (name ∷ x) ≡ None) → IsUntouchedBelow old new calls → Walked old new calls
-  -- a directory whose listing was refused
+  -- a directory whose listing was not granted
   unlisted : {old new : Look} {calls : Calls} (outcome : Outcome) → WasRefused outcome → old [] ≡ Some Directory → calls [] ≡ (ReadDir, outcome) ∷ [] → new [] ≡ old [] → IsUntouchedBelow old new calls → Walked old new calls
-  -- a directory in which something was refused
+  -- a listed directory below which something was not granted: its removal is not called
   kept : {old new : Look} {calls : Calls} → old [] ≡ Some Directory → calls [] ≡ (ReadDir, Granted) ∷ [] → new [] ≡ old [] → IsRefusedWithin calls → ((name : List ℕ) → Walked (under old name) (under new name) (under calls name)) → Walked old new calls
-  -- a directory in which nothing was refused
+  -- a listed directory below which everything was granted: its removal is called
   emptied : {old new : Look} {calls : Calls} (outcome : Outcome) → old [] ≡ Some Directory → calls [] ≡ (ReadDir, Granted) ∷ (RemoveDir, outcome) ∷ [] → Leaves outcome (old []) (new []) → IsGrantedBelow calls → ((name : List ℕ) → Walked (under old name) (under new name) (under calls name)) → Walked old new calls
 
 abbrev pub AllGranted : List KeyCall → Type 0
@@ -63,13 +63,15 @@ AllGranted calls = (call : KeyCall) → IsIn call calls → call.outcome ≡ Gra
 abbrev pub SomeRefused : List KeyCall → Type 0
 SomeRefused calls = (call : KeyCall) × IsIn call calls × WasRefused call.outcome
 
--- what stands afterwards stood there before, with its properties; where nothing stands there are none
+-- A node that is there afterwards was there before, with the same properties. Where there is no node there are no properties. The quota keeps its
+-- limit.
 pub record IsKept (old new : Contents) : Type 0 where
   pub there : (key : Key) → get new.tree key ≢ None → standing new key ≡ standing old key
   pub gone : (key : Key) → get new.tree key ≡ None → get new.properties key ≡ None
   pub limit : limit_of new ≡ limit_of old
 
--- The walk of the key k and all below it, in the deletion of what stands at the path, from the old contents, log and names to the new ones. It is clean where nothing was refused.
+-- The walk of the key k and everything below it, in the deletion of the path, from the old contents, log and reported items to the new ones. It is
+-- clean if everything in it was granted.
 pub record Walks (path : PathValue) (old new : Contents) (before after : List Logged) (had has : List Item) (k : Key) (clean : Bool) : Type 0 where
   pub calls : List KeyCall
   pub log : after ≡ before ++ map logged_call calls
@@ -88,13 +90,13 @@ pub record Walks (path : PathValue) (old new : Contents) (before after : List Lo
   pub refused : clean ≡ false → SomeRefused calls
   pub untouched : NothingRemoved calls → new ≡ old
 
--- a walk that was broken off: of a directory some members are walked, and others wait
+-- a walk that may have been stopped: it is over, or not begun, or a directory is listed and for each member one of these is true
 pub data Partly : Look → Look → Calls → Type 0 where
   over : {old new : Look} {calls : Calls} → Walked old new calls → Partly old new calls
   waiting : {old new : Look} {calls : Calls} → ((x : Key) → IsUntouched old new calls x) → Partly old new calls
   halted : {old new : Look} {calls : Calls} → old [] ≡ Some Directory → calls [] ≡ (ReadDir, Granted) ∷ [] → new [] ≡ old [] → ((name : List ℕ) → Partly (under old name) (under new name) (under calls name)) → Partly old new calls
 
--- the same, from the old contents, log and names to the new ones; some names may be missing
+-- The same, from the old contents, log and reported items to the new ones. Some reported items may be missing.
 pub record Halts (path : PathValue) (old new : Contents) (before after : List Logged) (had has : List Item) (k : Key) : Type 0 where
   pub calls : List KeyCall
   pub log : after ≡ before ++ map logged_call calls
@@ -110,7 +112,7 @@ pub record Halts (path : PathValue) (old new : Contents) (before after : List Lo
   pub some : AreSomeOf names (named_in path calls)
   pub untouched : NothingRemoved calls → new ≡ old
 
--- the walk of the path's key and of all below it, said of sets: what it calls, leaves and names
+-- the walk of the path's key and everything below it, stated by sets: what it calls, leaves and reports
 pub record WalksWhole (path : PathValue) (old new : Contents) (before after : List Logged) (had has : List Item) (clean : Bool) : Type 0 where
   pub calls : List KeyCall
   pub log : after ≡ before ++ map logged_call calls

@@ -1,4 +1,4 @@
-//! The steps of a copy by a list of directories.
+//! The steps of a recursive copy that keeps a list of open directories.
 ghost use Rattle.std.specs.Prelude.{◌≡◌, ◌<◌, length, Ok, Some, IfOk, IfErr, OnErr};
 ghost use Rattle.dav_resource.specs.PathText.{IsSegment};
 ghost use Rattle.dav_store.specs.Calls.{metadata_call, create_dir_call};
@@ -17,15 +17,16 @@ use dav_store::GuardedFileSystem;
 pub(crate) struct CopyFrame {
     /// The directory's path.
     pub(crate) source: DavPath,
-    /// The path of its copy.
+    /// The path that it is copied to.
     pub(crate) dest: DavPath,
-    /// What its listing showed.
+    /// The entries of its listing.
     pub(crate) listing: Vec<FsResult<DirEntry>>,
-    /// The place in the listing that is next.
+    /// The index in the listing of the next entry.
     pub(crate) next: usize,
 }
 
-/// Looks at a path, and names it where that is refused: then there is no answer. The only error is `Memory`.
+/// Looks up the metadata of a path. If the lookup fails, adds a status for the path and returns `None`. The
+/// only error is `Memory`, and then no status was added.
 pub(crate) fn look<C, F: GuardedFileSystem<C>>(
     fs: &mut F,
     credentials: &C,
@@ -48,8 +49,8 @@ pub(crate) fn look<C, F: GuardedFileSystem<C>>(
     }
 }
 
-/// Copies a file to its place, and names the file where that is refused. Whether it was granted. The only error is
-/// `Memory`.
+/// Copies a file to its destination, and adds a status for the source if that fails. Returns whether it was
+/// copied. The only error is `Memory`, and then no status was added.
 pub(crate) fn copy_file<C, F: GuardedFileSystem<C>>(
     fs: &mut F,
     credentials: &C,
@@ -73,8 +74,8 @@ pub(crate) fn copy_file<C, F: GuardedFileSystem<C>>(
     }
 }
 
-/// Makes the directory of a copy, and names it where that is refused. Whether it was granted. The only error is
-/// `Memory`.
+/// Makes the destination of a directory, and adds a status for the destination if that fails. Returns whether
+/// it was made. The only error is `Memory`, and then no status was added.
 fn make_directory<C, F: GuardedFileSystem<C>>(
     fs: &mut F,
     credentials: &C,
@@ -97,8 +98,8 @@ fn make_directory<C, F: GuardedFileSystem<C>>(
     }
 }
 
-/// Lists a directory whose copy was made, and names it where that is refused: then there is no answer. The only error
-/// is `Memory`.
+/// Lists a directory whose copy was made. If the listing fails, adds a status for the directory and returns
+/// `None`. The only error is `Memory`, and then no status was added.
 fn open_directory<C, F: GuardedFileSystem<C>>(
     fs: &mut F,
     credentials: &C,
@@ -127,8 +128,9 @@ fn open_directory<C, F: GuardedFileSystem<C>>(
     }
 }
 
-/// Begins the copy of a path: copies a file, or makes a directory and lists its source, or else names what was
-/// refused. A directory that was opened is the answer. The only error is `Memory`.
+/// Begins the copy of a path. It looks up the path, then copies a file, or makes the destination of a
+/// directory and lists the directory. The first call that fails ends this, and adds a status. A directory
+/// that was opened is returned. The only error is `Memory`, and then no status was added.
 pub(crate) fn enter_copy<C, F: GuardedFileSystem<C>>(
     fs: &mut F,
     credentials: &C,
@@ -156,9 +158,10 @@ pub(crate) fn enter_copy<C, F: GuardedFileSystem<C>>(
     open_directory(fs, credentials, res, source, dest)
 }
 
-/// Goes on with a directory's next member: one that isn't shown names the directory and ends its copy, the top
-/// destination is passed over, each other is entered. A directory that was opened is the answer. The only error is
-/// `Memory`.
+/// Visits the next member of a directory. A member that the store does not list adds a status for the
+/// directory and ends its copy: the members after it are not visited. The top destination is skipped. Every
+/// other member is entered, and a directory opened by that is returned. The only error is `Memory`, and then
+/// no status was added.
 pub(crate) fn visit_member<C, F: GuardedFileSystem<C>>(
     fs: &mut F,
     credentials: &C,

@@ -1,4 +1,4 @@
-//! The copy of a resource and of all below it.
+//! Copying of a resource and everything below it.
 ghost use Rattle.std.specs.Prelude.{◌≡◌, ◌≢◌, IfErr, IfOk, OnOk, OnErr, Ok};
 ghost use Rattle.dav_resource.specs.Key.{Key};
 ghost use Rattle.dav_resource.specs.declared.request.Depth.TheVariants.{Zero, Infinity};
@@ -12,13 +12,23 @@ use dav_resource::{DavError, DavPath, DavResult, Depth, FsError};
 use dav_store::GuardedFileSystem;
 use std::alloc::Global;
 
-/// Copies what stands at `source` and, but for Depth 0, all that is below it, to `dest` (RFC 4918, section 9.8), as far
-/// as the store lets it, and adds a status for each refusal. Each other Depth is taken as infinity. What stands at
-/// `topdest` or below it isn't copied; where that is the source itself, nothing is done.
+/// Copies the resource at `source` and, unless Depth is 0, everything below it, to `dest` (RFC 4918, section
+/// 9.8). Every Depth other than 0 is treated as infinity, and then `topdest` and everything below it are left
+/// out. If `source` and `topdest` have the same key, nothing is done.
 ///
-/// Errors: `Status` of the first refusal, where one was added; `Memory`. After each of them a part of the copy stands,
-/// and nothing else has changed; after `Memory` statuses may be missing, but each that was added is a refusal's, and
-/// with Depth 0 none was added and nothing has changed.
+/// It continues after a failure. It adds a status to `res` for each call that fails. The status is added at
+/// the destination if a directory could not be made, else at the resource's own path. With Depth 0, a
+/// directory whose destination already exists adds none. A member that the store does not list adds one for
+/// its directory, once, and ends the copying of that directory: members before it in the listing are copied,
+/// members after it are not.
+///
+/// With Depth infinity, unless memory runs out, every resource that should have been copied and was not has a
+/// status: at its path, at its destination, or at a path above one of these, up to `source` or `dest`.
+///
+/// Errors: `Status` with the first status added, if any was added, or `Memory` if memory runs out. After an
+/// error a part of the copy may exist, and nothing else has changed. With Depth 0 nothing has changed. After
+/// `Memory` statuses may be missing, each status that was added is that of a failure, and with Depth 0 none
+/// was added.
 pub fn do_copy<C, F: GuardedFileSystem<C>>(
     alloc: Global,
     fs: &mut F,
@@ -44,8 +54,8 @@ pub fn do_copy<C, F: GuardedFileSystem<C>>(
     }
 }
 
-/// Copies what stands at a path and, but for Depth 0, all that is below it, and names each refusal. The only error is
-/// `Memory`.
+/// Copies the resource at a path and, unless Depth is 0, everything below it, and adds the statuses of
+/// failures. The only error is `Memory`.
 fn copy_to_depth<C, F: GuardedFileSystem<C>>(
     alloc: Global,
     fs: &mut F,
@@ -69,8 +79,8 @@ fn copy_to_depth<C, F: GuardedFileSystem<C>>(
     }
 }
 
-/// Copies what stands at a path alone, and names each refusal; a directory that is there already is none. The only error
-/// is `Memory`.
+/// Copies only the resource at a path, and adds a status if a call fails. A directory whose destination
+/// already exists is neither made nor reported. The only error is `Memory`.
 fn copy_alone<C, F: GuardedFileSystem<C>>(
     fs: &mut F,
     credentials: &C,
@@ -103,8 +113,8 @@ fn copy_alone<C, F: GuardedFileSystem<C>>(
     }
 }
 
-/// Copies what stands at a path and all below it, and names each refusal, by a list of the directories that are being
-/// copied. The only error is `Memory`.
+/// Copies the resource at a path and everything below it, and adds the statuses of failures. It keeps a list
+/// of the open directories instead of recursing. The only error is `Memory`.
 fn copy_tree<C, F: GuardedFileSystem<C>>(
     alloc: Global,
     fs: &mut F,

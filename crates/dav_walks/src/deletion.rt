@@ -1,4 +1,4 @@
-//! The deletion of a resource and of all below it.
+//! Deletion of a resource and everything below it.
 ghost use Rattle.std.specs.Prelude.{◌≡◌, IfOk, IfErr, OnOk, OnErr, Some};
 ghost use Rattle.std.specs.FinMap.{get};
 ghost use Rattle.dav_resource.specs.declared.request.Depth.TheVariants.{Infinity};
@@ -12,14 +12,15 @@ use dav_resource::{DavError, DavPath, DavResult, Depth, Meta};
 use dav_store::GuardedFileSystem;
 use std::alloc::Global;
 
-/// Removes what stands at a path and, but for Depth 0, all that is below it (RFC 4918, section 9.6), as far
-/// as the store lets it, and adds a status for each refusal. Each other Depth is taken as infinity. `meta`
-/// is the path's own metadata.
+/// Deletes the resource at a path and, unless Depth is 0, everything below it (RFC 4918, section 9.6). It
+/// continues after a failure. It adds a status to `res` for each call that fails, and for each member that
+/// the store does not list. Every Depth other than 0 is treated as infinity. `meta` is the metadata of the
+/// path.
 ///
-/// Errors: `Status` of the first refusal, where one was added; `Memory`. After each of them every resource
-/// at the path or below it stands as it did or is gone, and nothing else has changed; after `Memory`
-/// statuses may be missing, but each that was added is a refusal's, and with Depth 0 none was added and
-/// nothing has changed.
+/// Errors: `Status` with the first status added, if any was added, or `Memory` if memory runs out. After an
+/// error each resource at or below the path is unchanged or removed, and nothing else has changed. With Depth
+/// 0 nothing has changed. After `Memory` statuses may be missing, each status that was added is that of a
+/// failure, and with Depth 0 none was added.
 pub fn delete_items<C, F: GuardedFileSystem<C>>(
     alloc: Global,
     fs: &mut F,
@@ -40,8 +41,8 @@ pub fn delete_items<C, F: GuardedFileSystem<C>>(
     }
 }
 
-/// Removes what stands at a path and, but for Depth 0, all that is below it, and names each refusal. The
-/// only error is `Memory`.
+/// Deletes the resource at a path and, unless Depth is 0, everything below it. Adds a status for each
+/// failure. The only error is `Memory`.
 fn delete_to_depth<C, F: GuardedFileSystem<C>>(
     alloc: Global,
     fs: &mut F,
@@ -67,8 +68,8 @@ fn delete_to_depth<C, F: GuardedFileSystem<C>>(
     }
 }
 
-/// Removes what stands at a path and all below it, and names each refusal, by a list of the directories
-/// that are being walked. The only error is `Memory`.
+/// Deletes the resource at a path and everything below it, and adds a status for each failure. It keeps a
+/// list of the open directories instead of recursing. The only error is `Memory`.
 fn delete_tree<C, F: GuardedFileSystem<C>>(
     alloc: Global,
     fs: &mut F,

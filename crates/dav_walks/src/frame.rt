@@ -1,4 +1,4 @@
-//! The steps of a walk by a list of directories.
+//! The steps of a recursive deletion that keeps a list of open directories.
 ghost use Rattle.std.specs.Prelude.{◌≡◌, ◌<◌, true, length, Ok, IfOk, IfErr, OnErr};
 ghost use Rattle.dav_resource.specs.PathText.{IsSegment};
 ghost use Rattle.dav_walks.specs.Frames.{RemovesOne, Enters, IsNext, Visits, Closes, IsCut, IsCutNext, removal_by, entering_call, path_of_entry};
@@ -8,29 +8,29 @@ use dav_resource::{DavError, DavPath, DavResult, DirEntry, FsError, FsResult};
 use dav_store::GuardedFileSystem;
 use std::alloc::AllocError;
 
-/// A directory that is being walked, and how far the walk has come.
+/// A directory whose members are being deleted, and how far the walk has come.
 #[derive(Debug, Drop)]
 pub(crate) struct Frame {
     /// The directory's path.
     pub(crate) path: DavPath,
-    /// What its listing showed.
+    /// The entries of its listing.
     pub(crate) listing: Vec<FsResult<DirEntry>>,
-    /// The place in the listing that is next.
+    /// The index in the listing of the next entry.
     pub(crate) next: usize,
-    /// Nothing in it was refused so far.
+    /// Whether nothing in the directory has failed so far.
     pub(crate) clean: bool,
 }
 
-/// What came of a path: its walk is over, and whether nothing was refused in it, or is that of a
-/// directory's members.
+/// The result of entering a path. `Over`: its walk is finished, with whether nothing in it failed. `Opened`:
+/// a directory was listed, and its members come next.
 #[derive(Debug, Drop)]
 pub(crate) enum Entered {
     Over(bool),
     Opened(Frame),
 }
 
-/// Makes the call that removes a directory, or that which removes a file, and names the path where it is
-/// refused. Whether it was granted. The only error is `Memory`.
+/// Removes a directory (`dir`) or a file, and adds a status for the path if the call fails. Returns whether
+/// it was removed. The only error is `Memory`, and then no status was added.
 pub(crate) fn remove<C, F: GuardedFileSystem<C>>(
     fs: &mut F,
     credentials: &C,
@@ -59,8 +59,8 @@ pub(crate) fn remove<C, F: GuardedFileSystem<C>>(
     }
 }
 
-/// Begins the walk of a path: removes a file, or lists a directory, or else names it. The only error is
-/// `Memory`.
+/// Begins the deletion of a path: lists a directory (`dir`), or removes a file. If the call fails, it adds a
+/// status for the path. The only error is `Memory`, and then no status was added.
 pub(crate) fn enter<C, F: GuardedFileSystem<C>>(
     fs: &mut F,
     credentials: &C,
@@ -92,8 +92,9 @@ pub(crate) fn enter<C, F: GuardedFileSystem<C>>(
     }
 }
 
-/// Goes on with a directory's next entry: a member that isn't shown names the directory, each other is
-/// entered. A directory that was opened is the answer. The only error is `Memory`.
+/// Visits the next entry of a directory. A member that the store does not list adds a status for the
+/// directory. Every other member is entered, and a directory opened by that is returned. The only error is
+/// `Memory`, and then no status was added.
 pub(crate) fn visit<C, F: GuardedFileSystem<C>>(
     fs: &mut F,
     credentials: &C,
@@ -130,8 +131,9 @@ pub(crate) fn visit<C, F: GuardedFileSystem<C>>(
     }
 }
 
-/// Removes a directory whose members were walked, where nothing in it was refused. Whether it was removed.
-/// The only error is `Memory`.
+/// Removes a directory whose members were visited, unless something in it failed. Adds a status for the
+/// directory if the removal fails. Returns whether it was removed. The only error is `Memory`, and then no
+/// status was added.
 pub(crate) fn close<C, F: GuardedFileSystem<C>>(
     fs: &mut F,
     credentials: &C,
@@ -151,7 +153,8 @@ pub(crate) fn close<C, F: GuardedFileSystem<C>>(
     remove(fs, credentials, res, true, &frame.path)
 }
 
-/// The path of a directory's member, with a slash for a directory. Only memory can be lacking.
+/// Returns the path of a directory's member, with a trailing slash for a directory. Fails only if memory runs
+/// out.
 pub(crate) fn member_path(directory: &DavPath, entry: &DirEntry) -> Result<DavPath, AllocError>
     requires { IsSegment entry.now.name }
     ensures { IfOk result (λ path. path ≡ path_of_entry directory.now entry.now) }

@@ -1,4 +1,4 @@
-//! The walks of a tree over a store that may refuse any call.
+//! Recursive deletion and copying over a store that may fail any call.
 #![tactic(auto)]
 
 mod copy_frame;

@@ -1,4 +1,4 @@
-//! The members of directories, which wait to be visited.
+//! A work list of resources that are pending, for visiting the members of directories.
 ghost use Rattle.std.specs.Prelude.{◌≡◌, ◌++◌, ◌∷◌, [], ◌<◌, ◌+◌, Ok, Some, MatchOption, IfSome, IfErr, OnOk, OnErr};
 ghost use Rattle.std.specs.FinMap.{keys};
 ghost use Rattle.dav_resource.specs.PathText.{IsSegment};
@@ -13,16 +13,17 @@ use dav_resource::{DavError, DavPath, DavResult, DirEntry, FsError, FsResult, Me
 use dav_store::GuardedFileSystem;
 use std::alloc::AllocError;
 
-/// A resource that is to be visited.
+/// A resource that is pending.
 #[derive(Drop, Debug)]
 pub struct Resource {
-    /// Its path, with a slash for a directory.
+    /// Its path, with a trailing slash for a directory.
     pub path: DavPath,
-    /// What the store knows of it.
+    /// Its metadata.
     pub meta: Meta,
 }
 
-/// Takes the next of those that wait, where one does.
+/// Removes the next pending resource, the last of the list, and returns it. Returns `None` if none is
+/// pending.
 pub fn take_next(waiting: &mut Vec<Resource>) -> Option<Resource>
     ensures turn { MatchOption result (in_turn waiting.old.items ≡ []) (λ r. in_turn waiting.old.items ≡ r ∷ in_turn waiting.new.items) }
     ensures counted { (contents : Contents) → IsWellFormed contents → AreThere contents waiting.old.items → IfSome result (λ r. 0 < count_below r.path.key (keys contents.tree)) }
@@ -32,10 +33,10 @@ pub fn take_next(waiting: &mut Vec<Resource>) -> Option<Resource>
     waiting.pop()
 }
 
-/// Lists a directory, and has its members wait: the last of those that wait is then the first of the listing. A listing
-/// that the store refuses is passed over, and so is a member that it doesn't show.
+/// Lists a directory and adds its members to the pending resources. They come before the others, in the order
+/// of the listing. If the listing fails, nothing is added. A member that the store does not list is skipped.
 ///
-/// The only error is `Memory`, and then only the log may have changed.
+/// The only error is `Memory`. Then nothing of the store has changed except the log, but `waiting` may have.
 pub fn add_members<C, F: GuardedFileSystem<C>>(
     fs: &mut F,
     credentials: &C,
@@ -57,7 +58,7 @@ pub fn add_members<C, F: GuardedFileSystem<C>>(
     }
 }
 
-/// Has the members that a listing shows wait. Only memory can be lacking.
+/// Adds the members in a listing to the pending resources. Fails only if memory runs out.
 fn push_members(
     directory: &DavPath,
     mut listing: Vec<FsResult<DirEntry>>,
@@ -72,7 +73,7 @@ fn push_members(
     Ok(())
 }
 
-/// Has a member wait, where it is shown. Only memory can be lacking.
+/// Adds a member to the pending resources, if the store lists it. Fails only if memory runs out.
 fn push_shown(
     directory: &DavPath,
     shown: FsResult<DirEntry>,
