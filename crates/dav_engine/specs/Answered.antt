@@ -1,15 +1,15 @@
--- Which reply a dialogue ends in.
+-- The result in which a dialogue ends.
 use Rattle.std.specs.Prelude.{◌≡◌, List, [], Ok, Err}
 use Rattle.dav_store.specs.Logged.{Logged}
 use Rattle.dav_parts.specs.Dialogue.{Dialogue, Passed, Refuses, LeadsTo}
 use Rattle.dav_parts.specs.Reply.{Reply, Answer}
 
--- over these records the dialogue ends in this answer; a value may be told by several replies
+-- over these records the dialogue passes a value, and `Tells` allows this response for it; or it rejects the request with this error
 abbrev pub IsAnswered : {A : Type 0} → Dialogue A → (A → Reply → Type 0) → List Logged → Answer → Type 0
 IsAnswered {A} dialogue Tells records (Ok reply) = (a : A) × LeadsTo dialogue records (Passed a) × Tells a reply
 IsAnswered dialogue Tells records (Err e) = LeadsTo dialogue records (Refuses (Err e))
 
--- memory ran out before any call of the work
+-- work that stopped before its first call: no records, and nothing changes
 pub record Unbegun {A : Type 0} (old : A) (records : List Logged) (new : A) : Type 0 where
   pub none : records ≡ []
   pub same : new ≡ old

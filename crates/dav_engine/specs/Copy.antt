@@ -1,4 +1,4 @@
--- COPY (RFC 4918, section 9.8): makes a duplicate of a resource, of Depth infinity with all below it.
+-- COPY (RFC 4918, section 9.8): copies a resource and, with Depth infinity, everything below it.
 use Rattle.std.specs.Prelude.{◌≡◌, ◌≢◌, true, false, not, ◌||◌, if◌then◌else◌, List, Option, Some, None, is_some}
 use Rattle.std.specs.FinMap.{get}
 use Rattle.dav_resource.specs.Key.{Key, parent}
@@ -17,12 +17,12 @@ use Rattle.dav_engine.specs.Rules.{depth_or_all, is_directory}
 use Rattle.dav_engine.specs.Transferring.{is_deep, Replaces, ReplacesInPart, source_path, TransferWork}
 use Rattle.dav_engine.specs.declared.transfer.Transfer.{Transfer}
 
--- what is removed first: all that is at the destination, but of Depth 0 no directory, as that may stay
+-- what is removed first: everything at the destination, but with Depth 0 no directory, which may stay
 abbrev pub replaced : Depth → Option Meta → Option Meta
 replaced depth there = if is_deep depth || not (is_directory there) then there else None
 
--- what the rules have seen to: the source is there and isn't the destination nor, with all below it, below that; a directory is
--- above the destination, and what stands there is known
+-- What the rules have established: the source exists, and is not the destination nor, unless Depth is 0, below it. The parent of the destination is a
+-- directory, and `there` is the metadata of the destination, if something exists there.
 pub record MayCopy (depth : Depth) (source : Key) (found : Transfer) (contents : Contents) : Type 0 where
   pub source_there : contents.metas source ≡ Some found.meta
   pub other : source ≢ found.destination.key
@@ -30,28 +30,28 @@ pub record MayCopy (depth : Depth) (source : Key) (found : Transfer) (contents :
   pub above : get contents.tree (parent found.destination.key) ≡ Some Directory
   pub known : contents.metas found.destination.key ≡ found.there
 
--- the source is copied, as far as the store lets it; no lock changes
+-- the source is copied, as far as the store allows, and no lock changes
 pub record CopiesSource (depth : Depth) (source destination : PathValue) (old : State) (records : List Logged) (names : List Item) (new : State) : Type 0 where
   pub copied : CopiesAll depth source destination destination.key old.contents new.contents records names
   pub locks : LocksStay old new
 
--- memory ran out in it: what was copied stays so
+-- memory ran out in the copy: what was copied stays, and no lock changes
 pub record CopiesSourceInPart (depth : Depth) (source destination : PathValue) (old : State) (records : List Logged) (new : State) : Type 0 where
   pub copied : CopiesInPart depth source destination destination.key old.contents new.contents records
   pub locks : LocksStay old new
 
--- what stands at the destination is removed, and the source is copied there
+-- what exists at the destination is removed (`replaced`); if no failure was reported, the source is copied there
 abbrev pub Copies : Depth → PathValue → Transfer → State → List Logged → List Item → State → Type 0
 Copies depth source found = Replaces (CopiesSource depth source found.destination) (is_some (replaced depth found.there)) found.destination
 
--- memory ran out on the way: in the removal at the destination, or in the copy
+-- memory ran out in the removal at the destination, or in the copy
 abbrev pub CopiesSoFar : Depth → PathValue → Transfer → State → List Logged → State → Type 0
 CopiesSoFar depth source found = ReplacesInPart (CopiesSourceInPart depth source found.destination) (is_some (replaced depth found.there)) found.destination
 
--- the source is copied, as far as the store lets it, and each refusal is named
+-- what exists at the destination is removed and the source is copied, as far as the store allows (`Copies`), and the result reports the failures
 abbrev pub CopyWork : DavRequest → Transfer → State → List Logged → Answer → State → Type 0
 CopyWork request found = TransferWork (Copies (depth_or_all request) (source_path request found) found) (source_path request found) found.there
 
--- memory ran out on the way, or behind it
+-- what a COPY leaves when memory runs out
 abbrev pub CopyCut : DavRequest → Transfer → State → List Logged → State → Type 0
 CopyCut request found = CopiesSoFar (depth_or_all request) (source_path request found) found

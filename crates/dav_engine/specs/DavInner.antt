@@ -1,4 +1,4 @@
--- What a contract sees of an engine: the store and the lock system that were lent to it, and what it was made with.
+-- What a contract sees of an engine: the store and the lock system that it borrows, and what it was created with.
 use Rattle.std.specs.Prelude.{ℕ, List, Option, option_map, string_bytes}
 use Rattle.std.specs.Borrow.{GName}
 use Rattle.dav_resource.specs.declared.method.DavMethodSet.{DavMethodSet}
@@ -9,34 +9,34 @@ use Rattle.dav_engine.specs.State.{State, Seen, state_of}
 use Rattle.dav_engine.specs.declared.inner.DavInner.{DavInner}
 
 module _ {C F L : Type 0} where
-  -- the store that it borrows, as it is now
+  -- the store that the engine borrows, in its present state
   abbrev pub lent : DavInner C F L → F
   lent engine = engine.fs.now
 
-  -- the lock system that it borrows, where there is one
+  -- the lock system that it borrows, if there is one
   abbrev pub lent_locks : DavInner C F L → Option L
   lent_locks engine = option_map (λ ls. ls.now) engine.ls
 
-  -- which borrows they are
+  -- which borrows these are
   abbrev pub loans : DavInner C F L → GName × Option GName
   loans engine = (engine.fs.ghost_name, option_map (λ ls. ls.ghost_name) engine.ls)
 
-  -- the prefix of its paths, the methods that are let, and what the store knows the caller by
+  -- the prefix of its paths, the enabled methods, and the credentials of the caller for the store
   abbrev pub made_with : DavInner C F L → List ℕ × Option DavMethodSet × C
   made_with engine = (string_bytes engine.prefix, engine.allow, engine.credentials)
 
-  -- what no call changes of the engine itself: its loans, and what it was made with
+  -- what no call changes of the engine itself: which borrows it has, and what it was created with
   abbrev pub frame : DavInner C F L → (GName × Option GName) × (List ℕ × Option DavMethodSet × C)
   frame engine = (loans engine, made_with engine)
 
-  -- both, by what contracts see of each
+  -- the store and the lock system, as contracts see them
   abbrev pub seen_by : (F → Store) → (L → Locks) → DavInner C F L → Seen
   seen_by see_store see_locks engine = record { store = see_store (lent engine); locks = option_map see_locks (lent_locks engine) }
 
-  -- the state that they are in
+  -- the state of both
   abbrev pub state_by : (F → Store) → (L → Locks) → DavInner C F L → State
   state_by see_store see_locks engine = state_of (seen_by see_store see_locks engine)
 
-  -- what no request changes
+  -- the settings, which no request changes
   abbrev pub settings_by : (F → Store) → DavInner C F L → Settings
   settings_by see_store engine = record { prefix = string_bytes engine.prefix; allow = engine.allow; keeps_properties = (see_store (lent engine)).keeps_properties }

@@ -1,4 +1,4 @@
--- DELETE (RFC 4918, section 9.6): removes a resource, and all below it.
+-- DELETE (RFC 4918, section 9.6): removes a resource and everything below it.
 use Rattle.std.specs.Prelude.{◌≡◌, ◌⊎◌, true, List, [], ◌∷◌, Some}
 use Rattle.dav_resource.specs.PathText.{PathValue}
 use Rattle.dav_resource.specs.declared.meta.Meta.{Meta}
@@ -13,7 +13,7 @@ use Rattle.dav_engine.specs.Rules.{judged, must_find, own_conditions, is_permitt
 
 -- ---- the rules
 
--- the depth, a look at the path, the conditions, and the locks at the path and below it
+-- in order: the Depth, a lookup of the path that must succeed, the conditions, and the locks that cover the path or are below it (423)
 abbrev pub delete_rules : DavRequest → State → Dialogue Meta
 delete_rules request state =
     judged (depth_verdict (depth_or_all request)) >>= λ _.
@@ -23,24 +23,26 @@ delete_rules request state =
 
 -- ---- the work
 
--- what is told: the names, or that all is gone
+-- what the result reports: the reported failures or, if there are none, 204 for the path
 abbrev pub told_items : PathValue → List Item → List Item
 told_items path [] = (path, 204) ∷ []
 told_items path (item ∷ names) = item ∷ names
 
--- the locks at the path and below it are dropped exactly where nothing is named
+-- if no failure is reported, the locks at or below the path are removed (`DropsLocks`); otherwise the locks are unchanged
 abbrev pub LeavesLocks : List Item → PathValue → State → State → Type 0
 LeavesLocks [] path old new = DropsLocks path.key old new
 LeavesLocks (item ∷ names) path old new = LocksStay old new
 
--- what stands at the path is removed, as far as the store lets it, and each refusal is named
+-- The resource and, unless Depth is 0, everything below it are removed as far as the store allows. Each failure is reported with its status. The
+-- locks are as in `LeavesLocks`.
 pub record DeleteWork (request : DavRequest) (meta : Meta) (old : State) (records : List Logged) (answer : Answer) (new : State) : Type 0 where
   pub names : List Item
   pub removed : Removes (depth_or_all request) (fixed_path request.path (Some meta)) old.contents new.contents records names
   pub locks : LeavesLocks names request.path old new
   pub answered : answer ≡ multi_answer (fixed_path request.path (Some meta)) (told_items (fixed_path request.path (Some meta)) names)
 
--- memory ran out on the way: what was removed stays so, and no lock is dropped before all is gone
+-- Memory ran out: what was removed stays removed. The locks are unchanged; or the whole removal was done without a failure, and the locks at or below
+-- the path are removed too (`DropsLocks`).
 pub record DeleteCut (request : DavRequest) (meta : Meta) (old : State) (records : List Logged) (new : State) : Type 0 where
   pub removed : RemovesInPart (depth_or_all request) (fixed_path request.path (Some meta)) old.contents new.contents records
   pub locks : LocksStay old new ⊎ (Removes (depth_or_all request) (fixed_path request.path (Some meta)) old.contents new.contents records [] × DropsLocks request.path.key old new)

@@ -1,4 +1,4 @@
--- The work of a PROPFIND, from what is seen to what is seen: this project's own choice.
+-- The work of a PROPFIND, from one view of the engine to the next: this project's own choice.
 use Rattle.dav_resource.specs.declared.meta.Meta.{Meta}
 use Rattle.dav_resource.specs.declared.request.DavRequest.{DavRequest}
 use Rattle.dav_parts.specs.Reply.{Answer}
@@ -8,6 +8,6 @@ use Rattle.dav_engine.specs.Settings.{Settings}
 use Rattle.dav_engine.specs.State.{Seen}
 use Rattle.dav_engine.specs.Step.{Performs}
 
--- it is done, or cut short for want of memory
+-- the work is done, or memory ran out in it
 abbrev pub PerformsPropfind : Settings → DavRequest → Meta × Asking → Seen → Answer → Seen → Type 0
 PerformsPropfind settings request found old answer new = Performs (PropfindWork settings request found) (PropfindCut settings request found) old answer new

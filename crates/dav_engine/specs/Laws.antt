@@ -1,4 +1,5 @@
--- What a request changes at the most, and what its answer says, in a user's words: each law follows from the method's definition (RFC 4918, sections 9.1, 9.2, 9.6, 9.7, 9.9, 9.10 and 13).
+-- What a request may change, and what its result says, in a user's terms. Each law follows from the method's definition (RFC 4918, sections 9.1, 9.2,
+-- 9.6, 9.7, 9.9, 9.10 and 13).
 use Rattle.std.specs.Prelude.{◌≡◌, ◌≢◌, ◌⊎◌, ◌||◌, nat_eq, Bool, true, false, List, [], ◌++◌, map, Option, None, option_map, Ok, Err}
 use Rattle.std.specs.FinMap.{get}
 use Rattle.std.specs.List.{list_all}
@@ -41,107 +42,112 @@ use Rattle.dav_engine.specs.State.{State, Seen, LocksStay, DropsLocks}
 
 -- ---- DELETE
 
--- 204, No Content, by a reply or by an error: all was deleted
+-- the status of the response, or of the error, is 204 (No Content)
 abbrev pub IsNoContent : Answer → Type 0
 IsNoContent (Ok reply) = reply.status ≡ 204
 IsNoContent (Err e) = dav_status e ≡ 204
 
--- nothing stands at the path nor, unless Depth is 0, below it
+-- nothing exists at the path and, unless Depth is 0, nothing below it
 pub record IsEmptied (request : DavRequest) (new : State) : Type 0 where
   pub gone : get new.contents.tree request.path.key ≡ None
   pub below : depth_or_all request ≢ Zero → (key : Key) → is_at_or_below key request.path.key ≡ true → get new.contents.tree key ≡ None
 
--- no lock stands at the path or below it
+-- no lock is left whose own path is the request's path or below it; a lock above the path may cover it
 abbrev pub IsUnlocked : DavRequest → State → Type 0
 IsUnlocked request new = ForSome new.locks (λ locks. at_or_below locks request.path.key ≡ [])
 
--- a 204 leaves nothing there and, of a dependable lock system, no lock
+-- after a 204 nothing is left at the path (`IsEmptied`) and, if the lock system is reliable, no lock (`IsUnlocked`)
 abbrev pub EmptiesPath : DavRequest → State → Answer → State → Type 0
 EmptiesPath request old answer new = IsNoContent answer → IsEmptied request new × (old.dependable ≡ true → IsUnlocked request new)
 
--- all is gone, with the locks there and no others, and a 204 tells it, unless memory ran out behind that
+-- Nothing is left at the path (`IsEmptied`), and the locks at or below it are removed, and no others (an unreliable lock system may keep all locks).
+-- The status is 204, or the result is `Memory`.
 pub record IsGoneWithLocks (request : DavRequest) (old : State) (answer : Answer) (new : State) : Type 0 where
   pub told : IsNoContent answer ⊎ (answer ≡ Err Memory)
   pub emptied : IsEmptied request new
   pub locks : DropsLocks request.path.key old new
 
--- no lock changes, unless all is gone
+-- no lock changes, or nothing is left at the path and its locks are removed (`IsGoneWithLocks`)
 abbrev pub KeepsLocksUnlessGone : DavRequest → State → Answer → State → Type 0
 KeepsLocksUnlessGone request old answer new = LocksStay old new ⊎ IsGoneWithLocks request old answer new
 
 -- ---- PUT and PATCH
 
--- at each key but the request's path stands what stood there, and every property is as before
+-- every key except the request's path has the same file or directory as before, and all dead properties are the same
 pub record ChangesPathAlone (request : DavRequest) (old new : State) : Type 0 where
   pub elsewhere : (key : Key) → key ≢ request.path.key → get new.contents.tree key ≡ get old.contents.tree key
   pub properties : new.contents.properties ≡ old.contents.properties
 
 -- ---- MOVE
 
--- the answer of a COPY or a MOVE that did all of it: 201, or 204 where something was at the destination
+-- the result is a response with status 201 or 204
 abbrev pub tells_transferred : Answer → Bool
 tells_transferred (Ok reply) = nat_eq reply.status 201 || nat_eq reply.status 204
 tells_transferred (Err e) = false
 
--- What stood at the path and below it stands where Destination says, with its properties and in the place of all that was there.
--- Nothing is left at the path or below it nor, of a dependable lock system, a lock there, and what stood elsewhere is as it was.
+-- Everything at the path and below it, with its dead properties, is now at the path in `Destination` and below that, in place of everything that was
+-- there. Nothing is left at the path or below it. No other file, directory or dead property changes, nor does the quota's limit. If the lock system
+-- is reliable, no lock is left whose own path is the request's path or below it.
 pub record IsMovedWhole (settings : Settings) (request : DavRequest) (old new : State) : Type 0 where
   pub destination : PathValue
   pub named : destination_of request.headers settings.prefix ≡ Ok destination
   pub renamed : IsRenamedTo request.path.key destination.key old.contents new.contents
   pub unlocked : old.dependable ≡ true → IsUnlocked request new
 
--- a 201 or a 204 tells that
+-- after a 201 or 204 everything has moved (`IsMovedWhole`)
 abbrev pub MovesWhole : Settings → DavRequest → State → Answer → State → Type 0
 MovesWhole settings request old answer new = tells_transferred answer ≡ true → IsMovedWhole settings request old new
 
--- unless the answer tells that, or memory ran out, all at the path and below it is as it was
+-- unless the result is a 201, a 204 or `Memory`, the files, directories and dead properties at the path and below it are unchanged
 abbrev pub KeepsSource : DavRequest → State → Answer → State → Type 0
 KeepsSource request old answer new =
     tells_transferred answer ≡ false → answer ≢ Err Memory → (key : Key) → is_at_or_below key request.path.key ≡ true → standing new.contents key ≡ standing old.contents key
 
--- each has the status of a refusal by the store
+-- each status in the list is the status of some store error
 abbrev pub AreRefusals : List Item → Type 0
 AreRefusals names = (item : Item) → IsIn item names → (e : FsError) × (fs_status e ≡ item.1)
 
--- a 207 names refusals alone
+-- A 207 response is the multistatus of some list in which each status is the status of some store error. It does not say that the log records such an
+-- error.
 abbrev pub NamesRefusals : Answer → Type 0
 NamesRefusals answer = (reply : Reply) → answer ≡ Ok reply → reply.status ≡ 207 → (names : List Item) × (reply ≡ multistatus_reply names) × AreRefusals names
 
 -- ---- LOCK
 
--- the answer of a LOCK that locks: 200, or 201 where it made a file
+-- the result is a response with status 200 or 201
 abbrev pub tells_lock : Answer → Bool
 tells_lock (Ok reply) = nat_eq reply.status 200 || nat_eq reply.status 201
 tells_lock (Err e) = false
 
--- a lock, whatever its timeout
+-- a lock without its timeout
 abbrev pub untimed : DavLock → DavLock
 untimed lock = record lock { timeout = None; timeout_at = None }
 
--- the locks, whatever their timeouts
+-- the locks without their timeouts
 abbrev pub untimed_locks : State → Option (List DavLock)
 untimed_locks state = option_map (map untimed) state.locks
 
--- memory ran out in a refresh: the same locks stand, though a timeout may be another
+-- the request is a refresh, the result is `Memory`, and the locks are the same except for their timeouts
 pub record MayHaveRefreshed (request : DavRequest) (answer : Answer) (old new : State) : Type 0 where
   pub refresh : is_refresh request.body ≡ true
   pub told : answer ≡ Err Memory
   pub same : untimed_locks new ≡ untimed_locks old
 
--- what the store holds is as before, and so are the locks of a dependable lock system, unless memory ran out in a refresh
+-- The contents of the store are unchanged. If the lock system is reliable, the locks are unchanged too, except that after a refresh with the result
+-- `Memory` timeouts may differ.
 pub record MakesNothing (request : DavRequest) (answer : Answer) (old new : State) : Type 0 where
   pub contents : new.contents ≡ old.contents
   pub locks : old.dependable ≡ true → LocksStay old new ⊎ MayHaveRefreshed request answer old new
 
--- a LOCK that isn't answered by 200 or 201 leaves no file and no lock
+-- after any result other than a 200 or 201, no file and, if the lock system is reliable, no lock is created (`MakesNothing`)
 abbrev pub MakesNothingUnlessLocked : DavRequest → Answer → State → State → Type 0
 MakesNothingUnlessLocked request answer old new = tells_lock answer ≡ false → MakesNothing request answer old new
 
 -- ---- COPY
 
--- What stood at the path and below it, but for what was at the destination or below that, stands where Destination says: files with
--- their properties, directories without. Nothing else stands there or below it, and what stood elsewhere is as it was.
+-- Everything that was at the path and below it, except what was at the destination or below that, is now at the path in `Destination` and below that:
+-- files with their bytes and dead properties, directories without properties. Nothing else exists there or below it. No file, directory or dead
+-- property elsewhere changes.
 pub record IsDuplicated (settings : Settings) (request : DavRequest) (old new : State) : Type 0 where
   pub destination : PathValue
   pub named : destination_of request.headers settings.prefix ≡ Ok destination
@@ -149,33 +155,35 @@ pub record IsDuplicated (settings : Settings) (request : DavRequest) (old new : 
   pub nothing_else : (x : Key) → snapshot old.contents.tree request.path.key destination.key x ≡ None → get new.contents.tree (destination.key ++ x) ≡ None
   pub outside : (key : Key) → is_at_or_below key destination.key ≡ false → standing new.contents key ≡ standing old.contents key
 
--- a 201 or a 204 to a COPY of all below the path tells that
+-- after a 201 or 204 to a COPY whose Depth is not 0, everything is copied (`IsDuplicated`)
 abbrev pub DuplicatesWhole : Settings → DavRequest → State → Answer → State → Type 0
 DuplicatesWhole settings request old answer new = tells_transferred answer ≡ true → is_deep (depth_or_all request) ≡ true → IsDuplicated settings request old new
 
 -- ---- PROPPATCH
 
--- no property, nothing else that the store holds, and no lock is another
+-- the contents of the store and the locks are unchanged
 pub record ChangesNothing (old new : State) : Type 0 where
   pub contents : new.contents ≡ old.contents
   pub locks : LocksStay old new
 
--- the dead properties that these changes set or remove are set and removed at the path, in order, and nothing else changes
+-- The dead properties among these changes are set and removed at the path, in order. No other dead property, no file, no directory and no lock
+-- changes.
 pub record AreStored (request : DavRequest) (changes : List Change) (old new : State) : Type 0 where
   pub here : properties_at new.contents request.path.key ≡ patched (patches_of changes) (properties_at old.contents request.path.key)
   pub elsewhere : (key : Key) → key ≢ request.path.key → properties_at new.contents key ≡ properties_at old.contents key
   pub tree : new.contents.tree ≡ old.contents.tree
   pub locks : LocksStay old new
 
--- each property is told with 200
+-- each status is 200
 abbrev pub all_ok : List Told → Bool
 all_ok told = list_all (λ (t : Told). nat_eq t.0 200) told
 
--- the property that an element is: its namespace and its name
+-- the name of an element's property, as a key: its namespace and its local name
 abbrev pub property_of : Tree → Key
 property_of element = property_key element.tag.namespace element.tag.name
 
--- each change that the body asks for is told, once, and where each is told with 200 they are stored; else nothing is
+-- The response reports the property of each change in the body, once for each change, grouped by status. If each status is 200, the changes are
+-- stored (`AreStored`); otherwise nothing changes.
 pub record StoresAllOrNothing (settings : Settings) (request : DavRequest) (old : State) (reply : Reply) (new : State) : Type 0 where
   pub changes : List Change
   pub asked : update_verdict settings.keeps_properties request.body ≡ Ok changes
@@ -185,22 +193,23 @@ pub record StoresAllOrNothing (settings : Settings) (request : DavRequest) (old 
   pub stored : all_ok told ≡ true → AreStored request changes old new
   pub unstored : all_ok told ≡ false → ChangesNothing old new
 
--- a reply tells that
+-- if the result is a response, `StoresAllOrNothing` holds of it
 abbrev pub TellsStored : Settings → DavRequest → State → Answer → State → Type 0
 TellsStored settings request old answer new = (reply : Reply) → answer ≡ Ok reply → StoresAllOrNothing settings request old reply new
 
--- an error changes nothing, unless memory ran out
+-- an error other than `Memory` changes nothing
 abbrev pub KeepsUnlessTold : State → Answer → State → Type 0
 KeepsUnlessTold old answer new = (e : DavError) → answer ≡ Err e → e ≢ Memory → ChangesNothing old new
 
--- a body of whose changes one is refused before the store is asked changes nothing
+-- a body in which some change is rejected before the store is asked (`some_refused`) changes nothing
 abbrev pub StoresNothingBesideRefused : Settings → DavRequest → State → State → Type 0
 StoresNothingBesideRefused settings request old new =
     (changes : List Change) → update_verdict settings.keeps_properties request.body ≡ Ok changes → some_refused changes ≡ true → ChangesNothing old new
 
 -- ---- PROPFIND
 
--- the reply tells these resources, and they are the range of the Depth by the records that the log has gained
+-- The response reports some list of resources. Their keys are the range of the Depth by the records that the log gained (`TellsRange`). It does not
+-- say which properties are reported.
 pub record ShowsRange (request : DavRequest) (old : Seen) (reply : Reply) (new : Seen) : Type 0 where
   pub found : Meta × Asking
   pub visits : List Visit
@@ -209,6 +218,6 @@ pub record ShowsRange (request : DavRequest) (old : Seen) (reply : Reply) (new :
   pub logged : new.store.log ≡ old.store.log ++ records
   pub range : TellsRange old.store.contents (depth_or_default request) request.path.key records (told_keys visits)
 
--- a 207 does
+-- `ShowsRange` holds of each 207 response
 abbrev pub TellsItsRange : DavRequest → Seen → Answer → Seen → Type 0
 TellsItsRange request old answer new = (reply : Reply) → answer ≡ Ok reply → reply.status ≡ 207 → ShowsRange request old reply new

@@ -1,4 +1,4 @@
--- Where a directory is whose path lacks its last slash: what `content-location` tells (RFC 4918, section 5.2; RFC 9110, section 8.7).
+-- The `content-location` of a directory whose path in the request has no trailing slash (RFC 4918, section 5.2; RFC 9110, section 8.7).
 use Rattle.std.specs.Prelude.{◌&&◌, not, if◌then◌else◌, codes, Option, Some, None}
 use Rattle.http_header.specs.HeaderMap.{Entries}
 use Rattle.http_header.specs.FieldValue.{FieldValue, plain_value}
@@ -8,7 +8,7 @@ use Rattle.dav_resource.specs.declared.meta.Meta.{Meta}
 use Rattle.dav_parts.specs.ReplyHeader.{optional_field}
 use Rattle.dav_engine.specs.Rules.{is_directory, fixed_path}
 
--- a directory's path, with its slash and the prefix, where the request's path lacked the slash
+-- the path with the prefix and a trailing slash, if a directory was found and the request's path has no trailing slash and is not the root
 abbrev pub fixed_location : PathValue → Option Meta → Option FieldValue
 fixed_location path found =
     if is_directory found && not (is_collection path) then Some (plain_value (url_text (prefixed (fixed_path path found)))) else None

@@ -1,4 +1,4 @@
--- What the body of a LOCK asks for (RFC 4918, sections 14.11, 14.13, 14.15 and 14.17); its elements are known by their local names alone.
+-- The lock that the body of a LOCK requests (RFC 4918, sections 14.11, 14.13, 14.15 and 14.17). Only the local names of its elements are compared.
 use Rattle.std.specs.Prelude.{ℕ, Bool, false, ◌&&◌, ◌||◌, if◌then◌else◌, List, [], ◌∷◌, codes, Option, Some, None, option_map, Result}
 use Rattle.std.specs.Option.{option_map_or, ok_or}
 use Rattle.std.specs.List.{filter, last_or, list_all, list_any}
@@ -10,12 +10,12 @@ use Rattle.dav_resource.specs.declared.request.ReqBody.TheVariants as bodies
 use Rattle.dav_parts.specs.DavElement.{is_named}
 use Rattle.dav_engine.specs.declared.lock_info.LockInfo.{LockInfo}
 
--- the first of them has this name
+-- the first of these elements has this name
 abbrev pub first_is_named : List ℕ → List Tree → Bool
 first_is_named name [] = false
 first_is_named name (tree ∷ trees) = is_named name tree
 
--- the first element in it has this name
+-- the first child element has this name
 abbrev pub begins_with : List ℕ → Tree → Bool
 begins_with name tree = first_is_named name (elements_of tree.children)
 
@@ -30,26 +30,26 @@ is_write tree = is_named (codes "locktype") tree && begins_with (codes "write") 
 abbrev pub is_part : Tree → Bool
 is_part tree = is_scope tree || is_write tree || is_named (codes "owner") tree
 
--- a scope and a type have to be there, and nothing else than they and an owner may be
+-- a `lockinfo` with at least one scope and at least one type, whose child elements are all scopes, types or owners
 abbrev pub is_lock_info : Tree → Bool
 is_lock_info tree =
     is_named (codes "lockinfo") tree && list_all is_part (elements_of tree.children) && list_any is_scope (elements_of tree.children) && list_any is_write (elements_of tree.children)
 
--- ---- what they ask for
+-- ---- what the elements request
 
--- of several elements of one name the last counts
+-- the last child element of this name, if there is one
 abbrev pub last_named : List ℕ → Tree → Option Tree
 last_named name tree = last_or None (filter (is_named name) (elements_of tree.children))
 
--- a shared lock
+-- the requested lock is shared: the last `lockscope` begins with `shared`
 abbrev pub asks_shared : Tree → Bool
 asks_shared tree = option_map_or (begins_with (codes "shared")) (last_named (codes "lockscope") tree) false
 
--- the element under the prefix that replies declare
+-- the element with the prefix `D`, which responses declare
 abbrev pub under_dav : Tree → Tree
 under_dav tree = record tree { tag = record tree.tag { prefix = Some (codes "D") } }
 
--- who the client says holds the lock
+-- the owner that the client states: the last `owner` element, with that prefix
 abbrev pub owner_in : Tree → Option Tree
 owner_in tree = option_map under_dav (last_named (codes "owner") tree)
 
@@ -60,6 +60,6 @@ abbrev pub lock_info_of : ReqBody → Option LockInfo
 lock_info_of (bodies.Tree tree) = lock_info_in tree
 lock_info_of _ = None
 
--- no other body is taken: 400
+-- any other body is rejected: 400
 abbrev pub lock_info_verdict : ReqBody → Result LockInfo DavError
 lock_info_verdict body = ok_or (lock_info_of body) XmlParseError

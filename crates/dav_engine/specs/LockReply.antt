@@ -1,4 +1,4 @@
--- The replies to LOCK and UNLOCK (RFC 4918, sections 9.10, 9.11 and 10.5).
+-- The responses to LOCK and UNLOCK (RFC 4918, sections 9.10, 9.11 and 10.5).
 use Rattle.std.specs.Prelude.{ℕ, true, if◌then◌else◌, ◌∷◌, codes, Option, is_some}
 use Rattle.http.specs.declared.version.TheConstants.Version.{HTTP_11}
 use Rattle.http_header.specs.HeaderMap.{Entries}
@@ -14,20 +14,20 @@ use Rattle.dav_parts.specs.Multistatus.{xml_type}
 use Rattle.dav_parts.specs.Reply.{Reply, bare_reply, field}
 use Rattle.dav_engine.specs.Location.{location_fields}
 
--- a reply that tells a lock in full
+-- a response whose body is a `prop` with the `lockdiscovery` of this lock
 abbrev pub lock_reply : ℕ → Entries FieldValue → DavLock → Reply
 lock_reply status fields lock =
     record { status = status; version = HTTP_11; headers = field (codes "content-type") xml_type ∷ fields; body = Body.Tree (lock_prop lock true) }
 
--- a new lock: 200 where something was found, else 201, with the request's token
+-- for a new lock: 200 if something was found at the path, else 201, with the request's token in `lock-token`
 abbrev pub granted_reply : DavRequest → Option Meta → DavLock → Reply
 granted_reply request found lock =
     lock_reply (if is_some found then 200 else 201) (field (codes "lock-token") (coded request.token) ∷ location_fields request.path found) lock
 
--- a refreshed one: 200
+-- for a refreshed lock: 200
 abbrev pub refreshed_reply : PathValue → Option Meta → DavLock → Reply
 refreshed_reply path found lock = lock_reply 200 (location_fields path found) lock
 
--- a lock that is gone: 204
+-- for a removed lock: 204
 abbrev pub unlocked_reply : PathValue → Option Meta → Reply
 unlocked_reply path found = bare_reply 204 (location_fields path found)

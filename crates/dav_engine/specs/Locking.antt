@@ -1,4 +1,4 @@
--- LOCK (RFC 4918, section 9.10): locks a resource, and makes an empty file where nothing is; without a body it refreshes a lock.
+-- LOCK (RFC 4918, section 9.10): locks a resource, and creates an empty file if nothing exists there. Without a body it refreshes a lock.
 use Rattle.std.specs.Prelude.{◌≡◌, ◌≢◌, ℕ, min, Bool, true, false, nat_eq, if◌then◌else◌, List, [], ◌∷◌, ◌++◌, length, Option, Some, None, is_some, option_map, Result, Ok, Err, ◌⊎◌}
 use Rattle.std.specs.Option.{option_map_or}
 use Rattle.std.specs.List.{find}
@@ -40,11 +40,12 @@ use Rattle.dav_engine.specs.declared.lock_info.LockInfo.{LockInfo}
 
 -- ---- how long a lock lasts
 
--- the greatest timeout, in seconds: a day, or ten minutes
+-- the longest timeout in seconds: 86400 (a day) for a shared lock, 600 (ten minutes) for an exclusive one
 abbrev pub greatest_timeout : Bool → ℕ
 greatest_timeout shared = if shared then 86400 else 600
 
--- the first wish, cut to the greatest; without end only where a lock is refreshed, or nothing is wished
+-- The timeout of a lock: the requested one, limited to the longest. There is none (`None`) if the client requests none, or an infinite one in a
+-- refresh.
 abbrev pub timeout_for : Option DavTimeout → Bool → Bool → Option ℕ
 timeout_for None refresh shared = None
 timeout_for (Some Infinite) true shared = None
@@ -53,26 +54,27 @@ timeout_for (Some (Seconds seconds)) refresh shared = Some (min seconds (greates
 
 -- ---- the rules
 
--- without a lock system nothing can be locked: 405
+-- without a lock system LOCK and UNLOCK are rejected: 405
 abbrev pub locks_verdict : State → Result (Unit {0}) DavError
 locks_verdict state = if is_some state.locks then Ok tt else Err (Status 405)
 
--- a look at the path, where there is a lock system
+-- a lookup of the path, if there is a lock system; a failed lookup counts as finding nothing
 abbrev pub look_to_lock : DavRequest → State → Dialogue (Option Meta)
 look_to_lock request state = judged (locks_verdict state) >>= λ _. look state.contents request.path.key
 
--- a body of no bytes is none
+-- the request is a refresh: it has no body, or one of no bytes
 abbrev pub is_refresh : ReqBody → Bool
 is_refresh bodies.None = true
 is_refresh (bodies.Bytes bytes) = nat_eq (length bytes) 0
 is_refresh _ = false
 
--- the one token that is submitted: with none, or more, no lock is named: 400
+-- the only submitted token; if there is none, or more than one: 400
 abbrev pub one_token : List (List ℕ) → Result (List ℕ) DavError
 one_token (token ∷ []) = Ok token
 one_token _ = Err (Status 400)
 
--- to refresh a lock: a look at the path, the header If, which names the lock and whose conditions needn't hold, and the locks that cover the path, which must let the request write: 412
+-- The rules of a refresh: a lookup of the path, the `If` header, which must submit exactly one token but whose conditions need not hold, and the
+-- locks that cover the path, which must permit the request to write there (412).
 abbrev pub refresh_rules : DavRequest → State → Dialogue (Option Meta)
 refresh_rules request state =
     look_to_lock request state >>= λ found.
@@ -80,7 +82,7 @@ refresh_rules request state =
     judged (one_token told.1) >>= λ _.
     where_permitted 412 (is_permitted request state request.path.key false) found
 
--- for a new lock: a look at the path, the depth, the conditions, and the body
+-- the rules of a new lock: a lookup of the path, the Depth, the conditions, and the body
 abbrev pub new_lock_rules : DavRequest → State → Dialogue (Option Meta)
 new_lock_rules request state =
     look_to_lock request state >>= λ found.
@@ -94,40 +96,40 @@ lock_rules request state = if is_refresh request.body then refresh_rules request
 
 -- ---- a new lock
 
--- Depth 0 locks the resource alone
+-- a lock of Depth 0 covers only the resource itself, any other also everything below it
 abbrev pub is_deep : Depth → Bool
 is_deep Zero = false
 is_deep _ = true
 
--- the lock that the request asks for
+-- the requested lock
 abbrev pub lock_asked : DavRequest → Option Meta → LockInfo → DavLock
 lock_asked request found info =
     asked_lock (fixed_path request.path found) request.principal info.owner (timeout_for (timeout_of request.headers) false info.shared) info.shared (is_deep (depth_or_all request))
     request.token request.now
 
--- the lock system's locks don't grant what the request asks for
+-- the lock system's locks do not grant the requested lock
 abbrev pub DeniesAsked : DavRequest → Option Meta → LockInfo → Locks → Type 0
 DeniesAsked request found info locks = grants locks.list (lock_asked request found info) ≡ false
 
--- whether the locks grant it
+-- the locks grant it; without a lock system nothing is granted
 abbrev pub is_granted : State → DavLock → Bool
 is_granted state lock = option_map_or (λ list. grants list lock) state.locks false
 
--- it is granted, and is the last of the locks
+-- the lock is granted, and is added at the end of the list
 pub record AddsToLocks (lock : DavLock) (old new : State) : Type 0 where
   pub granted : is_granted old lock ≡ true
   pub added : new.locks ≡ option_map (λ list. list ++ lock ∷ []) old.locks
 
--- it is taken back, unless a lock system that isn't dependable keeps it
+-- the locks are the same as before; or the lock was added, and a lock system that is not reliable keeps it
 abbrev pub TakesBack : DavLock → State → State → Type 0
 TakesBack lock old new = LocksStay old new ⊎ ((old.dependable ≡ false) × AddsToLocks lock old new)
 
--- the lock stands where it is told, and nowhere else
+-- after a response the lock is added; after an error it is not, except that a lock system that is not reliable may keep it
 abbrev pub LeavesLock : DavLock → Answer → State → State → Type 0
 LeavesLock lock (Ok reply) old new = AddsToLocks lock old new
 LeavesLock lock (Err e) old new = TakesBack lock old new
 
--- why the lock system refuses, told by this status
+-- the error of a lock system's call that fails: `Memory`, or else this status
 abbrev pub lock_error : ℕ → LockError → DavError
 lock_error status lock_errors.Memory = dav_errors.Memory
 lock_error status e = Status status
@@ -135,34 +137,34 @@ lock_error status e = Status status
 abbrev pub lock_open_error : OpenOptions → FsError → DavError
 lock_open_error = open_error Status
 
--- where nothing was found, a file is made
+-- if nothing was found, one call opens the file, which may create it (`making_options`); otherwise no call
 abbrev pub file_steps : DavRequest → Option Meta → Contents → Dialogue (Unit {0})
 file_steps request (Some meta) old = Passed tt
 file_steps request None old = needs (open_call old request.path.key (making_options request)) (lock_open_error (making_options request)) (Passed tt)
 
--- an empty file is made where nothing was; what was there stays, and all else
+-- if nothing existed at the key, an empty file does now (`IsFileAt`); if something did, the tree, the properties and the quota's limit are unchanged
 pub record HasFile (key : Key) (old new : Contents) : Type 0 where
   pub made : get old.tree key ≡ None → IsFileAt key [] old new
   pub kept : get old.tree key ≢ None → (new.tree ≡ old.tree) × (new.properties ≡ old.properties) × (limit_of new ≡ limit_of old)
 
--- so it is where the call was granted; else all stays
+-- if the call that opens the file was granted, `HasFile` holds; otherwise nothing changes
 abbrev pub FileLeaves : DavRequest → List Logged → Contents → Contents → Type 0
 FileLeaves request records old new =
     (WasGranted OpenFile request.path.key records × HasFile request.path.key old new) ⊎ (¬ (WasGranted OpenFile request.path.key records) × (new ≡ old))
 
--- the file, and the reply that tells the lock
+-- the file is opened if nothing was found; the result is a response that reports the lock, or that call's error; the contents are as in `FileLeaves`
 pub record TellsLock (request : DavRequest) (found : Option Meta) (lock : DavLock) (old : Contents) (records : List Logged) (answer : Answer) (new : Contents) : Type 0 where
   pub answered : IsAnswered (file_steps request found old) (λ _ reply. reply ≡ granted_reply request found lock) records answer
   pub leaves : FileLeaves request records old new
 
--- the locks don't grant it: 423, and nothing is asked and nothing changes
+-- the locks do not grant it: 423, no call is made, and nothing changes
 pub record DeniesLock (lock : DavLock) (old : State) (records : List Logged) (answer : Answer) (new : State) : Type 0 where
   pub denied : is_granted old lock ≡ false
   pub told : answer ≡ Err (Status 423)
   pub none : records ≡ []
   pub same : new ≡ old
 
--- they grant it, and it stays where the file is there
+-- the locks grant it, the file is opened if nothing was found (`TellsLock`), and the lock is kept or removed again by the result (`LeavesLock`)
 pub record GrantsLock (request : DavRequest) (found : Option Meta) (lock : DavLock) (old : State) (records : List Logged) (answer : Answer) (new : State) : Type 0 where
   pub granted : is_granted old lock ≡ true
   pub tells : TellsLock request found lock old.contents records answer new.contents
@@ -173,7 +175,8 @@ pub record NewLockWork (request : DavRequest) (found : Option Meta) (old : State
   pub asked : lock_info_of request.body ≡ Some info
   pub done : GrantsLock request found (lock_asked request found info) old records answer new ⊎ DeniesLock (lock_asked request found info) old records answer new
 
--- memory ran out before a file was made: no lock is left
+-- memory ran out: no call was made, the contents are unchanged, and so are the locks, except that a lock system that is not reliable may keep the
+-- lock
 pub record NewLockCut (request : DavRequest) (found : Option Meta) (old : State) (records : List Logged) (new : State) : Type 0 where
   pub info : LockInfo
   pub asked : lock_info_of request.body ≡ Some info
@@ -183,35 +186,35 @@ pub record NewLockCut (request : DavRequest) (found : Option Meta) (old : State)
 
 -- ---- a refresh
 
--- the timeout that it asks for is cut as that of an exclusive lock, whatever the lock is
+-- the timeout after a refresh, limited as for an exclusive lock, whatever the lock is
 abbrev pub refresh_timeout : DavRequest → Option ℕ
 refresh_timeout request = timeout_for (timeout_of request.headers) true false
 
--- the lock system gives the lock of this token the new timeout, and this is the lock then
+-- the lock system sets the new timeout of the lock with this token, which is `lock` then
 abbrev pub RefreshesAsked : DavRequest → List ℕ → DavLock → Locks → Locks → Type 0
 RefreshesAsked request token lock = RefreshesLock request.path.key token (refresh_timeout request) request.now lock
 
--- it has no lock of this token at the path or above it
+-- the lock system has no lock with this token at the path or above it
 abbrev pub LacksLock : DavRequest → List ℕ → Locks → Type 0
 LacksLock request token locks = has_named request.path.key token locks.list ≡ false
 
--- the lock of this token that stands at the path or above it, with the new timeout
+-- the lock with this token at the path or above it, if there is one, with the new timeout
 abbrev pub lock_refreshed : DavRequest → List ℕ → State → Option DavLock
 lock_refreshed request token state =
     option_map (refreshed (refresh_timeout request) request.now) (option_map_or (find (is_named request.path.key token)) state.locks None)
 
--- that lock alone has it
+-- a lock with this token at the path or above it gets the new timeout, and no other lock changes
 abbrev pub RefreshesAlone : DavRequest → List ℕ → State → State → Type 0
 RefreshesAlone request token old new = new.locks ≡ option_map (with_refreshed request.path.key token (refresh_timeout request) request.now) old.locks
 
--- there is such a lock: it is refreshed and told
+-- there is such a lock: it is refreshed, and the response reports it
 pub record RefreshesTold (request : DavRequest) (found : Option Meta) (token : List ℕ) (old : State) (answer : Answer) (new : State) : Type 0 where
   pub lock : DavLock
   pub is : lock_refreshed request token old ≡ Some lock
   pub told : answer ≡ Ok (refreshed_reply request.path found lock)
   pub locks : RefreshesAlone request token old new
 
--- there is none: 412
+-- there is none: 412, and the locks are unchanged
 pub record FindsNoLock (request : DavRequest) (token : List ℕ) (old : State) (answer : Answer) (new : State) : Type 0 where
   pub is : lock_refreshed request token old ≡ None
   pub told : answer ≡ Err (Status 412)
@@ -224,7 +227,7 @@ pub record RefreshWork (request : DavRequest) (found : Option Meta) (old : State
   pub same : new.contents ≡ old.contents
   pub done : RefreshesTold request found token old answer new ⊎ FindsNoLock request token old answer new
 
--- memory ran out before the lock was refreshed, or in telling it
+-- memory ran out before or after the refresh: no call was made, the contents are unchanged, and the locks are unchanged or refreshed
 pub record RefreshCut (request : DavRequest) (old : State) (records : List Logged) (new : State) : Type 0 where
   pub token : List ℕ
   pub one : submitted_tokens request ≡ token ∷ []
@@ -232,7 +235,7 @@ pub record RefreshCut (request : DavRequest) (old : State) (records : List Logge
   pub same : new.contents ≡ old.contents
   pub locks : LocksStay old new ⊎ RefreshesAlone request token old new
 
--- ---- together
+-- ---- both
 
 abbrev pub LockWorkBy : Bool → DavRequest → Option Meta → State → List Logged → Answer → State → Type 0
 LockWorkBy true request found old records answer new = RefreshWork request found old records answer new

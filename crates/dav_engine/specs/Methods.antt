@@ -1,4 +1,4 @@
--- The methods that are served, and a step by the method of a request.
+-- The methods that are served, and the step that serves a request by its method.
 use Rattle.std.specs.Prelude.{◌≡◌, true, false, Bool, List, [], Option, Some, Err}
 use Rattle.dav_resource.specs.declared.meta.Meta.{Meta}
 use Rattle.dav_resource.specs.declared.method.DavMethod.{DavMethod}
@@ -35,7 +35,7 @@ mkcol_method =
       Cut = λ settings request found. CutOnStore Unbegun;
     }
 
--- PUT, and PATCH as partial
+-- PUT (`partial` is false) and PATCH (`partial` is true)
 abbrev pub write_method : Bool → Method
 write_method partial =
     record {
@@ -75,13 +75,13 @@ options_method = record { Found = Option Meta; rules = λ settings. options_rule
 abbrev pub propfind_method : Method
 propfind_method = record { Found = Meta × Asking; rules = λ settings. propfind_rules; Work = PropfindWork; Cut = PropfindCut }
 
--- a method that isn't served: 501, without a call, and nothing changes
+-- a method that is not served: the result is 501, no call is made, and nothing changes
 pub record IsUnserved (old : State) (records : List Logged) (answer : Answer) (new : State) : Type 0 where
   pub none : records ≡ []
   pub told : answer ≡ Err (Status 501)
   pub same : new ≡ old
 
--- a request served as this method
+-- a request served as this method; HEAD, GET and an unknown method (`None`) are not served
 abbrev pub Step : Option DavMethod → Settings → DavRequest → State → List Logged → Answer → State → Type 0
 Step (Some MkCol) settings request old records answer new = StepBy mkcol_method settings request old records answer new
 Step (Some Put) settings request old records answer new = StepBy (write_method false) settings request old records answer new

@@ -1,4 +1,4 @@
--- MOVE (RFC 4918, section 9.9): gives a resource, with all below it, another name.
+-- MOVE (RFC 4918, section 9.9): moves a resource, with everything below it, to another path.
 use Rattle.std.specs.Prelude.{◌≡◌, ◌⊎◌, List, [], ◌∷◌, ◌++◌, Some, None, is_some, Result, Err}
 use Rattle.std.specs.FinMap.{get}
 use Rattle.dav_resource.specs.Errors.{fs_status}
@@ -25,7 +25,8 @@ use Rattle.dav_engine.specs.declared.transfer.Transfer.{Transfer}
 
 -- ---- the one call
 
--- it renames the source, with all below it, or is refused, and then names the source and changes nothing
+-- one `rename` call: it is granted and moves the source with everything below it; or it fails, changes nothing, and the source is reported with its
+-- status
 pub record RenamesAlone (source destination : PathValue) (old new : Contents) (records : List Logged) (names : List Item) : Type 0 where
   pub outcome : Outcome
   pub called : records ≡ record_of (rename_call old source.key destination.key) outcome ∷ []
@@ -33,18 +34,19 @@ pub record RenamesAlone (source destination : PathValue) (old new : Contents) (r
   pub granted : outcome ≡ Granted → IsRenamedTo source.key destination.key old new × (names ≡ [])
   pub refused : (e : FsError) → error_of outcome ≡ Some e → (new ≡ old) × (names ≡ (source, fs_status e) ∷ [])
 
--- memory was lacking for the call, or behind a refused one for its name
+-- memory ran out before the call, or after a failed call, before that was reported; nothing changes
 abbrev pub RenamesInPart : PathValue → PathValue → Contents → Contents → List Logged → Type 0
 RenamesInPart source destination old new records =
     (new ≡ old) × ((records ≡ []) ⊎ ((item : Item) × RenamesAlone source destination old new records (item ∷ [])))
 
--- it ended and added this name, which the answer tells, or memory ran out, and no name was added
+-- The call was made and appended `names` to the reported failures; the result is success if `names` is empty, else the status of the failure. Or
+-- memory ran out, and no failure was appended.
 abbrev pub RenamesOrStops : PathValue → PathValue → Contents → Contents → List Logged → List Item → List Item → Result (Unit {0}) DavError → Type 0
 RenamesOrStops source destination old new records had has answer =
     ((names : List Item) × (has ≡ had ++ names) × RenamesAlone source destination old new records names × (answer ≡ told_by_names names))
     ⊎ ((answer ≡ Err Memory) × RenamesInPart source destination old new records × (has ≡ had))
 
--- the same from store to store, and from names to names
+-- the same from store to store: the log gained the records
 pub record Renaming (source destination : PathValue) (old new : Store) (had has : List Item) (answer : Result (Unit {0}) DavError) : Type 0 where
   pub records : List Logged
   pub told : new.log ≡ old.log ++ records
@@ -53,35 +55,36 @@ pub record Renaming (source destination : PathValue) (old new : Store) (had has 
 
 -- ---- the work
 
--- nothing bars it: the source is there, neither it nor the destination is at or below the other, there is a directory above the destination, and what stands there is known
+-- What the rules have established: the source exists, neither it nor the destination is at or below the other, the parent of the destination is a
+-- directory, and `there` is the metadata of the destination, if something exists there.
 pub record MayMove (source : Key) (found : Transfer) (contents : Contents) : Type 0 where
   pub source_there : contents.metas source ≡ Some found.meta
   pub apart : AreApart source found.destination.key
   pub above : get contents.tree (parent found.destination.key) ≡ Some Directory
   pub known : contents.metas found.destination.key ≡ found.there
 
--- the source is renamed, which nothing bars, and where that isn't refused the locks there are dropped
+-- the source is renamed by a call that nothing bars; if it does not fail, the locks at or below the source are removed (`LeavesLocks`)
 pub record MovesSource (source destination : PathValue) (old : State) (records : List Logged) (names : List Item) (new : State) : Type 0 where
   pub free : (rename_call old.contents source.key destination.key).bar ≡ None
   pub renamed : RenamesAlone source destination old.contents new.contents records names
   pub locks : LeavesLocks names source old new
 
--- memory ran out before the call, or behind it
+-- memory ran out before the call, or after it
 abbrev pub MovesInPart : PathValue → PathValue → State → List Logged → State → Type 0
 MovesInPart source destination old records new = ((records ≡ []) × (new ≡ old)) ⊎ ((names : List Item) × MovesSource source destination old records names new)
 
--- what stands at the destination is removed, and the source takes its place
+-- what exists at the destination is removed; if no failure was reported, the source is moved there
 abbrev pub Moves : PathValue → Transfer → State → List Logged → List Item → State → Type 0
 Moves source found = Replaces (MovesSource source found.destination) (is_some found.there) found.destination
 
--- memory ran out on the way: in the removal at the destination, or in the renaming
+-- memory ran out in the removal at the destination, or in the renaming
 abbrev pub MovesSoFar : PathValue → Transfer → State → List Logged → State → Type 0
 MovesSoFar source found = ReplacesInPart (MovesInPart source found.destination) (is_some found.there) found.destination
 
--- the source is moved, as far as the store lets it, and each refusal is named
+-- what exists at the destination is removed and the source is moved, as far as the store allows (`Moves`), and the result reports the failures
 abbrev pub MoveWork : DavRequest → Transfer → State → List Logged → Answer → State → Type 0
 MoveWork request found = TransferWork (Moves (source_path request found) found) (source_path request found) found.there
 
--- memory ran out on the way, or behind it
+-- what a MOVE leaves when memory runs out
 abbrev pub MoveCut : DavRequest → Transfer → State → List Logged → State → Type 0
 MoveCut request found = MovesSoFar (source_path request found) found

@@ -1,4 +1,5 @@
--- How a file is opened that may have to be made (RFC 9110, section 9.3.4; RFC 4918, section 7.3): what If-Match and If-None-Match ask of the path has to be so then, too.
+-- How a file is opened that may have to be created (RFC 9110, section 9.3.4; RFC 4918, section 7.3): `If-Match: *` and `If-None-Match: *` also apply
+-- when it is opened.
 use Rattle.std.specs.Prelude.{◌≡◌, ℕ, Bool, true, false, not, ◌||◌, if◌then◌else◌, List, Option, Some, None}
 use Rattle.std.specs.FinMap.{insert}
 use Rattle.dav_resource.specs.Key.{Key}
@@ -14,13 +15,13 @@ use Rattle.dav_headers.specs.TagList.{if_match_of, if_none_match_of}
 use Rattle.dav_store.specs.Store.{Contents, File}
 use Rattle.dav_store.specs.Calls.{limit_of}
 
--- the header asks for `*`
+-- the header is `*`
 abbrev pub is_star : Option ETagList → Bool
 is_star (Some Star) = true
 is_star (Some (Tags tags)) = false
 is_star None = false
 
--- to be written: a file is made where nothing is, unless If-Match asks that one be there, and only there where If-None-Match asks that none be; what it holds is kept
+-- for writing: `create` is set unless `If-Match` is `*`, `create_new` is set if `If-None-Match` is `*`, and the content of the file is kept
 abbrev pub making_options : DavRequest → OpenOptions
 making_options request =
     record {
@@ -33,17 +34,17 @@ making_options request =
       checksum = None;
     }
 
--- what was asked of the path isn't so any more: 412; else its parent is no collection: 409
+-- the status if an open fails with `NotFound` or `Exists`: 412 if `create` is not set or `create_new` is, else 409 (the parent is not a collection)
 abbrev pub misplaced_status : OpenOptions → ℕ
 misplaced_status options = if not options.create || options.create_new then 412 else 409
 
--- why the file isn't opened, where a status is told in this way
+-- the error of an open that fails: for `NotFound` and `Exists` that status, as the error that `told` makes of it; else the store's error
 abbrev pub open_error : (ℕ → DavError) → OpenOptions → FsError → DavError
 open_error told options NotFound = told (misplaced_status options)
 open_error told options Exists = told (misplaced_status options)
 open_error told options e = from_fs e
 
--- a file stands at the key and holds these bytes; nothing else in the tree, no property and no limit changed
+-- a file with these bytes is at the key; no other file or directory, no property and no quota limit changes
 pub record IsFileAt (key : Key) (bytes : List ℕ) (old new : Contents) : Type 0 where
   pub tree : new.tree ≡ insert old.tree key (File bytes)
   pub properties : new.properties ≡ old.properties

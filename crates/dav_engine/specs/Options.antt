@@ -1,4 +1,4 @@
--- OPTIONS (RFC 9110, section 9.3.7; RFC 4918, section 10.1): tells which methods what stands at a path takes.
+-- OPTIONS (RFC 9110, section 9.3.7; RFC 4918, section 10.1): lists methods for the resource at a path.
 use Rattle.std.specs.Prelude.{◌≡◌, ℕ, Bool, true, false, ◌&&◌, ◌||◌, ◌==◌, not, if◌then◌else◌, List, [], ◌∷◌, codes, length, filter, Option, Some, None, is_some, Ok}
 use Rattle.std.specs.List.{join_by}
 use Rattle.std.specs.Option.{option_map_or}
@@ -16,36 +16,36 @@ use Rattle.dav_parts.specs.Dialogue.{Dialogue, Passed, look}
 use Rattle.dav_parts.specs.Reply.{Reply, Answer, bare_reply, field}
 use Rattle.dav_engine.specs.State.{State}
 
--- a look at the path, where a refusal counts as nothing there; for `*`, which names no resource, nothing is asked
+-- a lookup of the path; a failed lookup counts as finding nothing; for `*`, which is no resource, no call is made
 abbrev pub options_rules : DavRequest → State → Dialogue (Option Meta)
 options_rules request state = if request.path.star then Passed None else look state.contents request.path.key
 
--- ---- which methods a resource takes
+-- ---- the methods by kind of resource
 
--- where nothing is, as what may make something
+-- nothing exists: the methods that may create something, and OPTIONS
 abbrev pub missing_methods : List DavMethod
 missing_methods = Options ∷ MkCol ∷ Put ∷ Lock ∷ []
 
--- the root, which is neither moved nor deleted
+-- the root, which cannot be moved or deleted
 abbrev pub root_methods : List DavMethod
 root_methods = Options ∷ PropFind ∷ Copy ∷ Lock ∷ Unlock ∷ []
 
--- another directory
+-- any other directory
 abbrev pub directory_methods : List DavMethod
 directory_methods = Options ∷ PropFind ∷ Copy ∷ Move ∷ Delete ∷ Lock ∷ Unlock ∷ []
 
--- a file, and `*`: what any resource may take
+-- a file; the same list is used for `*`
 abbrev pub file_methods : List DavMethod
 file_methods = Head ∷ Get ∷ Patch ∷ Put ∷ directory_methods
 
--- by what was found at the path
+-- the list for what was found at the path
 abbrev pub found_methods : PathValue → Option Meta → List DavMethod
 found_methods path None = if path.star then file_methods else missing_methods
 found_methods path (Some meta) = if length path.key == 0 then root_methods else (if meta.dir then directory_methods else file_methods)
 
--- ---- which of them are told
+-- ---- the listed methods
 
--- the method is what the request is, unless that is an OPTIONS
+-- the method is the request's own, unless that is OPTIONS
 abbrev pub is_own : Option DavMethod → DavMethod → Bool
 is_own None method = false
 is_own (Some Options) method = false
@@ -55,19 +55,19 @@ is_own (Some own) method = same_method method own
 abbrev pub needs_locks : DavMethod → Bool
 needs_locks method = same_method method Lock || same_method method Unlock
 
--- the method is let, by the set of those that are where not all are
+-- the method is enabled: it is in the set, or there is no set
 abbrev pub is_let : Option DavMethodSet → DavMethod → Bool
 is_let allow method = option_map_or (λ set. contains_method set method) allow true
 
--- a method is told that is let, isn't the request's own, and has the lock system that it may need
+-- a method is listed if it is enabled, is not the request's own and, if it needs a lock system, there is one
 abbrev pub is_told : Option DavMethodSet → Bool → Option DavMethod → DavMethod → Bool
 is_told allow locks own method = is_let allow method && (not (is_own own method) && (locks || not (needs_locks method)))
 
--- those that are told of what was found, in order
+-- the listed methods for what was found, in order
 abbrev pub told_methods : Option DavMethodSet → Bool → DavRequest → Option Meta → List DavMethod
 told_methods allow locks request found = filter (is_told allow locks (method_of request.method)) (found_methods request.path found)
 
--- ---- the reply
+-- ---- the response
 
 -- the name of a method
 abbrev pub name_of : DavMethod → List ℕ
@@ -89,7 +89,7 @@ name_of Unlock = codes "UNLOCK"
 abbrev pub names_of : List DavMethod → List ℕ
 names_of methods = join_by name_of (codes ",") methods
 
--- the compliance classes, that no body follows, and the methods
+-- the compliance classes (`dav`), `ms-author-via`, the length 0 of the body, and the methods (`allow`)
 abbrev pub options_headers : List ℕ → Entries FieldValue
 options_headers methods =
     field (codes "dav") (codes "1,2,3,sabredav-partialupdate")
@@ -98,13 +98,13 @@ options_headers methods =
     ∷ field (codes "allow") methods
     ∷ []
 
--- 200, with these
+-- 200, with these header fields
 abbrev pub options_reply : List ℕ → Reply
 options_reply methods = bare_reply 200 (options_headers methods)
 
 -- ---- the work
 
--- nothing is asked and nothing changes: the methods are told
+-- no call is made, nothing changes, and the response lists the methods
 pub record OptionsWork (allow : Option DavMethodSet) (request : DavRequest) (found : Option Meta) (old : State) (records : List Logged) (answer : Answer) (new : State) : Type 0 where
   pub none : records ≡ []
   pub told : answer ≡ Ok (options_reply (names_of (told_methods allow (is_some old.locks) request found)))

@@ -1,4 +1,4 @@
--- What the steps of a PROPPATCH's work make of a store.
+-- What the steps of a PROPPATCH's work do to a store.
 use Rattle.std.specs.Prelude.{◌≡◌, ◌⊎◌, ℕ, List, ◌++◌, Result, Ok, Err, Vec}
 use Rattle.std.specs.declared.alloc.Global.{Global}
 use Rattle.dav_resource.specs.Errors.{from_fs}
@@ -14,22 +14,22 @@ use Rattle.dav_parts.specs.Reply.{Answer}
 use Rattle.dav_engine.specs.Proppatch.{Update, MakesChanges, ProppatchWork, ProppatchCut}
 use Rattle.dav_engine.specs.Step.{WorksOnStore}
 
--- the changes are made by these records, as far as this was told of them
+-- the log gained `records`, over which the store returned `told` for these changes and made all of them or none (`MakesChanges`)
 pub record StoresChanges (key : Key) (patches : List Patch) (old : Store) (told : Result (List ℕ) FsError) (new : Store) : Type 0 where
   pub records : List Logged
   pub logged : new.log ≡ old.log ++ records
   pub fixed : new.keeps_properties ≡ old.keeps_properties
   pub stored : MakesChanges old.keeps_properties key patches old.contents records told new.contents
 
--- the store's refusal, or memory was lacking, and nothing happened
+-- the error: `Memory`, and nothing happened; or that of the store's call, which made none of the changes
 abbrev pub IsUnmade : Key → List Patch → Store → DavError → Store → Type 0
 IsUnmade key patches old e new = ((e ≡ Memory) × (new ≡ old)) ⊎ ((cause : FsError) × (e ≡ from_fs cause) × StoresChanges key patches old (Err cause) new)
 
--- the statuses that the store answered, or why it made nothing
+-- the statuses that the store returned, or the error because of which it made no change
 abbrev pub Storing : Key → List Patch → Store → Result (Vec ℕ Global) DavError → Store → Type 0
 Storing key patches old (Ok statuses) new = StoresChanges key patches old (Ok statuses.items) new
 Storing key patches old (Err e) new = IsUnmade key patches old e new
 
--- the whole work, or it was cut short for want of memory
+-- the whole work, or work that stopped because memory ran out
 abbrev pub Patching : DavRequest → Update → Store → Answer → Store → Type 0
 Patching request update old = WorksOnStore (ProppatchWork old.keeps_properties request update) (ProppatchCut old.keeps_properties request update) old

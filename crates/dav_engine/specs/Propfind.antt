@@ -1,4 +1,4 @@
--- PROPFIND (RFC 4918, section 9.1): tells the properties of resources.
+-- PROPFIND (RFC 4918, section 9.1): returns properties of resources.
 use Rattle.std.specs.Prelude.{◌≡◌, ◌⊎◌, not, ◌&&◌, Bool, if◌then◌else◌, List, [], ◌∷◌, ◌++◌, map, codes, is_some, Option, Some, None, unwrap_or, Ok}
 use Rattle.http.specs.declared.version.TheConstants.Version.{HTTP_11}
 use Rattle.http_header.specs.HeaderMap.{Entries}
@@ -28,33 +28,34 @@ use Rattle.dav_engine.specs.Rules.{judged, must_find, fixed_path}
 use Rattle.dav_engine.specs.Settings.{Settings}
 use Rattle.dav_engine.specs.State.{State}
 
--- ---- what is read of the request
+-- ---- the request's Depth
 
--- no Depth that can be read is a Depth of its own here
+-- the Depth of the request; a missing or unreadable one is `Default`, a Depth of its own
 abbrev pub depth_or_default : DavRequest → Depth
 depth_or_default request = unwrap_or (depth_of request.headers) Default
 
--- all that is below the resource is told to the test suite litmus alone (RFC 4918, section 9.1, lets a server refuse it)
+-- the Depth is infinity, and the request is not one of the test suite litmus, which has an `X-Litmus` header (RFC 4918, section 9.1, lets a server
+-- reject it)
 abbrev pub is_too_deep : DavRequest → Bool
 is_too_deep request = is_deep (depth_or_default request) && not (is_some (litmus_of request.headers))
 
--- ---- the replies
+-- ---- the responses
 
--- no cache may keep them (RFC 9111, sections 5.2.2.4 and 5.4)
+-- a cache must not reuse the response without validating it (RFC 9111, sections 5.2.2.4 and 5.4)
 abbrev pub uncached_fields : Entries FieldValue
 uncached_fields = field (codes "cache-control") (codes "no-cache") ∷ field (codes "pragma") (codes "no-cache") ∷ []
 
 abbrev pub propfind_fields : Entries FieldValue
 propfind_fields = uncached_fields ++ field (codes "content-type") xml_type ∷ []
 
--- the precondition that a Depth of infinity doesn't meet (RFC 4918, section 16)
+-- the precondition that Depth infinity fails, `propfind-finite-depth` (RFC 4918, section 16)
 abbrev pub finite_depth_error : Tree
 finite_depth_error = with_elements (declaring_element (codes "D:error")) (prefixed_element (codes "D:propfind-finite-depth") ∷ [])
 
 abbrev pub finite_depth_reply : Reply
 finite_depth_reply = record { status = 501; version = HTTP_11; headers = propfind_fields; body = Body.Tree finite_depth_error }
 
--- 207, with a response for each resource that is told
+-- 207, with a response element for each reported resource
 abbrev pub propfind_reply : DavRequest → Meta × Asking → List Visit → Reply
 propfind_reply request found visits =
     record {
@@ -66,34 +67,34 @@ propfind_reply request found visits =
 
 -- ---- the rules
 
--- a look at the path, whose refusal refuses the request, and what the body asks for
+-- in order: a lookup of the path that must succeed, and what the body requests
 abbrev pub sought_rules : DavRequest → State → Dialogue (Meta × Asking)
 sought_rules request state =
     must_find state.contents request.path.key >>= λ meta.
     judged (asking_of request.body (user_agent_of request.headers)) >>= λ asking.
     Passed (meta, asking)
 
--- a Depth of infinity is refused before, by a reply
+-- Depth infinity is rejected first, by a response (501), except for litmus; then `sought_rules` apply
 abbrev pub propfind_rules : DavRequest → State → Dialogue (Meta × Asking)
 propfind_rules request state = if is_too_deep request then Refuses (Ok finite_depth_reply) else sought_rules request state
 
 -- ---- the work
 
--- how the properties are sought
+-- how properties are read: the kind of the search, whether the store supports dead properties, the locks, the principal and the user agent
 abbrev pub view_in : Settings → DavRequest → State → FindKind → View
 view_in settings request state kind =
     record { kind = kind; keeps = settings.keeps_properties; locks = state.locks; principal = request.principal; user_agent = user_agent_of request.headers }
 
--- what stands at the path, by its path with a directory's slash
+-- the resource at the path, whose path has a trailing slash if it is a directory
 abbrev pub target_at : DavRequest → Meta → Resource
 target_at request meta = record { path = fixed_path request.path (Some meta); meta = meta }
 
--- over these records, these resources are told; or memory ran out
+-- over these records these resources are reported; `None`: memory ran out
 abbrev pub Tells : Settings → DavRequest → Meta × Asking → State → List Logged → Option (List Visit) → Type 0
 Tells settings request found old records end =
     VisitsFrom (view_in settings request old found.1.kind) old.contents found.1.asked (target_at request found.0) (depth_or_default request) records end
 
--- they are told, and nothing changes
+-- the resources are reported, and nothing changes
 pub record PropfindWork (settings : Settings) (request : DavRequest) (found : Meta × Asking) (old : State) (records : List Logged) (answer : Answer) (new : State) : Type 0 where
   pub visits : List Visit
   pub tells : Tells settings request found old records (Some visits)

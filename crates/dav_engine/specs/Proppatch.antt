@@ -25,9 +25,9 @@ use Rattle.dav_engine.specs.Location.{location_fields}
 use Rattle.dav_engine.specs.Rules.{judged, must_find, path_rules, fixed_path}
 use Rattle.dav_engine.specs.State.{State}
 
--- ---- the reply
+-- ---- the response
 
--- 207, with one response that tells the properties by their statuses
+-- 207, with one response element that reports the properties, grouped by status
 abbrev pub proppatch_reply : PathValue → Option Meta → List Group → Reply
 proppatch_reply path found groups =
     record {
@@ -39,50 +39,51 @@ proppatch_reply path found groups =
 
 -- ---- the rules
 
--- what was found at the path, and the changes that are asked for
+-- what the rules pass on: what was found at the path, and the requested changes
 abbrev pub Update : Type 0
 Update = Option Meta × List Change
 
--- a look at the path, whose refusal refuses the request, its conditions, and the locks of the path
+-- in order: a lookup of the path that must succeed, the conditions, and the locks that cover the path
 abbrev pub found_rules : DavRequest → State → Dialogue (Option Meta)
 found_rules request state = must_find state.contents request.path.key >>= λ meta. path_rules request state (Some meta)
 
--- where a change is refused, none is made, and the reply tells all of them
+-- if some change is rejected before the store is asked, the request ends with a response that reports all changes as failed
 abbrev pub unless_some_refused : DavRequest → Option Meta → List Change → Dialogue Update
 unless_some_refused request found changes =
     if some_refused changes then Refuses (Ok (proppatch_reply request.path found (grouped (told_failed changes)))) else Passed (found, changes)
 
--- then the body is read, by a store that keeps properties or doesn't, and each change is judged
+-- after `found_rules` the body is read, and each change gets its status before the store is asked, which depends on whether it supports dead
+-- properties
 abbrev pub proppatch_rules : Bool → DavRequest → State → Dialogue Update
 proppatch_rules keeps request state =
     found_rules request state >>= λ found.
     judged (update_verdict keeps request.body) >>= unless_some_refused request found
 
--- ---- the work: what a store makes of changes, and what it tells of them
+-- ---- the work: the store's call and its result
 
--- the call, of a store that keeps properties or doesn't
+-- the `patch_props` call on a key, for a store that supports dead properties or does not
 abbrev pub patch_call : Bool → Contents → Key → Call
 patch_call keeps contents key = patch_props_call (record { contents = contents; keeps_properties = keeps; log = [] }) key
 
--- each change is answered 200
+-- the statuses if all changes are made: 200 for each
 abbrev pub all_made : List Patch → List ℕ
 all_made patches = replicate (length patches) 200
 
--- there is nothing to ask for
+-- there are no changes for the store: no call is made, there are no statuses, and nothing changes
 pub record AsksNothing (old : Contents) (records : List Logged) (told : Result (List ℕ) FsError) (new : Contents) : Type 0 where
   pub none : records ≡ []
   pub told_none : told ≡ Ok []
   pub same : new ≡ old
 
 module _ (keeps : Bool) (key : Key) (patches : List Patch) (old : Contents) (records : List Logged) (told : Result (List ℕ) FsError) (new : Contents) where
-  -- all are made, in order, and each is answered 200
+  -- all changes are made, in order, and the status of each is 200
   pub record MakesAll : Type 0 where
     pub allowed : (patch_call keeps old key).bar ≡ None
     pub called : records ≡ patch_record key Granted (all_made patches) ∷ []
     pub told_all : told ≡ Ok (all_made patches)
     pub made : IsPatchedAt key patches old new
 
-  -- none is made, and each is answered, not all with 200
+  -- no change is made; there is a status for each, and not all are 200
   pub record MakesNone : Type 0 where
     pub statuses : List ℕ
     pub each : length statuses ≡ length patches
@@ -91,7 +92,7 @@ module _ (keeps : Bool) (key : Key) (patches : List Patch) (old : Contents) (rec
     pub told_each : told ≡ Ok statuses
     pub same : new ≡ old
 
-  -- the call is refused, and none is made
+  -- the call fails, and no change is made
   pub record IsPatchRefused : Type 0 where
     pub error : FsError
     pub outcome : Outcome
@@ -101,7 +102,7 @@ module _ (keeps : Bool) (key : Key) (patches : List Patch) (old : Contents) (rec
     pub told_error : told ≡ Err error
     pub same : new ≡ old
 
--- one call for all of them, where there are any
+-- one call for all changes; no call if there are none
 abbrev pub MakesChanges : Bool → Key → List Patch → Contents → List Logged → Result (List ℕ) FsError → Contents → Type 0
 MakesChanges keeps key [] old records told new = AsksNothing old records told new
 MakesChanges keeps key (patch ∷ patches) old records told new =
@@ -109,18 +110,18 @@ MakesChanges keeps key (patch ∷ patches) old records told new =
     ⊎ MakesNone keeps key (patch ∷ patches) old records told new
     ⊎ IsPatchRefused keeps key (patch ∷ patches) old records told new
 
--- the reply tells what the store told, or the request fails as its call did
+-- the result: a response that reports the statuses that the store returned, or the error of its call
 abbrev pub told_by_store : DavRequest → Update → Result (List ℕ) FsError → Answer
 told_by_store request update (Ok statuses) = Ok (proppatch_reply request.path update.0 (grouped (told_made update.1 statuses)))
 told_by_store request update (Err e) = Err (from_fs e)
 
--- the dead properties are stored, as far as the store lets it
+-- the store makes all changes to dead properties or none, and the result reports what it returned
 pub record ProppatchWork (keeps : Bool) (request : DavRequest) (update : Update) (old : Contents) (records : List Logged) (answer : Answer) (new : Contents) : Type 0 where
   pub told : Result (List ℕ) FsError
   pub stored : MakesChanges keeps request.path.key (patches_of update.1) old records told new
   pub answered : answer ≡ told_by_store request update told
 
--- memory ran out before the store was asked, or behind its answer
+-- memory ran out before the store was asked, or after it returned its statuses
 abbrev pub ProppatchCut : Bool → DavRequest → Update → Contents → List Logged → Contents → Type 0
 ProppatchCut keeps request update old records new =
     Unbegun old records new ⊎ ((statuses : List ℕ) × MakesChanges keeps request.path.key (patches_of update.1) old records (Ok statuses) new)

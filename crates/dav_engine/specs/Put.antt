@@ -1,4 +1,5 @@
--- PUT (RFC 9110, section 9.3.4; RFC 4918, section 9.7) and PATCH (RFC 5789, as SabreDAV has it): the body becomes what a file holds, or a part of it.
+-- PUT (RFC 9110, section 9.3.4; RFC 4918, section 9.7) and PATCH (RFC 5789, as SabreDAV has it): the body becomes the content of a file, or a part of
+-- it.
 use Rattle.std.specs.Prelude.{◌≡◌, ℕ, nat_eq, true, false, if◌then◌else◌, List, [], ◌∷◌, ◌++◌, length, Option, Some, None, is_some, Bool, not, ◌&&◌, Result, Ok, Err}
 use Rattle.std.specs.Option.{option_map_or}
 use Rattle.std.specs.Result.{result_ok}
@@ -37,26 +38,28 @@ use Rattle.dav_engine.specs.Opening.{making_options, open_error, IsFileAt}
 
 -- ---- the rules
 
--- a body of bytes, where none is a body of no bytes
+-- the bytes of a body, none for no body; a body that is a tree, or is malformed, has no bytes (`None`)
 abbrev pub body_bytes : ReqBody → Option (List ℕ)
 body_bytes bodies.None = Some []
 body_bytes (bodies.Bytes bytes) = Some bytes
 body_bytes (bodies.Tree tree) = None
 body_bytes bodies.Malformed = None
 
--- the bytes that the file is to hold
+-- the bytes to write: those of the body, or no bytes if it has none
 abbrev pub new_bytes : ReqBody → List ℕ
 new_bytes body = option_map_or (λ bytes. bytes) (body_bytes body) []
 
--- as long as it was stated to be
+-- the bytes to write are as many as the target states, if it states a length
 abbrev pub has_length : Target → ReqBody → Bool
 has_length target body = option_map_or (nat_eq (length (new_bytes body))) target.length true
 
--- a body that isn't bytes, or is longer or shorter than stated, is refused
+-- a body that is not bytes, or does not have the stated length, is rejected: 400, and the connection is closed
 abbrev pub body_verdict : Target → ReqBody → Option Meta → Result (Option Meta) DavError
 body_verdict target body found = if is_some (body_bytes body) && has_length target body then Ok found else Err (StatusClose 400)
 
--- a look at the path, where it writes, the conditions and the locks of the path, and then the body; the connection is closed after a refusal
+-- In order: a lookup of the path, the target of the write, the conditions, the locks that cover the path, and then the body. The connection is closed
+-- after each rejection except one: if the range counts from the end of the file and the lookup failed with an error other than `NotFound`, that error
+-- is the result.
 abbrev pub put_rules : Bool → DavRequest → State → Dialogue (Option Meta)
 put_rules partial request state =
     look_closely state.contents request.path.key >>= λ looked.
@@ -64,18 +67,18 @@ put_rules partial request state =
     refusing closing (path_rules request state (result_ok looked)) >>= λ found.
     judged (body_verdict target request.body found)
 
--- a PATCH updates a part
+-- the method is PATCH
 abbrev pub is_patch : Option DavMethod → Bool
 is_patch (Some Patch) = true
 is_patch _ = false
 
--- it is served as one, and a request of any other method as a PUT
+-- a request with the method PATCH is served as PATCH, one with any other method as PUT
 abbrev pub put_method : Option DavMethod → DavMethod
 put_method method = if is_patch method then Patch else Put
 
 -- ---- the work
 
--- the file is emptied unless a part is kept, and the store is told what is known of the body
+-- how the file is opened: it is emptied unless a part is written, and the store gets the length and the checksum that the headers state for the body
 abbrev pub put_options : DavRequest → Target → OpenOptions
 put_options request target =
     record (making_options request) {
@@ -85,33 +88,34 @@ put_options request target =
       checksum = checksum_of request.headers;
     }
 
--- the connection is closed where it can't be opened
+-- the error of an open that fails; the connection is closed after `misplaced_status`, not after any other error
 abbrev pub put_open_error : OpenOptions → FsError → DavError
 put_open_error = open_error StatusClose
 
--- a call on the file that was opened, which is there
+-- a call on the opened file, which nothing bars because the file exists
 abbrev pub on_file : Op → Key → Call
 on_file op key = record { op = op; keys = key ∷ []; bar = None }
 
--- a place that can't be sought is one that can't be written: 416
+-- the error of a seek that fails: 416, with the connection closed, or `Memory`
 abbrev pub put_seek_error : FsError → DavError
 put_seek_error fs_errors.Memory = dav_errors.Memory
 put_seek_error e = StatusClose 416
 
--- a place is sought in a file of which a part is kept
+-- one seek, if a part is written; otherwise no call
 abbrev pub put_seek : {A : Type 0} → Target → Key → Dialogue A → Dialogue A
 put_seek target key next = if target.part then needs (on_file Seek key) put_seek_error next else next
 
--- no call is made to write no bytes
+-- one write; no call if there are no bytes
 abbrev pub put_write : {A : Type 0} → List ℕ → Key → Dialogue A → Dialogue A
 put_write [] key next = next
 put_write (b ∷ bytes) key next = needs (on_file WriteBytes key) from_fs next
 
--- what a call on the file that was opened tells of it, whose refusal is passed over
+-- a call on the opened file that returns this metadata; if it fails, there is none, and the request continues
 abbrev pub look_by : Call → Option Meta → Dialogue (Option Meta)
 look_by call meta = Asks call (λ outcome. Passed (if_granted outcome meta))
 
--- the file is opened, the place is sought, the bytes are written, the writing is ended, and the file is looked at: it has this metadata then
+-- The calls, in order: open the file, seek to the offset (if a part is written), write the bytes (if there are any), flush, and read the metadata,
+-- which is `meta`. A failure of the last call is ignored; any other failure ends the request with its error.
 abbrev pub put_steps : DavRequest → Target → Contents → Option Meta → Dialogue (Option Meta)
 put_steps request target old meta =
     let key = request.path.key in
@@ -121,23 +125,25 @@ put_steps request target old meta =
     needs (on_file Flush key) from_fs (
     look_by (on_file FileMetadata key) meta))))
 
--- ---- what is left
+-- ---- the contents after the work
 
--- what it holds as it is opened: nothing, or where a part is kept, what it held
+-- the content of the file once it is opened: no bytes or, if a part is written, what it held before
 abbrev pub opened_bytes : Target → List ℕ → List ℕ
 opened_bytes target old = if target.part then old else []
 
--- what it holds at the end: the body alone, or what it held with the body behind it, or written at the place
+-- the content of the file at the end: the body or, if a part is written, what it held with the body appended or written at the offset
 abbrev pub final_bytes : Target → List ℕ → List ℕ → List ℕ
 final_bytes target body old = if not target.part then body else (if target.append then old ++ body else written_at old target.start body)
 
--- the file holds this at the end where the write was granted, and is as it was opened where only `open` was; else all stays
+-- If the write was granted, the file has its final content. If only the open was granted, it has the content that it was opened with. In both cases
+-- no other file or directory and no property changes. If the open was not granted, nothing changes.
 pub record PutLeaves (request : DavRequest) (target : Target) (records : List Logged) (old new : Contents) : Type 0 where
   pub untouched : ¬ (WasGranted OpenFile request.path.key records) → new ≡ old
   pub opened : WasGranted OpenFile request.path.key records → ¬ (WasGranted WriteBytes request.path.key records) → IsFileAt request.path.key (opened_bytes target (bytes_at (get old.tree request.path.key))) old new
   pub written : WasGranted WriteBytes request.path.key records → IsFileAt request.path.key (final_bytes target (new_bytes request.body) (bytes_at (get old.tree request.path.key))) old new
 
--- what was found, as the look told it; nothing that was passed over needs another refusal than that nothing is there
+-- What was found, as the result of a lookup: finding nothing counts as `NotFound`. No other error is needed: after a lookup that failed otherwise,
+-- the rules reject each target that depends on the lookup.
 abbrev pub as_looked : Option Meta → Result Meta FsError
 as_looked (Some meta) = Ok meta
 as_looked None = Err NotFound
@@ -148,7 +154,7 @@ pub record PutWork (partial : Bool) (request : DavRequest) (found : Option Meta)
   pub answered : IsAnswered (put_steps request target old (new.metas request.path.key)) (λ meta reply. reply ≡ put_reply found meta) records answer
   pub leaves : PutLeaves request target records old new
 
--- memory ran out on the way, before any refusal: the records are the first calls of the work, and what they did stays
+-- Memory ran out: the records are the first calls of the work, none of which ended the request with an error, and their effect stays (`PutLeaves`).
 pub record PutCut (partial : Bool) (request : DavRequest) (found : Option Meta) (old : Contents) (records : List Logged) (new : Contents) : Type 0 where
   pub target : Target
   pub aimed : target_of partial request.headers (as_looked found) ≡ Ok target
@@ -157,9 +163,9 @@ pub record PutCut (partial : Bool) (request : DavRequest) (found : Option Meta) 
   pub goes_on : GoesOn left
   pub leaves : PutLeaves request target records old new
 
--- ---- the calls on the file, as the engine makes them
+-- ---- the calls on the open file
 
--- the place is sought in a file of which a part is kept
+-- a seek, if a part is written (`true`); otherwise no call
 abbrev pub SeeksIf : Bool → Store → Key → Result (Unit {0}) FsError → Store → Type 0
 SeeksIf true old key answer new = Seeks old key answer new
 SeeksIf false old key answer new = (answer ≡ Ok tt) × (new ≡ old)
@@ -167,11 +173,11 @@ SeeksIf false old key answer new = (answer ≡ Ok tt) × (new ≡ old)
 abbrev pub SeeksPlace : Target → Store → Key → Result (Unit {0}) FsError → Store → Type 0
 SeeksPlace target = SeeksIf target.part
 
--- no bytes are written by no call
+-- one write; no call if there are no bytes
 abbrev pub WritesBody : Store → DavFile → List ℕ → Result (Unit {0}) FsError → Store → Type 0
 WritesBody old file [] answer new = (answer ≡ Ok tt) × (new ≡ old)
 WritesBody old file (b ∷ bytes) answer new = Writes old file (b ∷ bytes) answer new
 
--- a look at the file, whose refusal is passed over
+-- a call that reads the file's metadata; if it fails, there is none, and the request continues
 abbrev pub look_at_file : Contents → Key → Dialogue (Option Meta)
 look_at_file contents key = look_by (file_call FileMetadata contents key) (contents.metas key)

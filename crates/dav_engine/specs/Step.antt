@@ -1,4 +1,4 @@
--- Steps of the engine, and runs of them.
+-- One step of the engine, which serves one request, and a run of steps, which serves a list of requests.
 use Rattle.std.specs.Prelude.{◌≡◌, List, [], ◌∷◌, ◌++◌, Option, Err, ◌⊎◌}
 use Rattle.dav_resource.specs.Methods.{method_of}
 use Rattle.dav_resource.specs.declared.method.DavMethod.{DavMethod}
@@ -12,7 +12,9 @@ use Rattle.dav_engine.specs.Guarded.{IsGuarded}
 use Rattle.dav_engine.specs.Settings.{Settings}
 use Rattle.dav_engine.specs.Methods.{Step}
 
--- under these settings, a step whose records are what the log gained, which changes only what the locks permit, and after which locks that stood together do so still
+-- The request is served as this method under these settings: the log gained `records`, over which `Step` gives this result and the new state. The
+-- locks permit each change of a file, a directory or a dead property, except the empty file of a LOCK (`IsGuarded`). The facts of the store and the
+-- lock system (`facts_of`) are unchanged, and compatible locks stay compatible.
 pub record Serves (method : Option DavMethod) (settings : Settings) (old : Seen) (request : DavRequest) (answer : Answer) (new : Seen) : Type 0 where
   pub records : List Logged
   pub told : new.store.log ≡ old.store.log ++ records
@@ -21,21 +23,26 @@ pub record Serves (method : Option DavMethod) (settings : Settings) (old : Seen)
   pub guarded : IsGuarded method request (state_of old) (state_of new)
   pub compatible : IsCompatible (state_of old) → IsCompatible (state_of new)
 
--- work that is done, or cut short for want of memory, and what the log gained
+-- A method's work: the log gained `records`, over which the work is `Done` with this result, or the result is `Memory` and `Cut` holds. The facts of
+-- the store and the lock system are unchanged.
 pub record Performs (Done : State → List Logged → Answer → State → Type 0) (Cut : State → List Logged → State → Type 0) (old : Seen) (answer : Answer) (new : Seen) : Type 0 where
   pub records : List Logged
   pub told : new.store.log ≡ old.store.log ++ records
   pub fixed : facts_of new ≡ facts_of old
   pub done : Done (state_of old) records answer (state_of new) ⊎ ((answer ≡ Err Memory) × Cut (state_of old) records (state_of new))
 
--- the same of work that knows the store alone
+-- The same for work that uses only the store: the log gained `records`, over which the work is `Done` with this result, or the result is `Memory` and
+-- `Cut` holds. The store supports dead properties exactly if it did before.
 pub record WorksOnStore (Done : Contents → List Logged → Answer → Contents → Type 0) (Cut : Contents → List Logged → Contents → Type 0) (old : Store) (answer : Answer) (new : Store) : Type 0 where
   pub records : List Logged
   pub told : new.log ≡ old.log ++ records
   pub fixed : new.keeps_properties ≡ old.keeps_properties
   pub done : Done old.contents records answer new.contents ⊎ ((answer ≡ Err Memory) × Cut old.contents records new.contents)
 
--- under settings that stay, one step after another, each as the request's own method, over its part of the records, to a state that a store and the same lock system may have, and guarded by the locks
+-- A run under settings that stay the same: the requests in order, with one result for each. Each request is a `Step` as its own method, over its own
+-- part of the records, and its changes are guarded by the locks before it (`IsGuarded`). After each step the state is one that a store and a lock
+-- system may be in (`IsLawfulState`), with the same lock system (`HasSameSystem`). The parts, in order, are all the records. A run of no requests
+-- changes nothing.
 abbrev pub Run : Settings → State → List DavRequest → List Logged → List Answer → State → Type 0
 Run settings old [] records [] new = (records ≡ []) × (new ≡ old)
 Run settings old (request ∷ requests) records (answer ∷ answers) new =
@@ -43,7 +50,8 @@ Run settings old (request ∷ requests) records (answer ∷ answers) new =
 Run settings old [] records (answer ∷ answers) new = ⊥
 Run settings old (request ∷ requests) records [] new = ⊥
 
--- a run whose records are what the log gained, and after which locks that stood together do so still
+-- A `Run` whose records are exactly what the log gained. The facts of the store and the lock system are unchanged, and compatible locks stay
+-- compatible.
 pub record Runs (settings : Settings) (old : Seen) (requests : List DavRequest) (answers : List Answer) (new : Seen) : Type 0 where
   pub records : List Logged
   pub told : new.store.log ≡ old.store.log ++ records

@@ -1,5 +1,5 @@
--- What COPY and MOVE share (RFC 4918, sections 9.8 and 9.9): what is asked before a resource goes to a destination,
--- and how what stands there is removed.
+-- What COPY and MOVE share (RFC 4918, sections 9.8 and 9.9): the rules before a resource is copied or moved to a destination, and the removal of what
+-- exists there.
 use Rattle.std.specs.Prelude.{◌≡◌, ◌⊎◌, ℕ, Bool, true, false, not, ◌&&◌, ◌||◌, if◌then◌else◌, List, [], ◌∷◌, ◌++◌, Option, Some, None, is_some, unwrap_or, Result, Ok, Err}
 use Rattle.dav_resource.specs.Errors.{from_fs}
 use Rattle.dav_resource.specs.Key.{Key, parent, is_same_key}
@@ -35,75 +35,75 @@ abbrev pub is_copy : Option DavMethod → Bool
 is_copy (Some Copy) = true
 is_copy _ = false
 
--- the method that a request is served as, where it is taken for one of both
+-- a request with the method COPY is served as COPY, one with any other method as MOVE
 abbrev pub transfer_method : Option DavMethod → DavMethod
 transfer_method method = if is_copy method then Copy else Move
 
 -- ---- the rules
 
--- a move takes all below the resource along: no other depth can be meant, 400; a copy may leave that behind
+-- a MOVE includes everything below the resource, so Depth 0 is rejected (400); a COPY may have Depth 0; Depth 1 is rejected for both (400)
 abbrev pub reach_verdict : Bool → Depth → Result (Unit {0}) DavError
 reach_verdict true Zero = Err (Status 400)
 reach_verdict moving depth = depth_verdict depth
 
--- where the resource is to go, unless the depth was refused
+-- the destination, unless the Depth was rejected
 abbrev pub where_reached : Result (Unit {0}) DavError → Settings → DavRequest → Result PathValue DavError
 where_reached (Ok reached) settings request = destination_of request.headers settings.prefix
 where_reached (Err e) settings request = Err e
 
--- the depth, and then the destination
+-- the Depth, and then the destination
 abbrev pub asked_destination : Bool → Settings → DavRequest → Result PathValue DavError
 asked_destination moving settings request = where_reached (reach_verdict moving (depth_or_all request)) settings request
 
--- a directory has to be above the destination: else 409
+-- the parent of the destination must be a directory: else 409
 abbrev pub parent_verdict : Option Meta → Result (Unit {0}) DavError
 parent_verdict above = if is_directory above then Ok tt else Err (Status 409)
 
--- a look there, whose refusal is passed over
+-- a lookup of the destination's parent, which must be a directory; a failed lookup counts as finding nothing
 abbrev pub must_have_parent : Contents → Key → Dialogue (Unit {0})
 must_have_parent contents destination = look contents (parent destination) >>= λ above. judged (parent_verdict above)
 
--- what a look found; that nothing is there is no refusal
+-- the result of a lookup, in which `NotFound` counts as finding nothing and any other error stays an error
 abbrev pub found_or_absent : Result Meta FsError → Result (Option Meta) DavError
 found_or_absent (Ok meta) = Ok (Some meta)
 found_or_absent (Err NotFound) = Ok None
 found_or_absent (Err e) = Err (from_fs e)
 
--- what stands at the destination
+-- a lookup of the destination; if it fails with any error other than `NotFound`, the request is rejected with that error
 abbrev pub look_there : Contents → Key → Dialogue (Option Meta)
 look_there contents destination = look_closely contents destination >>= λ told. judged (found_or_absent told)
 
--- the same, below a directory
+-- the same, after the check of its parent
 abbrev pub see_destination : Contents → Key → Dialogue (Option Meta)
 see_destination contents destination = must_have_parent contents destination >>= λ _. look_there contents destination
 
--- what stands there may be replaced, unless Overwrite forbids it
+-- the request may replace what exists at the destination, unless `Overwrite` is `F`
 abbrev pub may_overwrite : DavRequest → Bool
 may_overwrite request = unwrap_or (overwrite_of request.headers) true
 
--- all below the resource goes with it
+-- everything below the resource is included
 abbrev pub is_deep : Depth → Bool
 is_deep Zero = false
 is_deep depth = true
 
--- a resource can't go to itself, nor be moved to below itself, nor with all below it to where it is below
+-- the destination is not allowed: it is the source; in a MOVE, it is below the source; or, unless Depth is 0, the source is below it
 abbrev pub is_misplaced : Bool → Depth → Key → Key → Bool
 is_misplaced moving depth source destination =
     is_same_key source destination || (moving && is_at_or_below destination source) || (is_deep depth && is_at_or_below source destination)
 
--- something is there that may not be replaced: 412; the place is none for the resource: 403
+-- 412 if something exists at the destination that the request may not replace; 403 if the destination is not allowed
 abbrev pub place_verdict : Bool → DavRequest → Key → Option Meta → Result (Unit {0}) DavError
 place_verdict moving request destination there =
     if is_some there && not (may_overwrite request) then Err (Status 412)
     else (if is_misplaced moving (depth_or_all request) request.path.key destination then Err (Status 403) else Ok tt)
 
--- the locks let one who submits these tokens take all at the source away, in a move, and replace all at the destination
+-- the locks permit the request, with these tokens, to write at and below the destination and, in a MOVE, at and below the source
 abbrev pub permits_transfer : Bool → Option (List DavLock) → DavRequest → List (List ℕ) → Key → Bool
 permits_transfer moving locks request tokens destination =
     (not moving || permits_by locks request.path.key request.principal true tokens) && permits_by locks destination request.principal true tokens
 
--- the depth and the destination, a look at the source, at the destination's parent and at the destination, whether that is
--- a place for the source, the conditions, and the locks
+-- In order: the Depth and the destination, a lookup of the source, of the destination's parent and of the destination, whether the destination is
+-- allowed, the conditions, and the locks (423).
 abbrev pub transfer_rules : Bool → Settings → DavRequest → State → Dialogue Transfer
 transfer_rules moving settings request state =
     judged (asked_destination moving settings request) >>= λ destination.
@@ -113,30 +113,31 @@ transfer_rules moving settings request state =
     own_conditions request state (Some meta) >>= λ tokens.
     where_permitted 423 (permits_transfer moving state.locks request (submitted_tokens request) destination.key) (record { meta = meta; destination = destination; there = there })
 
--- ---- what stands at the destination is removed
+-- ---- the removal at the destination
 
--- with all below it, as far as the store lets it; where nothing is named the locks there are dropped
+-- everything at the destination and below it is removed, as far as the store allows; the locks there are removed if no failure is reported
+-- (`LeavesLocks`)
 pub record Clears (destination : PathValue) (old : State) (records : List Logged) (names : List Item) (new : State) : Type 0 where
   pub removed : Removes Infinity destination old.contents new.contents records names
   pub locks : LeavesLocks names destination old new
   pub system : HasSameSystem old new
 
--- where something is to be replaced; else nothing is called
+-- the same if something exists at the destination (`true`); otherwise no call is made, no failure is reported, and nothing changes
 abbrev pub ClearsIf : Bool → PathValue → State → List Logged → List Item → State → Type 0
 ClearsIf true destination old records names new = Clears destination old records names new
 ClearsIf false destination old records names new = (records ≡ []) × (names ≡ []) × (new ≡ old)
 
--- memory ran out in it: what was removed stays so, and no lock is dropped
+-- memory ran out in the removal: what was removed stays removed, and the locks are unchanged
 abbrev pub ClearsInPart : Bool → PathValue → State → List Logged → State → Type 0
 ClearsInPart true destination old records new = RemovesInPart Infinity destination old.contents new.contents records × LocksStay old new
 ClearsInPart false destination old records new = (records ≡ []) × (new ≡ old)
 
--- something else follows where nothing is named; else nothing more is called
+-- if no failure was reported, `Follows` comes next; otherwise no further call is made, nothing changes, and the reported failures stay the same
 abbrev pub UnlessNamed : (State → List Logged → List Item → State → Type 0) → List Item → State → List Logged → List Item → State → Type 0
 UnlessNamed Follows [] old records names new = Follows old records names new
 UnlessNamed Follows (item ∷ kept) old records names new = (records ≡ []) × (names ≡ item ∷ kept) × (new ≡ old)
 
--- what stands at the destination is removed, and this follows unless that named something
+-- what exists at the destination is removed, and `Follows` comes next unless a failure was reported
 pub record Replaces (Follows : State → List Logged → List Item → State → Type 0) (there : Bool) (destination : PathValue) (old : State) (records : List Logged) (names : List Item) (new : State) : Type 0 where
   pub head : List Logged
   pub rest : List Logged
@@ -146,7 +147,7 @@ pub record Replaces (Follows : State → List Logged → List Item → State →
   pub cleared : ClearsIf there destination old head kept mid
   pub follows : UnlessNamed Follows kept mid rest names new
 
--- it is removed, nothing is named, and memory ran out in what follows
+-- what exists at the destination was removed, no failure was reported, and memory ran out in what follows
 pub record ReplacesThen (Part : State → List Logged → State → Type 0) (there : Bool) (destination : PathValue) (old : State) (records : List Logged) (new : State) : Type 0 where
   pub head : List Logged
   pub rest : List Logged
@@ -155,41 +156,42 @@ pub record ReplacesThen (Part : State → List Logged → State → Type 0) (the
   pub cleared : ClearsIf there destination old head [] mid
   pub part : Part mid rest new
 
--- memory ran out in either
+-- memory ran out in the removal, or in what follows
 abbrev pub ReplacesInPart : (State → List Logged → State → Type 0) → Bool → PathValue → State → List Logged → State → Type 0
 ReplacesInPart Part there destination old records new = ClearsInPart there destination old records new ⊎ ReplacesThen Part there destination old records new
 
--- ---- what is told
+-- ---- the reported failures
 
--- work ended and added these names, the first of which it tells, or memory ran out in it
+-- The work was done and appended `names` to the reported failures; the result is success if `names` is empty, else the status of its first item. Or
+-- the result is `Memory`, and `Cut` holds.
 abbrev pub NamesBy : (State → List Logged → List Item → State → Type 0) → (State → List Logged → State → Type 0) → State → List Logged → List Item → List Item → Result (Unit {0}) DavError → State → Type 0
 NamesBy Done Cut old records had has answer new =
     ((names : List Item) × (has ≡ had ++ names) × Done old records names new × (answer ≡ told_by_names names))
     ⊎ ((answer ≡ Err Memory) × Cut old records new)
 
--- the same of what is seen
+-- the same for views of the engine: the log gained the records, and the facts of the store and the lock system are unchanged
 pub record Names (Done : State → List Logged → List Item → State → Type 0) (Cut : State → List Logged → State → Type 0) (old : Seen) (had has : List Item) (answer : Result (Unit {0}) DavError) (new : Seen) : Type 0 where
   pub records : List Logged
   pub told : new.store.log ≡ old.store.log ++ records
   pub fixed : facts_of new ≡ facts_of old
   pub done : NamesBy Done Cut (state_of old) records had has answer (state_of new)
 
--- what stands at the destination is removed, where something does, and each refusal is named
+-- what exists at the destination is removed, if something does, and each failure is reported
 abbrev pub Clearing : Bool → PathValue → Seen → List Item → List Item → Result (Unit {0}) DavError → Seen → Type 0
 Clearing there destination = Names (ClearsIf there destination) (ClearsInPart there destination)
 
--- the names; or, where nothing is named, that something was replaced, or that something new is there
+-- what the result reports: the reported failures or, if there are none, 204 for the source if something existed at the destination, else 201
 abbrev pub transferred_items : PathValue → Option Meta → List Item → List Item
 transferred_items source there [] = (source, if is_some there then 204 else 201) ∷ []
 transferred_items source there (item ∷ names) = item ∷ names
 
 -- ---- the work
 
--- the resource, as it is named
+-- the path by which the source is reported, with a trailing slash if it is a directory
 abbrev pub source_path : DavRequest → Transfer → PathValue
 source_path request found = fixed_path request.path (Some found.meta)
 
--- this is done, which names each refusal, and the names are told
+-- the work was done with these reported failures, and the result reports them (`transferred_items`)
 pub record TransferWork (Done : State → List Logged → List Item → State → Type 0) (source : PathValue) (there : Option Meta) (old : State) (records : List Logged) (answer : Answer) (new : State) : Type 0 where
   pub names : List Item
   pub done : Done old records names new

@@ -1,4 +1,4 @@
--- UNLOCK (RFC 4918, section 9.11): removes the lock of a token.
+-- UNLOCK (RFC 4918, section 9.11): removes the lock with a given token.
 use Rattle.std.specs.Prelude.{◌≡◌, ℕ, Bool, true, false, ◌&&◌, List, [], Option, Some, option_map, Result, Ok, Err, ◌⊎◌}
 use Rattle.std.specs.Option.{option_map_or, ok_or}
 use Rattle.dav_resource.specs.declared.meta.Meta.{Meta}
@@ -15,28 +15,28 @@ use Rattle.dav_engine.specs.Locking.{locks_verdict}
 use Rattle.dav_engine.specs.Rules.{judged}
 use Rattle.dav_engine.specs.State.{State, LocksStay}
 
--- the token that the request names; without one it is a bad request: 400
+-- the token in the `Lock-Token` header; without one: 400
 abbrev pub token_verdict : DavRequest → Result (List ℕ) DavError
 token_verdict request = ok_or (lock_token_of request.headers) (Status 400)
 
--- whether there is a lock system, the token, and a look at the path; no condition and no lock is asked
+-- in order: whether there is a lock system, the token, and a lookup of the path, whose failure is ignored; no condition and no lock is checked
 abbrev pub unlock_rules : DavRequest → State → Dialogue (Option Meta)
 unlock_rules request state =
     judged (locks_verdict state) >>= λ _.
     judged (token_verdict request) >>= λ _.
     look state.contents request.path.key
 
--- a lock of this token stands at the path or above it
+-- a lock with this token is at the path or above it
 abbrev pub has_lock : DavRequest → List ℕ → State → Bool
 has_lock request token state = option_map_or (has_named request.path.key token) state.locks false
 
--- it is there, and is gone: 204
+-- there is such a lock, and it is removed: 204
 pub record Unlocks (request : DavRequest) (found : Option Meta) (token : List ℕ) (old : State) (answer : Answer) (new : State) : Type 0 where
   pub there : has_lock request token old ≡ true
   pub told : answer ≡ Ok (unlocked_reply request.path found)
   pub locks : new.locks ≡ option_map (without_named request.path.key token) old.locks
 
--- there is none, unless a lock system that isn't dependable keeps it: 409
+-- there is no such lock, or the lock system is not reliable: 409, and the locks are unchanged
 pub record UnlocksNothing (request : DavRequest) (token : List ℕ) (old : State) (answer : Answer) (new : State) : Type 0 where
   pub none : (old.dependable && has_lock request token old) ≡ false
   pub told : answer ≡ Err (Status 409)

@@ -23,23 +23,38 @@ use dav_store::{DavLockSystem, GuardedFileSystem};
 use http::Response;
 
 impl<'a, C: Drop, F: GuardedFileSystem<C>, L: DavLockSystem> DavInner<'a, C, F, L> {
-    /// Copies a resource, and unless Depth is 0 all below it, to where its header Destination says, and
-    /// answers 201, or 204 where something was there. Files are copied with their properties, directories
-    /// are made without. It serves a request of any method as COPY.
+    /// Copies a resource, with everything below it unless Depth is 0, to the path in `Destination`. Returns
+    /// 201, or 204 if something was at the destination. Files are copied with their properties, directories
+    /// are created without. Executes any request as COPY, whatever its method.
     ///
-    /// What stands at the destination is removed first, with its locks, but for a directory where Depth is
-    /// 0, which stays. What the store refuses to remove is left, with the directories above it, and named in
-    /// a 207; nothing is copied then, and no lock is dropped. What it refuses to copy is named too, and each
-    /// resource that isn't copied lies under a name.
+    /// First the resource at the destination is removed, with everything below it and the locks there. (A
+    /// lock system that is not reliable may keep them.) With Depth 0 a directory at the destination stays
+    /// instead. If the store fails to remove something, a 207 lists the failures, nothing is copied, and no
+    /// lock is dropped. What then stays at the destination is as after a failed DELETE.
     ///
-    /// Errors: 400 for Depth 1, and for a Destination that names no place; where its path can't be read, the
-    /// error of `DavPath::from_str_and_prefix`; the store's where the source isn't found, or the destination
-    /// for another reason than that nothing is there; 409 where no directory is above the destination; 412
-    /// where something is there and Overwrite is `F`; 403 where both are the same, or the source, with all
-    /// below it, is below the destination; the conditions' (RFC 7232; RFC 4918, section 10.4); 423 where the
-    /// locks at or below the destination don't permit it. After each of these nothing has changed. `Memory`
-    /// at any time: what was removed or copied by then stays so, and no lock is dropped before all there is
-    /// gone.
+    /// If the store fails to copy something, a 207 lists the failures. If there is only one, and it is
+    /// reported for the source itself, the response has its status instead. If the destination is below the
+    /// source, what was at or below the destination is not copied.
+    ///
+    /// If the removal succeeded and Depth is not 0, the response reports for each other resource that is not
+    /// copied its path, its destination, or a path above one of these. With Depth 0, a directory that is
+    /// copied onto a directory leaves it as it is, and that it exists is not reported.
+    ///
+    /// Errors, checked in this order. After each of them the store's contents and the locks are as before.
+    /// - 400 for Depth 1.
+    /// - 400 without a `Destination` that is a path or an http(s) URL. If its path cannot be read, the error
+    ///   of `DavPath::from_str_and_prefix`.
+    /// - The store's error if the lookup of the source fails.
+    /// - 409 if no directory is found above the destination.
+    /// - The store's error if the lookup of the destination fails, unless nothing is there.
+    /// - 412 if something is there and Overwrite is `F`.
+    /// - 403 if source and destination are the same or, unless Depth is 0, if the source is below the
+    ///   destination.
+    /// - The status of a condition that does not hold (RFC 7232; RFC 4918, section 10.4).
+    /// - 423 if the locks at or below the destination do not permit the request.
+    ///
+    /// `Memory` can come at any time. What was removed or copied by then stays so. The locks at the
+    /// destination are dropped only after everything there was removed.
     pub fn handle_copy(&mut self, request: &DavRequest) -> DavResult<Response<Body>>
         ensures same_engine { frame self.new ≡ frame self.old }
         ensures step { IsServed F.seen L.seen (Some Copy) self.old request.entry.now (answer_of result) self.new }
@@ -50,7 +65,7 @@ impl<'a, C: Drop, F: GuardedFileSystem<C>, L: DavLockSystem> DavInner<'a, C, F, 
         self.copy_found(request, &found)
     }
 
-    /// The work: the source is copied, and the reply is made.
+    /// The work: copies the source and makes the response.
     fn copy_found(&mut self, request: &DavRequest, found: &Transfer) -> DavResult<Response<Body>>
         requires { MayCopy (depth_or_all_of request.now) request.now.path.key found.now (F.seen (lent self.old)).contents }
         ensures same_engine { frame self.new ≡ frame self.old }
@@ -62,16 +77,16 @@ impl<'a, C: Drop, F: GuardedFileSystem<C>, L: DavLockSystem> DavInner<'a, C, F, 
         match self.copy_to_destination(&path, found, depth_or_all(request), &mut res) {
             Ok(()) => res.add_status(&path, transferred_status(found.there.as_ref()))?,
             Err(DavError::Memory) => return Err(DavError::Memory),
-            // What was refused is named.
+            // `res` has the failures.
             Err(_) => {}
         }
         multi_error(alloc, &path, res.into_items())
     }
 
-    /// Removes what stands at the destination, but for a directory where Depth is 0, and copies the source
-    /// there, unless that was refused. Each refusal is named.
+    /// Removes what is at the destination, except a directory if Depth is 0, and then copies the source
+    /// there, unless the removal failed. Adds the failures to `res`.
     ///
-    /// Errors: `Status` of the first refusal, where there was one; `Memory`. What was removed or copied stays
+    /// Errors: `Status` of the first failure, if there was one; `Memory`. What was removed or copied stays
     /// so.
     fn copy_to_destination(
         &mut self,
@@ -89,12 +104,15 @@ impl<'a, C: Drop, F: GuardedFileSystem<C>, L: DavLockSystem> DavInner<'a, C, F, 
         self.do_copy(source, &found.destination, &found.destination, depth, res)
     }
 
-    /// Copies what stands at `source` and, but for Depth 0, all that is below it, to `dest` (RFC 4918, section
-    /// 9.8), as far as the store lets it, and adds a status for each refusal. Each other Depth is taken as
-    /// infinity. What stands at `topdest` or below it isn't copied; where that is the source itself, nothing is
-    /// done. No lock is looked at.
+    /// Copies the resource at `source`, with everything below it unless Depth is 0, to `dest` (RFC 4918,
+    /// section 9.8), and adds the failures to `res`. Any Depth but 0 is taken as infinity. What is at or
+    /// below `topdest` is not copied. If that is the source itself, nothing is done. Locks are not checked.
     ///
-    /// Errors: `Status` of the first refusal, where there was one; `Memory`. What was copied stays so.
+    /// A failed call adds a status for the path that is copied, or for its destination if a directory cannot
+    /// be created. With Depth 0 it is no failure that the directory already exists. If the store does not
+    /// list a member, a status is added for the directory, and the rest of its members is not copied.
+    ///
+    /// Errors: `Status` of the first failure, if one was added; `Memory`. What was copied stays so.
     pub fn do_copy(
         &mut self,
         source: &DavPath,
@@ -123,7 +141,7 @@ impl<'a, C: Drop, F: GuardedFileSystem<C>, L: DavLockSystem> DavInner<'a, C, F, 
     }
 }
 
-/// What a copy removes first: what stands at its destination, but of Depth 0 no directory.
+/// Returns what a copy removes first: the resource at the destination, except a directory if Depth is 0.
 fn replaced(depth: Depth, there: Option<&Meta>) -> Option<&Meta>
     ensures { option_copied result ≡ replaced_by depth (option_copied there.entry) }
 {

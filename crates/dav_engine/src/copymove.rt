@@ -1,4 +1,4 @@
-//! COPY or MOVE, by a request's method (RFC 4918, sections 9.8 and 9.9).
+//! COPY or MOVE, by the request's method (RFC 4918, sections 9.8 and 9.9).
 ghost use Rattle.std.specs.Prelude.{◌≡◌, Some};
 ghost use Rattle.dav_resource.specs.Methods.{method_of};
 ghost use Rattle.dav_parts.specs.Reply.{answer_of};
@@ -13,8 +13,8 @@ use dav_store::{DavLockSystem, GuardedFileSystem};
 use http::Response;
 
 impl<'a, C: Drop, F: GuardedFileSystem<C>, L: DavLockSystem> DavInner<'a, C, F, L> {
-    /// Serves COPY or MOVE. It serves a request of any method but COPY as MOVE. Replies, errors and what
-    /// they leave are those of `handle_copy` and of `handle_move`.
+    /// Executes COPY or MOVE. A request of any method but COPY is executed as MOVE. Responses, errors and
+    /// what they leave are those of `handle_copy` and `handle_move`.
     pub fn handle_copymove(&mut self, request: &DavRequest) -> DavResult<Response<Body>>
         ensures same_engine { frame self.new ≡ frame self.old }
         ensures step { IsServed F.seen L.seen (Some (transfer_method (method_of request.entry.now.method))) self.old request.entry.now (answer_of result) self.new }
@@ -28,7 +28,7 @@ impl<'a, C: Drop, F: GuardedFileSystem<C>, L: DavLockSystem> DavInner<'a, C, F, 
     }
 }
 
-/// Whether a method is COPY.
+/// Returns whether a method is COPY.
 fn is_copy(method: Option<DavMethod>) -> bool
     ensures { result ≡ is_copy_method method }
 {

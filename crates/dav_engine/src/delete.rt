@@ -20,15 +20,24 @@ use dav_store::{DavLockSystem, GuardedFileSystem};
 use http::{Response, StatusCode};
 
 impl<'a, C: Drop, F: GuardedFileSystem<C>, L: DavLockSystem> DavInner<'a, C, F, L> {
-    /// Removes a resource and, unless Depth is 0, all below it, with the locks there, and answers 204. What
-    /// the store refuses is left, with the directories above it, and named in a 207 (RFC 4918, section
-    /// 9.6.1), or answered by its status alone where it is the resource itself; no lock is dropped then. It
-    /// serves a request of any method as DELETE.
+    /// Deletes a resource, with everything below it unless Depth is 0, and the locks there. Returns 204. (A
+    /// lock system that is not reliable may keep the locks.) Executes any request as DELETE, whatever its
+    /// method.
     ///
-    /// Errors: 400 for Depth 1, the store's where nothing is found, the conditions' (RFC 7232; RFC 4918,
-    /// section 10.4), 423 where the locks at or below the path don't permit it; after each of these nothing
-    /// has changed. `Memory` at any time: what was removed by then stays so, and no lock is dropped before
-    /// all is gone.
+    /// If the store fails to remove something, a 207 lists the failures (RFC 4918, section 9.6.1). If there
+    /// is only one, and it is reported for the resource itself, the response has its status instead. No lock
+    /// is dropped then. With Depth 0 nothing has been removed. Otherwise exactly these resources stay:
+    /// - the resources that the response lists, and the directories above them, up to the path;
+    /// - members that the store did not list, and everything below them.
+    ///
+    /// Errors, checked in this order. After each of them the store's contents and the locks are as before.
+    /// - 400 for Depth 1.
+    /// - The store's error if the lookup of the path fails.
+    /// - The status of a condition that does not hold (RFC 7232; RFC 4918, section 10.4).
+    /// - 423 if the locks at or below the path do not permit the request.
+    ///
+    /// `Memory` can come at any time. What was removed by then stays removed. The locks are dropped only
+    /// after everything was removed.
     pub fn handle_delete(&mut self, request: &DavRequest) -> DavResult<Response<Body>>
         ensures same_engine { frame self.new ≡ frame self.old }
         ensures step { IsServed F.seen L.seen (Some Delete) self.old request.entry.now (answer_of result) self.new }
@@ -39,8 +48,8 @@ impl<'a, C: Drop, F: GuardedFileSystem<C>, L: DavLockSystem> DavInner<'a, C, F, 
         self.delete_found(request, &meta)
     }
 
-    /// The rules: the depth, a look at the path, the conditions, and the locks at the path and below it.
-    /// What was found passes.
+    /// Checks the rules: the Depth, the lookup of the path, the conditions, and the locks at and below the
+    /// path. Returns what was found.
     fn judge_delete(&mut self, request: &DavRequest) -> DavResult<Meta>
         ensures same_engine { frame self.new ≡ frame self.old }
         ensures same_locks { lent_locks self.new ≡ lent_locks self.old }
@@ -54,7 +63,7 @@ impl<'a, C: Drop, F: GuardedFileSystem<C>, L: DavLockSystem> DavInner<'a, C, F, 
         where_permitted(StatusCode::LOCKED, permitted, meta)
     }
 
-    /// The work: what was found is removed, then its locks are dropped, and the reply is made.
+    /// The work: removes what was found and then, if nothing failed, its locks. Makes the response.
     fn delete_found(&mut self, request: &DavRequest, meta: &Meta) -> DavResult<Response<Body>>
         requires { (F.seen (lent self.old)).contents.metas request.now.path.key ≡ Some meta.now }
         ensures same_engine { frame self.new ≡ frame self.old }
@@ -69,17 +78,18 @@ impl<'a, C: Drop, F: GuardedFileSystem<C>, L: DavLockSystem> DavInner<'a, C, F, 
                 res.add_status(&path, StatusCode::NO_CONTENT)?;
             }
             Err(DavError::Memory) => return Err(DavError::Memory),
-            // What was refused is named.
+            // `res` has the failures.
             Err(_) => {}
         }
         multi_error(alloc, &path, res.into_items())
     }
 
-    /// Removes what stands at a path and, unless Depth is 0, all that is below it (RFC 4918, section 9.6),
-    /// as far as the store lets it, and adds a status for each refusal. `meta` is the path's own metadata.
-    /// Each Depth but 0 is taken as infinity. No lock is looked at.
+    /// Removes the resource at a path, with everything below it unless Depth is 0 (RFC 4918, section 9.6),
+    /// and adds a status to `res` for each failure. Any Depth but 0 is taken as infinity. `meta` is the
+    /// path's own metadata. Locks are not checked.
     ///
-    /// Errors: `Status` of the first refusal, where there was one; `Memory`. What was removed stays so.
+    /// Errors: `Status` of the first failure, if there was one; `Memory`. What was removed stays removed.
+    /// After `Memory` statuses may be missing in `res`.
     pub fn delete_items(
         &mut self,
         res: &mut MultiError,
@@ -96,7 +106,7 @@ impl<'a, C: Drop, F: GuardedFileSystem<C>, L: DavLockSystem> DavInner<'a, C, F, 
         dav_walks::delete_items(alloc, self.fs, &self.credentials, res, depth, meta, path)
     }
 
-    /// Drops the locks at a path and below it. A refusal is passed over.
+    /// Drops the locks at a path and below it. An error of the lock system is ignored.
     pub(crate) fn drop_locks(&mut self, path: &DavPath)
         ensures same_engine { frame self.new ≡ frame self.old }
         ensures same_store { lent self.new ≡ lent self.old }

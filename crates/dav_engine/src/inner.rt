@@ -1,4 +1,4 @@
-//! The engine's struct, and what several methods share.
+//! The engine's struct, and functions that several methods share.
 ghost use Rattle.std.specs.Prelude.{◌≡◌, IfOk, OnErr, option_map, option_copied, string_bytes};
 ghost use Rattle.dav_engine.specs.DavInner.{lent, lent_locks, loans, made_with, frame};
 ghost use Rattle.dav_parts.specs.Dialogue.{Judges, look as look_of};
@@ -9,7 +9,7 @@ use dav_resource::{DavError, DavMethodSet, DavPath, DavResult, FsError, FsResult
 use dav_store::{DavLockSystem, GuardedFileSystem};
 use std::alloc::AllocError;
 
-/// An engine that serves requests over a store and, where there is one, a lock system that it borrows.
+/// Executes WebDAV requests against a store and, if there is one, a lock system, both borrowed.
 #[derive(Drop)]
 pub struct DavInner<'a, C, F, L> {
     pub(crate) fs: &'a mut F,
@@ -20,9 +20,12 @@ pub struct DavInner<'a, C, F, L> {
 }
 
 impl<'a, C: Drop, F: GuardedFileSystem<C>, L: DavLockSystem> DavInner<'a, C, F, L> {
-    /// An engine over this store and, where there is one, this lock system. `prefix` is what the paths of
-    /// requests begin with, `allow` the methods that a handler above lets through (`None`: all), and
-    /// `credentials` what the store knows the caller by. No request changes any of the three.
+    /// Creates an engine over this store and, if there is one, this lock system.
+    ///
+    /// `prefix` is the path prefix of the server's URLs: the path in `Destination` has to be below it.
+    /// `allow` is the set of methods that the embedding program enables (`None`: all). It only decides which
+    /// methods OPTIONS may list: the engine does not reject a request because of it. `credentials` is what
+    /// the store knows the caller by. No request changes any of the three.
     pub fn new(
         fs: &'a mut F,
         ls: Option<&'a mut L>,
@@ -44,7 +47,7 @@ impl<'a, C: Drop, F: GuardedFileSystem<C>, L: DavLockSystem> DavInner<'a, C, F, 
         }
     }
 
-    /// Hands the store and the lock system back, as the requests have left them.
+    /// Returns the borrowed store and lock system, as the requests left them, and ends the engine.
     pub fn finish(self) -> (&'a mut F, Option<&'a mut L>)
         ensures same_loans { (result.0.ghost_name, option_map (λ l. l.ghost_name) result.1) ≡ loans self.entry }
         ensures store { result.0.now ≡ lent self.entry }
@@ -53,7 +56,8 @@ impl<'a, C: Drop, F: GuardedFileSystem<C>, L: DavLockSystem> DavInner<'a, C, F, 
         (self.fs, self.ls)
     }
 
-    /// Looks at a path, where a refusal counts as nothing there.
+    /// Looks up a path. A failed lookup counts as nothing there. The only error is `Memory`, and then nothing
+    /// has changed.
     pub(crate) fn look(&mut self, path: &DavPath) -> DavResult<Option<Meta>>
         ensures same_engine { frame self.new ≡ frame self.old }
         ensures same_locks { lent_locks self.new ≡ lent_locks self.old }
@@ -63,7 +67,8 @@ impl<'a, C: Drop, F: GuardedFileSystem<C>, L: DavLockSystem> DavInner<'a, C, F, 
         look(self.fs, path, &self.credentials)
     }
 
-    /// Looks at a path, and tells a refusal too.
+    /// Looks up a path, and returns the store's error if the lookup fails. The only error of the function
+    /// itself is `Memory`, and then nothing has changed.
     pub(crate) fn look_closely(&mut self, path: &DavPath) -> DavResult<FsResult<Meta>>
         ensures same_engine { frame self.new ≡ frame self.old }
         ensures same_locks { lent_locks self.new ≡ lent_locks self.old }
@@ -77,7 +82,7 @@ impl<'a, C: Drop, F: GuardedFileSystem<C>, L: DavLockSystem> DavInner<'a, C, F, 
     }
 }
 
-/// The path, with a slash where a directory was found.
+/// Returns the path, with a trailing slash if a directory was found.
 pub(crate) fn fixed_path(path: &DavPath, found: Option<&Meta>) -> Result<DavPath, AllocError>
     ensures { IfOk result (λ fixed. fixed ≡ fixed_path_of path.now (option_copied found.entry)) }
 {
@@ -86,7 +91,7 @@ pub(crate) fn fixed_path(path: &DavPath, found: Option<&Meta>) -> Result<DavPath
     Ok(fixed)
 }
 
-/// Whether a directory was found.
+/// Returns whether a directory was found.
 pub(crate) fn is_directory(found: Option<&Meta>) -> bool
     ensures { result ≡ is_directory_found (option_copied found.entry) }
 {

@@ -1,4 +1,4 @@
-//! What is asked before a request changes anything.
+//! The checks before a request changes anything: its conditions and the locks.
 ghost use Rattle.std.specs.Prelude.{◌≡◌, if◌then◌else◌, Ok, Err, IfOk, option_map, option_copied};
 ghost use Rattle.dav_resource.specs.declared.error.DavError.TheVariants.{Status};
 ghost use Rattle.dav_parts.specs.Dialogue.{Judges, told_by};
@@ -14,8 +14,9 @@ use dav_store::{DavLockSystem, GuardedFileSystem};
 use http::StatusCode;
 
 impl<'a, C: Drop, F: GuardedFileSystem<C>, L: DavLockSystem> DavInner<'a, C, F, L> {
-    /// The rules of a request that changes what stands at its path alone: a look at the path, the
-    /// conditions, and the locks of the path. What was found passes.
+    /// Checks the rules of a request that changes only the resource at its path: looks up the path, then
+    /// checks the conditions and the locks of the path. A failed lookup counts as nothing there. Returns what
+    /// was found.
     pub(crate) fn judge_shallow(&mut self, request: &DavRequest) -> DavResult<Option<Meta>>
         ensures same_engine { frame self.new ≡ frame self.old }
         ensures same_locks { lent_locks self.new ≡ lent_locks self.old }
@@ -25,7 +26,7 @@ impl<'a, C: Drop, F: GuardedFileSystem<C>, L: DavLockSystem> DavInner<'a, C, F, 
         self.judge_path(request, found)
     }
 
-    /// The conditions, and the locks of the path. What was found passes.
+    /// Checks the conditions of the request, and then the locks of its path (423). Returns `found`.
     pub(crate) fn judge_path(
         &mut self,
         request: &DavRequest,
@@ -41,7 +42,7 @@ impl<'a, C: Drop, F: GuardedFileSystem<C>, L: DavLockSystem> DavInner<'a, C, F, 
         where_permitted(StatusCode::LOCKED, permitted, found)
     }
 
-    /// The tokens that the request submits, where its conditions hold.
+    /// Checks the conditions of the request. If they hold, returns the state tokens that it submits in `If`.
     pub(crate) fn judge_conditions(
         &mut self,
         request: &DavRequest,
@@ -64,7 +65,8 @@ impl<'a, C: Drop, F: GuardedFileSystem<C>, L: DavLockSystem> DavInner<'a, C, F, 
         )
     }
 
-    /// Refuses a request whose conditions don't hold, by the status that says so. The tokens don't count.
+    /// Checks the conditions of the request, without returning its tokens. If one does not hold, the error is
+    /// its status.
     pub(crate) fn judge_holding(
         &mut self,
         request: &DavRequest,
@@ -80,7 +82,7 @@ impl<'a, C: Drop, F: GuardedFileSystem<C>, L: DavLockSystem> DavInner<'a, C, F, 
         }
     }
 
-    /// The status by which the conditions refuse the request, where they don't hold.
+    /// Returns the status that rejects the request if its conditions do not hold.
     fn judge_if_match(
         &mut self,
         request: &DavRequest,
@@ -101,7 +103,7 @@ impl<'a, C: Drop, F: GuardedFileSystem<C>, L: DavLockSystem> DavInner<'a, C, F, 
         )
     }
 
-    /// The tokens that the request submits, with whether its header If holds.
+    /// Returns whether the header `If` holds, and the state tokens that the request submits in it.
     pub(crate) fn judge_if(&mut self, request: &DavRequest) -> DavResult<(bool, Items<Text>)>
         ensures same_engine { frame self.new ≡ frame self.old }
         ensures same_locks { lent_locks self.new ≡ lent_locks self.old }
@@ -118,7 +120,8 @@ impl<'a, C: Drop, F: GuardedFileSystem<C>, L: DavLockSystem> DavInner<'a, C, F, 
         )
     }
 
-    /// Whether the locks let the request, with these tokens, write at the path or, deep, at and below it.
+    /// Returns whether the locks allow the request, with these tokens, to write at the path or, if `deep`, at
+    /// and below it. Without a lock system everything is permitted.
     pub(crate) fn is_permitted(
         &self,
         request: &DavRequest,
@@ -135,7 +138,7 @@ impl<'a, C: Drop, F: GuardedFileSystem<C>, L: DavLockSystem> DavInner<'a, C, F, 
     }
 }
 
-/// How far a request reaches: to all below the resource, unless a Depth that can be read says otherwise.
+/// Returns the Depth of the request, or infinity without a Depth that can be read.
 pub(crate) fn depth_or_all(request: &DavRequest) -> Depth
     ensures { result ≡ depth_or_all_of request.entry.now }
 {
@@ -145,7 +148,7 @@ pub(crate) fn depth_or_all(request: &DavRequest) -> Depth
     }
 }
 
-/// Refuses a request for a resource with its members alone: 400.
+/// Rejects Depth 1 with 400.
 pub(crate) fn judge_depth(depth: Depth) -> DavResult<()>
     ensures { result ≡ depth_verdict depth }
 {
@@ -155,7 +158,7 @@ pub(crate) fn judge_depth(depth: Depth) -> DavResult<()>
     Ok(())
 }
 
-/// The lock system, to be looked at.
+/// Borrows the lock system for reading.
 pub(crate) fn shared<'b, L>(ls: &'b Option<&mut L>) -> Option<&'b L>
     ensures { option_copied result ≡ option_map (λ l. l.now) ls.now }
 {
@@ -165,7 +168,7 @@ pub(crate) fn shared<'b, L>(ls: &'b Option<&mut L>) -> Option<&'b L>
     }
 }
 
-/// Who sends the request, where that is known.
+/// Returns the principal that sends the request, if it is known.
 pub(crate) fn principal(request: &DavRequest) -> Option<&str>
     ensures { option_copied result ≡ request.entry.now.principal }
 {
@@ -175,8 +178,8 @@ pub(crate) fn principal(request: &DavRequest) -> Option<&str>
     }
 }
 
-/// Lets a value pass, where that is permitted: else the request is refused by this status, 423 (RFC 4918,
-/// section 11.3) or, of a refresh, 412 (section 9.10.2).
+/// Returns the value if `permitted`; else rejects the request with this status, 423 (RFC 4918, section 11.3)
+/// or, for a refresh, 412 (section 9.10.2).
 pub(crate) fn where_permitted<T: Drop>(
     status: StatusCode,
     permitted: bool,
@@ -191,14 +194,15 @@ pub(crate) fn where_permitted<T: Drop>(
     }
 }
 
-/// The same verdict; a refusal closes the connection.
+/// Returns the same result, in which a `Status` error also closes the connection.
 pub(crate) fn closed(verdict: DavResult<Option<Meta>>) -> DavResult<Option<Meta>>
     ensures { result ≡ told_by closing_error verdict }
 {
     verdict.map_err(closing)
 }
 
-/// The same error, after which the connection is closed.
+/// Turns a `Status` error into `StatusClose`, after which the HTTP server closes the connection. Other errors
+/// stay as they are.
 fn closing(error: DavError) -> DavError
     ensures { result ≡ closing_error error }
 {

@@ -1,4 +1,4 @@
-//! The engine: WebDAV requests over any store and lock system that keep their contracts.
+//! The engine: executes WebDAV requests against any store and lock system that keep their contracts.
 #![tactic(auto)]
 
 mod copy;

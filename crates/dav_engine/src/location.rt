@@ -1,4 +1,4 @@
-//! Where a directory is whose path lacks its last slash.
+//! The header `content-location` for a directory whose request path lacks the trailing slash.
 ghost use Rattle.std.specs.Prelude.{◌≡◌, ◌++◌, codes, IfOk, OnOk, IfErr};
 ghost use Rattle.dav_resource.specs.declared.error.DavError.TheVariants.{Memory};
 ghost use Rattle.dav_parts.specs.ReplyHeader.{HasRoomFor};
@@ -9,7 +9,8 @@ use dav_parts::{add_header, header_value};
 use dav_resource::{DavPath, DavResult, Meta};
 use http_header::{CONTENT_LOCATION, HeaderMap, HeaderValue};
 
-/// Adds where the resource is, if the path lacked a directory's slash. The only error is `Memory`.
+/// Adds `content-location` if a directory was found and the path lacks its trailing slash. The only error is
+/// `Memory`.
 pub(crate) fn add_location(
     headers: &mut HeaderMap<HeaderValue>,
     path: &DavPath,
@@ -22,7 +23,8 @@ pub(crate) fn add_location(
     add_header(headers, CONTENT_LOCATION, fixed_location(path, found)?)
 }
 
-/// A directory's path, with its slash and the prefix, where the request's path lacked the slash.
+/// Returns the directory's path, with its trailing slash and the prefix, if a directory was found and the
+/// request's path lacks the slash.
 fn fixed_location(path: &DavPath, found: &Option<Meta>) -> DavResult<Option<HeaderValue>>
     ensures ok { IfOk result (λ value. value ≡ location_of_fixed path.now found.now) }
     ensures err { IfErr result (λ e. e ≡ Memory) }

@@ -1,4 +1,4 @@
-//! LOCK (RFC 4918, section 9.10), for a new lock.
+//! LOCK for a new lock (RFC 4918, section 9.10).
 ghost use Rattle.std.specs.Prelude.{◌≡◌, true, false, IfOk, IfErr, OnOk, Ok, Err, Some, is_some};
 ghost use Rattle.dav_resource.specs.declared.error.DavError.TheVariants.{Memory, Status};
 ghost use Rattle.dav_resource.specs.declared.method.DavMethod.TheVariants.{Lock};
@@ -31,21 +31,32 @@ use dav_store::{DavLock, DavLockSystem, GuardedFileSystem, LockError};
 use http::{Response, StatusCode};
 
 impl<'a, C: Drop, F: GuardedFileSystem<C>, L: DavLockSystem> DavInner<'a, C, F, L> {
-    /// Locks a resource, with the request's token, and answers 200 with the lock in full. Where nothing is
-    /// found an empty file is made (RFC 4918, section 7.3), and the answer is 201. The lock is shared or
-    /// exclusive as the body says, of the path alone with Depth 0 and else of all below it too, and lasts as
-    /// long as `get_timeout` says. A request without a body, or with one of no bytes, refreshes the lock whose
-    /// token its header If has, and answers 200. It serves a request of any method as LOCK.
+    /// Locks a resource with the request's token and returns 200 with the lock in full, or refreshes a lock.
+    /// Executes any request as LOCK, whatever its method.
     ///
-    /// Errors of a new lock: 405 without a lock system, 400 for Depth 1, the conditions' (RFC 7232; RFC 4918,
-    /// section 10.4), `XmlParseError` for another body, 423 where the locks don't grant it, 412 where the
-    /// conditions no longer hold as the file is made, 409 where its parent is no collection, else the store's
-    /// own; `Memory`. After each of them no file has been made, and no lock is left; a lock system that isn't
-    /// dependable may have kept it.
+    /// If the lookup finds nothing, a new lock gets 201, and an empty file is created unless there is one
+    /// (RFC 4918, section 7.3). The body says whether the lock is shared or exclusive. With Depth 0 it covers
+    /// only the path, else also everything below it. It lasts as long as `get_timeout` says. A request
+    /// without a body, or with an empty one, refreshes the lock whose token is in its header `If`, and
+    /// returns 200.
     ///
-    /// Errors of a refresh: 405, 400 unless the header If has one token, 412 where the locks don't permit the
-    /// request to write at the path, or no lock of that token stands there or above; `Memory`, after which the
-    /// lock may have been refreshed. After the others nothing has changed.
+    /// Errors of a new lock, checked in this order. After each of them, and after `Memory`, no file has been
+    /// created and no lock is left, but a lock system that is not reliable may have kept it.
+    /// - 405 without a lock system.
+    /// - 400 for Depth 1.
+    /// - The status of a condition that does not hold (RFC 7232; RFC 4918, section 10.4).
+    /// - `XmlParseError` for a body that is not a valid `lockinfo`.
+    /// - 423 if a conflicting lock exists, or if the request's token is in use.
+    /// - If the file cannot be opened: with If-None-Match `*`, 412 if its parent is not a collection or if
+    ///   something is there after all; without it, 409 if its parent is not a collection; else the store's
+    ///   error.
+    ///
+    /// Errors of a refresh, checked in this order. After each of them nothing has changed. After `Memory` the
+    /// lock may have been refreshed.
+    /// - 405 without a lock system.
+    /// - 400 unless the header `If` has exactly one token.
+    /// - 412 if the locks do not permit the request to write at the path, or if no lock of that token is
+    ///   there or above.
     pub fn handle_lock(&mut self, request: &DavRequest) -> DavResult<Response<Body>>
         ensures same_engine { frame self.new ≡ frame self.old }
         ensures step { IsServed F.seen L.seen (Some Lock) self.old request.entry.now (answer_of result) self.new }
@@ -58,7 +69,7 @@ impl<'a, C: Drop, F: GuardedFileSystem<C>, L: DavLockSystem> DavInner<'a, C, F, 
         }
     }
 
-    /// A new lock: the rules, and then the work.
+    /// Executes a LOCK for a new lock: first the rules, and then the work.
     fn new_lock(&mut self, request: &DavRequest) -> DavResult<Response<Body>>
         requires body { is_refresh_body request.now.body ≡ false }
         ensures same_engine { frame self.new ≡ frame self.old }
@@ -68,8 +79,8 @@ impl<'a, C: Drop, F: GuardedFileSystem<C>, L: DavLockSystem> DavInner<'a, C, F, 
         self.grant_lock(request, found, &info)
     }
 
-    /// The rules of a new lock: a look at the path, the depth, the conditions and the body. What was found
-    /// passes, with what the body asks for.
+    /// Checks the rules of a new lock: looks up the path, and checks the Depth, the conditions and the body.
+    /// Returns what was found, and what the body asks for.
     fn judge_new_lock(&mut self, request: &DavRequest) -> DavResult<(Option<Meta>, LockInfo)>
         ensures same_engine { frame self.new ≡ frame self.old }
         ensures same_locks { lent_locks self.new ≡ lent_locks self.old }
@@ -84,8 +95,8 @@ impl<'a, C: Drop, F: GuardedFileSystem<C>, L: DavLockSystem> DavInner<'a, C, F, 
         Ok((found, info))
     }
 
-    /// The work of a new lock: it is granted, and told, with the file where nothing was found. Where that
-    /// fails it is taken back.
+    /// The work of a new lock: has the lock system add it, makes the response and, if nothing was found,
+    /// creates the file. If that fails, removes the lock again.
     fn grant_lock(
         &mut self,
         request: &DavRequest,
@@ -139,7 +150,7 @@ impl<'a, C: Drop, F: GuardedFileSystem<C>, L: DavLockSystem> DavInner<'a, C, F, 
         }
     }
 
-    /// Makes the reply, and then the file where nothing was found.
+    /// Makes the response, and then creates the file if nothing was found.
     fn tell_lock(
         &mut self,
         request: &DavRequest,
@@ -163,9 +174,11 @@ impl<'a, C: Drop, F: GuardedFileSystem<C>, L: DavLockSystem> DavInner<'a, C, F, 
     }
 }
 
-/// How long a lock of this request lasts, in seconds (RFC 4918, section 10.7), by the first wish of a header
-/// `Timeout` that can be read: at most 86400 where it is shared, else 600. A wish for no end is that greatest
-/// for a new lock, and none for a refresh; without a wish there is no end.
+/// Returns how long a lock of this request lasts, in seconds, or `None` for no end (RFC 4918, section 10.7).
+///
+/// The first value of the header `Timeout` counts, up to 86400 for a shared lock and up to 600 for an
+/// exclusive one. `Infinite` gives this maximum to a new lock, and no end to a refreshed one. Without a
+/// header `Timeout`, or if one of its values cannot be read, there is no end.
 pub fn get_timeout(req: &DavRequest, refresh: bool, shared: bool) -> Option<u64>
     ensures { result ≡ timeout_for (timeout_of req.entry.now.headers) refresh shared }
 {
@@ -177,14 +190,14 @@ pub fn get_timeout(req: &DavRequest, refresh: bool, shared: bool) -> Option<u64>
     }
 }
 
-/// The greatest timeout, in seconds: a day, or ten minutes.
+/// Returns the maximum timeout in seconds: a day for a shared lock, ten minutes for an exclusive one.
 fn greatest_timeout(shared: bool) -> u64
     ensures { result ≡ greatest_timeout_of shared }
 {
     if shared { 86400 } else { 600 }
 }
 
-/// Whether there is no body, or one of no bytes.
+/// Returns whether there is no body, or an empty one.
 fn is_refresh(body: &ReqBody) -> bool
     ensures { result ≡ is_refresh_body body.now }
 {
@@ -195,7 +208,7 @@ fn is_refresh(body: &ReqBody) -> bool
     }
 }
 
-/// Whether all below the resource is locked with it.
+/// Returns whether everything below the resource is locked with it.
 fn is_deep(depth: Depth) -> bool
     ensures { result ≡ is_deep_depth depth }
 {

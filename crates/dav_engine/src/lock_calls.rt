@@ -1,4 +1,4 @@
-//! What requests about locks share: LOCK, for a new lock or a refresh, and UNLOCK.
+//! What LOCK, for a new lock or a refresh, and UNLOCK share.
 ghost use Rattle.std.specs.Prelude.{◌≡◌, true, false, OnOk, is_some};
 ghost use Rattle.dav_store.specs.LockCalls.{RemovesLock, KeepsNamed};
 ghost use Rattle.dav_parts.specs.Dialogue.{Judges};
@@ -12,7 +12,8 @@ use dav_store::{DavLockSystem, GuardedFileSystem, LockError};
 use http::StatusCode;
 
 impl<'a, C: Drop, F: GuardedFileSystem<C>, L: DavLockSystem> DavInner<'a, C, F, L> {
-    /// A look at the path, where there is a lock system: else 405.
+    /// Looks up the path if there is a lock system; else rejects the request with 405. A failed lookup counts
+    /// as nothing there.
     pub(crate) fn look_to_lock(&mut self, request: &DavRequest) -> DavResult<Option<Meta>>
         ensures same_engine { frame self.new ≡ frame self.old }
         ensures same_locks { lent_locks self.new ≡ lent_locks self.old }
@@ -23,7 +24,7 @@ impl<'a, C: Drop, F: GuardedFileSystem<C>, L: DavLockSystem> DavInner<'a, C, F, 
         self.look(&request.path)
     }
 
-    /// Refuses a request about locks where there is no lock system: 405.
+    /// Rejects a request about locks with 405 if there is no lock system.
     pub(crate) fn judge_locks(&self) -> DavResult<()>
         ensures { result ≡ locks_verdict (state_by F.seen L.seen self.now) }
     {
@@ -33,7 +34,8 @@ impl<'a, C: Drop, F: GuardedFileSystem<C>, L: DavLockSystem> DavInner<'a, C, F, 
         }
     }
 
-    /// Removes the lock of this token, at the path or above it, and says whether there was one that went.
+    /// Removes the lock of this token, at the path or above it, and returns whether it did. If not, nothing
+    /// has changed: there is no such lock, or a lock system that is not reliable has kept it.
     pub(crate) fn remove_lock(&mut self, path: &DavPath, token: &str) -> bool
         requires locks { is_some (lent_locks self.old) ≡ true }
         ensures same_engine { frame self.new ≡ frame self.old }
@@ -47,7 +49,7 @@ impl<'a, C: Drop, F: GuardedFileSystem<C>, L: DavLockSystem> DavInner<'a, C, F, 
     }
 }
 
-/// This status, but for a want of memory.
+/// Returns an error of this status, or `Memory` if memory ran out.
 pub(crate) fn lock_error(status: StatusCode, error: LockError) -> DavError
     ensures { result ≡ lock_error_of status error }
 {

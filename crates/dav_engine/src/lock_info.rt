@@ -9,20 +9,21 @@ use dav_parts::is_named;
 use dav_resource::{DavError, DavResult, Element, ReqBody};
 use std::alloc::{AllocError, Global};
 
-/// A lock that is asked for.
+/// The lock that a request asks for.
 #[derive(Drop, Debug)]
 pub(crate) struct LockInfo {
-    /// Whether others may hold shared locks too (RFC 4918, section 14.13).
+    /// Whether the lock is shared, so that others may hold shared locks too (RFC 4918, section 14.13).
     pub(crate) shared: bool,
-    /// What the client says of who holds it (RFC 4918, section 14.17).
+    /// What the client says about the holder of the lock (RFC 4918, section 14.17).
     pub(crate) owner: Option<Element>,
 }
 
-/// What the body asks for. Elements are known by their local names alone, and of several scopes or owners
-/// the last counts; the owner gets the prefix `D`.
+/// Reads what the body asks for. Elements are recognized by their local names only, and of several scopes or
+/// owners the last one counts. The owner gets the prefix `D`.
 ///
-/// Errors: `XmlParseError` for a body that is no `lockinfo` of a scope, a type and perhaps an owner, or has
-/// another scope than `exclusive` and `shared`, another type than `write`, or another element; `Memory`.
+/// Errors: `XmlParseError` if the body is not a `lockinfo` with a scope and a type, if a scope is neither
+/// `exclusive` nor `shared`, if a type is not `write`, or if there is another element than these and owners;
+/// `Memory`.
 pub(crate) fn read_lock_info(alloc: Global, body: &ReqBody) -> DavResult<LockInfo>
     ensures { GivesBy (λ info. info) result (lock_info_verdict body.now) }
 {
@@ -41,7 +42,7 @@ fn is_lock_info(tree: &Element) -> bool
     is_named(tree, "lockinfo") && has_parts_alone(tree) && has_scope(tree) && has_write(tree)
 }
 
-/// Whether each element in it is a scope, a type or an owner.
+/// Returns whether each child element is a scope, a type or an owner.
 fn has_parts_alone(tree: &Element) -> bool
     ensures { result ≡ list_all is_part_tree (elements_of tree.now.children) }
 {
@@ -79,7 +80,7 @@ fn is_write(element: &Element) -> bool
     is_named(element, "locktype") && begins_with(element, "write")
 }
 
-/// Whether the first element in it has this name.
+/// Returns whether the first child element has this name.
 fn begins_with(element: &Element, name: &str) -> bool
     ensures { result ≡ tree_begins_with name.now element.now }
 {
@@ -89,7 +90,7 @@ fn begins_with(element: &Element, name: &str) -> bool
     }
 }
 
-/// The last element in it of this name.
+/// Returns the last child element of this name.
 fn last_named<'a>(tree: &'a Element, name: &str) -> Option<&'a Element>
     ensures { option_copied result ≡ last_named_in name.now tree.now }
 {
@@ -98,7 +99,7 @@ fn last_named<'a>(tree: &'a Element, name: &str) -> Option<&'a Element>
         .last()
 }
 
-/// Whether it asks for a shared lock.
+/// Returns whether the body asks for a shared lock.
 fn asks_shared(tree: &Element) -> bool
     ensures { result ≡ tree_asks_shared tree.now }
 {
@@ -108,7 +109,7 @@ fn asks_shared(tree: &Element) -> bool
     }
 }
 
-/// Who the client says holds the lock.
+/// Returns the owner element, which says who holds the lock, if there is one.
 fn owner(alloc: Global, tree: &Element) -> Result<Option<Element>, AllocError>
     ensures { IfOk result (λ owner. owner ≡ owner_in tree.now) }
 {
@@ -118,7 +119,7 @@ fn owner(alloc: Global, tree: &Element) -> Result<Option<Element>, AllocError>
     }
 }
 
-/// The element under the prefix that replies declare.
+/// Returns a copy of the element with the prefix `D`, which the responses declare.
 fn under_dav(alloc: Global, element: &Element) -> Result<Element, AllocError>
     ensures { IfOk result (λ copy. copy ≡ tree_under_dav element.now) }
 {

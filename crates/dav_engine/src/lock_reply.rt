@@ -1,4 +1,4 @@
-//! The replies to LOCK and UNLOCK.
+//! The responses to LOCK and UNLOCK.
 ghost use Rattle.std.specs.Prelude.{◌≡◌, if◌then◌else◌, is_some, [], IfOk, IfErr};
 ghost use Rattle.dav_resource.specs.LockToken.{coded};
 ghost use Rattle.dav_resource.specs.declared.error.DavError.TheVariants.{Memory};
@@ -13,8 +13,8 @@ use http::{Response, StatusCode};
 use http_header::{HeaderMap, HeaderName, HeaderValue};
 use std::alloc::Global;
 
-/// The reply to a LOCK that was granted (RFC 4918, section 9.10.1): 200 where something was found, else 201,
-/// with the token in `Lock-Token`. The only error is `Memory`, where memory is lacking.
+/// Makes the response to a LOCK that was granted (RFC 4918, section 9.10.1): 200 if something was found, else
+/// 201, with the request's token in `Lock-Token`. The only error is `Memory`.
 pub(crate) fn granted_reply(
     alloc: Global,
     request: &DavRequest,
@@ -35,7 +35,7 @@ pub(crate) fn granted_reply(
     lock_reply(alloc, granted_status(found), headers, lock)
 }
 
-/// 200 where something was found, else 201.
+/// Returns 200 if something was found, else 201.
 fn granted_status(found: &Option<Meta>) -> StatusCode
     ensures { result ≡ (if is_some found.now then 200 else 201) }
 {
@@ -45,8 +45,7 @@ fn granted_status(found: &Option<Meta>) -> StatusCode
     }
 }
 
-/// The reply to a LOCK that was refreshed (RFC 4918, section 9.10.2). The only error is `Memory`, where memory
-/// is lacking.
+/// Makes the response to a LOCK that refreshed a lock (RFC 4918, section 9.10.2). The only error is `Memory`.
 pub(crate) fn refreshed_reply(
     alloc: Global,
     path: &DavPath,
@@ -61,7 +60,7 @@ pub(crate) fn refreshed_reply(
     lock_reply(alloc, StatusCode::OK, headers, lock)
 }
 
-/// The reply to an UNLOCK (RFC 4918, section 9.11). The only error is `Memory`, where memory is lacking.
+/// Makes the response to an UNLOCK (RFC 4918, section 9.11). The only error is `Memory`.
 pub(crate) fn unlocked_reply(
     alloc: Global,
     path: &DavPath,
@@ -78,7 +77,8 @@ pub(crate) fn unlocked_reply(
     Ok(reply)
 }
 
-/// A reply of this status and with these header fields, that tells the lock in full.
+/// Makes a response of this status and with these header fields, whose body has the lock in full. The only
+/// error is `Memory`.
 fn lock_reply(
     alloc: Global,
     status: StatusCode,

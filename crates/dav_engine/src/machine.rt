@@ -1,4 +1,4 @@
-//! A request to its method, and requests one after another.
+//! Executes one request by its method, or several requests in order.
 ghost use Rattle.std.specs.Prelude.{◌≡◌, Err, map, IfOk, OnErr};
 ghost use Rattle.dav_resource.specs.Methods.{method_of};
 ghost use Rattle.dav_engine.specs.DavInner.{frame, seen_by};
@@ -12,8 +12,10 @@ use dav_store::{DavLockSystem, GuardedFileSystem};
 use http::{Response, StatusCode};
 
 impl<'a, C: Drop, F: GuardedFileSystem<C>, L: DavLockSystem> DavInner<'a, C, F, L> {
-    /// Serves a request by its method. A method that isn't served is answered 501, and nothing is asked of
-    /// the store. The errors are those of the method's own call.
+    /// Executes a request by its method and returns the result. GET, HEAD and every method that `DavMethod`
+    /// does not know give the error `Status` 501, and then nothing is called and nothing changes. The other
+    /// errors are those of the method's own function. The methods passed to `new` do not restrict this
+    /// function.
     pub fn serve(&mut self, request: &DavRequest) -> DavResult<Response<Body>>
         ensures same_engine { frame self.new ≡ frame self.old }
         ensures step { IsServed F.seen L.seen (method_of request.entry.now.method) self.old request.entry.now (answer_of result) self.new }
@@ -35,8 +37,8 @@ impl<'a, C: Drop, F: GuardedFileSystem<C>, L: DavLockSystem> DavInner<'a, C, F, 
         }
     }
 
-    /// Serves the requests in order, and answers each. The room for the replies is taken first: the only
-    /// `Err` is `Memory`, and it has served nothing.
+    /// Executes the requests in order and returns one result for each. The vector of results is allocated
+    /// first: the only error is `Memory`, and then no request was executed.
     pub fn run(&mut self, requests: &[DavRequest]) -> DavResult<Vec<DavResult<Response<Body>>>>
         ensures same_engine { frame self.new ≡ frame self.old }
         ensures run { IfOk result (λ replies. AreServed F.seen L.seen self.old requests.now (map answer_of replies.items) self.new) }

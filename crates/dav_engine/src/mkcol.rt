@@ -17,12 +17,14 @@ use http_header::{CONTENT_LOCATION, HeaderMap, HeaderValue};
 use std::alloc::Global;
 
 impl<'a, C: Drop, F: GuardedFileSystem<C>, L: DavLockSystem> DavInner<'a, C, F, L> {
-    /// Makes a collection, and answers 201, with its path in `content-location` where the request's ended
-    /// in a slash. It serves a request of any method as MKCOL.
+    /// Creates a collection and returns 201, with its path in `content-location` if the request's path ended
+    /// in a slash. The body is not checked. Executes any request as MKCOL, whatever its method.
     ///
-    /// Errors: the conditions' (RFC 7232; RFC 4918, section 10.4), 423 where the locks don't permit it, 405
-    /// where something is there, 409 where its parent is no collection, else the store's own; `Memory`.
-    /// After each of them nothing has changed.
+    /// Errors, checked in this order. After each of them, and after `Memory`, the store's contents and the
+    /// locks are as before.
+    /// - The status of a condition that does not hold (RFC 7232; RFC 4918, section 10.4).
+    /// - 423 if the locks do not permit the request.
+    /// - 405 if something is at the path, 409 if its parent is not a collection, else the store's error.
     pub fn handle_mkcol(&mut self, request: &DavRequest) -> DavResult<Response<Body>>
         ensures same_engine { frame self.new ≡ frame self.old }
         ensures step { IsServed F.seen L.seen (Some MkCol) self.old request.entry.now (answer_of result) self.new }
@@ -31,7 +33,7 @@ impl<'a, C: Drop, F: GuardedFileSystem<C>, L: DavLockSystem> DavInner<'a, C, F, 
         self.make_collection(request)
     }
 
-    /// The work. The reply is made first, so that memory can't be lacking once the collection is there.
+    /// The work. The response is made first, so that memory cannot run out after the collection was created.
     fn make_collection(&mut self, request: &DavRequest) -> DavResult<Response<Body>>
         ensures same_engine { frame self.new ≡ frame self.old }
         ensures same_locks { lent_locks self.new ≡ lent_locks self.old }
@@ -67,7 +69,7 @@ fn mkcol_reply(alloc: Global, path: &DavPath) -> DavResult<Response<Body>>
     Ok(reply)
 }
 
-/// The path with its prefix, where it ends in a slash.
+/// Returns the path with its prefix, if it ends in a slash.
 fn collection_location(path: &DavPath) -> DavResult<Option<HeaderValue>>
     ensures ok { IfOk result (λ value. value ≡ location_of_mkcol path.now) }
     ensures err { IfErr result (λ e. e ≡ DavError.Memory) }

@@ -1,4 +1,4 @@
-//! How a file is opened that may have to be made.
+//! The options for opening a file that may have to be created, and the status if that fails.
 ghost use Rattle.std.specs.Prelude.{◌≡◌, IfOk, IfErr};
 ghost use Rattle.dav_engine.specs.Opening.{making_options as making_options_of, is_star as is_star_list, misplaced_status as misplaced_status_of};
 
@@ -7,8 +7,9 @@ use dav_resource::{DavError, DavRequest, DavResult, ETagList, OpenOptions};
 use http::StatusCode;
 use std::alloc::Global;
 
-/// To be written, with what it holds; made where nothing is, unless If-Match is `*`, and only there where
-/// If-None-Match is `*`. The only error is `Memory`, where memory is lacking.
+/// Returns the options to open a file for writing, with its bytes kept. If nothing is there the file is
+/// created, unless If-Match is `*`. If If-None-Match is `*`, the file must be new. The only error is
+/// `Memory`.
 pub(crate) fn making_options(alloc: Global, request: &DavRequest) -> DavResult<OpenOptions>
     ensures ok { IfOk result (λ options. options ≡ making_options_of request.entry.now) }
     ensures err { IfErr result (λ e. e ≡ DavError.Memory) }
@@ -26,7 +27,7 @@ pub(crate) fn making_options(alloc: Global, request: &DavRequest) -> DavResult<O
     })
 }
 
-/// Whether a header asks for `*`.
+/// Returns whether a header asks for `*`.
 fn is_star(tags: &Option<ETagList>) -> bool
     ensures { result ≡ is_star_list tags.now }
 {
@@ -36,7 +37,8 @@ fn is_star(tags: &Option<ETagList>) -> bool
     }
 }
 
-/// 412 where the conditions asked that something be there, or that nothing be; else 409.
+/// Returns the status for a file that cannot be opened because something, or nothing, is there: 412 if
+/// If-Match or If-None-Match was `*`, else 409.
 pub(crate) fn misplaced_status(options: &OpenOptions) -> StatusCode
     ensures { result ≡ misplaced_status_of options.now }
 {

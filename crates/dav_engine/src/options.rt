@@ -22,7 +22,7 @@ use http::Response;
 use http_header::{ALLOW, CONTENT_LENGTH, HeaderMap, HeaderName, HeaderValue};
 use std::alloc::{AllocError, Global};
 
-/// What may be made where nothing is.
+/// The methods listed where nothing exists.
 const MISSING: [DavMethod; 4] = [
     DavMethod::Options,
     DavMethod::MkCol,
@@ -30,7 +30,7 @@ const MISSING: [DavMethod; 4] = [
     DavMethod::Lock,
 ];
 
-/// What the root takes, which is neither moved nor deleted.
+/// The methods listed for the root, which is neither moved nor deleted.
 const ROOT: [DavMethod; 5] = [
     DavMethod::Options,
     DavMethod::PropFind,
@@ -39,7 +39,7 @@ const ROOT: [DavMethod; 5] = [
     DavMethod::Unlock,
 ];
 
-/// What another directory takes.
+/// The methods listed for any other directory.
 const DIRECTORY: [DavMethod; 7] = [
     DavMethod::Options,
     DavMethod::PropFind,
@@ -50,7 +50,7 @@ const DIRECTORY: [DavMethod; 7] = [
     DavMethod::Unlock,
 ];
 
-/// What a file takes, and so what any resource may.
+/// The methods listed for a file, and for `*`: any resource may accept them.
 const FILE: [DavMethod; 11] = [
     DavMethod::Head,
     DavMethod::Get,
@@ -66,12 +66,16 @@ const FILE: [DavMethod; 11] = [
 ];
 
 impl<'a, C: Drop, F: GuardedFileSystem<C>, L: DavLockSystem> DavInner<'a, C, F, L> {
-    /// Tells by 200 which methods what stands at the path takes, in `Allow`, and the compliance classes of the server,
-    /// in `DAV`. A look that the store refuses counts as nothing there; of `*` nothing is asked. Told are those that are
-    /// let, LOCK and UNLOCK where there is a lock system, and never the request's own method unless it is OPTIONS. No
-    /// condition, lock or body is looked at. It serves a request of any method as OPTIONS.
+    /// Returns 200 with the methods for the resource at the path in `Allow`, and the compliance classes of
+    /// the server in `DAV`. A failed lookup counts as nothing there. For `*` there is no lookup. Executes any
+    /// request as OPTIONS, whatever its method.
     ///
-    /// The only error is `Memory`. Nothing ever changes.
+    /// `Allow` lists methods by the kind of what was found, and of these only the ones that are enabled
+    /// (`allow` of `new`). LOCK and UNLOCK need a lock system. The request's own method is not listed, unless
+    /// it is OPTIONS. HEAD and GET may be listed, though the engine itself answers them with 501. Conditions,
+    /// locks and the body are not checked.
+    ///
+    /// The only error is `Memory`. The store's contents and the locks never change.
     pub fn handle_options(&mut self, request: &DavRequest) -> DavResult<Response<Body>>
         ensures same_engine { frame self.new ≡ frame self.old }
         ensures step { IsServed F.seen L.seen (Some Options) self.old request.entry.now (answer_of result) self.new }
@@ -81,7 +85,7 @@ impl<'a, C: Drop, F: GuardedFileSystem<C>, L: DavLockSystem> DavInner<'a, C, F, 
         self.tell_methods(request, &found)
     }
 
-    /// The rules: a look at the path, but not for `*`. What was found passes.
+    /// The rules: looks up the path, except for `*`. Returns what was found.
     fn look_unless_star(&mut self, request: &DavRequest) -> DavResult<Option<Meta>>
         ensures same_engine { frame self.new ≡ frame self.old }
         ensures same_locks { lent_locks self.new ≡ lent_locks self.old }
@@ -93,7 +97,7 @@ impl<'a, C: Drop, F: GuardedFileSystem<C>, L: DavLockSystem> DavInner<'a, C, F, 
         self.look(&request.path)
     }
 
-    /// The work: the reply tells the methods that what was found takes, of those that may be told.
+    /// The work: makes the response that lists the methods for what was found, of those that may be listed.
     fn tell_methods(&self, request: &DavRequest, found: &Option<Meta>) -> DavResult<Response<Body>>
         ensures { Performs (OptionsWork self.now.allow request.entry.now found.now) Unbegun (seen_by F.seen L.seen self.now) (answer_of result) (seen_by F.seen L.seen self.now) }
     {
@@ -104,15 +108,15 @@ impl<'a, C: Drop, F: GuardedFileSystem<C>, L: DavLockSystem> DavInner<'a, C, F, 
         Ok(reply)
     }
 
-    /// The methods that may be told: those that are let, without LOCK and UNLOCK where there is no lock system, and
-    /// without the request's own unless it is OPTIONS.
+    /// Returns the methods that may be listed: the enabled ones, without LOCK and UNLOCK if there is no lock
+    /// system, and without the request's own unless it is OPTIONS.
     fn told_set(&self, request: &DavRequest) -> DavMethodSet
         ensures { (method : DavMethod) → contains_method result method ≡ is_told self.now.allow (is_some (lent_locks self.now)) (method_of request.entry.now.method) method }
     {
         without_own(self.let_set(), DavMethod::from_method(&request.method))
     }
 
-    /// The methods that are let, without LOCK and UNLOCK where there is no lock system.
+    /// Returns the enabled methods, without LOCK and UNLOCK if there is no lock system.
     fn let_set(&self) -> DavMethodSet
         ensures { (method : DavMethod) → contains_method result method ≡ (is_let self.now.allow method && (is_some (lent_locks self.now) || not (needs_locks method))) }
     {
@@ -126,7 +130,7 @@ impl<'a, C: Drop, F: GuardedFileSystem<C>, L: DavLockSystem> DavInner<'a, C, F, 
     }
 }
 
-/// The methods without the request's own, unless that is OPTIONS.
+/// Returns the set without the request's own method, unless that is OPTIONS.
 fn without_own(mut set: DavMethodSet, own: Option<DavMethod>) -> DavMethodSet
     ensures { (method : DavMethod) → contains_method result method ≡ (not (is_own own method) && contains_method set method) }
 {
@@ -139,7 +143,7 @@ fn without_own(mut set: DavMethodSet, own: Option<DavMethod>) -> DavMethodSet
     }
 }
 
-/// The methods that what was found at the path takes, in the order in which they are told.
+/// Returns the methods for what was found at the path, in the order in which they are listed.
 fn found_methods(path: &DavPath, found: &Option<Meta>) -> &'static [DavMethod]
     ensures { result.now ≡ methods_of_found path.now found.now }
 {
@@ -152,7 +156,7 @@ fn found_methods(path: &DavPath, found: &Option<Meta>) -> &'static [DavMethod]
     }
 }
 
-/// The names of those methods that are in the set, joined by commas.
+/// Returns the names of those methods that are in the set, joined by commas.
 fn told_names(
     alloc: Global,
     methods: &[DavMethod],
@@ -165,7 +169,7 @@ fn told_names(
     Ok(text)
 }
 
-/// The name of each method that is in the set.
+/// Returns the name of each method that is in the set.
 fn names_in(
     alloc: Global,
     methods: &[DavMethod],
@@ -182,7 +186,7 @@ fn names_in(
     Ok(names)
 }
 
-/// The name of a method, as a request has it.
+/// Returns the name of a method, as it appears in a request.
 fn method_name(method: DavMethod) -> &'static str
     ensures name { result.now ≡ name_of method }
     ensures reads_back { method_of result.now ≡ Some method }
@@ -204,7 +208,7 @@ fn method_name(method: DavMethod) -> &'static str
     }
 }
 
-/// 200, with the compliance classes and these names of methods. The only error is `Memory`, where memory is lacking.
+/// Makes the 200 response with the compliance classes and these method names. The only error is `Memory`.
 fn options_reply(alloc: Global, names: String) -> DavResult<Response<Body>>
     requires { IsFieldValue (string_bytes names) }
     ensures ok { IfOk result (λ reply. reply_of reply ≡ reply_of_options (string_bytes names)) }

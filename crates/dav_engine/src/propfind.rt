@@ -32,14 +32,20 @@ use http_header::{CACHE_CONTROL, HeaderMap, HeaderValue, PRAGMA};
 use std::alloc::{AllocError, Global};
 
 impl<'a, C: Drop, F: GuardedFileSystem<C>, L: DavLockSystem> DavInner<'a, C, F, L> {
-    /// Tells by 207 the properties of what stands at the path, unless no Depth is given; of its members, unless the Depth
-    /// is 0; and of all below them, where it is infinity, which is served to the test suite litmus alone (`X-Litmus`) and
-    /// else answered by a reply of 501. Each property that is asked for is told once, by 200, by the status of the call
-    /// that the store refused, or by 404. A listing that the store refuses is passed over, and so is a member that it
-    /// doesn't show. No condition and no lock is looked at. It serves a request of any method as PROPFIND.
+    /// Returns a 207 with properties of the resources that the Depth selects. Executes any request as
+    /// PROPFIND, whatever its method.
+    /// - Depth 0: the resource at the path.
+    /// - Depth 1: the resource and its members.
+    /// - No Depth that can be read: its members only.
+    /// - Depth infinity: the resource and everything below it, but only for the test suite litmus
+    ///   (`X-Litmus`). Else the response is a 501, and nothing is looked up.
     ///
-    /// Errors: the store's where nothing is found, `XmlParseError` (400) for a body that isn't one of a PROPFIND, `Memory`.
-    /// Nothing ever changes.
+    /// Each property that the request names is reported once: with 200, with the status of the call that the
+    /// store refused, or with 404. If a listing fails, its members are left out, and so is a member that the
+    /// store does not list. Conditions and locks are not checked.
+    ///
+    /// Errors: the store's error if the lookup of the path fails, `XmlParseError` (400) if the body is not
+    /// that of a PROPFIND, and `Memory`. The store's contents and the locks never change.
     pub fn handle_propfind(&mut self, request: &DavRequest) -> DavResult<Response<Body>>
         ensures same_engine { frame self.new ≡ frame self.old }
         ensures step { IsServed F.seen L.seen (Some PropFind) self.old request.entry.now (answer_of result) self.new }
@@ -55,7 +61,8 @@ impl<'a, C: Drop, F: GuardedFileSystem<C>, L: DavLockSystem> DavInner<'a, C, F, 
         self.tell_found(request, meta, &search)
     }
 
-    /// A look at the path, whose refusal refuses the request. What was found passes.
+    /// Looks up the path and returns what was found. If the lookup fails, the request fails with the store's
+    /// error.
     fn find(&mut self, request: &DavRequest) -> DavResult<Meta>
         ensures same_engine { frame self.new ≡ frame self.old }
         ensures same_locks { lent_locks self.new ≡ lent_locks self.old }
@@ -65,7 +72,8 @@ impl<'a, C: Drop, F: GuardedFileSystem<C>, L: DavLockSystem> DavInner<'a, C, F, 
         Ok(meta)
     }
 
-    /// The work: the reply tells the properties of what was found, and of what is below it as far as the Depth reaches.
+    /// The work: makes the response with the properties of what was found, and of what is below it as far as
+    /// the Depth reaches.
     fn tell_found(
         &mut self,
         request: &DavRequest,
@@ -99,7 +107,7 @@ impl<'a, C: Drop, F: GuardedFileSystem<C>, L: DavLockSystem> DavInner<'a, C, F, 
     }
 }
 
-/// The Depth of the request, where one can be read.
+/// Returns the Depth of the request, or `Depth::Default` without one that can be read.
 fn depth_or_default(request: &DavRequest) -> Depth
     ensures { result ≡ depth_of_propfind request.entry.now }
 {
@@ -109,14 +117,14 @@ fn depth_or_default(request: &DavRequest) -> Depth
     }
 }
 
-/// Whether all below the resource is asked for, and not by the test suite litmus.
+/// Returns whether the request is for everything below the resource, and not from the test suite litmus.
 fn is_too_deep(request: &DavRequest) -> bool
     ensures { result ≡ is_too_deep_request request.entry.now }
 {
     depth_or_default(request) == Depth::Infinity && !is_litmus(request)
 }
 
-/// Whether the test suite litmus asks.
+/// Returns whether the request comes from the test suite litmus.
 fn is_litmus(request: &DavRequest) -> bool
     ensures { result ≡ is_some (litmus_of request.entry.now.headers) }
 {
@@ -126,7 +134,7 @@ fn is_litmus(request: &DavRequest) -> bool
     }
 }
 
-/// The client by the name that it gives itself, where it does.
+/// Returns the client's name for itself, `User-Agent`, if there is one that can be read.
 fn user_agent(request: &DavRequest) -> Option<&str>
     ensures { option_copied result ≡ user_agent_of request.entry.now.headers }
 {
@@ -136,7 +144,7 @@ fn user_agent(request: &DavRequest) -> Option<&str>
     }
 }
 
-/// 501, with the precondition that isn't met. The only error is `Memory`, where memory is lacking.
+/// Makes the 501 response that names the precondition that is not met. The only error is `Memory`.
 fn finite_depth_reply(alloc: Global) -> DavResult<Response<Body>>
     ensures ok { IfOk result (λ reply. reply_of reply ≡ reply_of_finite_depth) }
     ensures err { IfErr result (λ e. e ≡ Memory) }
@@ -158,7 +166,8 @@ fn finite_depth_error(alloc: Global) -> Result<Element, AllocError>
     Ok(tree)
 }
 
-/// The header fields by which no cache keeps a reply. The only error is `Memory`, where memory is lacking.
+/// Returns the header fields by which a cache must not reuse the response without asking the server again.
+/// The only error is `Memory`.
 fn uncached_headers(alloc: Global) -> DavResult<HeaderMap<HeaderValue>>
     ensures ok { IfOk result (λ headers. headers ≡ uncached_fields) }
     ensures err { IfErr result (λ e. e ≡ Memory) }
@@ -171,8 +180,8 @@ fn uncached_headers(alloc: Global) -> DavResult<HeaderMap<HeaderValue>>
     Ok(headers)
 }
 
-/// A reply of 207 but for its body, and a writer for that, which has told no resource. The only error is `Memory`, where
-/// memory is lacking.
+/// Makes a 207 response without its body, and a writer for the body that has written no resource yet. The
+/// only error is `Memory`.
 fn begin_reply(
     alloc: Global,
     request: &DavRequest,

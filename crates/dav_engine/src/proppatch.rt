@@ -25,14 +25,23 @@ use std::alloc::Global;
 use std::collections::BTreeMap;
 
 impl<'a, C: Drop, F: GuardedFileSystem<C>, L: DavLockSystem> DavInner<'a, C, F, L> {
-    /// Sets and removes properties as the body asks, in order, all of them or none, and answers 207 with the status
-    /// of each (RFC 4918, section 9.2.1). Where one is refused, each other is told as 424. It serves a request of any
-    /// method as PROPPATCH.
+    /// Sets and removes properties as the body asks, in order, all of them or none. Returns a 207 with the
+    /// status of each (RFC 4918, section 9.2.1). Executes any request as PROPPATCH, whatever its method.
     ///
-    /// Errors: the store's where nothing is found, the conditions' (RFC 7232; RFC 4918, section 10.4), 423 where the
-    /// locks don't permit it, `XmlParseError` (400) for a body that is no `propertyupdate`, the store's where it
-    /// refuses to change properties; after each of these nothing has changed. `Memory` at any time: the properties are
-    /// as before or, where the store has answered, as it left them.
+    /// If a change is rejected before the store is called, nothing is stored, and each change that is not
+    /// rejected itself is reported with 424. Otherwise the store is called for all changes of dead
+    /// properties. Each of these is reported with the status that the store returned for it, and each other
+    /// change with 200.
+    ///
+    /// Errors, checked in this order. After each of them nothing has changed.
+    /// - The store's error if the lookup of the path fails.
+    /// - The status of a condition that does not hold (RFC 7232; RFC 4918, section 10.4).
+    /// - 423 if the locks do not permit the request.
+    /// - `XmlParseError` (400) for a body that is not a `propertyupdate`.
+    /// - The store's error if it refuses the call that changes the properties.
+    ///
+    /// `Memory` can come at any time. The properties are then as before or, if the store had already been
+    /// called, as it left them.
     pub fn handle_proppatch(&mut self, request: &DavRequest) -> DavResult<Response<Body>>
         ensures same_engine { frame self.new ≡ frame self.old }
         ensures step { IsServed F.seen L.seen (Some PropPatch) self.old request.entry.now (answer_of result) self.new }
@@ -50,8 +59,8 @@ impl<'a, C: Drop, F: GuardedFileSystem<C>, L: DavLockSystem> DavInner<'a, C, F, 
         self.patch_found(request, &found, changes.as_slice())
     }
 
-    /// The rules but for the body: a look at the path, whose refusal refuses the request, its conditions, and the
-    /// locks of the path. What was found passes.
+    /// Checks the rules except the body: looks up the path, which must not fail, and checks the conditions
+    /// and the locks of the path. Returns what was found.
     fn judge_found(&mut self, request: &DavRequest) -> DavResult<Option<Meta>>
         ensures same_engine { frame self.new ≡ frame self.old }
         ensures same_locks { lent_locks self.new ≡ lent_locks self.old }
@@ -61,7 +70,7 @@ impl<'a, C: Drop, F: GuardedFileSystem<C>, L: DavLockSystem> DavInner<'a, C, F, 
         self.judge_path(request, Some(meta))
     }
 
-    /// The work: the store makes the changes, and what it answers is told.
+    /// The work: has the store make the changes, and makes the response from the statuses that it returned.
     fn patch_found(
         &mut self,
         request: &DavRequest,
@@ -78,7 +87,8 @@ impl<'a, C: Drop, F: GuardedFileSystem<C>, L: DavLockSystem> DavInner<'a, C, F, 
         proppatch_reply(alloc, &request.path, found, groups)
     }
 
-    /// Has the store make the changes of dead properties, where there are any. The statuses that it answers pass.
+    /// Has the store make the changes of dead properties, if there are any. Returns the statuses that the
+    /// store returned.
     fn make_changes(
         &mut self,
         path: &DavPath,
@@ -100,8 +110,7 @@ impl<'a, C: Drop, F: GuardedFileSystem<C>, L: DavLockSystem> DavInner<'a, C, F, 
     }
 }
 
-/// 207, with one response that tells the properties by their statuses. The only error is `Memory`, where memory is
-/// lacking.
+/// Makes a 207 with one response that lists the properties by their statuses. The only error is `Memory`.
 fn proppatch_reply(
     alloc: Global,
     path: &DavPath,

@@ -30,19 +30,31 @@ use http_header::{HeaderMap, HeaderValue};
 use std::alloc::Global;
 
 impl<'a, C: Drop, F: GuardedFileSystem<C>, L: DavLockSystem> DavInner<'a, C, F, L> {
-    /// Makes the body what the file at the path holds, and answers 204 where something was there, else 201;
-    /// no body counts as one of no bytes. A PATCH writes the body at the place that X-Update-Range names or
-    /// behind what the file holds, and so does a PUT with a Content-Range that names a part; bytes that are
-    /// missing up to the place are zeros. It serves a request of any method but PATCH as PUT.
+    /// Writes the body to the file at the path. Returns 204 if the lookup found something there, else 201. A
+    /// request of any method but PATCH is executed as PUT.
     ///
-    /// Errors: 415, 411 and 400 for a PATCH that isn't a partial update with a length and a range; 400 for a
-    /// Content-Range that can't be read; 416 for a range that can't be satisfied, or isn't of the stated
-    /// length; the conditions' (RFC 7232; RFC 4918, section 10.4), 423 where the locks don't permit it, 400
-    /// for a body that isn't bytes or isn't of the stated length, 412 where the conditions no longer hold as
-    /// the file is opened, 409 where the parent is no collection, 416 where the place can't be sought, else
-    /// the store's own; `Memory`. What was refused before the file was opened has changed nothing; after that
-    /// the file stands as it was opened, empty or with what is kept, or has the whole body in it. Whatever
-    /// the answer is, what stands at other paths, the properties and the locks are as before.
+    /// A PUT replaces the whole file, unless its Content-Range names a part of it. A PATCH writes the body at
+    /// the offset that X-Update-Range names, or at the end of the file. If the file ends before the offset,
+    /// zeros fill the gap. No body counts as an empty one.
+    ///
+    /// Errors until the file is opened, after which nothing has changed:
+    /// - Only for a PATCH: 415, 411 and 400 unless it is a partial update with a length and a range.
+    /// - 400 for a Content-Range that cannot be read.
+    /// - 416 for a range that cannot be satisfied, or that does not have the stated length.
+    /// - The store's error if the range counts from the end of the file and the lookup fails, unless nothing
+    ///   is there.
+    /// - The status of a condition that does not hold (RFC 7232; RFC 4918, section 10.4).
+    /// - 423 if the locks do not permit the request.
+    /// - 400 for a body that is not bytes, or that does not have the stated length.
+    /// - If the file cannot be opened: with If-Match or If-None-Match `*`, 412 if its parent is not a
+    ///   collection or if the condition does not hold after all; without them, 409 if its parent is not a
+    ///   collection; else the store's error.
+    ///
+    /// Errors after that: 416 if the store refuses the offset, and the store's error if it refuses to write
+    /// or flush. The file is then as it was opened, empty or with the bytes that are kept, or it has the
+    /// whole body. `Memory` can come at any time.
+    ///
+    /// Whatever the result is, resources at other paths, the properties and the locks are as before.
     pub fn handle_put(&mut self, request: &DavRequest) -> DavResult<Response<Body>>
         ensures same_engine { frame self.new ≡ frame self.old }
         ensures step { IsServed F.seen L.seen (Some (put_method (method_of request.entry.now.method))) self.old request.entry.now (answer_of result) self.new }
@@ -54,8 +66,8 @@ impl<'a, C: Drop, F: GuardedFileSystem<C>, L: DavLockSystem> DavInner<'a, C, F, 
         self.write_file(partial, request, found, &target)
     }
 
-    /// The rules: a look at the path, where it writes, the conditions, the locks of the path, and the body.
-    /// What was found passes, with where it writes.
+    /// Checks the rules: looks up the path, finds where to write, and checks the conditions, the locks of the
+    /// path and the body. Returns what was found, and where to write.
     fn judge_put(
         &mut self,
         partial: bool,
@@ -73,7 +85,7 @@ impl<'a, C: Drop, F: GuardedFileSystem<C>, L: DavLockSystem> DavInner<'a, C, F, 
         Ok((judge_body(&target, &request.body, found)?, target))
     }
 
-    /// The work.
+    /// The work: writes the file and makes the response.
     fn write_file(
         &mut self,
         partial: bool,
@@ -91,7 +103,7 @@ impl<'a, C: Drop, F: GuardedFileSystem<C>, L: DavLockSystem> DavInner<'a, C, F, 
         self.write_with(partial, request, found, target, &options)
     }
 
-    /// Opens the file, writes it, and looks at it for the reply.
+    /// Opens the file, writes it, and reads its metadata for the response.
     fn write_with(
         &mut self,
         partial: bool,
@@ -120,7 +132,7 @@ impl<'a, C: Drop, F: GuardedFileSystem<C>, L: DavLockSystem> DavInner<'a, C, F, 
         put_reply(*self.prefix.allocator(), found, meta)
     }
 
-    /// Goes to the place of a part.
+    /// Moves the file handle to the offset, if a part is written.
     fn seek_place(&mut self, file: &mut DavFile, target: &Target) -> FsResult<()>
         ensures same_engine { frame self.new ≡ frame self.old }
         ensures same_locks { lent_locks self.new ≡ lent_locks self.old }
@@ -133,7 +145,7 @@ impl<'a, C: Drop, F: GuardedFileSystem<C>, L: DavLockSystem> DavInner<'a, C, F, 
         self.fs.seek(file, target.start, &self.credentials)
     }
 
-    /// Writes the bytes, where there are any.
+    /// Writes the bytes, if there are any.
     fn write_body(&mut self, file: &mut DavFile, bytes: &[u8]) -> FsResult<()>
         requires { file.old.append ≡ false → file.old.pos + length bytes.now < 2 ^ 64 }
         ensures same_engine { frame self.new ≡ frame self.old }
@@ -147,7 +159,8 @@ impl<'a, C: Drop, F: GuardedFileSystem<C>, L: DavLockSystem> DavInner<'a, C, F, 
         self.fs.write_bytes(file, bytes, &self.credentials)
     }
 
-    /// Looks at an open file, where a refusal counts as nothing known.
+    /// Reads the metadata of an open file. If the store refuses, nothing is known of the file. The only error
+    /// is `Memory`, and then nothing has changed.
     fn look_at_file(&mut self, file: &DavFile) -> DavResult<Option<Meta>>
         ensures same_engine { frame self.new ≡ frame self.old }
         ensures same_locks { lent_locks self.new ≡ lent_locks self.old }
@@ -163,7 +176,7 @@ impl<'a, C: Drop, F: GuardedFileSystem<C>, L: DavLockSystem> DavInner<'a, C, F, 
     }
 }
 
-/// The body's bytes, where it is one of bytes.
+/// Returns the body's bytes, or `None` for a body that is not bytes. No body is an empty one.
 fn body_bytes(body: &ReqBody) -> Option<&[u8]>
     ensures { option_map (λ bytes. bytes.now) result ≡ bytes_of_body body.now }
 {
@@ -174,21 +187,21 @@ fn body_bytes(body: &ReqBody) -> Option<&[u8]>
     }
 }
 
-/// The bytes that the file is to hold.
+/// Returns the bytes to write.
 fn new_bytes(body: &ReqBody) -> &[u8]
     ensures { result.now ≡ bytes_of_request body.now }
 {
     body_bytes(body).unwrap_or(&[])
 }
 
-/// Whether the method is PATCH.
+/// Returns whether the method is PATCH.
 fn is_patch(method: Option<DavMethod>) -> bool
     ensures { result ≡ is_patch_method method }
 {
     method == Some(DavMethod::Patch)
 }
 
-/// Whether the body is as long as it was stated to be.
+/// Returns whether the body has the stated length, if one is stated.
 fn has_length(target: &Target, body: &ReqBody) -> bool
     ensures { result ≡ has_stated_length target.now body.now }
 {
@@ -198,7 +211,7 @@ fn has_length(target: &Target, body: &ReqBody) -> bool
     }
 }
 
-/// Lets what was found pass, where the body is one of bytes and as long as stated.
+/// Returns `found` if the body is bytes and has the stated length; else rejects the request with 400.
 fn judge_body(target: &Target, body: &ReqBody, found: Option<Meta>) -> DavResult<Option<Meta>>
     ensures { result ≡ body_verdict target.now body.now found }
 {
@@ -208,8 +221,8 @@ fn judge_body(target: &Target, body: &ReqBody, found: Option<Meta>) -> DavResult
     Ok(found)
 }
 
-/// To be written, made where the conditions let it, and emptied unless a part is kept. The only error is
-/// `Memory`, where memory is lacking.
+/// Returns the options to open the file for writing: it is created if the conditions allow that, and emptied
+/// unless a part is kept. The only error is `Memory`.
 fn put_options(alloc: Global, request: &DavRequest, target: &Target) -> DavResult<OpenOptions>
     ensures ok { IfOk result (λ options. options ≡ options_of_put request.entry.now target.now) }
     ensures err { IfErr result (λ e. e ≡ DavError.Memory) }
@@ -224,7 +237,7 @@ fn put_options(alloc: Global, request: &DavRequest, target: &Target) -> DavResul
     })
 }
 
-/// The checksum that the body is to have, by the header OC-Checksum. The only error is `Memory`.
+/// Returns the checksum that the header OC-Checksum states for the body. The only error is `Memory`.
 fn checksum(alloc: Global, headers: &HeaderMap<HeaderValue>) -> DavResult<Option<Text>>
     ensures ok { IfOk result (λ checksum. checksum ≡ checksum_of headers.now) }
     ensures err { IfErr result (λ e. e ≡ DavError.Memory) }
@@ -244,7 +257,7 @@ fn put_open_error(options: &OpenOptions, error: FsError) -> DavError
     }
 }
 
-/// 416, but for a want of memory.
+/// Returns 416, or `Memory` if memory ran out.
 fn put_seek_error(error: FsError) -> DavError
     ensures { result ≡ seek_error_of error }
 {

@@ -1,4 +1,4 @@
-//! The reply to a PUT.
+//! The response to a PUT.
 ghost use Rattle.std.specs.Prelude.{◌≡◌, if◌then◌else◌, IfOk, IfErr, is_some, option_map, string_bytes};
 ghost use Rattle.std.specs.Option.{ForSome, option_and_then};
 ghost use Rattle.http_header.specs.FieldValue.{plain_value};
@@ -15,9 +15,9 @@ use http::{Response, StatusCode};
 use http_header::{ACCEPT_RANGES, CONTENT_LENGTH, ETAG, HeaderMap, HeaderValue, LAST_MODIFIED};
 use std::alloc::{AllocError, Global};
 
-/// The reply, by whether something was there and what is known of the file now (RFC 9110, section 9.3.4):
-/// 204 or 201, with `Accept-Ranges`, `Content-Length` where the file is new, `ETag` and `Last-Modified`
-/// (sections 8.8.2 and 8.8.3). The only error is `Memory`, where memory is lacking.
+/// Makes the response, from what was found before and what is known of the file now (RFC 9110, section
+/// 9.3.4): 204 or 201, with `Accept-Ranges`, `Content-Length` if the file is new, and `ETag` and
+/// `Last-Modified` if known (sections 8.8.2 and 8.8.3). The only error is `Memory`.
 pub(crate) fn put_reply(
     alloc: Global,
     found: Option<Meta>,
@@ -34,7 +34,7 @@ pub(crate) fn put_reply(
     Ok(reply)
 }
 
-/// 204 where something was there, else 201.
+/// Returns 204 if something was there, else 201.
 fn put_status(found: &Option<Meta>) -> StatusCode
     ensures { result ≡ (if is_some found.now then 204 else 201) }
 {
@@ -44,7 +44,7 @@ fn put_status(found: &Option<Meta>) -> StatusCode
     }
 }
 
-/// The header fields of the reply, in the order in which they are set.
+/// Returns the header fields of the response, in the order in which they are set.
 fn put_headers(
     alloc: Global,
     found: &Option<Meta>,
@@ -63,7 +63,7 @@ fn put_headers(
     Ok(headers)
 }
 
-/// The length of a body that isn't there, shown where the file is new.
+/// Returns the length of the response's body, which is empty, if the file is new.
 fn length_value(found: &Option<Meta>) -> Option<HeaderValue>
     ensures { result ≡ empty_length found.now }
 {
@@ -73,7 +73,7 @@ fn length_value(found: &Option<Meta>) -> Option<HeaderValue>
     }
 }
 
-/// The entity tag, where one is known.
+/// Returns the entity tag, if one is known.
 fn tag_value(alloc: Global, meta: &Option<Meta>) -> DavResult<Option<HeaderValue>>
     requires { ForSome meta.now (λ m. ForSome m.etag IsTagText) }
     ensures ok { IfOk result (λ value. value ≡ option_map (λ tag. plain_value (quoted_tag tag)) (shown_tag meta.now)) }
@@ -88,7 +88,7 @@ fn tag_value(alloc: Global, meta: &Option<Meta>) -> DavResult<Option<HeaderValue
     }
 }
 
-/// The moment of the last change, where it is known and can be shown.
+/// Returns the time of the last change, if it is known and can be written as an HTTP date.
 fn change_value(alloc: Global, meta: &Option<Meta>) -> DavResult<Option<HeaderValue>>
     ensures ok { IfOk result (λ value. value ≡ option_map (λ secs. plain_value (http_date_text secs)) (option_and_then shown_change meta.now)) }
     ensures err { IfErr result (λ e. e ≡ Memory) }
@@ -103,7 +103,7 @@ fn change_value(alloc: Global, meta: &Option<Meta>) -> DavResult<Option<HeaderVa
     }
 }
 
-/// The strong entity tag of this text, as a header shows it.
+/// Returns the strong entity tag, as a header field has it.
 fn quoted(alloc: Global, tag: &str) -> DavResult<HeaderValue>
     requires { IsTagText tag.now }
     ensures ok { IfOk result (λ value. value ≡ plain_value (quoted_tag tag.now)) }
@@ -113,7 +113,7 @@ fn quoted(alloc: Global, tag: &str) -> DavResult<HeaderValue>
     header_value(text)
 }
 
-/// The text in quotes.
+/// Returns the string in double quotes.
 fn in_quotes(alloc: Global, text: &str) -> Result<String, AllocError>
     ensures { IfOk result (λ quoted. string_bytes quoted ≡ quoted_tag text.now) }
 {

@@ -1,4 +1,4 @@
-//! LOCK (RFC 4918, section 9.10.2), for a lock that is refreshed.
+//! LOCK that refreshes a lock (RFC 4918, section 9.10.2).
 ghost use Rattle.std.specs.Prelude.{◌≡◌, ◌∷◌, [], true, false, if◌then◌else◌, IfOk, IfErr, OnOk, Ok, Err, Some, is_some};
 ghost use Rattle.dav_resource.specs.declared.error.DavError.TheVariants.{Status};
 ghost use Rattle.dav_resource.specs.declared.method.DavMethod.TheVariants.{Lock};
@@ -22,7 +22,7 @@ use dav_store::{DavLock, DavLockSystem, GuardedFileSystem};
 use http::{Response, StatusCode};
 
 impl<'a, C: Drop, F: GuardedFileSystem<C>, L: DavLockSystem> DavInner<'a, C, F, L> {
-    /// A refresh: the rules, and then the work.
+    /// Executes a refresh: first the rules, and then the work.
     pub(crate) fn refresh(&mut self, request: &DavRequest) -> DavResult<Response<Body>>
         requires body { is_refresh_body request.now.body ≡ true }
         ensures same_engine { frame self.new ≡ frame self.old }
@@ -32,8 +32,8 @@ impl<'a, C: Drop, F: GuardedFileSystem<C>, L: DavLockSystem> DavInner<'a, C, F, 
         self.refresh_lock(request, found, &token)
     }
 
-    /// The rules of a refresh: a look at the path, the header If, and the locks of the path. What was found
-    /// passes, with the token.
+    /// Checks the rules of a refresh: looks up the path, reads the header `If`, and checks the locks of the
+    /// path. Returns what was found, and the token.
     fn judge_refresh(&mut self, request: &DavRequest) -> DavResult<(Option<Meta>, Text)>
         ensures same_engine { frame self.new ≡ frame self.old }
         ensures same_locks { lent_locks self.new ≡ lent_locks self.old }
@@ -51,7 +51,7 @@ impl<'a, C: Drop, F: GuardedFileSystem<C>, L: DavLockSystem> DavInner<'a, C, F, 
         ))
     }
 
-    /// The work of a refresh.
+    /// The work of a refresh: renews the lock and makes the response.
     fn refresh_lock(
         &mut self,
         request: &DavRequest,
@@ -67,7 +67,8 @@ impl<'a, C: Drop, F: GuardedFileSystem<C>, L: DavLockSystem> DavInner<'a, C, F, 
         refreshed_reply(*self.prefix.allocator(), &request.path, &found, &lock)
     }
 
-    /// Has the lock system give the lock its new timeout.
+    /// Has the lock system give the lock its new timeout, which is that of an exclusive lock, whatever the
+    /// lock is.
     fn renew_lock(&mut self, request: &DavRequest, token: &Text) -> DavResult<DavLock>
         requires locks { is_some (lent_locks self.old) ≡ true }
         ensures same_engine { frame self.new ≡ frame self.old }
@@ -85,7 +86,7 @@ impl<'a, C: Drop, F: GuardedFileSystem<C>, L: DavLockSystem> DavInner<'a, C, F, 
     }
 }
 
-/// The one token: with none, or more, no lock is named: 400.
+/// Returns the only token. Without one, or with several, rejects the request with 400.
 fn one_token(tokens: &[Text]) -> DavResult<&Text>
     ensures ok { IfOk result (λ token. one_token_of tokens.now ≡ Ok token.now) }
     ensures err { IfErr result (λ e. one_token_of tokens.now ≡ Err e) }

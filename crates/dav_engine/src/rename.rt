@@ -19,22 +19,33 @@ use dav_store::{DavLockSystem, GuardedFileSystem};
 use http::Response;
 
 impl<'a, C: Drop, F: GuardedFileSystem<C>, L: DavLockSystem> DavInner<'a, C, F, L> {
-    /// Moves a resource, with all below it and all properties, to where its header Destination says, and
-    /// answers 201, or 204 where it replaced what stood there; the locks at the source are dropped (RFC
-    /// 4918, section 7.5). It serves a request of any method as MOVE.
+    /// Moves a resource, with everything below it and all properties, to the path in `Destination`. Returns
+    /// 201, or 204 if something was at the destination. The locks at the source and below it are dropped (RFC
+    /// 4918, section 7.5). (A lock system that is not reliable may keep locks that are dropped.) Executes any
+    /// request as MOVE, whatever its method.
     ///
-    /// What stands at the destination is removed first, with its locks. What the store refuses to remove is
-    /// left, with the directories above it, and named in a 207; nothing is moved and no lock is dropped
-    /// then. Where the store refuses to move the source, its status alone is the answer, and all stays at
-    /// the source.
+    /// First the resource at the destination is removed, with everything below it and the locks there. If the
+    /// store fails to remove something, a 207 lists the failures, nothing is moved, and no lock is dropped.
+    /// What then stays at the destination is as after a failed DELETE.
     ///
-    /// Errors: 400 for another Depth than infinity, and for a Destination that names no place; where its path
-    /// can't be read, the error of `DavPath::from_str_and_prefix`; the store's where the source isn't found, or
-    /// the destination for another reason than that nothing is there; 409 where no directory is above the
-    /// destination; 412 where something is there and Overwrite is `F`; 403 where one of both is at or below the
-    /// other; the conditions' (RFC 7232; RFC 4918, section 10.4); 423 where the locks at or below one of
-    /// both don't permit it. After each of these nothing has changed. `Memory` at any time: what was removed
-    /// by then stays so, and no lock is dropped before all there is gone.
+    /// If the store refuses to move the source, the response is the status of that error, and everything
+    /// stays at the source. What was at the destination has been removed by then, with its locks.
+    ///
+    /// Errors, checked in this order. After each of them the store's contents and the locks are as before.
+    /// - 400 for a Depth other than infinity.
+    /// - 400 without a `Destination` that is a path or an http(s) URL. If its path cannot be read, the error
+    ///   of `DavPath::from_str_and_prefix`.
+    /// - The store's error if the lookup of the source fails.
+    /// - 409 if no directory is found above the destination.
+    /// - The store's error if the lookup of the destination fails, unless nothing is there.
+    /// - 412 if something is there and Overwrite is `F`.
+    /// - 403 if source and destination are the same, or if one is below the other.
+    /// - The status of a condition that does not hold (RFC 7232; RFC 4918, section 10.4).
+    /// - 423 if the locks at or below the source, or at or below the destination, do not permit the request.
+    ///
+    /// `Memory` can come at any time. What was removed by then stays removed, and the source may have been
+    /// moved. Locks at the destination are dropped only after everything there was removed, and locks at the
+    /// source only after the move.
     pub fn handle_move(&mut self, request: &DavRequest) -> DavResult<Response<Body>>
         ensures same_engine { frame self.new ≡ frame self.old }
         ensures step { IsServed F.seen L.seen (Some Move) self.old request.entry.now (answer_of result) self.new }
@@ -46,7 +57,7 @@ impl<'a, C: Drop, F: GuardedFileSystem<C>, L: DavLockSystem> DavInner<'a, C, F, 
         self.move_found(request, &found)
     }
 
-    /// The work: the source is moved, and the reply is made.
+    /// The work: moves the source and makes the response.
     fn move_found(&mut self, request: &DavRequest, found: &Transfer) -> DavResult<Response<Body>>
         requires { MayMove request.now.path.key found.now (F.seen (lent self.old)).contents }
         ensures same_engine { frame self.new ≡ frame self.old }
@@ -58,16 +69,16 @@ impl<'a, C: Drop, F: GuardedFileSystem<C>, L: DavLockSystem> DavInner<'a, C, F, 
         match self.move_to_destination(&path, found, &mut res) {
             Ok(()) => res.add_status(&path, transferred_status(found.there.as_ref()))?,
             Err(DavError::Memory) => return Err(DavError::Memory),
-            // What was refused is named.
+            // `res` has the failures.
             Err(_) => {}
         }
         multi_error(alloc, &path, res.into_items())
     }
 
-    /// Removes what stands at the destination, and moves the source there, unless that was refused. Each
-    /// refusal is named.
+    /// Removes what is at the destination, and then moves the source there, unless the removal failed. Adds
+    /// the failures to `res`.
     ///
-    /// Errors: `Status` of the first refusal, where there was one; `Memory`. What was removed stays so.
+    /// Errors: `Status` of the first failure, if there was one; `Memory`. What was removed or moved stays so.
     fn move_to_destination(
         &mut self,
         source: &DavPath,
@@ -82,10 +93,12 @@ impl<'a, C: Drop, F: GuardedFileSystem<C>, L: DavLockSystem> DavInner<'a, C, F, 
         self.move_source(source, &found.destination, res)
     }
 
-    /// Renames the source, with all below it, and drops the locks there. A refusal names the source, and
-    /// changes nothing.
+    /// Renames the source, with everything below it, and then drops the locks there. If the store refuses the
+    /// rename, adds the source with that status to `res`. The store's contents and the locks are then as
+    /// before.
     ///
-    /// Errors: `Status` of the refusal; `Memory`, after which nothing has changed.
+    /// Errors: `Status` of the refused rename; `Memory`. After `Memory` the contract allows two cases:
+    /// nothing was renamed and no lock dropped, or the source was renamed and its locks dropped.
     fn move_source(
         &mut self,
         source: &DavPath,
@@ -101,10 +114,11 @@ impl<'a, C: Drop, F: GuardedFileSystem<C>, L: DavLockSystem> DavInner<'a, C, F, 
         Ok(())
     }
 
-    /// Renames the source, with all below it and all properties, by one call of the store, and adds a status
-    /// where that is refused. No lock is looked at.
+    /// Renames the source, with everything below it and all properties, by one call of the store. If the
+    /// store refuses it, adds the source with that status to `res`. Locks are not checked.
     ///
-    /// Errors: `Status` of the refusal; `Memory`. Nothing has changed then.
+    /// Errors: `Status` of the refused rename; `Memory`. After either of them the store's contents and the
+    /// locks are as before. After `Memory` `res` is, too.
     pub fn do_move(
         &mut self,
         source: &DavPath,

@@ -1,4 +1,4 @@
-//! Where a PUT or a PATCH writes, and how much.
+//! Where in the file a PUT or a PATCH writes, and how many bytes.
 ghost use Rattle.std.specs.Prelude.{◌≡◌, Ok, option_map};
 ghost use Rattle.dav_engine.specs.Target.{stated_length as length_stated_by, spans as is_span, from_to as part_from_to, last_bytes as part_of_last, named_part as part_named, update_target as target_of_update, is_update as is_update_type, patch_target as target_of_patch, whole as whole_by, in_range as target_in_range, within_reach as target_within_reach, first_target as first_target_of, target_of};
 
@@ -10,25 +10,28 @@ use dav_resource::{DavError, DavResult, FsError, FsResult, Meta};
 use http::StatusCode;
 use http_header::{HeaderMap, HeaderValue};
 
-/// Where a body is written, and how long it has to be.
+/// Where the body is written in the file, and how long it must be.
 #[derive(Debug, Clone, Copy)]
 pub(crate) struct Target {
-    /// The place in the file, in bytes from its start.
+    /// The offset in the file, in bytes from its start.
     pub(crate) start: u64,
-    /// It is written behind what the file holds, wherever the place is.
+    /// Whether the body is written at the end of the file, whatever the offset is.
     pub(crate) append: bool,
-    /// What else the file holds is kept.
+    /// Whether the rest of the file is kept.
     pub(crate) part: bool,
-    /// The length in bytes that the body has to have, where it is stated.
+    /// The length in bytes that the body must have, if one is stated.
     pub(crate) length: Option<u64>,
 }
 
-/// Where a PATCH, or a PUT, writes by its headers, after a look at the path.
+/// Finds where a PUT, or a PATCH if `partial`, writes, by its headers and the lookup of its path.
 ///
-/// Errors, each of which closes the connection but the last: of a PATCH alone, 415 for another
-/// Content-Type than that of a partial update, 411 without a length, 400 without a range; 400 for a
-/// Content-Range that can't be read; 416 for a range that is none, isn't of the stated length or that no u64
-/// reaches the end of; and why the look was refused, where the range counts from the file's end.
+/// Errors, each of which closes the connection except the last:
+/// - Only for a PATCH: 415 for a Content-Type other than that of a partial update, 411 without a length, 400
+///   without a range that can be read.
+/// - 400 for a Content-Range that cannot be read.
+/// - 416 for a range that is none, that does not have the stated length, or whose end does not fit in a
+///   `u64`.
+/// - The lookup's error, if the range counts from the end of the file. That nothing is there is not an error.
 pub(crate) fn find_target(
     partial: bool,
     headers: &HeaderMap<HeaderValue>,
@@ -55,7 +58,7 @@ fn first_target(
     }
 }
 
-/// The whole file.
+/// Targets the whole file.
 fn whole(headers: &HeaderMap<HeaderValue>) -> DavResult<Target>
     ensures { result ≡ Ok (whole_by headers.now) }
 {
@@ -67,7 +70,7 @@ fn whole(headers: &HeaderMap<HeaderValue>) -> DavResult<Target>
     })
 }
 
-/// The part of a file that a PATCH names.
+/// Finds the part of the file that a PATCH writes.
 fn patch_target(headers: &HeaderMap<HeaderValue>, found: &FsResult<Meta>) -> DavResult<Target>
     ensures { result ≡ target_of_patch headers.now found.now }
 {
@@ -77,7 +80,7 @@ fn patch_target(headers: &HeaderMap<HeaderValue>, found: &FsResult<Meta>) -> Dav
     update_target(stated_length(headers)?, read_update_range(headers)?, found)
 }
 
-/// Whether a body is one to update a part with (SabreDAV).
+/// Returns whether the Content-Type is that of a partial update (SabreDAV).
 fn is_update(content_type: Option<&str>) -> bool
     ensures { result ≡ is_update_type (option_map (λ text. text.now) content_type.entry) }
 {
@@ -87,7 +90,8 @@ fn is_update(content_type: Option<&str>) -> bool
     }
 }
 
-/// The length that a header states for the body: Content-Length's, else X-Expected-Entity-Length's.
+/// Returns the length that a header states for the body: that of Content-Length, else of
+/// X-Expected-Entity-Length.
 pub(crate) fn stated_length(headers: &HeaderMap<HeaderValue>) -> DavResult<Option<u64>>
     ensures { result ≡ Ok (length_stated_by headers.now) }
 {
@@ -117,7 +121,7 @@ fn update_target(
     named_part(target, range, found)
 }
 
-/// The part that an update range names.
+/// Targets the part of the file that an update range names.
 fn named_part(target: Target, range: UpdateRange, found: &FsResult<Meta>) -> DavResult<Target>
     ensures { result ≡ part_named target range found.now }
 {
@@ -135,7 +139,8 @@ fn named_part(target: Target, range: UpdateRange, found: &FsResult<Meta>) -> Dav
     }
 }
 
-/// The part from so many bytes before the end of what was found.
+/// Targets the part that begins `count` bytes before the end of the file that was found. If nothing was
+/// found, returns the target as it is.
 fn last_bytes(target: Target, count: u64, found: &FsResult<Meta>) -> DavResult<Target>
     ensures { result ≡ part_of_last target count found.now }
 {
@@ -149,7 +154,7 @@ fn last_bytes(target: Target, count: u64, found: &FsResult<Meta>) -> DavResult<T
     }
 }
 
-/// The part that Content-Range names, where it names one (RFC 9110, section 14.5).
+/// Targets the part that Content-Range names, if it names one (RFC 9110, section 14.5).
 fn in_range(target: Target, range: Option<ContentRange>) -> DavResult<Target>
     ensures { result ≡ target_in_range target (Ok range) }
 {
@@ -159,7 +164,7 @@ fn in_range(target: Target, range: Option<ContentRange>) -> DavResult<Target>
     }
 }
 
-/// The part from first to last.
+/// Targets the part from the byte `first` to the byte `last`, both included.
 fn from_to(target: Target, first: u64, last: u64) -> DavResult<Target>
     ensures { result ≡ part_from_to target first last }
 {
@@ -174,7 +179,8 @@ fn from_to(target: Target, first: u64, last: u64) -> DavResult<Target>
     })
 }
 
-/// Whether this is a range of the stated length, where one is stated.
+/// Returns whether `first` to `last` is a range, whose length fits in a `u64` and is the stated length, if
+/// one is stated.
 fn spans(stated: Option<u64>, first: u64, last: u64) -> bool
     ensures { result ≡ is_span stated first last }
 {
@@ -188,7 +194,7 @@ fn spans(stated: Option<u64>, first: u64, last: u64) -> bool
     }
 }
 
-/// Refuses a part that no u64 reaches the end of.
+/// Rejects with 416 a target whose end, its offset plus its length, does not fit in a `u64`.
 fn within_reach(target: Target) -> DavResult<Target>
     ensures { result ≡ target_within_reach target }
 {

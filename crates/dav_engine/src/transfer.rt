@@ -1,5 +1,4 @@
-//! What COPY and MOVE share (RFC 4918, sections 9.8 and 9.9): what is asked before a resource goes to a
-//! destination, and the removal of what stands there.
+//! What COPY and MOVE share (RFC 4918, sections 9.8 and 9.9): their rules, and clearing the destination.
 ghost use Rattle.std.specs.Prelude.{◌≡◌, true, Some, is_some, if◌then◌else◌, option_copied};
 ghost use Rattle.std.specs.Option.{ForSome};
 ghost use Rattle.dav_resource.specs.Gives.{GivesBy};
@@ -19,21 +18,21 @@ use dav_resource::{
 use dav_store::{DavLockSystem, GuardedFileSystem};
 use http::StatusCode;
 
-/// What the rules of a copy or a move have found.
+/// What the rules of a COPY or a MOVE have found.
 #[derive(Drop)]
 pub(crate) struct Transfer {
-    /// The resource.
+    /// The metadata of the source.
     pub(crate) meta: Meta,
-    /// Where it is to go.
+    /// The path that the source is copied or moved to.
     pub(crate) destination: DavPath,
-    /// What stands there.
+    /// The metadata of what is at the destination, if something is.
     pub(crate) there: Option<Meta>,
 }
 
 impl<'a, C: Drop, F: GuardedFileSystem<C>, L: DavLockSystem> DavInner<'a, C, F, L> {
-    /// The rules: the depth and the destination, a look at the source, at the destination's parent and at
-    /// the destination, whether that is a place for the source, the conditions, and the locks. What was
-    /// found passes.
+    /// Checks the rules in this order: the Depth, the destination, the lookups of the source, of the
+    /// destination's parent and of the destination, whether the source may go there, the conditions, and the
+    /// locks. Returns what was found.
     pub(crate) fn judge_transfer(
         &mut self,
         moving: bool,
@@ -57,7 +56,7 @@ impl<'a, C: Drop, F: GuardedFileSystem<C>, L: DavLockSystem> DavInner<'a, C, F, 
         where_permitted(StatusCode::LOCKED, permitted, found)
     }
 
-    /// The depth, and then the destination, below the engine's prefix.
+    /// Checks the Depth, and then reads the destination, below the engine's prefix.
     fn asked_destination(&self, moving: bool, request: &DavRequest) -> DavResult<DavPath>
         ensures { GivesBy (λ path. path) result (asked_destination_of moving (settings_by F.seen self.now) request.entry.now) }
     {
@@ -69,7 +68,7 @@ impl<'a, C: Drop, F: GuardedFileSystem<C>, L: DavLockSystem> DavInner<'a, C, F, 
         )
     }
 
-    /// What stands at the destination, below a directory.
+    /// Looks up the destination, which has to be below a directory.
     fn see_destination(&mut self, destination: &DavPath) -> DavResult<Option<Meta>>
         ensures same_engine { frame self.new ≡ frame self.old }
         ensures same_locks { lent_locks self.new ≡ lent_locks self.old }
@@ -79,7 +78,8 @@ impl<'a, C: Drop, F: GuardedFileSystem<C>, L: DavLockSystem> DavInner<'a, C, F, 
         self.look_there(destination)
     }
 
-    /// A directory has to be found above the destination: else 409.
+    /// Rejects a destination with 409 if no directory is found above it. A failed lookup counts as nothing
+    /// there.
     fn must_have_parent(&mut self, destination: &DavPath) -> DavResult<()>
         ensures same_engine { frame self.new ≡ frame self.old }
         ensures same_locks { lent_locks self.new ≡ lent_locks self.old }
@@ -90,7 +90,7 @@ impl<'a, C: Drop, F: GuardedFileSystem<C>, L: DavLockSystem> DavInner<'a, C, F, 
         judge_parent(above.as_ref())
     }
 
-    /// What stands at the destination. That nothing is there is no refusal, but each other one is.
+    /// Looks up the destination. It is no error if nothing is there, but each other error of the store is.
     fn look_there(&mut self, destination: &DavPath) -> DavResult<Option<Meta>>
         ensures same_engine { frame self.new ≡ frame self.old }
         ensures same_locks { lent_locks self.new ≡ lent_locks self.old }
@@ -100,8 +100,8 @@ impl<'a, C: Drop, F: GuardedFileSystem<C>, L: DavLockSystem> DavInner<'a, C, F, 
         found_or_absent(told)
     }
 
-    /// Whether the locks let the request, with these tokens, take all at its path away, in a move, and
-    /// replace all at the destination.
+    /// Returns whether the locks allow the request, with these tokens, to replace everything at the
+    /// destination and, in a move, to remove everything at its path.
     fn permits_transfer(
         &self,
         moving: bool,
@@ -117,10 +117,10 @@ impl<'a, C: Drop, F: GuardedFileSystem<C>, L: DavLockSystem> DavInner<'a, C, F, 
         self.is_permitted(request, tokens, destination, true)
     }
 
-    /// Removes what stands at the destination and below it (RFC 4918, section 9.9.3), where something does,
-    /// and names each refusal; where nothing is named the locks there are dropped.
+    /// Removes what is at the destination and below it, if something is there (RFC 4918, section 9.9.3), and
+    /// adds each failure to `res`. If something was there and no failure is added, drops the locks there.
     ///
-    /// Errors: `Status` of the first refusal, where there was one; `Memory`. What was removed stays so.
+    /// Errors: `Status` of the first failure, if there was one; `Memory`. What was removed stays removed.
     pub(crate) fn clear_destination(
         &mut self,
         destination: &DavPath,
@@ -137,7 +137,7 @@ impl<'a, C: Drop, F: GuardedFileSystem<C>, L: DavLockSystem> DavInner<'a, C, F, 
         }
     }
 
-    /// The same of what was found there.
+    /// Does the same for what was found there.
     fn clear_found(
         &mut self,
         destination: &DavPath,
@@ -154,7 +154,7 @@ impl<'a, C: Drop, F: GuardedFileSystem<C>, L: DavLockSystem> DavInner<'a, C, F, 
     }
 }
 
-/// Refuses a depth that can't be meant: 400.
+/// Rejects with 400 a Depth that the method does not allow.
 fn judge_reach(moving: bool, depth: Depth) -> DavResult<()>
     ensures { result ≡ reach_verdict moving depth }
 {
@@ -164,7 +164,7 @@ fn judge_reach(moving: bool, depth: Depth) -> DavResult<()>
     judge_depth(depth)
 }
 
-/// Refuses a destination above which no directory was found: 409.
+/// Rejects a destination with 409 if no directory was found above it.
 fn judge_parent(above: Option<&Meta>) -> DavResult<()>
     ensures { result ≡ parent_verdict (option_copied above.entry) }
 {
@@ -175,7 +175,7 @@ fn judge_parent(above: Option<&Meta>) -> DavResult<()>
     }
 }
 
-/// What a look found; that nothing is there is no refusal.
+/// Returns what a lookup found. It is no error if nothing is there.
 fn found_or_absent(told: FsResult<Meta>) -> DavResult<Option<Meta>>
     ensures { result ≡ found_or_absent_of told }
 {
@@ -186,8 +186,8 @@ fn found_or_absent(told: FsResult<Meta>) -> DavResult<Option<Meta>>
     }
 }
 
-/// Refuses a destination where something is that may not be replaced, 412, or that is no place for the
-/// resource, 403.
+/// Rejects a destination with 412 if something is there that may not be replaced, and else with 403 if the
+/// source may not go there.
 fn judge_place(
     moving: bool,
     request: &DavRequest,
@@ -205,7 +205,7 @@ fn judge_place(
     Ok(())
 }
 
-/// Whether what stands at the destination may be replaced.
+/// Returns whether the request may replace what is at the destination.
 fn may_overwrite(request: &DavRequest) -> bool
     ensures { result ≡ may_overwrite_by request.entry.now }
 {
@@ -215,8 +215,8 @@ fn may_overwrite(request: &DavRequest) -> bool
     }
 }
 
-/// Whether the resource can't go there: to itself, in a move to below itself, or with all below it to where
-/// it is below.
+/// Returns whether the source may not go to the destination: to itself, in a move to below itself, or, unless
+/// Depth is 0, to a path above itself.
 fn is_misplaced(moving: bool, depth: Depth, source: &DavPath, destination: &DavPath) -> bool
     ensures { result ≡ is_misplaced_by moving depth source.now.key destination.now.key }
 {
@@ -229,21 +229,21 @@ fn is_misplaced(moving: bool, depth: Depth, source: &DavPath, destination: &DavP
     is_deep(depth) && source.is_at_or_below(destination)
 }
 
-/// Whether both paths have one key.
+/// Returns whether both paths have the same key.
 fn is_same_place(source: &DavPath, destination: &DavPath) -> bool
     ensures { result ≡ is_same_key source.now.key destination.now.key }
 {
     source.same_key(destination)
 }
 
-/// Whether all below a resource goes with it.
+/// Returns whether everything below a resource goes with it.
 pub(crate) fn is_deep(depth: Depth) -> bool
     ensures { result ≡ is_deep_depth depth }
 {
     depth != Depth::Zero
 }
 
-/// 204 where something was replaced, else 201.
+/// Returns 204 if something was at the destination, else 201.
 pub(crate) fn transferred_status(there: Option<&Meta>) -> StatusCode
     ensures { result ≡ (if is_some there.entry then 204 else 201) }
 {

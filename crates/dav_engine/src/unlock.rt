@@ -21,12 +21,12 @@ use http::{Response, StatusCode};
 use http_header::{HeaderMap, HeaderValue};
 
 impl<'a, C: Drop, F: GuardedFileSystem<C>, L: DavLockSystem> DavInner<'a, C, F, L> {
-    /// Removes the lock that Lock-Token names, which stands at the path or above it, and answers 204. No
-    /// condition, principal or Depth is looked at. It serves a request of any method as UNLOCK.
+    /// Removes the lock that `Lock-Token` names, at the path or above it, and returns 204. Conditions, the
+    /// principal and Depth are not checked. Executes any request as UNLOCK, whatever its method.
     ///
-    /// Errors: 405 without a lock system, 400 without a Lock-Token that can be read, 409 where there is no such
-    /// lock (or a lock system that isn't dependable doesn't let it go); `Memory`. After each of them nothing
-    /// has changed.
+    /// Errors: 405 without a lock system, 400 without a `Lock-Token` that can be read, 409 if there is no
+    /// such lock or if a lock system that is not reliable fails to remove it, and `Memory`. After each of
+    /// them nothing has changed.
     pub fn handle_unlock(&mut self, request: &DavRequest) -> DavResult<Response<Body>>
         ensures same_engine { frame self.new ≡ frame self.old }
         ensures step { IsServed F.seen L.seen (Some Unlock) self.old request.entry.now (answer_of result) self.new }
@@ -35,8 +35,8 @@ impl<'a, C: Drop, F: GuardedFileSystem<C>, L: DavLockSystem> DavInner<'a, C, F, 
         self.unlock(request, found, token)
     }
 
-    /// The rules: whether there is a lock system, the token, and a look at the path. What was found passes,
-    /// with the token.
+    /// Checks the rules: whether there is a lock system, and the token. Then looks up the path. Returns what
+    /// was found, and the token.
     fn judge_unlock<'r>(&mut self, request: &'r DavRequest) -> DavResult<(Option<Meta>, &'r str)>
         ensures same_engine { frame self.new ≡ frame self.old }
         ensures same_locks { lent_locks self.new ≡ lent_locks self.old }
@@ -49,7 +49,7 @@ impl<'a, C: Drop, F: GuardedFileSystem<C>, L: DavLockSystem> DavInner<'a, C, F, 
         Ok((self.look(&request.path)?, token))
     }
 
-    /// The work. The reply is made first, so that memory can't be lacking once the lock is gone.
+    /// The work. The response is made first, so that memory cannot run out after the lock was removed.
     fn unlock(
         &mut self,
         request: &DavRequest,
@@ -70,7 +70,7 @@ impl<'a, C: Drop, F: GuardedFileSystem<C>, L: DavLockSystem> DavInner<'a, C, F, 
     }
 }
 
-/// The token that Lock-Token names: without one it is a bad request, 400.
+/// Returns the token that `Lock-Token` names. Without one the request is rejected with 400.
 fn named_token(headers: &HeaderMap<HeaderValue>) -> DavResult<&str>
     ensures ok { IfOk result (λ token. lock_token_of headers.now ≡ Some token.now) }
     ensures err { IfErr result (λ e. (e ≡ Status 400) × (lock_token_of headers.now ≡ None)) }
