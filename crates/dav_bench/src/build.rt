@@ -1,11 +1,12 @@
-//! Requests, built from texts as a server reads them off a connection.
+//! Builds requests from strings, as a server does that reads them from a connection.
 use anyhow::{Context, Result};
 use dav_engine::{DavPath, DavRequest, Element, Items, LockToken, ReqBody};
 use http::Method;
 use http_header::{HeaderMap, HeaderName, HeaderValue};
 use std::alloc::{AllocError, Global};
 
-/// A request with these headers, each a name and a value, and with the token that a lock gets which it makes.
+/// Builds a request with these headers, each a name and a value. `token` is for a lock that the request
+/// creates.
 pub fn request(
     alloc: Global,
     method: &str,
@@ -38,12 +39,12 @@ fn lock_token(alloc: Global, text: &str) -> Result<LockToken> {
     LockToken::from_string(String::from_str(alloc, text)?).context("no lock token")
 }
 
-/// A body of these bytes.
+/// Returns a body with these bytes.
 pub fn bytes(alloc: Global, bytes: &[u8]) -> Result<ReqBody, AllocError> {
     Ok(ReqBody::Bytes(Items::from_vec(bytes.to_vec(alloc)?)))
 }
 
-/// The tree in the body of a LOCK that asks for an exclusive write lock.
+/// Returns the XML body of a LOCK that requests an exclusive write lock.
 pub fn lock_info(alloc: Global) -> Result<Element, AllocError> {
     let mut info = dav_element(alloc, "D:lockinfo")?;
     for (name, choice) in [("D:lockscope", "D:exclusive"), ("D:locktype", "D:write")] {

@@ -1,4 +1,4 @@
-//! The loads: what each needs beforehand, and which requests it is.
+//! The loads: what each needs beforehand, and the requests that it makes.
 ghost use Rattle.std.specs.Prelude.{◌≤◌, ◌+◌};
 
 use crate::requests::{delete, make_collection, patch, put, put_content, put_locked, unlock};
@@ -6,28 +6,28 @@ use crate::server::Server;
 use anyhow::{Context, Result};
 use http::StatusCode;
 
-/// A load of requests. Its count says how many rounds there are of the requests that are named here.
+/// A load of requests. Its count is the number of rounds of the requests listed here.
 #[derive(Clone, Copy)]
 pub enum Load {
-    /// MKCOL of a collection and PUT of a file in it, over a store that grows.
+    /// MKCOL of a collection and PUT of a file in it. The store grows.
     MkPut,
-    /// LOCK of as many files, and then of each a PUT with the lock's token and an UNLOCK.
+    /// LOCK of `count` files, and then for each file a PUT with the lock's token and an UNLOCK.
     Locks,
-    /// PUT over one of ten files of the root.
+    /// PUT over one of ten files in the root.
     Put10,
     /// PUT over one of ten files whose paths have six segments.
     Deep10,
-    /// LOCK and UNLOCK of the one file.
+    /// LOCK and UNLOCK of a single file.
     Lock1,
-    /// LOCK of the one file, PUT with the lock's token, and UNLOCK.
+    /// LOCK of a single file, PUT with the lock's token, and UNLOCK.
     Cycle1,
-    /// The same while 10,000 other files are locked.
+    /// The same as `Cycle1`, while 10,000 other files are locked.
     Cycle10000,
     /// PATCH of 64 bytes in a file of 1 KiB.
     Patch1,
     /// PATCH of 64 bytes in a file of 1 MiB.
     Patch,
-    /// DELETE of a tree of as many resources. It counts as a request for each resource.
+    /// One DELETE of a tree of `count` resources. It is counted as one request for each resource.
     Delete,
 }
 
@@ -39,7 +39,7 @@ const KIB: u64 = 1 << 10;
 const MIB: u64 = 1 << 20;
 
 impl Load {
-    /// Every load by its name.
+    /// Every load with its name.
     pub const ALL: [(&'static str, Load); 10] = [
         ("mkput", Load::MkPut),
         ("locks", Load::Locks),
@@ -53,13 +53,13 @@ impl Load {
         ("delete", Load::Delete),
     ];
 
-    /// The load of this name.
+    /// Returns the load with this name.
     pub fn named(name: &str) -> Option<Load> {
         let (_, load) = Load::ALL.into_iter().find(|(other, _)| *other == name)?;
         Some(load)
     }
 
-    /// Makes what has to be there before the load, on a new server.
+    /// Creates on a new server what the load needs.
     pub fn prepare(self, server: &mut Server, count: u64) -> Result<()> {
         match self {
             Load::MkPut => Ok(()),
@@ -74,7 +74,7 @@ impl Load {
         }
     }
 
-    /// Serves the load's requests. One that isn't answered by the status that is due stops it.
+    /// Serves the load's requests. Stops with an error at a response that does not have the expected status.
     pub fn serve(self, server: &mut Server, count: u64) -> Result<()> {
         match self {
             Load::MkPut => make_and_put(server, count),
@@ -90,7 +90,7 @@ impl Load {
     }
 }
 
-/// The files f0, f1 and so on, in a directory that is made with those above it.
+/// Creates the files `f0`, `f1` and so on, in a directory that it creates together with its parents.
 fn put_files(server: &mut Server, directory: &str, count: u64) -> Result<()> {
     let mut path = String::from_str(server.alloc, "/")?;
     for name in directory.split('/').filter(|name| !name.is_empty()) {
@@ -105,7 +105,7 @@ fn put_files(server: &mut Server, directory: &str, count: u64) -> Result<()> {
     Ok(())
 }
 
-/// The file /f0, and so many others that are locked.
+/// Creates the file `/f0`, and `count` other files that are locked.
 fn put_among_locks(server: &mut Server, count: u64) -> Result<()> {
     put_files(server, "/", 1)?;
     for i in 0..count {
@@ -116,14 +116,15 @@ fn put_among_locks(server: &mut Server, count: u64) -> Result<()> {
     Ok(())
 }
 
-/// The file /f of so many zeros.
+/// Creates the file `/f` with `length` zeros.
 fn put_zeros(server: &mut Server, length: u64) -> Result<()> {
     let content = vec![in server.alloc; 0; length as usize]?;
     put_content(server, "/f", content.as_slice())
 }
 
-/// A tree of so many resources, at least one: below the root /src and below each other collection ten, as long as there
-/// are some left. The first have members and are collections; those behind are files.
+/// Creates a tree of `count` resources, at least one, with the root `/src`. The first resources, level by
+/// level, are collections of ten members each, and the last collection may have fewer. The other resources
+/// are files.
 fn make_tree(server: &mut Server, count: u64) -> Result<()> {
     let members = count.saturating_sub(1);
     let mut paths = Vec::new(server.alloc);
@@ -197,7 +198,7 @@ fn cycle(server: &mut Server, count: u64) -> Result<()> {
     Ok(())
 }
 
-/// The rounds of `Patch` and `Patch1`, at places that jump about in a file of this length.
+/// Serves the rounds of `Patch` and `Patch1`, at scattered offsets in a file of this length.
 fn patch_about(server: &mut Server, length: u64, count: u64) -> Result<()>
     requires { 64 ≤ length }
 {
@@ -207,7 +208,7 @@ fn patch_about(server: &mut Server, length: u64, count: u64) -> Result<()>
     Ok(())
 }
 
-/// A place for 64 bytes in a file of this length, another in each round.
+/// Returns an offset for 64 bytes in a file of this length. The offsets of successive rounds are scattered.
 fn place(round: u64, length: u64) -> u64
     requires { 64 ≤ length }
     ensures { result + 64 ≤ length }

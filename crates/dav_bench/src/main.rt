@@ -1,10 +1,11 @@
-//! `dav_bench LOAD COUNT`: serves a load of requests over a store and a lock system in memory, in process, and prints
-//! `LOAD COUNT SECONDS REQUESTS_A_SECOND`. The time is what it takes to build each request from texts, to serve it and
-//! to empty the store's log; what has to be there beforehand isn't timed.
+//! `dav_bench LOAD COUNT`: serves a load of requests over an in-memory store and lock system, in process, and
+//! prints `LOAD COUNT SECONDS REQUESTS_A_SECOND`. The time covers building each request from strings, serving
+//! it and clearing the store's log. Preparing what the load needs is not timed.
 //!
-//! `dav_bench LOAD COUNT serve` does the same without a clock and prints `LOAD COUNT REQUESTS`, which is the same each
-//! time; `dav_bench LOAD COUNT prepare` stops before the first request of the load, and prints `LOAD COUNT 0`. Two such
-//! runs differ by the load alone. Without arguments each load is served once, at a small count and without a clock.
+//! `dav_bench LOAD COUNT serve` does the same without a clock and prints `LOAD COUNT REQUESTS`, which is the
+//! same each time. `dav_bench LOAD COUNT prepare` stops before the first request of the load, and prints
+//! `LOAD COUNT 0`. The work of these two differs only by the load. Without arguments each load is served
+//! once, at a small count and without a clock.
 #![tactic(auto)]
 
 mod build;
@@ -57,7 +58,7 @@ fn time(rt: &HostRuntime, name: &str, count: u64) -> Result<()> {
     Ok(())
 }
 
-/// Requests a second, rounded down; 0 where no time passed.
+/// Returns the requests per second, rounded down, or 0 if no time passed.
 fn rate(requests: u64, micros: u128) -> u128 {
     u128::from(requests)
         .saturating_mul(1_000_000)
@@ -80,13 +81,13 @@ fn serve(rt: &HostRuntime, name: &str, count: u64) -> Result<()> {
     report(rt, name, count, server)
 }
 
-/// Makes what a load needs beforehand, and no more.
+/// Prepares what a load needs, and does not serve it.
 fn prepare(rt: &HostRuntime, name: &str, count: u64) -> Result<()> {
     let (_, server) = prepared(rt.alloc(), name, count)?;
     report(rt, name, count, server)
 }
 
-/// The load of this name, and a server with what it needs beforehand.
+/// Returns the load with this name, and a server on which it is prepared.
 fn prepared(alloc: Global, name: &str, count: u64) -> Result<(Load, Server)> {
     let load = Load::named(name).context(format_args!("no such load: {name}"))?;
     let mut server = Server::new(alloc)?;
@@ -95,8 +96,8 @@ fn prepared(alloc: Global, name: &str, count: u64) -> Result<(Load, Server)> {
     Ok((load, server))
 }
 
-/// Prints how many requests were served. The server isn't let go of, since that is no part of a load, and would take
-/// the longer the more it holds.
+/// Prints how many requests were served. The server is not dropped: that is no part of a load, and takes
+/// longer the more the server holds.
 fn report(rt: &HostRuntime, name: &str, count: u64, server: Server) -> Result<()> {
     let served = server.served();
     println!(rt; "{name} {count} {served}")?;

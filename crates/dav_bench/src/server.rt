@@ -1,4 +1,4 @@
-//! A store and a lock system in memory, over which requests are served one after another.
+//! An in-memory store and lock system, over which requests are served one after another.
 use crate::build::{lock_info, request};
 use anyhow::{Result, ensure};
 use dav_engine::{Body, DavInner, DavRequest, DavResult, Element, GuardedFileSystem, ReqBody};
@@ -7,10 +7,10 @@ use dav_memls::MemLs;
 use http::{Response, StatusCode};
 use std::alloc::Global;
 
-/// The token of a request that makes no lock, for which nobody asks.
+/// The unused token of a request that creates no lock.
 const NO_TOKEN: &str = "none";
 
-/// What serves the requests of a load, and counts them.
+/// Serves the requests of a load, and counts them.
 #[derive(Drop)]
 pub struct Server {
     pub alloc: Global,
@@ -22,7 +22,7 @@ pub struct Server {
 }
 
 impl Server {
-    /// With a store that holds the root alone, and no lock.
+    /// Creates a server whose store holds only the root, without locks.
     pub fn new(alloc: Global) -> Result<Server> {
         Ok(Server {
             alloc,
@@ -33,22 +33,22 @@ impl Server {
         })
     }
 
-    /// How many requests were served since the count began.
+    /// Returns how many requests were served since the count was last restarted.
     pub fn served(&self) -> u64 {
         self.served
     }
 
-    /// Counts from 0 again.
+    /// Restarts the count at 0.
     pub fn restart_count(&mut self) {
         self.served = 0;
     }
 
-    /// Counts so many requests more.
+    /// Adds to the count of requests.
     pub fn count(&mut self, requests: u64) {
         self.served = self.served.saturating_add(requests);
     }
 
-    /// Builds a request and serves it. An answer of another status than the one that is due is an error.
+    /// Builds a request and serves it. A response that does not have the expected status is an error.
     pub fn serve(
         &mut self,
         method: &str,
@@ -61,14 +61,15 @@ impl Server {
         self.serve_built(&request, due)
     }
 
-    /// The same of a LOCK that asks for an exclusive lock, which gets this token.
+    /// Builds and serves a LOCK that requests an exclusive lock with this token. A response that does not
+    /// have the expected status is an error.
     pub fn serve_lock(&mut self, path: &str, token: &str, due: StatusCode) -> Result<()> {
         let body = ReqBody::Tree(self.lock_info.clone()?);
         let request = request(self.alloc, "LOCK", path, &[], body, token)?;
         self.serve_built(&request, due)
     }
 
-    /// Serves a request, empties the store's log, and counts it.
+    /// Serves a request, clears the store's log, and counts the request.
     fn serve_built(&mut self, request: &DavRequest, due: StatusCode) -> Result<()> {
         let status = status_of(&self.answer(request));
         GuardedFileSystem::<()>::clear_log(&mut self.store);

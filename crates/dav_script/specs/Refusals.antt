@@ -1,4 +1,4 @@
--- How a script says that a store's call is to be refused: `OP PATH ERROR`; this project's own choice.
+-- How a script says that the store is to refuse a call: `OP PATH ERROR`; this project's own choice.
 use Rattle.std.specs.Prelude.{◌==◌, ℕ, Bool, nat_lt, List, [], length, codes, bytes_eq, if◌then◌else◌, Option, Some, None, option_map, option_and_then}
 use Rattle.std.specs.List.{position_or_len, before_first, after_first}
 use Rattle.std.specs.Result.{result_ok}
@@ -9,7 +9,7 @@ use Rattle.dav_resource.specs.declared.record.Op.{Op}
 use Rattle.dav_resource.specs.declared.record.Op.TheVariants.{Metadata, ReadDir, CreateDir, OpenFile, RemoveFile, RemoveDir, Copy, Rename, Seek, WriteBytes, Flush, FileMetadata, GetProp, GetProps, PatchProps, GetQuota, Entry}
 use Rattle.dav_script.specs.declared.refusal.PlannedRefusal.{PlannedRefusal}
 
--- the call of this name; `entry` is the showing of a member in a listing
+-- the call with this name; `entry` is the listing of one member
 abbrev pub op_named : List ℕ → Option Op
 op_named name =
     if bytes_eq name (codes "metadata") then Some Metadata
@@ -30,7 +30,7 @@ op_named name =
     else (if bytes_eq name (codes "get_quota") then Some GetQuota
     else (if bytes_eq name (codes "entry") then Some Entry else None))))))))))))))))
 
--- the error of this name that a store may refuse a call with
+-- the error with this name that a store may return for its own reasons
 abbrev pub refusal_error : List ℕ → Option FsError
 refusal_error name =
     if bytes_eq name (codes "NotImplemented") then Some NotImplemented
@@ -42,18 +42,18 @@ refusal_error name =
     else (if bytes_eq name (codes "TooLarge") then Some TooLarge
     else (if bytes_eq name (codes "IsRemote") then Some IsRemote else None)))))))
 
--- the path that a word spells, without a prefix
+-- a word parsed as a path without a prefix
 abbrev pub refused_path : List ℕ → Option PathValue
 refused_path word = result_ok (read_path word [])
 
--- a call, its path, and the error that it is refused with
+-- a call, its path, and the error that the store returns
 abbrev pub Refusal : Type 0
 Refusal = Op × PathValue × FsError
 
 abbrev pub refusal_in : PlannedRefusal → Refusal
 refusal_in planned = (planned.op, planned.path, planned.error)
 
--- the refusal that three words give
+-- the refusal that three words describe
 abbrev pub refusal_of_words : List ℕ → List ℕ → List ℕ → Option Refusal
 refusal_of_words op path error =
     option_and_then (λ op. option_and_then (λ path. option_map (λ error. (op, path, error)) (refusal_error error)) (refused_path path)) (op_named op)
@@ -61,14 +61,14 @@ refusal_of_words op path error =
 abbrev pub is_space : ℕ → Bool
 is_space byte = byte == 32
 
--- what stands before a text's first space and behind it, where it has one
+-- the text before its first space and the text after it, if it has a space
 abbrev pub cut_at_space : List ℕ → Option (List ℕ × List ℕ)
 cut_at_space text =
     if nat_lt (position_or_len is_space text) (length text)
     then Some (before_first is_space text, after_first is_space text)
     else None
 
--- the refusal that a text gives: three words, parted by single spaces
+-- the refusal that a text describes: three words separated by single spaces
 abbrev pub refusal_of : List ℕ → Option Refusal
 refusal_of text =
     option_and_then (λ words. option_and_then (λ more. refusal_of_words words.0 more.0 more.1) (cut_at_space words.1)) (cut_at_space text)

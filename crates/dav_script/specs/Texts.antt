@@ -1,4 +1,4 @@
--- What is said of a script that wasn't served; this project's own choice.
+-- The messages about a script that was not served; this project's own choice.
 use Rattle.std.specs.Prelude.{ℕ, List, ◌++◌, codes}
 use Rattle.std.specs.Fmt.{decimal}
 use Rattle.dav_script.specs.declared.faults.Fault.{Fault}
@@ -18,7 +18,7 @@ fault_text fault.BadValue = codes "bad value"
 fault_text fault.BadOutline = codes "bad outline"
 fault_text fault.OutlineTooDeep = codes "outline too deep"
 
--- why a script wasn't served by the program of this name
+-- why the program with this name did not serve a script
 abbrev pub trouble_text : List ℕ → Trouble → List ℕ
 trouble_text program trouble.Usage = codes "usage: " ++ (program ++ codes " [PREFIX]")
 trouble_text program (trouble.Fault line fault) = codes "line " ++ (decimal line ++ (codes ": " ++ fault_text fault))

@@ -2,7 +2,8 @@
 use crate::trouble::{Stopped, Trouble};
 use std::{env, io};
 
-/// The arguments without the program's name. One that isn't UTF-8 can't be a prefix.
+/// Returns the arguments without the program's name. An argument that is not UTF-8 cannot be a prefix, and is
+/// a usage error.
 pub fn arguments_of(rt: &HostRuntime) -> Result<Vec<String>, Trouble> {
     match env::args(rt) {
         Ok(arguments) => Ok(

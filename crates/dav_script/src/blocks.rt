@@ -1,4 +1,4 @@
-//! A script's text as blocks, each with a request. Blocks are parted by empty lines.
+//! Reads a script as blocks, each with a request. Empty lines separate blocks.
 use crate::directive;
 use crate::faults::{Fault, LineError, ScriptError};
 use crate::outline_read::OutlineReader;
@@ -8,27 +8,27 @@ use http::Method;
 use http_header::{HeaderMap, HeaderName, HeaderValue};
 use std::alloc::Global;
 
-/// A request of a script. Its path is a text still.
+/// A request of a script, with its path not yet parsed.
 #[derive(Debug, Drop)]
 pub struct Block {
     pub method: Method,
-    /// The path as it is written.
+    /// The path as written in the script.
     pub path: String,
     pub headers: HeaderMap<HeaderValue>,
     pub body: ReqBody,
     /// The outline of the body's tree, while it is being read.
     pub outline: Option<OutlineReader>,
-    /// The request's moment, where the block sets one.
+    /// The time of the request, if the block sets it.
     pub now: Option<u64>,
-    /// Who sends the request, where the block says so.
+    /// The principal that sends the request, if the block sets one.
     pub principal: Option<Text>,
-    /// The token that a lock made by the request gets, where the block sets one.
+    /// The token for a lock that the request creates, if the block sets one.
     pub token: Option<LockToken>,
-    /// The calls that are to be refused from this block on, in the order of their lines.
+    /// The calls that the store is to refuse from this block on, in the order of their lines.
     pub refusals: Vec<PlannedRefusal>,
 }
 
-/// The blocks of a script, in order. The error is the fault of the first line that has one, or `Memory`.
+/// Reads the blocks of a script, in order. The error is the fault of the first faulty line, or `Memory`.
 pub fn read_blocks(alloc: Global, script: &[u8]) -> Result<Vec<Block>, ScriptError> {
     let mut blocks = Vec::new(alloc);
     let mut reader = BlockReader::new(alloc);
@@ -43,27 +43,27 @@ pub fn read_blocks(alloc: Global, script: &[u8]) -> Result<Vec<Block>, ScriptErr
     Ok(blocks)
 }
 
-/// A reader of blocks, line by line.
+/// Reads blocks line by line.
 #[derive(Drop)]
 pub struct BlockReader {
     alloc: Global,
-    /// The block that further lines belong to.
+    /// The block to which the next line belongs.
     open: Option<Block>,
 }
 
 impl BlockReader {
-    /// A reader before the first line.
+    /// Creates a reader before the first line.
     pub fn new(alloc: Global) -> BlockReader {
         BlockReader { alloc, open: None }
     }
 
-    /// Whether further lines belong to a block that began before them.
+    /// Returns whether the next line belongs to a block that has already begun.
     pub fn is_in_block(&self) -> bool {
         self.open.is_some()
     }
 
-    /// Reads the line of this number, from 1, without its line feed, and gives the block that it ends, where it
-    /// does. The error is the line's fault, or that of the outline that it ends, or `Memory`.
+    /// Reads a line without its line feed, and returns the block that it ends, if any. `number` is the line's
+    /// number, from 1. The error is the fault of the line or of the outline that it ends, or `Memory`.
     pub fn read_line(&mut self, number: u64, line: &[u8]) -> Result<Option<Block>, ScriptError> {
         let Ok(text) = str::from_utf8(line) else {
             return Err(ScriptError::Fault(number, Fault::NotUtf8));
@@ -77,7 +77,7 @@ impl BlockReader {
         }
     }
 
-    /// Reads the text of a line: of the block that is open, or the first of a new one.
+    /// Reads a line of the open block, or the first line of a new one.
     fn read_text(&mut self, number: u64, text: &str) -> Result<(), LineError> {
         match &mut self.open {
             Some(block) => block.read_line(number, text),
@@ -88,7 +88,7 @@ impl BlockReader {
         }
     }
 
-    /// Ends the block that is open, where one is, and gives it. The only fault is that of its outline.
+    /// Ends the open block, if there is one, and returns it. The only fault is that of its outline.
     pub fn end_block(&mut self) -> Result<Option<Block>, ScriptError> {
         match self.open.take() {
             Some(block) => Ok(Some(block.end()?)),
@@ -98,7 +98,7 @@ impl BlockReader {
 }
 
 impl Block {
-    /// A block that begins with this request line: `METHOD PATH`, cut at the first space.
+    /// Begins a block with this request line: `METHOD PATH`, split at the first space.
     fn read(alloc: Global, line: &str) -> Result<Block, LineError> {
         let Some((method, path)) = line.split_once(' ') else {
             return Err(Fault::BadRequestLine.into());
@@ -120,7 +120,8 @@ impl Block {
         })
     }
 
-    /// Reads the line of this number, after the first: one of the outline, a directive, or a header.
+    /// Reads a line after the first: a line of the outline, a directive, or a header. `number` is the line's
+    /// number.
     fn read_line(&mut self, number: u64, line: &str) -> Result<(), LineError> {
         if let Some(outline) = &mut self.outline {
             return outline.read_line(line);
@@ -131,7 +132,7 @@ impl Block {
         }
     }
 
-    /// The whole block: where it has an outline, the tree that it shows is the body.
+    /// Ends the block and returns it. If it has an outline, the outline's tree is the body.
     fn end(mut self) -> Result<Block, ScriptError> {
         if let Some(outline) = self.outline.take() {
             self.body = ReqBody::Tree(outline.finish()?);
@@ -139,7 +140,7 @@ impl Block {
         Ok(self)
     }
 
-    /// Reads `name: value`, cut at the first `:`, with the blanks round the value dropped.
+    /// Reads a header `name: value`, split at the first `:`. Spaces and tabs around the value are dropped.
     fn read_header(&mut self, line: &str) -> Result<(), LineError> {
         let Some((name, value)) = line.split_once(':') else {
             return Err(Fault::BadHeader.into());

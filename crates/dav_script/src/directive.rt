@@ -13,9 +13,9 @@ use dav_headers::read_number;
 use dav_resource::{Items, LockToken, ReqBody, Text};
 use std::alloc::{AllocError, Global};
 
-/// Reads a directive into its block, from the line of this number without the `=`: a name, and where a space follows,
-/// a value. Each `refuse` counts; of another that is given twice, and of two bodies, the last counts. What follows
-/// `xml` is the outline of the body's tree.
+/// Reads a directive into its block. The line, without the `=`, has a name and, after a space, a value.
+/// `number` is the line's number. Every `refuse` counts. Of any other directive given twice, and of two
+/// bodies, the last counts. The lines after `xml` are the outline of the body's tree.
 pub fn read(block: &mut Block, number: u64, line: &str) -> Result<(), LineError> {
     let alloc = *block.path.allocator();
     let (name, value) = line.split_once(' ').unwrap_or((line, ""));
@@ -39,7 +39,7 @@ pub fn read(block: &mut Block, number: u64, line: &str) -> Result<(), LineError>
     Ok(())
 }
 
-/// The token of a lock: one or more bytes 0x21 to 0x7E.
+/// Reads a lock token: one or more bytes from 0x21 to 0x7E.
 pub fn read_token(alloc: Global, value: &str) -> Result<LockToken, LineError>
     ensures { MatchResult result
         (λ token. lock_token value.now ≡ Some token)
@@ -51,15 +51,16 @@ pub fn read_token(alloc: Global, value: &str) -> Result<LockToken, LineError>
     }
 }
 
-/// The text with memory of its own. Only memory can be lacking.
+/// Returns an owned copy of the text. Fails only if memory runs out.
 fn text_of(alloc: Global, text: &str) -> Result<Text, AllocError>
     ensures { IfOk result (λ copy. copy ≡ text.now) }
 {
     Ok(Text::from_string(String::from_str(alloc, text)?))
 }
 
-/// The bytes that a text stands for, in which `\n` is a line feed, `\\` and `\"` are the second letter, and
-/// `\x` with two hexadecimal digits is that byte; no other letter may follow a `\`.
+/// Returns the bytes that an escaped text stands for. `\n` is a line feed, `\\` and `\"` are the second
+/// character, and `\x` with two hexadecimal digits is that byte. Any other character after a `\` is a
+/// `BadValue`.
 pub fn unescape(alloc: Global, text: &[u8]) -> Result<Vec<u8>, LineError>
     ensures ok { IfOk result (λ bytes. StandsFor text.now bytes.items) }
     ensures err { IfErr result (λ e. (e ≡ LineError.Memory) ⊎ ((e ≡ LineError.Fault Fault.BadValue) × IsFaulty text.now)) }
@@ -76,7 +77,7 @@ pub fn unescape(alloc: Global, text: &[u8]) -> Result<Vec<u8>, LineError>
     Ok(bytes)
 }
 
-/// The first byte that a text stands for, and what follows its letters.
+/// Returns the first byte that a text stands for, and the text after it.
 fn first_byte(text: &[u8]) -> Option<(u8, &[u8])>
     ensures byte { option_map (λ p. (p.0, p.1.now)) result ≡ first_byte_of text.now }
     ensures shorter { IfSome result (λ p. length p.1.now < length text.now) }
@@ -88,7 +89,7 @@ fn first_byte(text: &[u8]) -> Option<(u8, &[u8])>
     Some((*letter, rest))
 }
 
-/// The byte that the letters after a `\` stand for, and what follows them.
+/// Returns the byte that an escape stands for, from after its `\`, and the text after the escape.
 fn escaped_byte(text: &[u8]) -> Option<(u8, &[u8])>
     ensures byte { option_map (λ p. (p.0, p.1.now)) result ≡ escaped_byte_of text.now }
     ensures shorter { IfSome result (λ p. length p.1.now < length text.now) }
@@ -102,7 +103,7 @@ fn escaped_byte(text: &[u8]) -> Option<(u8, &[u8])>
     }
 }
 
-/// The byte that two hexadecimal digits stand for, and what follows them.
+/// Returns the byte that two hexadecimal digits stand for, and the text after them.
 fn hex_byte(text: &[u8]) -> Option<(u8, &[u8])>
     ensures byte { option_map (λ p. (p.0, p.1.now)) result ≡ hex_byte_of text.now }
     ensures shorter { IfSome result (λ p. length p.1.now < length text.now) }
@@ -113,7 +114,7 @@ fn hex_byte(text: &[u8]) -> Option<(u8, &[u8])>
     Some((byte, rest))
 }
 
-/// What a hexadecimal digit counts.
+/// Returns the value of a hexadecimal digit.
 fn hex_digit(digit: u8) -> Option<u8>
     ensures value { result ≡ (if is_ascii_hexdigit digit then Some (digit_value digit) else None) }
     ensures small { IfSome result (λ value. value < 16) }

@@ -1,4 +1,4 @@
-//! What is wrong with a script.
+//! The faults of a script.
 ghost use Rattle.std.specs.Prelude.{◌≡◌};
 
 use http::method::MethodError;
@@ -16,21 +16,21 @@ pub enum Fault {
     UnknownDirective,
     BadValue,
     BadOutline,
-    /// A line of an outline stands at a level that no outline has.
+    /// A line of an outline is one level deeper than an outline may be.
     OutlineTooDeep,
 }
 
-/// Why a line wasn't read.
+/// Why a line could not be read.
 #[derive(Clone, Copy, Debug, PartialEq, Eq)]
 pub enum LineError {
     Fault(Fault),
     Memory,
 }
 
-/// Why a script wasn't read.
+/// Why a script could not be read.
 #[derive(Clone, Copy, Debug, PartialEq, Eq)]
 pub enum ScriptError {
-    /// The number of the first line at fault, from 1, and its fault.
+    /// The number of the first faulty line, from 1, and its fault.
     Fault(u64, Fault),
     Memory,
 }
@@ -38,7 +38,7 @@ pub enum ScriptError {
 impl LineError {
     ghost use Rattle.dav_script.specs.Errors.{at_line};
 
-    /// The same of a script, by the line's number.
+    /// Returns this error as the script's error at a line number.
     pub fn at(self, number: u64) -> ScriptError
         ensures { result ≡ at_line number self }
     {

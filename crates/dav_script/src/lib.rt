@@ -1,5 +1,6 @@
-//! Scripts of requests: what reads them, serves them over a store and a lock system in memory, and prints the
-//! replies and what both hold. The programs above say what else a script may hold, and what else is printed.
+//! Reads scripts of requests, serves them over an in-memory store and lock system, and prints the responses
+//! and what both hold at the end. The programs built on this crate define what else a script may contain, and
+//! what else is printed.
 #![tactic(auto)]
 
 mod arguments;

@@ -1,11 +1,12 @@
-//! The names that scripts have for calls of a store and for its errors.
+//! The names of the store's calls and errors in scripts.
 ghost use Rattle.std.specs.Prelude.{◌≡◌, Some, IfSome};
 ghost use Rattle.dav_store.specs.Calls.{IsOwn};
 ghost use Rattle.dav_script.specs.Refusals.{op_named, refusal_error};
 
 use dav_resource::{FsError, Op};
 
-/// The call of this name, as the store's trait has it; `entry` is the showing of a member in a listing.
+/// Returns the call with this name, which is that of the method of the store's trait. `entry` is the listing
+/// of one member.
 pub fn op_named(name: &str) -> Option<Op>
     ensures { result ≡ op_named name.now }
 {
@@ -31,7 +32,8 @@ pub fn op_named(name: &str) -> Option<Op>
     }
 }
 
-/// The error of this name, where a store may refuse a call with it: not those that only the tree or the memory gives.
+/// Returns the error with this name, if a store may return it for its own reasons. Errors that only the tree
+/// or a failed allocation causes are not included.
 pub fn refusal_error(name: &str) -> Option<FsError>
     ensures value { result ≡ refusal_error name.now }
     ensures own { IfSome result IsOwn }
@@ -49,7 +51,7 @@ pub fn refusal_error(name: &str) -> Option<FsError>
     }
 }
 
-/// The name of a call, by which it is read.
+/// Returns the name of a call. `op_named` reads it back.
 pub fn op_name(op: Op) -> &'static str
     ensures { op_named result.now ≡ Some op }
 {
@@ -74,7 +76,8 @@ pub fn op_name(op: Op) -> &'static str
     }
 }
 
-/// The name of an error, by which it is read where a store may refuse a call with it.
+/// Returns the name of an error. `refusal_error` reads it back if a store may return the error for its own
+/// reasons.
 pub fn error_name(error: FsError) -> &'static str
     ensures { IsOwn error → refusal_error result.now ≡ Some error }
 {

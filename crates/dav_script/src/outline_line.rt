@@ -1,4 +1,4 @@
-//! One line of an outline: its level, and the text or the element that it shows.
+//! One line of an outline: its level, and its text or element.
 ghost use Rattle.std.specs.Prelude.{◌≡◌, ◌≢◌, ◌⊎◌, ℕ, List, ◌<◌, ◌≤◌, Some, length, option_map, option_and_then, IfOk, IfErr, IsTrue, IsFalse, MatchResult, [], drop, string_bytes, None};
 ghost use Rattle.std.specs.List.{position_or_len, before_first, list_all};
 ghost use Rattle.dav_resource.specs.Tree.{prefixed_element};
@@ -10,7 +10,7 @@ use crate::faults::{Fault, LineError};
 use dav_resource::{Element, Text, XMLNode};
 use std::alloc::Global;
 
-/// What a line shows: its level, and a text, or an element with nothing in it yet. The only fault is `BadOutline`.
+/// Reads a line: its level, and a text or an element without children. The only fault is `BadOutline`.
 pub fn read_node(alloc: Global, line: &str) -> Result<(usize, XMLNode), LineError>
     ensures level { IfOk result (λ found. level_of line.now ≡ Some found.0) }
     ensures err { IfErr result IsOutlineError }
@@ -23,7 +23,7 @@ pub fn read_node(alloc: Global, line: &str) -> Result<(usize, XMLNode), LineErro
     Ok((level, node))
 }
 
-/// How far in a line stands, two spaces for each level, and what stands behind them.
+/// Returns a line's level, with two spaces of indentation for each, and the rest of the line.
 fn split_level(line: &str) -> Option<(usize, &str)>
     ensures { option_map (λ found. (found.0, found.1.now)) result ≡ split_level line.now }
 {
@@ -36,7 +36,7 @@ fn split_level(line: &str) -> Option<(usize, &str)>
     }
 }
 
-/// How many spaces stand in front.
+/// Returns the number of spaces at the start.
 fn spaces(line: &[u8]) -> usize
     ensures value { result ≡ spaces line.now }
     ensures fits { result ≤ length line.now }
@@ -44,7 +44,7 @@ fn spaces(line: &[u8]) -> usize
     line.iter().take_while(|byte| **byte == b' ').count()
 }
 
-/// A text in quotes with nothing behind it, from behind its first quote.
+/// Reads a quoted text from after its opening quote. Nothing may follow the closing quote.
 fn read_text(alloc: Global, text: &str) -> Result<Text, LineError>
     ensures { MatchResult result
         (λ value. quoted text.now ≡ Some (value, []))
@@ -57,7 +57,7 @@ fn read_text(alloc: Global, text: &str) -> Result<Text, LineError>
     Ok(Text::from_string(value))
 }
 
-/// An element's own line: its name, its namespace where it has one, and its attributes.
+/// Reads an element's own line: its name, its namespace, if it has one, and its attributes.
 fn read_element(alloc: Global, text: &str) -> Result<Element, LineError>
     ensures { IfErr result IsOutlineError }
 {
@@ -73,7 +73,7 @@ fn read_element(alloc: Global, text: &str) -> Result<Element, LineError>
     Ok(element)
 }
 
-/// What stands before a text's first space, and the rest of it from there on.
+/// Splits a text before its first space.
 fn split_word(text: &str) -> (&str, &str)
     ensures word { result.0.now ≡ before_first is_space text.now }
     ensures rest { result.1.now ≡ drop (position_or_len is_space text.now) text.now }
@@ -81,7 +81,7 @@ fn split_word(text: &str) -> (&str, &str)
     text.split_at(word_len(text.as_bytes()))
 }
 
-/// How many bytes stand before the first space.
+/// Returns the number of bytes before the first space.
 fn word_len(text: &[u8]) -> usize
     ensures value { result ≡ position_or_len is_space text.now }
     ensures fits { result ≤ length text.now }
@@ -89,7 +89,7 @@ fn word_len(text: &[u8]) -> usize
     text.iter().take_while(|byte| **byte != b' ').count()
 }
 
-/// An element of this name, `prefix:name` or `name`, with nothing else.
+/// Returns an element with this name, `prefix:name` or `name`, and nothing else.
 fn read_name(alloc: Global, text: &str) -> Result<Element, LineError>
     ensures { MatchResult result
         (λ element. (element ≡ prefixed_element text.now) × IsTrue (is_qualified_name text.now))
@@ -101,7 +101,7 @@ fn read_name(alloc: Global, text: &str) -> Result<Element, LineError>
     Ok(Element::new2(alloc, text)?)
 }
 
-/// Whether a text is a name, or two of them parted by its first `:`.
+/// Returns whether a text is a name, or two names separated by its first `:`.
 fn is_qualified_name(text: &str) -> bool
     ensures { result ≡ is_qualified_name text.now }
 {
@@ -111,28 +111,30 @@ fn is_qualified_name(text: &str) -> bool
     }
 }
 
-/// Whether a text may stand as a name: it isn't empty, and each of its bytes may stand in one.
+/// Returns whether a text is a valid name: it is not empty, and each of its bytes is allowed in a name.
 pub fn is_name(text: &str) -> bool
     ensures { result ≡ is_name text.now }
 {
     !text.is_empty() && has_name_bytes_alone(text.as_bytes())
 }
 
-/// Whether each byte may stand in a name.
+/// Returns whether each byte is allowed in a name.
 fn has_name_bytes_alone(text: &[u8]) -> bool
     ensures { result ≡ list_all is_name_byte text.now }
 {
     text.iter().all(|byte| is_name_byte(*byte))
 }
 
-/// Whether a byte may stand in a name: all but spaces, control characters, and what ends names or begins values.
+/// Returns whether a byte is allowed in a name: all except 0x00 to 0x20 (the space and the control characters
+/// before it) and the bytes that end names or begin values.
 fn is_name_byte(byte: u8) -> bool
     ensures { result ≡ is_name_byte byte }
 {
     !matches!(byte, 0..=b' ' | b'"' | b'=' | b'\\' | b'{' | b'}')
 }
 
-/// The namespace of ` {namespace}` where a text begins so, up to the first `}`, and what stands behind it.
+/// Returns the namespace of ` {namespace}`, up to the first `}`, if a text begins with it, and the rest of
+/// the text. Fails if the `}` is missing.
 fn split_namespace(text: &str) -> Option<(Option<&str>, &str)>
     ensures { option_map (λ found. (option_map (λ namespace. namespace.now) found.0, found.1.now)) result ≡ split_namespace text.now }
 {
@@ -143,14 +145,15 @@ fn split_namespace(text: &str) -> Option<(Option<&str>, &str)>
     Some((Some(namespace), rest))
 }
 
-/// What stands before a text's first `}`, and what stands behind it.
+/// Splits a text at its first `}`.
 fn cut_at_brace(text: &str) -> Option<(&str, &str)>
     ensures { option_map (λ parts. (parts.0.now, parts.1.now)) result ≡ cut_at 125 text.now }
 {
     text.split_once('}')
 }
 
-/// Reads ` key="value"` into its element, which has no attribute of this key yet, and gives the rest.
+/// Reads an attribute ` key="value"` into its element, and returns the rest of the text. The element must not
+/// have an attribute with this key yet.
 fn read_attribute<'a>(
     alloc: Global,
     element: &mut Element,
@@ -172,7 +175,7 @@ fn read_attribute<'a>(
     Ok(rest)
 }
 
-/// The text that quotes hold, from behind the first of them, and what stands behind the last.
+/// Reads a quoted text from after its opening quote, and returns it and what follows the closing quote.
 fn read_quoted(alloc: Global, text: &str) -> Result<(String, &str), LineError>
     ensures found { MatchResult result
         (λ found. quoted text.now ≡ Some (string_bytes found.0, found.1.now))
@@ -191,7 +194,7 @@ fn read_quoted(alloc: Global, text: &str) -> Result<(String, &str), LineError>
     Err(Fault::BadOutline.into())
 }
 
-/// The letter that a `\` and this letter stand for.
+/// Returns the character that a `\` and this character stand for.
 fn escaped_letter(letter: Option<char>) -> Option<char>
     ensures { result ≡ option_and_then escaped_letter letter }
 {

@@ -1,4 +1,4 @@
-//! An outline, read line by line as the tree that it shows.
+//! Reads an outline line by line, and returns its tree.
 ghost use Rattle.std.specs.Prelude.{◌≡◌, ◌⊎◌, ◌<◌, ◌≤◌, length, max, min, [], Some, Err, IfErr, IsSomeAnd, OnOk};
 ghost use Rattle.dav_script.specs.Errors.{IsOutlineError};
 ghost use Rattle.dav_script.specs.Outline.{HasPlace, level_of};
@@ -9,23 +9,23 @@ use crate::outline_line::read_node;
 use dav_resource::{Element, XMLNode};
 use std::alloc::{AllocError, Global};
 
-/// How many levels an outline has at most, that of its root with them. What copies, prints or drops a tree goes down it
-/// by recursion, so that each level takes stack.
+/// The maximum number of levels of an outline, including the root's. Copying, printing and dropping a tree
+/// are recursive, so each level uses stack.
 pub const OUTLINE_LEVELS: usize = 256;
 
-/// An outline of which some lines were read.
+/// An outline of which some lines have been read.
 #[derive(Debug, Drop)]
 pub struct OutlineReader {
-    /// The number of the line that the outline follows.
+    /// The number of the line before the outline.
     line: u64,
-    /// The elements that a further line may stand in, each at its level. Each of them is put into the one before it
-    /// once a line shows that no more stands in it.
+    /// The open elements, to which a further line may belong, each at its level. An element is moved into the
+    /// one before it once a line shows that it is complete.
     unclosed: Vec<Element>,
     ghost bounded: { length unclosed.items ≤ OUTLINE_LEVELS },
 }
 
 impl OutlineReader {
-    /// The outline that follows the line of this number, before its first line.
+    /// Creates a reader of the outline that follows the line with this number.
     pub fn new(alloc: Global, line: u64) -> OutlineReader
         ensures line { result.line ≡ line }
         ensures empty { result.unclosed.items ≡ [] }
@@ -36,14 +36,15 @@ impl OutlineReader {
         }
     }
 
-    /// Reads one line: the root, or a text or an element two spaces further in than the element that it stands in.
-    /// The faults are `BadOutline`, and `OutlineTooDeep` of a line that would fit but for its level. After an error
-    /// parts of the tree may be lost.
+    /// Reads one line: the root, or a text or an element indented two spaces further than its parent. The
+    /// faults are `BadOutline`, and `OutlineTooDeep` for a line that would fit except for its level. After an
+    /// error parts of the tree may be lost.
     pub fn read_line(&mut self, line: &str) -> Result<(), LineError>
         ensures err { IfErr result (λ e. IsOutlineError e ⊎ (e ≡ LineError.Fault Fault.OutlineTooDeep)) }
         ensures line { self.new.line ≡ self.old.line }
 
-        // A line of a level that no outline has is not read. It is too deep where it would stand in the deepest element.
+        // A line is read only if its level is below `OUTLINE_LEVELS`. The fault `OutlineTooDeep` means that
+        // the line is at exactly that level, and that the deepest element possible is open.
         ensures read { OnOk result (IsSomeAnd (level_of line.now) (λ level. level < OUTLINE_LEVELS)) }
         ensures deep { result ≡ Err (LineError.Fault Fault.OutlineTooDeep) → level_of line.now ≡ Some OUTLINE_LEVELS }
         ensures full { result ≡ Err (LineError.Fault Fault.OutlineTooDeep) → length self.old.unclosed.items ≡ OUTLINE_LEVELS }
@@ -61,7 +62,7 @@ impl OutlineReader {
         Ok(())
     }
 
-    /// Puts each open element from this level on into the one before it. The root stays open.
+    /// Moves each open element from this level on into the one before it. The root stays open.
     fn close(&mut self, level: usize) -> Result<(), AllocError>
         ensures line { self.new.line ≡ self.old.line }
         ensures closed { OnOk result (length self.new.unclosed.items ≡ min (length self.old.unclosed.items) (max level 1)) }
@@ -77,7 +78,8 @@ impl OutlineReader {
         Ok(())
     }
 
-    /// The tree that the lines show. Without a line the fault is `BadOutline`, at the line that the outline follows.
+    /// Returns the tree of the lines read. If there were none, the fault is `BadOutline`, at the line before
+    /// the outline.
     pub fn finish(mut self) -> Result<Element, ScriptError>
         ensures { IfErr result (λ e. (e ≡ ScriptError.Memory) ⊎ ((e ≡ ScriptError.Fault self.line Fault.BadOutline) × (self.unclosed.items ≡ []))) }
     {
@@ -89,7 +91,7 @@ impl OutlineReader {
     }
 }
 
-/// Whether a line of this level can be read behind lines that leave so many elements unclosed.
+/// Checks that a line at this level can follow lines that leave this number of elements open.
 fn check_level(level: usize, unclosed: usize) -> Result<(), Fault>
     ensures read { OnOk result (HasPlace level unclosed × (level < OUTLINE_LEVELS)) }
     ensures bad { result ≡ Err Fault.BadOutline → ¬ (HasPlace level unclosed) }

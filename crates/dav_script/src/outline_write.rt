@@ -1,16 +1,16 @@
-//! The outline of an element tree: a line for each element and each text, two spaces in for each level.
+//! Writes the outline of an element tree, with a line for each element and each text.
 use crate::quote::push_quoted;
 use dav_resource::{Element, XMLNode};
 use std::alloc::{AllocError, Global};
 
-/// The outline of a tree, each line with its line feed.
+/// Returns the outline of a tree. Each level is indented by two spaces, and each line ends with a line feed.
 pub fn outline(alloc: Global, tree: &Element) -> Result<String, AllocError> {
     let mut lines = String::new(alloc);
     push_element(tree, 0, &mut lines)?;
     Ok(lines)
 }
 
-/// Adds the lines of an element at a level.
+/// Appends the lines of an element at a level.
 fn push_element(element: &Element, level: usize, lines: &mut String) -> Result<(), AllocError> {
     indent(lines, level)?;
     push_tag(element, lines)?;
@@ -28,7 +28,7 @@ fn push_element(element: &Element, level: usize, lines: &mut String) -> Result<(
     Ok(())
 }
 
-/// Adds the spaces of a level.
+/// Appends the spaces of a level.
 fn indent(lines: &mut String, level: usize) -> Result<(), AllocError> {
     for _ in 0..level {
         lines.push_str("  ")?;
@@ -36,7 +36,7 @@ fn indent(lines: &mut String, level: usize) -> Result<(), AllocError> {
     Ok(())
 }
 
-/// Adds an element's own line: its name, its namespace and its attributes by their names.
+/// Appends an element's own line: its name, its namespace, and its attributes in the order of their names.
 fn push_tag(element: &Element, lines: &mut String) -> Result<(), AllocError> {
     if let Some(prefix) = &element.prefix {
         lines.push_str(prefix.as_str())?;

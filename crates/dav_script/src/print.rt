@@ -1,4 +1,4 @@
-//! What is printed of a reply, and of a store and a lock system at the end.
+//! Prints a response, and what the store and the lock system hold at the end.
 use crate::blocks::Block;
 use crate::outline_write::outline;
 use crate::quote::push_quoted_bytes;
@@ -13,15 +13,15 @@ use http_header::{HeaderMap, HeaderName, HeaderValue};
 use std::alloc::{AllocError, Global};
 use std::io::Write;
 
-/// The line that is printed of a block: its request line, as it is written.
+/// Returns the line that is printed for a block: its request line, as written in the script.
 pub fn request_line(alloc: Global, block: &Block) -> Result<String, AllocError> {
     let method = block.method.as_str();
     let path = block.path.as_str();
     format!(in alloc; "> {method} {path}")
 }
 
-/// Prints a reply: its status, its headers by their names, and the outline of its tree. Of an error its status
-/// alone.
+/// Prints a response: its status, its headers in the order of their names, and the outline of its tree. Of an
+/// error only the status is printed.
 pub fn print_reply<O: Write>(
     alloc: Global,
     output: &mut O,
@@ -40,7 +40,7 @@ pub fn print_reply<O: Write>(
     Ok(())
 }
 
-/// Prints a status with its phrase, or alone where it has none.
+/// Prints a status with its reason phrase, if it has one.
 fn print_status<O: Write>(output: &mut O, status: StatusCode) -> Result<(), Stopped> {
     let code = status.as_u16();
     match status.canonical_reason() {
@@ -50,7 +50,7 @@ fn print_status<O: Write>(output: &mut O, status: StatusCode) -> Result<(), Stop
     Ok(())
 }
 
-/// Prints the headers by their names, the values of one name in their order.
+/// Prints the headers in the order of their names, and the values of one name in their own order.
 fn print_headers<O: Write>(
     alloc: Global,
     output: &mut O,
@@ -67,7 +67,8 @@ fn print_headers<O: Write>(
     Ok(())
 }
 
-/// Prints what the store holds, by the texts of the paths, and then the locks, by their tokens.
+/// Prints the resources, in the order of their paths as printed, and then the locks, in the order of their
+/// tokens.
 pub fn print_end<O: Write>(
     alloc: Global,
     output: &mut O,
@@ -84,7 +85,7 @@ pub fn print_end<O: Write>(
     print_locks(alloc, output, locks)
 }
 
-/// Prints a line for each lock, by their tokens.
+/// Prints a line for each lock, in the order of their tokens.
 fn print_locks<O: Write>(alloc: Global, output: &mut O, locks: &MemLs) -> Result<(), Stopped> {
     output.write_all(b"locks\n")?;
     let mut locks: Vec<&DavLock> = locks.locks().collect(alloc)?;
@@ -96,7 +97,8 @@ fn print_locks<O: Write>(alloc: Global, output: &mut O, locks: &MemLs) -> Result
     Ok(())
 }
 
-/// What is printed of a lock: its token, whether it is exclusive or shared, its depth, its path and its timeout.
+/// Returns the line that is printed for a lock: its token, whether it is exclusive or shared, its depth, its
+/// path and its timeout.
 pub fn lock_text(alloc: Global, lock: &DavLock) -> Result<String, AllocError> {
     let token = lock.token.as_str();
     let scope = if lock.shared { "shared" } else { "exclusive" };
@@ -106,7 +108,8 @@ pub fn lock_text(alloc: Global, lock: &DavLock) -> Result<String, AllocError> {
     format!(in alloc; "{token} {scope} {depth} {path} {timeout}")
 }
 
-/// The text of each resource's path, and the rest of its lines: a file's bytes, and the names of its properties.
+/// Returns each resource's path as printed, and the rest of its lines: a file's bytes, and the names of the
+/// properties.
 fn resource_lines(alloc: Global, store: &MemFs) -> Result<Vec<(String, String)>, Stopped> {
     let mut lines = Vec::new(alloc);
     for (path, bytes, properties) in store.dump()? {
@@ -124,7 +127,7 @@ fn resource_lines(alloc: Global, store: &MemFs) -> Result<Vec<(String, String)>,
     Ok(lines)
 }
 
-/// Adds the line of a property: its namespace and its name.
+/// Appends the line of a property: its namespace and its name.
 fn push_property(lines: &mut String, property: &DavProp) -> Result<(), AllocError> {
     lines.push_str("  {")?;
     if let Some(namespace) = &property.namespace {

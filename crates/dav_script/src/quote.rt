@@ -1,7 +1,7 @@
-//! Texts and bytes in quotes.
+//! Quoted strings and bytes.
 use std::alloc::AllocError;
 
-/// Adds a text in quotes. A quote, a `\` and a line feed are escaped.
+/// Appends a quoted string. A quote, a `\` and a line feed are escaped.
 pub fn push_quoted(line: &mut String, text: &str) -> Result<(), AllocError> {
     line.push('"')?;
     for letter in text.chars() {
@@ -15,7 +15,8 @@ pub fn push_quoted(line: &mut String, text: &str) -> Result<(), AllocError> {
     line.push('"')
 }
 
-/// Adds bytes in quotes. A quote, a `\`, a line feed and all outside visible ASCII and the space are escaped.
+/// Appends quoted bytes. A quote, a `\`, a line feed and every byte outside visible ASCII, except the space,
+/// are escaped.
 pub fn push_quoted_bytes(line: &mut String, bytes: &[u8]) -> Result<(), AllocError> {
     line.push('"')?;
     for byte in bytes {

@@ -1,16 +1,16 @@
-//! What a script plans to be refused.
+//! The refusals that a script plans.
 ghost use Rattle.dav_store.specs.Calls.{IsOwn};
 
 use dav_resource::{DavPath, FsError, Op};
 
-/// A call that a script wants refused, with an error that a store may refuse a call with.
+/// A call that the store is to refuse, with an error that a store may return for its own reasons.
 #[derive(Debug, Drop)]
 pub struct PlannedRefusal {
-    /// Which call; `Op::Entry` is the showing of a member in a listing.
+    /// The kind of call. `Op::Entry` is the listing of one member.
     pub op: Op,
-    /// The call's first path, of which the key counts.
+    /// The call's first path. Only its key is compared.
     pub path: DavPath,
-    /// What it is refused with.
+    /// The error that the store returns.
     pub error: FsError,
     ghost own: { IsOwn error },
 }

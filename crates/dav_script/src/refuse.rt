@@ -1,4 +1,4 @@
-//! A refusal that a script plans: `OP PATH ERROR`.
+//! Reads a planned refusal: `OP PATH ERROR`.
 ghost use Rattle.std.specs.Prelude.{◌≡◌, ◌⊎◌, [], ◌∷◌, ◌++◌, Some, None, map, option_map, IfErr, OnOk, OnErr, MatchResult};
 ghost use Rattle.dav_script.specs.Refusals.{refused_path, refusal_in, refusal_of_words, refusal_of};
 
@@ -8,8 +8,8 @@ use crate::refusal::PlannedRefusal;
 use dav_resource::{DavError, DavPath};
 use std::alloc::Global;
 
-/// Adds the refusal that a text gives, `OP PATH ERROR`, behind those of the lines before. After an error they are
-/// as they were.
+/// Reads a refusal, `OP PATH ERROR`, and appends it to those of earlier lines. After an error the list is
+/// unchanged.
 pub fn add_refusal(refusals: &mut Vec<PlannedRefusal>, text: &str) -> Result<(), LineError>
     ensures ok { OnOk result (option_map (λ refusal. map refusal_in refusals.old.items ++ refusal ∷ []) (refusal_of text.now) ≡ Some (map refusal_in refusals.new.items)) }
     ensures err { IfErr result (λ e. (e ≡ LineError.Memory) ⊎ ((e ≡ LineError.Fault Fault.BadValue) × (refusal_of text.now ≡ None))) }
@@ -20,7 +20,7 @@ pub fn add_refusal(refusals: &mut Vec<PlannedRefusal>, text: &str) -> Result<(),
     Ok(())
 }
 
-/// The refusal that a text gives: three words, parted by single spaces.
+/// Reads a refusal: three words separated by single spaces.
 pub fn read_refusal(alloc: Global, text: &str) -> Result<PlannedRefusal, LineError>
     ensures { MatchResult result
         (λ refusal. refusal_of text.now ≡ Some (refusal_in refusal))
@@ -35,7 +35,7 @@ pub fn read_refusal(alloc: Global, text: &str) -> Result<PlannedRefusal, LineErr
     read_words(alloc, op, path, error)
 }
 
-/// The refusal that three words give.
+/// Reads a refusal from its three words.
 fn read_words(alloc: Global, op: &str, path: &str, error: &str) -> Result<PlannedRefusal, LineError>
     ensures { MatchResult result
         (λ refusal. refusal_of_words op.now path.now error.now ≡ Some (refusal_in refusal))
@@ -51,7 +51,7 @@ fn read_words(alloc: Global, op: &str, path: &str, error: &str) -> Result<Planne
     Ok(PlannedRefusal { op, path, error })
 }
 
-/// The path that a word spells, without a prefix.
+/// Parses a word as a path without a prefix.
 pub fn read_path(alloc: Global, word: &str) -> Result<DavPath, LineError>
     ensures { MatchResult result
         (λ path. refused_path word.now ≡ Some path)

@@ -1,4 +1,4 @@
-//! The request that a block makes.
+//! The request of a block.
 ghost use Rattle.std.specs.Prelude.{◌≡◌, IfOk, string_bytes};
 ghost use Rattle.dav_script.specs.Requests.{chosen_token, numbered_token, request_of};
 
@@ -6,7 +6,7 @@ use crate::blocks::Block;
 use dav_resource::{DavPath, DavRequest, LockToken};
 use std::alloc::{AllocError, Global};
 
-/// The request of the block of this number, from 1, at this moment.
+/// Returns the request of the block with this number, from 1, at this time.
 pub fn request(
     alloc: Global,
     number: u64,
@@ -27,7 +27,8 @@ pub fn request(
     })
 }
 
-/// The token of a lock that a block's request makes: the block's own, or one by the block's number.
+/// Returns the token for a lock that a block's request creates: the block's own, or one made from the block's
+/// number.
 fn chosen_token(
     alloc: Global,
     number: u64,
@@ -41,7 +42,8 @@ fn chosen_token(
     }
 }
 
-/// The token of a lock that the request of the block of this number makes, where the block sets none.
+/// Returns the token for a lock that the request of the block with this number creates, if the block sets
+/// none.
 fn numbered_token(alloc: Global, number: u64) -> Result<LockToken, AllocError>
     ensures { IfOk result (λ token. token ≡ numbered_token number) }
 {

@@ -1,4 +1,4 @@
-//! A program that serves a script: the script in, what is printed of it out.
+//! Runs a program that serves a script from its input and prints to its output.
 ghost use Rattle.std.specs.Prelude.{◌≡◌, ◌⊎◌, ◌<◌, length, IfErr, IfOk, IfSome, IsErr, IsErrOf, IsOk, OnOk};
 ghost use Rattle.std.specs.Io.KnownBytes.{Appends, IsAtEnd};
 ghost use Rattle.dav_resource.specs.PathText.{read_prefix};
@@ -13,12 +13,12 @@ use dav_resource::{DavError, DavPath};
 use std::alloc::Global;
 use std::io::{Read, Write};
 
-/// What a program makes of a script.
+/// A script, as a program reads and serves it.
 pub trait Script: Drop {
-    /// Reads a script, whole. The error is the fault of the first line that has one, or `Memory`.
+    /// Reads a whole script. The error is the fault of the first faulty line, or `Memory`.
     fn read(alloc: Global, text: &[u8]) -> Result<Self, ScriptError>;
 
-    /// Serves it in order, and prints what is answered.
+    /// Serves the script in order, and prints the responses.
     fn serve<O: Write>(
         self,
         alloc: Global,
@@ -27,10 +27,12 @@ pub trait Script: Drop {
     ) -> Result<(), Stopped>;
 }
 
-/// Runs the program of this name on its arguments without its name, and gives its status: 0 where the whole script
-/// was served, 2 where the arguments aren't one prefix or none or a line of the script is at fault, 3 where reading,
-/// writing or memory failed. With 2 nothing was served or printed, and one line of `errors` says why; with 0 nothing
-/// was said in `errors`.
+/// Runs the program with this name on its arguments (without the name), and returns its exit status:
+///
+/// - 0: the whole script was served, and nothing was written to `errors`.
+/// - 2: the arguments are not at most one valid prefix, or a line of the script is faulty. Nothing was served
+///   or printed, and one line in `errors` says why.
+/// - 3: reading or writing failed, or memory ran out.
 pub fn run_script<S: Script, I: Read, O: Write, E: Write>(
     alloc: Global,
     program: &str,
@@ -41,17 +43,18 @@ pub fn run_script<S: Script, I: Read, O: Write, E: Write>(
 ) -> u8
     ensures status { (result ≡ 0) ⊎ (result ≡ 2) ⊎ (result ≡ 3) }
 
-    // More than one argument: nothing is read, and the usage is said.
+    // With more than one argument nothing is read. If the status is then 2, the usage was written to
+    // `errors`.
     ensures unread { 1 < length arguments.now → input.new ≡ input.old }
     ensures usage { 1 < length arguments.now → result ≡ 2
         → Appends (E.contents errors.old) (E.contents errors.new) (trouble_line program.now Trouble.Usage) }
 
-    // With 0 the arguments were usable, the script was read to its end, and nothing was said.
+    // With 0 the arguments were usable, the script was read to its end, and nothing was written to `errors`.
     ensures arguments { result ≡ 0 → AreUsable (texts arguments.now) }
     ensures whole { result ≡ 0 → IsAtEnd (I.remaining input.new) }
     ensures served { result ≡ 0 → errors.new ≡ errors.old }
 
-    // With 2 nothing was printed, and what is at fault was said.
+    // With 2 nothing was printed, and what is at fault was written to `errors`.
     ensures refused { result ≡ 2 → output.new ≡ output.old }
     ensures said { result ≡ 2 → SaysFault program.now (texts arguments.now) (E.contents errors.old) (E.contents errors.new) }
 {
@@ -65,7 +68,7 @@ pub fn run_script<S: Script, I: Read, O: Write, E: Write>(
     }
 }
 
-/// The prefix, and then the whole script.
+/// Checks the prefix, then reads the whole script.
 fn read_all<'a, S: Script, I: Read>(
     alloc: Global,
     arguments: &'a [String],
@@ -86,20 +89,20 @@ fn read_all<'a, S: Script, I: Read>(
     Ok((prefix, S::read(alloc, script.as_slice())?))
 }
 
-/// Whether a prefix can be read: it is empty, or begins with `/` and has segments as a path has them.
+/// Checks that a prefix can be parsed: it is empty, or it begins with `/` and has valid path segments.
 fn check_prefix(alloc: Global, prefix: &str) -> Result<(), Trouble>
     ensures ok { OnOk result (IsOk (read_prefix prefix.now)) }
     ensures err { IfErr result (λ e. (e ≡ Trouble.Stopped Stopped.Memory) ⊎ ((e ≡ Trouble.Usage) × IsErr (read_prefix prefix.now))) }
 {
     match DavPath::from_str_and_prefix(alloc, "/", prefix) {
-        // Of a prefix that can be read, the root is below it or not.
+        // The prefix was parsed in both cases. `IllegalPath` means only that the root is not below it.
         Ok(_) | Err(DavError::IllegalPath) => Ok(()),
         Err(DavError::Memory) => Err(Stopped::Memory.into()),
         Err(_) => Err(Trouble::Usage),
     }
 }
 
-/// The bytes that are left of the input, all of them.
+/// Reads the rest of the input.
 fn read_input<I: Read>(alloc: Global, input: &mut I) -> Result<Vec<u8>, Stopped>
     ensures bytes { IfOk result (λ script. IfSome (I.remaining input.old) (λ bytes. script.items ≡ bytes)) }
     ensures whole { OnOk result (IsAtEnd (I.remaining input.new)) }
@@ -109,7 +112,7 @@ fn read_input<I: Read>(alloc: Global, input: &mut I) -> Result<Vec<u8>, Stopped>
     Ok(script)
 }
 
-/// Serves a script over a store and a lock system of its own, and prints what is answered and then what both hold.
+/// Serves a script over a new store and lock system, and prints the responses and then what both hold.
 fn serve_all<S: Script, O: Write>(
     alloc: Global,
     prefix: &str,

@@ -1,4 +1,4 @@
-//! The blocks of a script, served.
+//! Serves the blocks of a script.
 use crate::blocks::Block;
 use crate::print::{print_end, print_reply, request_line};
 use crate::refusal::PlannedRefusal;
@@ -15,25 +15,25 @@ use std::alloc::Global;
 use std::io::Write;
 use std::mem;
 
-/// What a run answers to each of its requests.
+/// The results of a run, one for each request.
 type Replies = Vec<DavResult<Response<Body>>>;
 
-/// What the blocks of a script share: one store in memory, one lock system in memory, and the moment.
+/// What the blocks of a script share: an in-memory store, an in-memory lock system, and the current time.
 #[derive(Drop)]
 pub struct Session<'a> {
     prefix: &'a str,
-    /// The store, which refuses what the blocks so far plan.
+    /// The store, which refuses the calls that the blocks so far plan to be refused.
     pub store: Refusing<MemFs>,
     pub locks: MemLs,
-    /// How many blocks came before.
+    /// The number of blocks so far.
     blocks: u64,
-    /// The moment, in whole seconds since 1970.
+    /// The current time, in whole seconds since 1970.
     now: u64,
 }
 
 impl<'a> Session<'a> {
-    /// Before the first block: the store is empty, at moment 0, and refuses nothing, and there is no lock. Requests
-    /// have paths below the prefix. Only memory can be lacking.
+    /// Creates a session before its first block. The store holds only the root, at time 0, and refuses
+    /// nothing. There is no lock. Requests have paths below the prefix. Fails only if memory runs out.
     pub fn new(alloc: Global, prefix: &'a str) -> Result<Session<'a>, Stopped> {
         Ok(Session {
             prefix,
@@ -44,8 +44,8 @@ impl<'a> Session<'a> {
         })
     }
 
-    /// Serves one block, and prints its request line and its reply. A path that can't be read is answered by its
-    /// status alone.
+    /// Serves one block, and prints its request line and its response. If the path cannot be parsed, the
+    /// request is not served, and the error's status is printed.
     pub fn serve<O: Write>(
         &mut self,
         alloc: Global,
@@ -64,9 +64,10 @@ impl<'a> Session<'a> {
         }
     }
 
-    /// Serves blocks by one run of the engine, and prints the request line and the reply of each, with an empty line
-    /// between them. What they refuse is all planned before, and the store's moment is that of the last. Where the run
-    /// is an error, which is want of memory, that is printed alone, and nothing was served.
+    /// Serves blocks in one run of the engine, and prints the request line and the response of each, with an
+    /// empty line between them. All their refusals are planned before the run, and the store's time is that
+    /// of the last block. If the run itself fails, which happens only if memory runs out, only that is
+    /// printed, and nothing was served.
     pub fn serve_at_once<O: Write>(
         &mut self,
         alloc: Global,
@@ -92,8 +93,8 @@ impl<'a> Session<'a> {
         }
     }
 
-    /// Counts a block, goes to its moment and plans what it refuses; and gives its request, or why its path can't be
-    /// read. Only memory can be lacking.
+    /// Counts a block, sets its time and plans its refusals. Returns its request, or the error if its path
+    /// cannot be parsed. Fails only if memory runs out.
     fn begin(&mut self, alloc: Global, mut block: Block) -> Result<DavResult<DavRequest>, Stopped> {
         self.blocks = self.blocks.saturating_add(1);
         if let Some(now) = block.now {
@@ -109,29 +110,29 @@ impl<'a> Session<'a> {
         }
     }
 
-    /// The moment, in whole seconds since 1970.
+    /// Returns the current time, in whole seconds since 1970.
     pub fn now(&self) -> u64 {
         self.now
     }
 
-    /// Sets the moment from now on.
+    /// Sets the current time.
     pub fn set_now(&mut self, now: u64) {
         self.now = now;
         self.store.inner_mut().set_now(now);
     }
 
-    /// Begins anew with another store, which refuses nothing. The moment and the locks stay.
+    /// Replaces the store with another one, which refuses nothing. The time and the locks stay.
     pub fn set_store(&mut self, alloc: Global, mut store: MemFs) {
         store.set_now(self.now);
         self.store = Refusing::new(alloc, store);
     }
 
-    /// Forgets the records of the calls so far: those of the store, and of the one behind it.
+    /// Clears the records of the calls so far, in the store's log and in that of the wrapped store.
     pub fn clear_log(&mut self) {
         GuardedFileSystem::<()>::clear_log(&mut self.store);
     }
 
-    /// Plans a refusal, behind those that are planned and not used. Only memory can be lacking.
+    /// Plans a refusal, after those that are planned and not yet used. Fails only if memory runs out.
     pub fn plan(&mut self, refusal: PlannedRefusal) -> Result<(), Stopped> {
         let PlannedRefusal { op, path, error } = refusal;
         self.store.add(op, path, error)?;
@@ -143,7 +144,7 @@ impl<'a> Session<'a> {
         print_end(alloc, output, self.store.inner_mut(), &self.locks)
     }
 
-    /// Lets an engine serve requests by one run, and gives what that answers. Only memory can be lacking.
+    /// Serves requests in one run of an engine, and returns the run's result. Fails only if memory runs out.
     fn run(
         &mut self,
         alloc: Global,
@@ -154,7 +155,7 @@ impl<'a> Session<'a> {
     }
 }
 
-/// Serves requests by a run of an engine of its own over a store and a lock system.
+/// Serves requests in one run of a new engine over a store and a lock system.
 fn run_requests<'a>(
     store: &'a mut Refusing<MemFs>,
     locks: &'a mut MemLs,
@@ -168,13 +169,13 @@ fn run_requests<'a>(
 /// A block of a run.
 #[derive(Drop)]
 struct Asked {
-    /// Its request line, as it is printed.
+    /// Its request line, as printed.
     line: String,
-    /// Why its path can't be read, where it can't. Then it isn't served.
+    /// The error of its path, if it cannot be parsed. The request is then not served.
     refused: Option<DavError>,
 }
 
-/// Prints replies, one behind the other.
+/// Prints responses, one after the other.
 fn print_replies<O: Write>(
     alloc: Global,
     output: &mut O,
@@ -186,7 +187,7 @@ fn print_replies<O: Write>(
     Ok(())
 }
 
-/// Prints the replies of a run, each behind the request line of its block, with an empty line between them.
+/// Prints the responses of a run, each after the request line of its block, with an empty line between them.
 fn print_asked<O: Write>(
     alloc: Global,
     output: &mut O,

@@ -1,4 +1,4 @@
-//! Why a program ends without having served a script, and with which status.
+//! Why a program ends without having served a script, and its exit status.
 ghost use Rattle.std.specs.Prelude.{◌≡◌, ◌⊎◌, OnOk};
 ghost use Rattle.std.specs.Io.KnownBytes.{Appends};
 ghost use Rattle.dav_script.specs.Status.{status_of, trouble_line};
@@ -16,18 +16,19 @@ pub enum Stopped {
     Memory,
 }
 
-/// Why a script wasn't served.
+/// Why a script was not served.
 #[derive(Clone, Copy, Debug, PartialEq, Eq)]
 pub enum Trouble {
-    /// The arguments aren't one prefix or none.
+    /// The arguments are not at most one valid prefix.
     Usage,
-    /// The number of the script's first line at fault, from 1, and its fault.
+    /// The number of the first faulty line of the script, from 1, and its fault.
     Fault(u64, Fault),
     Stopped(Stopped),
 }
 
-/// Says why the program of this name ends, and gives its status: 2 for what the caller handed in, 3 for what stopped
-/// it, and 3 where it couldn't be said.
+/// Writes why the program with this name ends, and returns its exit status: 2 for a fault in the arguments or
+/// the script, 3 if input, output or an allocation failed. The status is also 3 if the message could not be
+/// written.
 pub fn report<E: Write>(errors: &mut E, program: &str, trouble: Trouble) -> u8
     ensures status { (result ≡ 3) ⊎ (result ≡ status_of trouble) }
     ensures said { result ≡ 2 → Appends (E.contents errors.old) (E.contents errors.new) (trouble_line program.now trouble) }
@@ -41,7 +42,7 @@ pub fn report<E: Write>(errors: &mut E, program: &str, trouble: Trouble) -> u8
     }
 }
 
-/// Writes why the program ends as one line.
+/// Writes why the program ends, as one line.
 fn say<E: Write>(errors: &mut E, program: &str, trouble: Trouble) -> io::Result<()>
     ensures { OnOk result (Appends (E.contents errors.old) (E.contents errors.new) (trouble_line program.now trouble)) }
 {
@@ -50,7 +51,7 @@ fn say<E: Write>(errors: &mut E, program: &str, trouble: Trouble) -> io::Result<
     errors.flush()
 }
 
-/// Why the program of this name ends.
+/// The message that says why the program with this name ends.
 #[derive(Drop)]
 struct Message<'a> {
     program: &'a str,
@@ -134,7 +135,7 @@ impl<T: Drop> From<AllocFailed<T>> for Stopped {
     }
 }
 
-/// A new store, or what it holds, is refused for want of memory alone.
+/// Creating a store, dumping it and planning a refusal fail only if memory runs out.
 impl From<FsError> for Stopped {
     ghost use Rattle.dav_script.specs.declared.trouble.Stopped.TheVariants.{Memory};
 

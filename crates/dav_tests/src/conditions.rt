@@ -1,5 +1,4 @@
-//! Headers by the calls that read and judge them, for what no served request shows: a GET, an If-Range, a checksum, and
-//! how long a shared lock is refreshed.
+//! Tests If-Range, conditional GET, checksums and refreshed timeouts, which no served request shows.
 use crate::fixture::{Field, headers_of, request, text_of};
 use dav_engine::{ETag, IfRange, Meta, get_timeout, http_if_match, ifrange_match};
 use dav_headers::read_checksum;
@@ -15,7 +14,8 @@ fn tag(alloc: Global, weak: bool, name: &str) -> Result<ETag, AllocError> {
     Ok(ETag { weak, tag })
 }
 
-/// Whether an If-Range of a tag holds where another one is there, each given by whether it is weak and its name.
+/// Returns whether an If-Range with one tag holds for another tag. Each is given as whether it is weak, and
+/// its value.
 fn in_range(alloc: Global, asked: (bool, &str), found: (bool, &str)) -> Result<bool, AllocError> {
     let range = IfRange {
         tag: tag(alloc, asked.0, asked.1)?.clone()?,
@@ -38,7 +38,7 @@ fn an_if_range_matches_strongly(rt: HostRuntime) -> Result<(), Fail> {
 
 // ---- If-Match and If-None-Match of a read
 
-/// What is known of a file with the tag "5".
+/// Returns the metadata of a file with the tag "5".
 fn known(alloc: Global) -> Result<Meta, AllocError> {
     Ok(Meta {
         dir: false,
@@ -52,14 +52,14 @@ fn known(alloc: Global) -> Result<Meta, AllocError> {
     })
 }
 
-/// The status by which a request for such a file is refused.
+/// Returns the status that rejects a request for such a file, if any.
 fn verdict(alloc: Global, method: &str, header: Field) -> Result<Option<StatusCode>, Fail> {
     let meta = known(alloc)?.clone()?;
     let request = request(alloc, method, "/g", &[header], "")?;
     Ok(http_if_match(alloc, &request, Some(&meta))?)
 }
 
-/// A method, a header and its value, and the status that refuses such a request.
+/// A method, a header with its value, and the status that rejects such a request.
 type Judged = (&'static str, Field, Option<StatusCode>);
 
 fn expect_verdicts(rt: &impl Abort, alloc: Global, rows: &[Judged]) -> Result<(), Fail> {
@@ -103,7 +103,7 @@ fn a_read_of_what_is_known_is_not_modified(rt: HostRuntime) -> Result<(), Fail> 
 
 // ---- checksums
 
-/// Fields, and the checksum that they tell.
+/// Headers, and the checksum that they give.
 type Told = (&'static [Field], Option<&'static str>);
 
 fn expect_checksums(rt: &impl Abort, alloc: Global, rows: &[Told]) -> Result<(), Fail> {
@@ -129,9 +129,9 @@ fn a_checksum_is_the_first_value_where_it_is_a_text(rt: HostRuntime) -> Result<(
     expect_checksums(&rt, rt.alloc(), rows)
 }
 
-// ---- how long
+// ---- lengths
 
-/// How long a shared lock lasts that a request with this Timeout refreshes.
+/// Returns the timeout that a refresh with this Timeout header sets for a shared lock.
 fn refreshed(alloc: Global, timeout: &'static str) -> Result<Option<u64>, Fail> {
     let request = request(alloc, "LOCK", "/n", &[("Timeout", timeout)], "")?;
     Ok(get_timeout(&request, true, true))

@@ -1,5 +1,5 @@
-//! What no script shows of the engine: handlers called by themselves without a lock system, the connections that are to be
-//! closed, several requests in one run, and blanks at the ends of a header's value.
+//! Tests what no script shows of the engine: handlers called directly without a lock system, the connections
+//! to be closed, several requests in one run, and blanks at the ends of a header's value.
 use crate::fixture::{Field, request, share, status};
 use crate::serve_over;
 use dav_engine::{Body, DavInner, DavRequest, DavResult, GuardedFileSystem};
@@ -12,7 +12,7 @@ use std::test::Fail;
 
 // ---- without a lock system
 
-/// The status of a request that a handler is called with over a store alone.
+/// Returns the status of a request for which a handler is called, over a store and without a lock system.
 fn alone<'a>(alloc: Global, store: &'a mut MemFs, handler: &str, request: &DavRequest) -> u16 {
     let mut engine = DavInner::new(store, None::<&mut MemLs>, String::new(alloc), None, ());
     let reply = match handler {
@@ -26,10 +26,11 @@ fn alone<'a>(alloc: Global, store: &'a mut MemFs, handler: &str, request: &DavRe
     status(&reply)
 }
 
-/// A handler, a request's method, its header If and its body, and the status of such a request for `/f`.
+/// A handler, a request's method, its If header and its body, and the expected status of such a request for
+/// `/f`.
 type Alone = (&'static str, &'static str, &'static str, &'static str, u16);
 
-/// Expects the requests of these rows to have asked the store so many calls.
+/// Expects these statuses, and expects that the requests together make this number of calls on the store.
 fn expect_alone(rt: &impl Abort, alloc: Global, rows: &[Alone], calls: usize) -> Result<(), Fail> {
     let mut store = MemFs::new(alloc)?;
     for &(handler, method, condition, body, want) in rows {
@@ -76,11 +77,11 @@ fn a_handler_serves_any_method_as_its_own(rt: HostRuntime) -> Result<(), Fail> {
 
 // ---- one run
 
-/// A method, a path, headers, the status of such a request with a body of one byte, and whether the connection is to be
-/// closed then.
+/// A method, a path, headers, the expected status of such a request with a body of one byte, and whether the
+/// connection is then to be closed.
 type Asked = (&'static str, &'static str, &'static [Field], u16, bool);
 
-/// The requests of these rows.
+/// Returns the requests of these rows.
 fn requests(alloc: Global, rows: &[Asked]) -> Result<Vec<DavRequest>, Fail> {
     let mut requests = Vec::new(alloc);
     for &(method, path, headers, _, _) in rows {
@@ -89,7 +90,7 @@ fn requests(alloc: Global, rows: &[Asked]) -> Result<Vec<DavRequest>, Fail> {
     Ok(requests)
 }
 
-/// The replies to the requests of these rows in one run over an empty store and the lock `t` of `/l`.
+/// Returns the results of these rows' requests in one run, over an empty store and the lock `t` of `/l`.
 fn replies(alloc: Global, rows: &[Asked]) -> Result<Vec<DavResult<Response<Body>>>, Fail> {
     let (mut locks, _) = share(alloc, "/l")?;
     let mut store = MemFs::new(alloc)?;
@@ -105,7 +106,7 @@ fn closes(reply: &DavResult<Response<Body>>) -> bool {
     }
 }
 
-/// Serves all in one run.
+/// Serves all rows in one run, and expects their statuses.
 fn expect_answers(rt: &impl Abort, alloc: Global, rows: &[Asked]) -> Result<(), Fail> {
     let replies = replies(alloc, rows)?;
     for (reply, (method, path, _, want, wanted)) in replies.iter().zip(rows) {
@@ -139,7 +140,7 @@ fn a_refused_put_closes_the_connection(rt: HostRuntime) -> Result<(), Fail> {
         ("PUT", "/x/y", &[("If-None-Match", "*")], 412, true),
         ("PUT", "/x/y", &[], 409, true),
         ("PUT", "/l", &[], 423, true),
-        // The store refuses.
+        // The store returns an error.
         ("PUT", "/", &[], 403, false),
     ];
     expect_answers(&rt, rt.alloc(), rows)
@@ -148,7 +149,7 @@ fn a_refused_put_closes_the_connection(rt: HostRuntime) -> Result<(), Fail> {
 /// The type of a body that updates a part of a file.
 const UPDATE: Field = ("Content-Type", "application/x-sabredav-partialupdate");
 
-/// The same with blanks round it.
+/// The same with blanks around it.
 const BLANKS: Field = ("Content-Type", " application/x-sabredav-partialupdate\t");
 
 const LENGTH: Field = ("Content-Length", "1");
@@ -172,7 +173,7 @@ fn a_refused_patch_closes_the_connection(rt: HostRuntime) -> Result<(), Fail> {
         ("PATCH", "/a", &[UPDATE, LENGTH, APPEND, OTHER], 412, true),
         ("PATCH", "/x/y", &[UPDATE, LENGTH, APPEND], 409, true),
         ("PATCH", "/l", &[UPDATE, LENGTH, APPEND], 423, true),
-        // The store refuses, and has no memory.
+        // The store returns an error: Forbidden, and then out of memory.
         ("PATCH", "/", &[UPDATE, LENGTH, APPEND], 403, false),
         ("PATCH", "/a", &[UPDATE, LENGTH, FAR], 507, false),
     ];

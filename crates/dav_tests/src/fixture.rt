@@ -1,4 +1,4 @@
-//! What the tests share: paths, texts, locks and requests as a test writes them, and the status of a reply.
+//! What the tests share: paths, texts, locks and requests from strings, and the status of a result.
 use dav_engine::{
     Body, DavLock, DavLockSystem, DavPath, DavRequest, DavResult, Items, LockToken, ReqBody, Text,
 };
@@ -16,7 +16,7 @@ pub fn text_of(alloc: Global, text: &str) -> Result<Text, AllocError> {
     Ok(Text::from_string(String::from_str(alloc, text)?))
 }
 
-/// A lock system with a shared lock `t` of this path and all below it, and that lock.
+/// Returns a lock system with a shared lock `t` of this path and everything below it, and that lock.
 pub fn share(alloc: Global, path: &str) -> Result<(MemLs, DavLock), Fail> {
     let path = path_of(alloc, path)?;
     let mut locks = MemLs::new(alloc);
@@ -24,10 +24,10 @@ pub fn share(alloc: Global, path: &str) -> Result<(MemLs, DavLock), Fail> {
     Ok((locks, lock))
 }
 
-/// A header, which is a name and a value.
+/// A header: a name and a value.
 pub type Field = (&'static str, &'static str);
 
-/// A request with these headers. An empty body is none.
+/// Returns a request with these headers. An empty body means no body.
 pub fn request(
     alloc: Global,
     method: &str,
@@ -68,7 +68,7 @@ fn body_of(alloc: Global, text: &str) -> Result<ReqBody, AllocError> {
     Ok(ReqBody::Bytes(Items::from_vec(bytes)))
 }
 
-/// The status of a reply or of an error.
+/// Returns the status of a response or of an error.
 pub fn status(reply: &DavResult<Response<Body>>) -> u16 {
     match reply {
         Ok(reply) => reply.status().as_u16(),

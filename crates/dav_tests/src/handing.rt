@@ -1,5 +1,5 @@
-//! What a store that refuses hands on to the store behind it: also what no contract reads of a call, as a path's prefix
-//! and its last slash.
+//! Tests what a refusing store passes on to the wrapped store, including what no contract says about a call,
+//! such as a path's prefix and trailing slash.
 ghost use Rattle.std.specs.Prelude.{◌≡◌, IfOk};
 
 use crate::fixture::text_of;
@@ -15,21 +15,21 @@ use std::alloc::{AllocError, Global};
 use std::process::Abort;
 use std::test::Fail;
 
-/// A store that refuses, before one that notes, before one in memory.
+/// A refusing store around a noting store around an in-memory store.
 type Store = Refusing<Noting<MemFs>>;
 
-/// One that is to refuse nothing.
+/// Returns a store that refuses nothing yet.
 fn new_store(alloc: Global) -> FsResult<Store> {
     let behind = Noting::new(alloc, MemFs::new(alloc)?);
     Ok(Refusing::new(alloc, behind))
 }
 
-/// A path below the prefix `/dav`.
+/// Returns a path below the prefix `/dav`.
 fn path_below(alloc: Global, text: &str) -> DavResult<DavPath> {
     DavPath::from_str_and_prefix(alloc, text, "/dav")
 }
 
-/// Expects that the store behind has noted these lines.
+/// Expects that the wrapped store has noted these lines.
 fn expect_notes(rt: &impl Abort, store: &mut Store, want: &[&str]) -> Result<(), Fail> {
     let notes = store.inner_mut().notes()?;
     let mut lines = notes.as_str().lines();
@@ -43,7 +43,7 @@ fn expect_notes(rt: &impl Abort, store: &mut Store, want: &[&str]) -> Result<(),
 
 // ---- paths
 
-/// Each call that is handed a path alone, and the one that is handed none.
+/// Makes each call that has a path as its only argument, and `get_quota`, which has none.
 fn call_on_path(store: &mut Store, path: &DavPath) {
     let _ = store.metadata(path, &1);
     let _ = store.read_dir(path, &2);
@@ -86,7 +86,7 @@ fn a_path_is_handed_on_without_slash(rt: HostRuntime) -> Result<(), Fail> {
     expect_notes(&rt, &mut store, &want)
 }
 
-/// Each call that is handed two paths, with them in both orders.
+/// Makes each call that has two paths, with the paths in both orders.
 fn call_on_two(store: &mut Store, first: &DavPath, second: &DavPath) {
     let _ = store.copy(first, second, &1);
     let _ = store.copy(second, first, &2);
@@ -111,7 +111,7 @@ fn two_paths_are_handed_on_in_order(rt: HostRuntime) -> Result<(), Fail> {
 
 // ---- files
 
-/// To write a new file, of which the size and the checksum are known.
+/// Returns the options to write a new file whose size and checksum are known.
 fn writing(alloc: Global) -> Result<OpenOptions, AllocError> {
     Ok(OpenOptions {
         write: true,
@@ -124,7 +124,7 @@ fn writing(alloc: Global) -> Result<OpenOptions, AllocError> {
     })
 }
 
-/// To empty a file and write at its end.
+/// Returns the options to truncate a file and write at its end.
 fn appending() -> OpenOptions {
     OpenOptions {
         write: false,
@@ -137,7 +137,7 @@ fn appending() -> OpenOptions {
     }
 }
 
-/// Opens a file both ways.
+/// Opens a file with both options.
 fn call_open(alloc: Global, store: &mut Store, path: &DavPath) -> Result<(), AllocError> {
     let _ = store.open(path, &writing(alloc)?, &1);
     let _ = store.open(path, &appending(), &2);
@@ -158,7 +158,7 @@ fn options_are_handed_on_whole(rt: HostRuntime) -> Result<(), Fail> {
     expect_notes(&rt, &mut store, &want)
 }
 
-/// Each call on a file that is open, which writes from the place 2 and then goes to the place 8.
+/// Makes each call on an open file. It writes from offset 2 and then seeks to offset 8.
 fn call_on_file(store: &mut Store, path: DavPath, append: bool) {
     let mut file = DavFile {
         path,
@@ -190,7 +190,7 @@ fn a_file_is_handed_on_with_its_place(rt: HostRuntime) -> Result<(), Fail> {
     expect_notes(&rt, &mut store, &want)
 }
 
-/// The store behind bars each call: no file is there.
+/// The wrapped store bars each call: there is no such file.
 #[test]
 fn a_barred_call_leaves_a_file_at_its_place(rt: HostRuntime) -> Result<(), Fail> {
     let mut store = new_store(rt.alloc())?;
@@ -207,7 +207,7 @@ fn a_barred_call_leaves_a_file_at_its_place(rt: HostRuntime) -> Result<(), Fail>
 
 // ---- properties
 
-/// A property of this name, which is of the namespace `urn:n` under the prefix `N`.
+/// Returns a property with this name, in the namespace `urn:n` with the prefix `N`.
 fn property(
     alloc: Global,
     name: &str,
@@ -223,7 +223,7 @@ fn property(
     })
 }
 
-/// A property that has no prefix and no namespace.
+/// Returns a property without a prefix and a namespace.
 fn bare_property(alloc: Global) -> Result<DavProp, AllocError> {
     Ok(DavProp {
         name: text_of(alloc, "bare")?,
@@ -233,7 +233,7 @@ fn bare_property(alloc: Global) -> Result<DavProp, AllocError> {
     })
 }
 
-/// Each call that is handed properties, of which it sets one.
+/// Makes each call that has properties as arguments, and sets one of them.
 fn call_on_properties(alloc: Global, store: &mut Store, path: &DavPath) -> Result<(), AllocError> {
     let _ = store.get_prop(path, &property(alloc, "p", None)?, &1);
     let _ = store.get_prop(path, &bare_property(alloc)?, &2);
@@ -258,9 +258,9 @@ fn properties_are_handed_on_with_prefixes(rt: HostRuntime) -> Result<(), Fail> {
     expect_notes(&rt, &mut store, &want)
 }
 
-// ---- answers
+// ---- results
 
-/// The names in a listing, in its order.
+/// Returns the names in a listing, in its order.
 fn names(alloc: Global, listing: &[FsResult<DirEntry>]) -> Result<String, AllocError> {
     let mut names = String::new(alloc);
     for shown in listing {
@@ -273,7 +273,7 @@ fn names(alloc: Global, listing: &[FsResult<DirEntry>]) -> Result<String, AllocE
     Ok(names)
 }
 
-/// The members of a directory, as this store lists them.
+/// Returns the members of a directory, as this store lists them.
 fn listed<F: GuardedFileSystem<u64>>(
     alloc: Global,
     store: &mut F,
@@ -283,7 +283,7 @@ fn listed<F: GuardedFileSystem<u64>>(
     Ok(names(alloc, &listing)?)
 }
 
-/// The store in memory lists by names.
+/// The in-memory store lists members by name.
 #[test]
 fn a_listing_keeps_its_order(rt: HostRuntime) -> Result<(), Fail> {
     let alloc = rt.alloc();
@@ -299,7 +299,7 @@ fn a_listing_keeps_its_order(rt: HostRuntime) -> Result<(), Fail> {
     Ok(())
 }
 
-/// The properties of a resource, as this store lists them.
+/// Returns the properties of a resource, as this store lists them.
 fn properties<F: GuardedFileSystem<u64>>(
     alloc: Global,
     store: &mut F,
@@ -313,7 +313,7 @@ fn properties<F: GuardedFileSystem<u64>>(
     Ok(shown)
 }
 
-/// The store in memory lists properties of one namespace by names.
+/// The in-memory store lists the properties of one namespace by name.
 #[test]
 fn properties_keep_their_order(rt: HostRuntime) -> Result<(), Fail> {
     let alloc = rt.alloc();
@@ -333,7 +333,7 @@ fn properties_keep_their_order(rt: HostRuntime) -> Result<(), Fail> {
 
 // ---- refusals
 
-/// The kinds of calls, but for the showing of a member in a listing.
+/// The kinds of calls, except the listing of one member.
 const CALLS: [Op; 16] = [
     Op::Metadata,
     Op::ReadDir,
@@ -363,7 +363,7 @@ fn refuse_all(store: &mut Store, path: &DavPath) -> FsResult<()> {
     Ok(())
 }
 
-/// Calls on this path, at least one of each kind and at most four.
+/// Makes calls on this path, at least one of each kind and at most four.
 fn call_all(alloc: Global, store: &mut Store, path: &DavPath) -> FsResult<()> {
     call_on_path(store, path);
     call_on_two(store, path, path);

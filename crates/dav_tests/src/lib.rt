@@ -1,4 +1,4 @@
-//! Tests that cross crates: the engine over a store and a lock system in memory.
+//! Tests across crates: the engine over an in-memory store and lock system.
 #![tactic(auto)]
 
 ghost use Rattle.std.specs.Prelude.{◌≡◌, map, IfOk, OnErr};
@@ -10,8 +10,9 @@ use dav_engine::{Body, DavInner, DavLockSystem, DavRequest, DavResult, GuardedFi
 use http::Response;
 use std::alloc::Global;
 
-/// Serves the requests over a store and a lock system that are lent for it, and hands both back: the caller
-/// knows what they are, though the engine is gone. An `Err` has left them as they were.
+/// Serves the requests over a borrowed store and a borrowed lock system, and returns both. The contract says
+/// that they are the ones passed in, although the engine no longer exists. After an `Err` what contracts see
+/// of both is unchanged.
 pub fn serve_over<'a, F: GuardedFileSystem<()>, L: DavLockSystem>(
     alloc: Global,
     store: &'a mut F,

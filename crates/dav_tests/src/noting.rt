@@ -1,4 +1,4 @@
-//! A store that notes what it is handed.
+//! A store that notes its calls.
 ghost use Rattle.std.specs.Prelude.{◌≡◌};
 
 use dav_resource::{
@@ -8,10 +8,11 @@ use dav_store::GuardedFileSystem;
 use http::StatusCode;
 use std::alloc::{AllocError, Global};
 
-/// A store that stands before another one, to which it hands each call on as it came. First it notes the call with all
-/// that it was handed; the credentials are a number. A call for whose note memory is lacking isn't handed on.
+/// A store around another store. It notes each call with all arguments, and then passes it on unchanged. The
+/// credentials are a number. If memory runs out for the note, the call is not passed on. `have_props`,
+/// `records` and `clear_log` are passed on without a note.
 ///
-/// A path is noted with its prefix and without, and a file by its path and its place.
+/// A path is noted with its prefix and without it, a file by its path and its offset.
 #[derive(Debug, Drop)]
 pub struct Noting<F> {
     inner: F,
@@ -19,7 +20,7 @@ pub struct Noting<F> {
 }
 
 impl<F> Noting<F> {
-    /// A store that stands before another one, and has noted nothing.
+    /// Creates a store around another store, with no notes.
     pub fn new(alloc: Global, inner: F) -> Noting<F> {
         Noting {
             inner,
@@ -27,17 +28,17 @@ impl<F> Noting<F> {
         }
     }
 
-    /// What was noted, a line for each call.
+    /// Returns the notes, a line for each call.
     pub fn notes(&self) -> Result<String, AllocError> {
         self.notes.as_slice().join(*self.notes.allocator(), "\n")
     }
 
-    /// Forgets what was noted.
+    /// Clears the notes.
     pub fn forget(&mut self) {
         self.notes.clear();
     }
 
-    /// Notes a call and what it was handed.
+    /// Notes a call and its arguments.
     fn note(&mut self, call: &str, handed: String, credentials: u64) -> Result<(), AllocError>
         ensures { self.new.inner ≡ self.old.inner }
     {
@@ -157,9 +158,9 @@ impl<F: GuardedFileSystem<u64>> GuardedFileSystem<u64> for Noting<F> {
     }
 }
 
-// ---- what was handed
+// ---- arguments
 
-/// A path with its prefix, and the same without.
+/// Shows a path with its prefix, and without it.
 fn show_path(path: &DavPath) -> Result<String, AllocError> {
     let whole = path.with_prefix()?.as_url_string()?;
     let own = path.as_url_string()?;
@@ -180,7 +181,7 @@ fn show_opening(path: &DavPath, options: &OpenOptions) -> Result<String, AllocEr
     format!(in alloc; "{path} {options:?}")
 }
 
-/// A file by its path and its place, and whether each write goes to the end.
+/// Shows a file by its path and its offset, and whether each write is at the end.
 fn show_file(file: &DavFile) -> Result<String, AllocError> {
     let path = show_path(&file.path)?;
     let alloc = *path.allocator();
@@ -201,7 +202,7 @@ fn show_write(file: &DavFile, bytes: &[u8]) -> Result<String, AllocError> {
     format!(in alloc; "{file} {bytes:?}")
 }
 
-/// A property by its prefix, its name and its namespace.
+/// Shows a property by its prefix, its name and its namespace.
 pub fn show_property(alloc: Global, prop: &DavProp) -> Result<String, AllocError> {
     let prefix = text_or_none(prop.prefix.as_ref());
     let name = prop.name.as_str();
@@ -223,7 +224,7 @@ fn show_property_at(path: &DavPath, prop: &DavProp) -> Result<String, AllocError
     format!(in alloc; "{path} {prop}")
 }
 
-/// A path and the properties that are to be set or removed.
+/// Shows a path, and the properties to be set or removed.
 fn show_patches(path: &DavPath, patches: &[(bool, DavProp)]) -> Result<String, AllocError> {
     let mut shown = show_path(path)?;
     let alloc = *shown.allocator();

@@ -1,8 +1,9 @@
-//! Trees as a test writes them.
+//! Element trees from strings.
 use dav_resource::{DavError, DavResult, Element};
 use std::alloc::{AllocError, Global};
 
-/// The tree that these words write: `(name` begins an element, and `)` ends it; every other word is a text.
+/// Returns the tree that these words describe. `(name` begins an element, and `)` ends it. Every other word
+/// is a text.
 pub fn tree(alloc: Global, words: &str) -> DavResult<Element> {
     let mut open = Vec::new(alloc);
     for word in words.split_whitespace() {
@@ -24,7 +25,7 @@ pub fn tree(alloc: Global, words: &str) -> DavResult<Element> {
     Err(DavError::XmlParseError)
 }
 
-/// All that an element is and holds, at every level.
+/// Shows an element with everything in it, at every level.
 pub fn show(alloc: Global, element: &Element) -> Result<String, AllocError> {
     format!(in alloc; "{element:?}")
 }

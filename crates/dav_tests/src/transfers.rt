@@ -1,5 +1,4 @@
-//! What no script shows of COPY and MOVE: the handler of both called by itself; and what no script of a fair length shows:
-//! trees of three hundred directories in each other.
+//! Tests what no script shows of COPY and MOVE: their handler called directly, and 300 nested directories.
 use crate::fixture::{path_of, request, status};
 use dav_engine::{DavInner, DavRequest, GuardedFileSystem};
 use dav_memfs::MemFs;
@@ -9,7 +8,7 @@ use std::alloc::Global;
 use std::process::Abort;
 use std::test::Fail;
 
-/// The status of a request that the handler of both is called with, or else `serve`.
+/// Returns the status of a request, from the handler of both methods or else from `serve`.
 fn called<'a>(alloc: Global, store: &'a mut MemFs, both: bool, request: &DavRequest) -> u16 {
     let mut engine = DavInner::new(store, None::<&mut MemLs>, String::new(alloc), None, ());
     let reply = if both {
@@ -40,7 +39,7 @@ fn make_directory(alloc: Global, store: &mut MemFs, path: &str) -> Result<(), Fa
     Ok(())
 }
 
-/// A store of so many directories, one in the other, and the path of the deepest.
+/// Returns a store with this number of nested directories, and the path of the deepest.
 fn nested(alloc: Global, count: usize) -> Result<(MemFs, String), Fail> {
     let mut store = MemFs::new(alloc)?;
     let mut path = String::new(alloc);
@@ -51,8 +50,8 @@ fn nested(alloc: Global, count: usize) -> Result<(MemFs, String), Fail> {
     Ok((store, path))
 }
 
-/// The status of a request of `/a` by this method to this place, how many calls it asked of the store, and how many
-/// resources that holds then.
+/// Serves a request for `/a` with this method and Destination. Returns its status, the number of its calls on
+/// the store, and the number of resources that the store then holds.
 fn served(
     alloc: Global,
     store: &mut MemFs,
@@ -69,8 +68,8 @@ fn served(
     Ok((status, calls, store.dump()?.len()))
 }
 
-/// Three calls look at the source, at the destination's parent and at the destination; then there are three for each
-/// directory, which is looked at, made and listed.
+/// Three calls look up the source, the destination's parent and the destination. Each directory then takes
+/// three: it is looked up, created and listed.
 #[test]
 fn a_deep_tree_is_copied_into_its_deepest_directory(rt: HostRuntime) -> Result<(), Fail> {
     let alloc = rt.alloc();
@@ -83,7 +82,7 @@ fn a_deep_tree_is_copied_into_its_deepest_directory(rt: HostRuntime) -> Result<(
     Ok(())
 }
 
-/// One call looks at the path; then there are two for each directory, which is listed and removed.
+/// One call looks up the path. Each directory then takes two: it is listed and removed.
 #[test]
 fn a_deep_tree_is_deleted(rt: HostRuntime) -> Result<(), Fail> {
     let alloc = rt.alloc();

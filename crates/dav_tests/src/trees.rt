@@ -1,4 +1,4 @@
-//! The trees that no request is answered with, and the reply on several resources by its own call.
+//! Tests the trees that no response contains, and `multi_error` called directly.
 use crate::fixture::{path_of, share, status, text_of};
 use crate::outline::{show, tree};
 use dav_memls::MemLs;
@@ -8,7 +8,7 @@ use http::{Response, StatusCode};
 use std::alloc::Global;
 use std::test::Fail;
 
-/// Whether a tree is the one that these words write, at every level.
+/// Returns whether a tree is the one that these words describe, at every level.
 fn is_tree(alloc: Global, made: DavResult<Element>, words: &str) -> Result<bool, Fail> {
     let made = show(alloc, &made?)?;
     let wanted = show(alloc, &tree(alloc, words)?)?;
@@ -17,18 +17,18 @@ fn is_tree(alloc: Global, made: DavResult<Element>, words: &str) -> Result<bool,
 
 // ---- locks
 
-/// What is told of the locks of `/a/b`, where there is this lock system.
+/// Returns the `lockdiscovery` of `/a/b` with this lock system, or without one.
 fn discovered(alloc: Global, locks: Option<&MemLs>) -> DavResult<Element> {
     list_lockdiscovery(alloc, locks, &path_of(alloc, "/a/b")?)
 }
 
-/// What is told of a lock alone.
+/// Returns the `activelock` of one lock.
 fn told_alone(alloc: Global) -> Result<DavResult<Element>, Fail> {
     let (_, lock) = share(alloc, "/a/")?;
     Ok(build_lock_prop(alloc, &lock, false))
 }
 
-/// What is told of the locks of a path that the lock covers.
+/// Returns the `lockdiscovery` of a path that the lock covers.
 fn told_covering(alloc: Global) -> Result<DavResult<Element>, Fail> {
     let (locks, _) = share(alloc, "/a/")?;
     Ok(discovered(alloc, Some(&locks)))
@@ -41,7 +41,7 @@ fn a_lock_is_told_by_its_parts(rt: HostRuntime) -> Result<(), Fail> {
     Ok(())
 }
 
-/// What is told of the lock alone.
+/// The `activelock` of the lock.
 const ALONE: &str = "(D:activelock (D:lockscope (D:shared ) ) (D:locktype (D:write ) ) \
      (D:depth Infinity ) (D:timeout Second-5 ) (D:locktoken (D:href t ) ) \
      (D:lockroot (D:href /a/ ) ) )";
@@ -53,7 +53,7 @@ fn the_locks_of_a_path_are_told(rt: HostRuntime) -> Result<(), Fail> {
     Ok(())
 }
 
-/// What is told of the locks of the path.
+/// The `lockdiscovery` of the path.
 const COVERING: &str = "(D:lockdiscovery \
      (D:activelock (D:lockscope (D:shared ) ) (D:locktype (D:write ) ) \
      (D:depth Infinity ) (D:timeout Second-5 ) (D:locktoken (D:href t ) ) \
@@ -86,14 +86,14 @@ fn a_lock_system_has_two_kinds_of_locks(rt: HostRuntime) -> Result<(), Fail> {
     Ok(())
 }
 
-/// What is told of which locks there may be (RFC 4918, section 15.10.1).
+/// The `supportedlock` of a lock system (RFC 4918, section 15.10.1).
 const KINDS: &str = "(D:supportedlock \
      (D:lockentry (D:lockscope (D:exclusive ) ) (D:locktype (D:write ) ) ) \
      (D:lockentry (D:lockscope (D:shared ) ) (D:locktype (D:write ) ) ) )";
 
 // ---- several resources
 
-/// The reply where two resources have these statuses, one of them that of the request.
+/// Returns the response for two resources with these statuses, of which the first is the request's own.
 fn two(alloc: Global, own: StatusCode, below: StatusCode) -> DavResult<Response<Body>> {
     let mut items = Vec::new(alloc);
     items.push((path_of(alloc, "/a")?, own))?;
@@ -101,7 +101,7 @@ fn two(alloc: Global, own: StatusCode, below: StatusCode) -> DavResult<Response<
     multi_error(alloc, &path_of(alloc, "/a")?, items)
 }
 
-/// The texts in each response of a multistatus.
+/// Returns the text of each element in each `response` of a multistatus.
 fn told(alloc: Global, tree: &Element) -> Result<String, Fail> {
     let mut texts = Vec::new(alloc);
     for response in tree.child_elems_iter() {
@@ -112,7 +112,7 @@ fn told(alloc: Global, tree: &Element) -> Result<String, Fail> {
     Ok(texts.as_slice().join(alloc, ", ")?)
 }
 
-/// What the tree of a reply tells.
+/// Returns the texts in the tree of a response.
 fn told_by(alloc: Global, reply: &DavResult<Response<Body>>) -> Result<String, Fail> {
     match reply {
         Ok(reply) => match reply.body() {
@@ -123,7 +123,7 @@ fn told_by(alloc: Global, reply: &DavResult<Response<Body>>) -> Result<String, F
     }
 }
 
-/// What is told where a status that is no failure stands beside one that has no phrase.
+/// Shows the response for a status that is not a failure and one that has no reason phrase.
 fn show_two(alloc: Global) -> Result<String, Fail> {
     let reply = two(alloc, StatusCode::NO_CONTENT, StatusCode::from_u16(599)?);
     told_by(alloc, &reply)
@@ -136,7 +136,7 @@ fn statuses_of_several_resources_are_told_in_order(rt: HostRuntime) -> Result<()
     Ok(())
 }
 
-/// The status of the reply where there is none of any resource.
+/// Returns the status of the response for no resource.
 fn status_of_none(alloc: Global) -> Result<u16, Fail> {
     let path = path_of(alloc, "/a")?;
     Ok(status(&multi_error(alloc, &path, Vec::new(alloc))))

@@ -1,4 +1,5 @@
-//! Elements, paths, methods, copies and errors: the calls that the engine doesn't make, and texts that no script shows.
+//! Tests functions on elements, paths, methods, copies and errors that the engine does not call, and strings
+//! that no script shows.
 use crate::fixture::text_of;
 use crate::outline::show;
 use dav_resource::{
@@ -14,7 +15,7 @@ use std::test::Fail;
 
 // ---- elements
 
-/// An element of a whole name, with the default namespace declared twice.
+/// Shows an element made from a name with a colon, with the default namespace declared twice.
 fn show_declaring(alloc: Global) -> Result<String, AllocError> {
     let element = Element::new(alloc, "a:b")?;
     let element = element.ns("", "urn:old")?.ns("", "urn:new")?;
@@ -28,21 +29,22 @@ fn default_namespace_is_declared_last(rt: HostRuntime) -> Result<(), Fail> {
     Ok(())
 }
 
-/// An element with a text, an element and a text in it.
+/// Returns an element that contains a text, an element and a text.
 fn mixed(alloc: Global) -> Result<Element, AllocError> {
     let mut element = Element::new(alloc, "a")?.text("one ")?;
     element.push_element(Element::new(alloc, "b")?)?;
     element.text("two")
 }
 
-/// Whether it has an element in it, and whether `b` is taken out of it a first and a second time.
+/// Returns whether an element has child elements, and whether removing `b` finds it the first and the second
+/// time.
 fn take(element: &mut Element) -> [bool; 3] {
     let had = element.has_child_elems();
     let first = element.take_child("b").is_some();
     [had, first, element.take_child("b").is_some()]
 }
 
-/// What taking gives, how many nodes are left, and their text.
+/// Shows what `take` returns, how many nodes are left, and their text.
 fn show_taking(alloc: Global) -> Result<String, AllocError> {
     let mut element = mixed(alloc)?;
     let taken = take(&mut element);
@@ -58,7 +60,7 @@ fn child_is_taken_from_between_texts(rt: HostRuntime) -> Result<(), Fail> {
     Ok(())
 }
 
-/// An element that is held a second time, and no longer by who held it first.
+/// Returns a shared element whose first owner no longer holds it.
 fn held_again(alloc: Global) -> Result<SharedElement, AllocError> {
     let first = SharedElement::new(alloc, mixed(alloc)?)?;
     first.clone()
@@ -72,9 +74,9 @@ fn a_shared_element_stays_while_it_is_held(rt: HostRuntime) -> Result<(), Fail> 
     Ok(())
 }
 
-// ---- copies, and what texts and lists give back
+// ---- copies, and what texts and lists return
 
-/// The name of a property's copy.
+/// Returns the name of a property's copy.
 fn copied_name(alloc: Global) -> Result<String, AllocError> {
     let property = DavProp {
         name: text_of(alloc, "getetag")?,
@@ -91,7 +93,7 @@ fn copy_of_a_property_has_its_name(rt: HostRuntime) -> Result<(), Fail> {
     Ok(())
 }
 
-/// What a record's copy tells.
+/// Shows a record's copy.
 fn show_copied(alloc: Global) -> Result<String, AllocError> {
     let record = Record {
         op: Op::Rename,
@@ -120,7 +122,7 @@ fn list_gives_its_items_back(rt: HostRuntime) -> Result<(), Fail> {
 
 // ---- paths
 
-/// The name of a file, how many segments its prefix has, and the collection that it stands in.
+/// Shows a file's name, how many segments its prefix has, and its parent collection.
 fn show_parts(file: &DavPath) -> Result<String, Fail> {
     let parent = file.parent()?.as_url_string()?;
     let prefix = file.prefix().len();
@@ -128,7 +130,7 @@ fn show_parts(file: &DavPath) -> Result<String, Fail> {
     Ok(format!(in *parent.allocator(); "{name} {prefix} {parent}")?)
 }
 
-/// The same of `/dav/a/b.txt` below the prefix `/dav`, once it has a slash.
+/// Shows the same of `/dav/a/b.txt` below the prefix `/dav`, with a trailing slash added.
 fn show_file(alloc: Global) -> Result<String, Fail> {
     let mut file = DavPath::from_str_and_prefix(alloc, "/dav/a/b.txt", "/dav")?;
     file.add_slash();
@@ -169,7 +171,7 @@ fn media_types(rt: HostRuntime) -> Result<(), Fail> {
 
 // ---- methods
 
-/// The method of this name.
+/// Returns the method with this name.
 fn named(alloc: Global, name: &str) -> Result<Option<DavMethod>, Fail> {
     let method = Method::from_bytes(alloc, name.as_bytes())?;
     Ok(DavMethod::from_method(&method))
@@ -202,14 +204,15 @@ fn methods_by_name(rt: HostRuntime) -> Result<(), Fail> {
     expect_methods(&rt, rt.alloc(), rows)
 }
 
-/// Whether a set with GET alone has it, and PUT.
+/// Returns whether a set of only GET contains GET, and PUT.
 fn set_of_one() -> [bool; 2] {
     let mut set = DavMethodSet::none();
     set.add(DavMethod::Get);
     [set.contains(DavMethod::Get), set.contains(DavMethod::Put)]
 }
 
-/// Whether a set without LOCK has it, and UNLOCK, and whether with LOCK again it is the set of all.
+/// Returns whether a set without LOCK contains LOCK, and UNLOCK, and whether adding LOCK again gives the set
+/// of all.
 fn set_without_one() -> [bool; 3] {
     let mut set = DavMethodSet::all();
     set.remove(DavMethod::Lock);
@@ -243,7 +246,7 @@ fn headers_that_cannot_be_made_are_the_servers_fault(rt: HostRuntime) {
     assert!(rt; of_value(HeaderValueError::OutOfMemory) == 507);
 }
 
-/// The texts of two errors of the engine, and of those of a lock system.
+/// Shows two errors of the engine, and those of a lock system.
 fn show_errors(alloc: Global) -> Result<String, AllocError> {
     let refusal = DavError::FsError(FsError::NotFound);
     let closing = DavError::StatusClose(StatusCode::BAD_REQUEST);

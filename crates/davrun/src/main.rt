@@ -1,5 +1,5 @@
-//! `davrun [PREFIX]`: serves the WebDAV requests of a script over a store in memory, and prints the replies and
-//! what the store holds at the end.
+//! `davrun [PREFIX]`: executes the WebDAV requests of a script against a store in memory, and prints the
+//! responses and what the store and the lock system hold at the end.
 #![tactic(auto)]
 
 mod program;
@@ -13,7 +13,7 @@ fn main(rt: HostRuntime) -> ExitCode {
     ExitCode::from(run(&rt))
 }
 
-/// Runs the script on standard input, and gives the status.
+/// Runs the script on standard input and returns the exit status.
 fn run(rt: &HostRuntime) -> u8 {
     let mut errors = rt.stderr();
     let arguments = match arguments_of(rt) {

@@ -1,4 +1,4 @@
-//! The program: a script of requests in, replies and what the store and the lock system hold at the end out.
+//! The program: reads a script of requests, prints the responses, and then the contents and the locks.
 ghost use Rattle.std.specs.Prelude.{◌≡◌, ◌⊎◌, ◌<◌, length, codes};
 ghost use Rattle.std.specs.Io.KnownBytes.{Appends, IsAtEnd};
 ghost use Rattle.dav_resource.specs.Texts.{texts};
@@ -9,13 +9,14 @@ use dav_script::{Block, Script, ScriptError, Session, Stopped, Trouble, read_blo
 use std::alloc::Global;
 use std::io::{Read, Write};
 
-/// The program's name, as its messages have it.
+/// The program's name in its messages.
 pub const PROGRAM: &str = "davrun";
 
-/// Runs the program on its arguments without its name, and gives its status: 0 where the whole script was served,
-/// 2 where the arguments aren't one prefix or none or a line of the script is at fault, 3 where reading, writing
-/// or memory failed. With 2 nothing was served or printed, and one line of `errors` says why; with 0 nothing was
-/// said in `errors`.
+/// Runs the program and returns its exit status. `arguments` does not include the program's name.
+/// - 0: the whole script was executed. Nothing was written to `errors`.
+/// - 2: there is more than one argument, the argument cannot be read as a prefix, or a line of the script has
+///   an error. Nothing was executed or printed, and one line of `errors` says why.
+/// - 3: reading, writing or an allocation failed.
 pub fn run_script<I: Read, O: Write, E: Write>(
     alloc: Global,
     arguments: &[String],
@@ -25,17 +26,18 @@ pub fn run_script<I: Read, O: Write, E: Write>(
 ) -> u8
     ensures status { (result ≡ 0) ⊎ (result ≡ 2) ⊎ (result ≡ 3) }
 
-    // More than one argument: nothing is read, and the usage is said.
+    // With more than one argument nothing is read. With status 2 the usage is written to `errors`.
     ensures unread { 1 < length arguments.now → input.new ≡ input.old }
     ensures usage { 1 < length arguments.now → result ≡ 2
         → Appends (E.contents errors.old) (E.contents errors.new) (trouble_line (codes "davrun") Trouble.Usage) }
 
-    // With 0 the arguments were usable, the script was read to its end, and nothing was said.
+    // With status 0 the arguments were usable, the script was read to its end, and nothing was written to
+    // `errors`.
     ensures arguments { result ≡ 0 → AreUsable (texts arguments.now) }
     ensures whole { result ≡ 0 → IsAtEnd (I.remaining input.new) }
     ensures served { result ≡ 0 → errors.new ≡ errors.old }
 
-    // With 2 nothing was printed, and what is at fault was said.
+    // With status 2 nothing was printed, and one line of `errors` says what is wrong.
     ensures refused { result ≡ 2 → output.new ≡ output.old }
     ensures said { result ≡ 2 → SaysFault (codes "davrun") (texts arguments.now) (E.contents errors.old) (E.contents errors.new) }
 {

@@ -1,10 +1,10 @@
-//! The program on readers and writers that fail. What it makes of a script is shown by cases.
+//! Tests of the program with readers and writers that fail. What it does with a script is tested by cases.
 use crate::program::run_script;
 use std::alloc::Global;
 use std::io::{self, Read, Write};
 use std::process::Abort;
 
-/// A reader that gives a first text, and then fails.
+/// A reader that returns some bytes, and then fails.
 #[derive(Drop)]
 struct Broken<'a>(&'a [u8]);
 
@@ -17,7 +17,7 @@ impl<'a> Read for Broken<'a> {
     }
 }
 
-/// A writer that takes some bytes, and then fails.
+/// A writer that accepts some bytes, and then fails.
 #[derive(Drop)]
 struct Full {
     room: usize,
@@ -38,10 +38,10 @@ impl Write for Full {
     }
 }
 
-/// What is said where reading or writing fails.
+/// The message when reading or writing fails.
 const FAILED: &[u8] = b"davrun: input or output failed\n";
 
-/// A script whose reader fails behind it ends with 3, and nothing is printed.
+/// Checks that a script whose reader fails after it ends with status 3, and that nothing is printed.
 fn expect_unread(rt: &impl Abort, alloc: Global, script: &[u8]) {
     let mut output = Vec::new(alloc);
     let mut errors = Vec::new(alloc);
@@ -57,10 +57,10 @@ fn a_failed_read_stops_it(rt: HostRuntime) {
     expect_unread(&rt, rt.alloc(), b"MKCOL");
 }
 
-/// How many bytes are printed of the script below.
+/// The number of bytes that the script below prints.
 const WHOLE: usize = 197;
 
-/// A script whose output goes into a writer of this room ends with this status, and this is said.
+/// Checks the status and the message for a script whose output goes to a writer that accepts `room` bytes.
 fn expect_printed(rt: &impl Abort, alloc: Global, room: usize, status: u8, said: &[u8]) {
     let mut script = b"MKCOL /d/\n\nPUT /d/a\n=bytes hi\n".as_slice();
     let mut errors = Vec::new(alloc);
@@ -69,7 +69,7 @@ fn expect_printed(rt: &impl Abort, alloc: Global, room: usize, status: u8, said:
     assert_eq!(rt; errors.as_slice(), said, "room for {room}");
 }
 
-/// A script is stopped wherever its output fails.
+/// Checks that a script is stopped wherever its output fails.
 fn expect_stopped(rt: &impl Abort, alloc: Global) {
     for room in 0..WHOLE {
         expect_printed(rt, alloc, room, 3, FAILED);

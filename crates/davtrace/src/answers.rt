@@ -1,4 +1,4 @@
-//! What the store answers, printed.
+//! Prints the results of store calls.
 use crate::property::property_text;
 use dav_resource::{DavProp, DirEntry, Element, FsResult, Meta};
 use dav_script::{Stopped, error_name, outline};
@@ -21,7 +21,7 @@ pub fn print_word<O: Write>(output: &mut O, holds: bool) -> Result<(), Stopped> 
     Ok(writeln!(output, "{word}")?)
 }
 
-/// Prints what is known of a resource, or the error's name.
+/// Prints a resource's metadata, or the error's name.
 pub fn print_meta<O: Write>(
     alloc: Global,
     output: &mut O,
@@ -36,7 +36,7 @@ pub fn print_meta<O: Write>(
     }
 }
 
-/// Prints a line for each member, or the error's name.
+/// Prints a line for each member and then `ok`, or the error's name.
 pub fn print_listing<O: Write>(
     alloc: Global,
     output: &mut O,
@@ -53,7 +53,7 @@ pub fn print_listing<O: Write>(
     }
 }
 
-/// Prints a member's name and what is known of it, or `refused` and the error's name.
+/// Prints a member's name and metadata, or `refused` and the error's name.
 fn print_member<O: Write>(
     alloc: Global,
     output: &mut O,
@@ -72,7 +72,8 @@ fn print_member<O: Write>(
     }
 }
 
-/// What is known of a resource: its kind, its length, its tag in quotes, and its moments.
+/// Formats a resource's metadata: its kind, its length, and as far as known its entity tag in quotes, its
+/// times, and whether it is executable.
 fn meta_text(alloc: Global, meta: &Meta) -> Result<String, AllocError> {
     let kind = if meta.dir { "directory" } else { "file" };
     let len = meta.len;
@@ -91,7 +92,7 @@ fn meta_text(alloc: Global, meta: &Meta) -> Result<String, AllocError> {
     Ok(text)
 }
 
-/// Adds a moment, where it is known.
+/// Appends a time in seconds since 1970, if it is known.
 fn push_moment(text: &mut String, name: &str, moment: Option<u64>) -> Result<(), AllocError> {
     if let Some(moment) = moment {
         write!(text, " {name} {moment}")?;
@@ -111,7 +112,7 @@ pub fn print_element<O: Write>(
     }
 }
 
-/// Prints each property, or the error's name.
+/// Prints each property and then `ok`, or the error's name.
 pub fn print_properties<O: Write>(
     alloc: Global,
     output: &mut O,
@@ -128,8 +129,8 @@ pub fn print_properties<O: Write>(
     }
 }
 
-/// Prints a property's name, with its prefix behind it where it has one, and then the outline of its element, where
-/// that is known.
+/// Prints a property's name and its prefix, if it has one, and then the outline of its element, if there is
+/// one.
 fn print_property<O: Write>(
     alloc: Global,
     output: &mut O,
@@ -166,7 +167,7 @@ pub fn print_statuses<O: Write>(
     }
 }
 
-/// Prints how many bytes are used of how many, which is `none` where there is no limit, or the error's name.
+/// Prints the bytes used and the total, which is `none` without a limit, or the error's name.
 pub fn print_quota<O: Write>(
     output: &mut O,
     answer: FsResult<(u64, Option<u64>)>,

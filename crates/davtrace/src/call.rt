@@ -1,4 +1,4 @@
-//! A line that calls the store or the lock system itself.
+//! A line that calls the store or the lock system directly.
 use crate::change::read_changes;
 use crate::lock_call::LockCall;
 use crate::new_store::NewStore;
@@ -16,30 +16,30 @@ use std::io::Write;
 /// A line of a block of calls.
 #[derive(Drop)]
 pub struct CallLine {
-    /// The line as it is written, without its mark.
+    /// The line as written, without its mark.
     text: String,
     call: Call,
 }
 
-/// A line that an outline follows.
+/// A line that is followed by an outline.
 #[derive(Drop)]
 pub struct Heading {
-    /// The line as it is written, without its mark.
+    /// The line as written, without its mark.
     text: String,
     calls: Outlined,
 }
 
-/// What a line asks for that an outline follows.
+/// What a line asks for if an outline follows it.
 #[derive(Drop)]
 enum Outlined {
-    /// The outline of its tree.
+    /// Prints the outline of its tree.
     Tree,
-    /// The changes that it shows, of the properties of this path.
+    /// Changes the properties of this path as the outline says.
     Patch(DavPath),
 }
 
 impl Heading {
-    /// Reads a line without its mark; none where no outline follows it.
+    /// Reads a line without its mark. Returns `None` if no outline follows such a line.
     pub fn read(alloc: Global, line: &str) -> Result<Option<Heading>, LineError> {
         let (name, value) = line.split_once(' ').unwrap_or((line, ""));
         let calls = match name {
@@ -57,22 +57,22 @@ impl Heading {
 enum Call {
     Store(StoreCall),
     Locks(LockCall),
-    /// The moment from now on.
+    /// Sets the time, in seconds since 1970.
     Now(u64),
-    /// One more refusal of the store's plan.
+    /// Adds a refusal to the store's plan.
     Refuse(PlannedRefusal),
-    /// The refusal of a call by its number.
+    /// Refuses a call by its number.
     RefuseCall(NumberedRefusal),
-    /// Another store from now on.
+    /// Starts over with another store.
     Anew(NewStore),
-    /// The outline of this tree.
+    /// Prints the outline of this tree.
     Tree(Element),
-    /// The service of the requests that follow by one run.
+    /// Serves the requests that follow in one run.
     AtOnce,
 }
 
 impl CallLine {
-    /// Reads a line without its mark: a name, and where a space follows, what it is called with.
+    /// Reads a line without its mark: a name, and after a space its arguments, if there are any.
     pub fn read(alloc: Global, line: &str) -> Result<CallLine, LineError> {
         let (name, value) = line.split_once(' ').unwrap_or((line, ""));
         Ok(CallLine {
@@ -81,7 +81,7 @@ impl CallLine {
         })
     }
 
-    /// The line of this heading, with the tree of the outline that follows it.
+    /// Returns the line of this heading, with the tree of the outline that follows it.
     pub fn of_outline(
         alloc: Global,
         heading: Heading,
@@ -97,13 +97,13 @@ impl CallLine {
         Ok(CallLine { text, call })
     }
 
-    /// Whether the requests that follow are served at once.
+    /// Returns whether the requests that follow are served in one run.
     pub fn is_at_once(&self) -> bool {
         matches!(self.call, Call::AtOnce)
     }
 
-    /// Makes the call, and prints the line, what is answered, and the records that the call left. Calls on an open
-    /// file are on the one that was opened last.
+    /// Makes the call, and prints the line, the result, and the records that the call left in the log. Calls
+    /// on an open file use the file that was opened last.
     pub fn make<O: Write>(
         self,
         alloc: Global,
@@ -130,7 +130,7 @@ impl CallLine {
     }
 }
 
-/// The call of this name.
+/// Reads the call of this name.
 fn read_call(alloc: Global, name: &str, value: &str) -> Result<Call, LineError> {
     match name {
         "now" => Ok(Call::Now(read_number(value).ok_or(Fault::BadValue)?)),
@@ -141,7 +141,7 @@ fn read_call(alloc: Global, name: &str, value: &str) -> Result<Call, LineError> 
     }
 }
 
-/// The new store of this name, or the call of the store or of the lock system.
+/// Reads the new store, the store call or the lock system call of this name.
 fn read_other(alloc: Global, name: &str, value: &str) -> Result<Call, LineError> {
     if let Some(store) = NewStore::read(name, value)? {
         return Ok(Call::Anew(store));

@@ -1,4 +1,4 @@
-//! Changes of properties, as an outline shows them.
+//! Changes of properties, as an outline gives them.
 ghost use Rattle.std.specs.Prelude.{All, IfOk};
 ghost use Rattle.dav_store.specs.PropertyCalls.{IsWhole};
 
@@ -7,15 +7,15 @@ use dav_resource::{DavProp, Element, SharedElement, Text, XMLNode};
 use dav_script::{Fault, LineError};
 use std::alloc::{AllocError, Global};
 
-/// A change of a property, by the property's element.
+/// A change of a property, given by the property's element.
 #[derive(Drop)]
 pub enum Change {
     Set(Element),
-    /// Of the element its name counts alone.
+    /// Only the element's name counts.
     Remove(Element),
 }
 
-/// The changes that a tree shows, in order: its root holds elements `set` and `remove`, and these hold the elements
+/// Reads the changes of a tree, in order. Its root holds elements `set` and `remove`, which hold the elements
 /// of the properties. The only fault is `BadOutline`.
 pub fn read_changes(alloc: Global, tree: Element) -> Result<Vec<Change>, LineError> {
     let mut changes = Vec::new(alloc);
@@ -47,7 +47,7 @@ fn add_changes(
     Ok(())
 }
 
-/// The element that a node is. A text is a fault.
+/// Returns the element of a node. A text node is a fault.
 fn element_of(node: XMLNode) -> Result<Element, LineError> {
     match node {
         XMLNode::Element(element) => Ok(element),
@@ -55,7 +55,7 @@ fn element_of(node: XMLNode) -> Result<Element, LineError> {
     }
 }
 
-/// The changes as the store takes them.
+/// Converts the changes to the form that the store accepts.
 pub fn patches_of(alloc: Global, changes: Vec<Change>) -> Result<Vec<(bool, DavProp)>, AllocError>
     ensures { IfOk result (λ patches. All IsWhole patches.items) }
 {
@@ -67,7 +67,7 @@ pub fn patches_of(alloc: Global, changes: Vec<Change>) -> Result<Vec<(bool, DavP
 }
 
 impl Change {
-    /// The change as the store takes it.
+    /// Converts the change to the form that the store accepts.
     fn into_patch(self, alloc: Global) -> Result<(bool, DavProp), AllocError>
         ensures { IfOk result IsWhole }
     {
@@ -82,7 +82,7 @@ impl Change {
     }
 }
 
-/// The property whose name is an element's, without the element.
+/// Returns a property of the element's name, without a value.
 fn property_of(alloc: Global, element: &Element) -> Result<DavProp, AllocError> {
     Ok(DavProp {
         name: text_of(alloc, element.name.as_str())?,
@@ -92,7 +92,7 @@ fn property_of(alloc: Global, element: &Element) -> Result<DavProp, AllocError> 
     })
 }
 
-/// The text with memory of its own, where there is one.
+/// Copies the string, if there is one.
 fn copy_of(alloc: Global, text: Option<&String>) -> Result<Option<Text>, AllocError> {
     match text {
         Some(text) => Ok(Some(text_of(alloc, text.as_str())?)),

@@ -18,11 +18,11 @@ pub enum LockCall {
     Refresh(DavPath, String, Option<u64>),
     Discover(DavPath),
     Delete(DavPath),
-    /// No call: all locks, in the lock system's order.
+    /// Not a call: prints all locks, in the lock system's order.
     Locks,
 }
 
-/// Who a request comes from.
+/// The sender of a request.
 #[derive(Drop)]
 enum Sender {
     Nobody,
@@ -30,7 +30,7 @@ enum Sender {
     Known(String),
 }
 
-/// Whether a request may go on.
+/// A check whether the locks allow a request.
 #[derive(Drop)]
 pub struct Check {
     path: DavPath,
@@ -39,7 +39,7 @@ pub struct Check {
     tokens: Vec<Text>,
 }
 
-/// A lock that is asked for.
+/// A requested lock.
 #[derive(Drop)]
 pub struct Asked {
     path: DavPath,
@@ -51,7 +51,7 @@ pub struct Asked {
 }
 
 impl LockCall {
-    /// Reads the call of this name; none where the lock system has no such call.
+    /// Reads the call of this name. Returns `None` if the lock system has no such call.
     pub fn read(alloc: Global, name: &str, value: &str) -> Result<Option<LockCall>, LineError> {
         let words: Vec<&str> = value.split(' ').collect(alloc)?;
         let call = match name {
@@ -67,7 +67,7 @@ impl LockCall {
         Ok(Some(call))
     }
 
-    /// Makes the call, and prints what is answered.
+    /// Makes the call, and prints the result.
     pub fn make<O: Write>(
         self,
         alloc: Global,
@@ -154,7 +154,7 @@ impl Asked {
 }
 
 impl Sender {
-    /// Reads a name; `-` is nobody, and `*` is whoever it may be.
+    /// Reads a name. `-` is no principal, and `*` is any principal.
     fn read(alloc: Global, word: &str) -> Result<Sender, AllocError> {
         match word {
             "-" => Ok(Sender::Nobody),
@@ -190,7 +190,7 @@ fn read_refresh(alloc: Global, words: &[&str]) -> Result<LockCall, LineError> {
     Ok(LockCall::Refresh(read_path(alloc, path)?, token, timeout))
 }
 
-/// Whether a word is the second of two that it may be.
+/// Returns whether the word is `yes`. A word that is neither `yes` nor `no` is a fault.
 fn read_either(word: &str, no: &str, yes: &str) -> Result<bool, LineError> {
     if word == yes {
         Ok(true)
@@ -201,7 +201,7 @@ fn read_either(word: &str, no: &str, yes: &str) -> Result<bool, LineError> {
     }
 }
 
-/// Reads a timeout as it is printed: `Infinite`, or `Second-` and the seconds.
+/// Reads a timeout as it is printed: `Infinite`, or `Second-` and the number of seconds.
 fn read_timeout(word: &str) -> Result<Option<u64>, LineError> {
     if word == "Infinite" {
         return Ok(None);
@@ -222,7 +222,7 @@ fn print_lock<O: Write>(
     }
 }
 
-/// Prints a line for each lock, in order.
+/// Prints a line for each lock, in order, and then `ok`.
 fn print_locks<O: Write>(alloc: Global, output: &mut O, locks: &[DavLock]) -> Result<(), Stopped> {
     for lock in locks {
         print_held(alloc, output, lock)?;
@@ -230,7 +230,7 @@ fn print_locks<O: Write>(alloc: Global, output: &mut O, locks: &[DavLock]) -> Re
     print_done(output, Ok(()))
 }
 
-/// Prints a line for each lock that is held, in order.
+/// Prints a line for each lock in the lock system, in its order, and then `ok`.
 fn print_all<O: Write>(alloc: Global, output: &mut O, locks: &MemLs) -> Result<(), Stopped> {
     for lock in locks.locks() {
         print_held(alloc, output, lock)?;
@@ -238,7 +238,8 @@ fn print_all<O: Write>(alloc: Global, output: &mut O, locks: &MemLs) -> Result<(
     print_done(output, Ok(()))
 }
 
-/// Prints a lock as the list at the end has it, with the moment of its end where it has one.
+/// Prints a lock as in the list at the end of the output, with its expiry time in seconds since 1970, if it
+/// has one.
 fn print_held<O: Write>(alloc: Global, output: &mut O, lock: &DavLock) -> Result<(), Stopped> {
     let text = lock_text(alloc, lock)?;
     match lock.timeout_at {

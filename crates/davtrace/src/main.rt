@@ -1,5 +1,6 @@
-//! `davtrace [PREFIX]`: serves a script as `davrun` does, and shows beside each reply the records that the request
-//! left in the store's log; its scripts may also call the store and the lock system themselves. It serves the tests.
+//! `davtrace [PREFIX]`: serves a script as `davrun` does, and prints with each response the records that the
+//! request left in the store's log. Its scripts can also call the store and the lock system directly. The
+//! tests use it.
 #![tactic(auto)]
 
 mod answers;
@@ -18,14 +19,14 @@ use std::io::BufWriter;
 use std::process::ExitCode;
 use trace::Trace;
 
-/// The program's name, as its messages have it.
+/// The program's name in its messages.
 const PROGRAM: &str = "davtrace";
 
 fn main(rt: HostRuntime) -> ExitCode {
     ExitCode::from(run(&rt))
 }
 
-/// Runs the script on standard input, and gives the status.
+/// Runs the script on standard input, and returns the exit status.
 fn run(rt: &HostRuntime) -> u8 {
     let mut errors = rt.stderr();
     let arguments = match arguments_of(rt) {

@@ -1,21 +1,21 @@
-//! A store that a script begins anew with.
+//! A new store that a script starts over with.
 use dav_headers::read_number;
 use dav_memfs::MemFs;
 use dav_resource::FsResult;
 use dav_script::{Fault, LineError};
 use std::alloc::Global;
 
-/// A store with the root alone.
+/// A store that has only the root.
 #[derive(Drop)]
 pub enum NewStore {
-    /// One with a quota: how many bytes there are, where there is a limit.
+    /// A store with a quota: the total number of bytes, if there is a limit.
     Quota(Option<u64>),
-    /// One whose counter stands at this number.
+    /// A store whose change counter starts at this number.
     Version(u64),
 }
 
 impl NewStore {
-    /// Reads the store of this name; none where there is no such store.
+    /// Reads the store of this name. Returns `None` if there is no such store.
     pub fn read(name: &str, value: &str) -> Result<Option<NewStore>, LineError> {
         match name {
             "with_quota" if value == "none" => Ok(Some(NewStore::Quota(None))),
@@ -25,7 +25,7 @@ impl NewStore {
         }
     }
 
-    /// Makes the store. Only memory can be lacking.
+    /// Creates the store. Fails only if memory runs out.
     pub fn make(self, alloc: Global) -> FsResult<MemFs> {
         match self {
             NewStore::Quota(total) => MemFs::with_quota(alloc, total),
@@ -34,7 +34,7 @@ impl NewStore {
     }
 }
 
-/// The number that a word spells.
+/// Parses a word as a number.
 fn number_of(word: &str) -> Result<u64, LineError> {
     Ok(read_number(word).ok_or(Fault::BadValue)?)
 }

@@ -1,4 +1,4 @@
-//! A refusal by the call's number.
+//! The refusal of a call by its number.
 ghost use Rattle.std.specs.Prelude.{◌≤◌};
 ghost use Rattle.dav_store.specs.Calls.{IsOwn};
 
@@ -8,19 +8,19 @@ use dav_refusing::Refusing;
 use dav_resource::FsError;
 use dav_script::{Fault, LineError, refusal_error};
 
-/// A call that is to be refused by its number.
+/// A call to refuse, by its number.
 #[derive(Drop)]
 pub struct NumberedRefusal {
-    /// Which call it is from then on, counted from 1.
+    /// The number of the call, counted from 1 from the next call on.
     number: u64,
-    /// What it is refused with.
+    /// The error that the call returns.
     error: FsError,
     ghost counted: { 1 ≤ number },
     ghost own: { IsOwn error },
 }
 
 impl NumberedRefusal {
-    /// Reads `N ERROR`, with a number from 1.
+    /// Reads `N ERROR`, where N is at least 1.
     pub fn read(value: &str) -> Result<NumberedRefusal, LineError> {
         let (number, error) = value.split_once(' ').ok_or(Fault::BadValue)?;
         let number = read_number(number).ok_or(Fault::BadValue)?;
@@ -33,7 +33,7 @@ impl NumberedRefusal {
         Ok(NumberedRefusal { number, error })
     }
 
-    /// Lets a store refuse that call.
+    /// Makes a store refuse that call.
     pub fn plan(self, store: &mut Refusing<MemFs>) {
         store.refuse_call(self.number, self.error);
     }

@@ -1,9 +1,9 @@
-//! The names of properties: `{namespace}name`, or `name` where there is no namespace.
+//! Names of properties: `{namespace}name`, or `name` without a namespace.
 use dav_resource::{DavProp, Text};
 use dav_script::{Fault, LineError, is_name};
 use std::alloc::{AllocError, Global};
 
-/// The property of this name, without prefix and element. The namespace ends at its first `}`.
+/// Reads a property of this name, without prefix and element. The namespace ends at its first `}`.
 pub fn read_property(alloc: Global, text: &str) -> Result<DavProp, LineError> {
     let (namespace, name) = match text.strip_prefix('{') {
         Some(text) => {
@@ -23,12 +23,12 @@ pub fn read_property(alloc: Global, text: &str) -> Result<DavProp, LineError> {
     })
 }
 
-/// The text with memory of its own.
+/// Copies the string.
 pub fn text_of(alloc: Global, text: &str) -> Result<Text, AllocError> {
     Ok(Text::from_string(String::from_str(alloc, text)?))
 }
 
-/// A property's name, as it is read.
+/// Formats a property's name as `{namespace}name`, or as `name` without a namespace.
 pub fn property_text(alloc: Global, property: &DavProp) -> Result<String, AllocError> {
     let name = property.name.as_str();
     match &property.namespace {

@@ -1,4 +1,4 @@
-//! The records of a store's log, printed.
+//! Prints the records of a store's log.
 use dav_resource::{Outcome, Record};
 use dav_script::{Session, Stopped, error_name, op_name};
 use dav_store::GuardedFileSystem;
@@ -19,8 +19,8 @@ pub fn print_records<O: Write>(
     Ok(())
 }
 
-/// A record: the call, its paths without their last slashes, which don't count, how it ended, and the statuses that it
-/// answered.
+/// Formats a record: the call, its paths without trailing slashes (which do not count), its outcome, and the
+/// statuses that it returned.
 fn record_text(alloc: Global, record: &Record) -> Result<String, AllocError> {
     let mut text = String::from_str(alloc, op_name(record.op))?;
     for path in record.paths.as_slice() {
@@ -35,7 +35,7 @@ fn record_text(alloc: Global, record: &Record) -> Result<String, AllocError> {
     Ok(text)
 }
 
-/// A path's text without its last slash. The root's has no other.
+/// Removes a path's trailing slash, except from the root.
 fn without_slash(path: &str) -> &str {
     match path.strip_suffix('/') {
         Some(key) if !key.is_empty() => key,
@@ -43,7 +43,7 @@ fn without_slash(path: &str) -> &str {
     }
 }
 
-/// Adds how a call ended.
+/// Appends the outcome of a call.
 fn push_outcome(text: &mut String, outcome: Outcome) -> Result<(), AllocError> {
     let (word, error) = match outcome {
         Outcome::Granted => return text.push_str(" granted"),

@@ -16,7 +16,7 @@ use std::io::Write;
 
 type Store = Refusing<MemFs>;
 
-/// A call of the store. Those on an open file are on the one that was opened last.
+/// A call of the store. Calls on an open file use the file that was opened last.
 #[derive(Drop)]
 pub enum StoreCall {
     Metadata(DavPath),
@@ -39,7 +39,8 @@ pub enum StoreCall {
 }
 
 impl StoreCall {
-    /// Reads the call of this name; none where the store has no such call, or one that an outline follows.
+    /// Reads the call of this name. Returns `None` if the store has no such call, or if an outline follows
+    /// the call.
     pub fn read(alloc: Global, name: &str, value: &str) -> Result<Option<StoreCall>, LineError> {
         let call = match name {
             "metadata" => StoreCall::Metadata(read_path(alloc, value)?),
@@ -69,7 +70,7 @@ impl StoreCall {
         Ok(Some(call))
     }
 
-    /// Makes the call, and prints what is answered.
+    /// Makes the call, and prints the result.
     pub fn make<O: Write>(
         self,
         alloc: Global,
@@ -104,7 +105,8 @@ impl StoreCall {
         }
     }
 
-    /// Makes a call on an open file, and prints what is answered, and for a seek or a write the file's place then.
+    /// Makes a call on an open file, and prints the result. After a seek or a write, also prints the file's
+    /// offset in bytes.
     fn make_on<O: Write>(
         self,
         alloc: Global,
@@ -163,7 +165,7 @@ fn read_open(alloc: Global, value: &str) -> Result<StoreCall, LineError> {
     Ok(StoreCall::Open(read_path(alloc, path)?, options))
 }
 
-/// Opens a file, and keeps it as the one that is open.
+/// Opens a file, and keeps it as the open file.
 fn open(
     store: &mut Store,
     path: &DavPath,
@@ -174,7 +176,8 @@ fn open(
     Ok(())
 }
 
-/// Writes bytes to an open file. Past the greatest place no store is asked.
+/// Writes bytes to an open file. If the end of the bytes does not fit in 64 bits, the store is not called and
+/// the result is `TooLarge`, unless the file is open for appending.
 fn write(store: &mut Store, file: &mut DavFile, bytes: &[u8]) -> FsResult<()> {
     if !file.append && file.pos.checked_add(bytes.len() as u64).is_none() {
         return Err(FsError::TooLarge);
@@ -182,7 +185,7 @@ fn write(store: &mut Store, file: &mut DavFile, bytes: &[u8]) -> FsResult<()> {
     store.write_bytes(file, bytes, &())
 }
 
-/// Changes properties, and prints what is answered. Without a change no store is asked.
+/// Changes properties, and prints the result. Without a change the store is not called.
 fn patch<O: Write>(
     alloc: Global,
     store: &mut Store,

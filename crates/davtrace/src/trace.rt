@@ -1,4 +1,4 @@
-//! A script of requests and of calls, in order.
+//! A script of requests and calls, in order.
 use crate::call::{CallLine, Heading};
 use crate::records::print_records;
 use dav_script::{
@@ -18,9 +18,9 @@ pub struct Trace {
 enum Step {
     /// One request.
     Request(Block),
-    /// Lines that call the store or the lock system themselves.
+    /// Lines that call the store or the lock system directly.
     Calls(Vec<CallLine>),
-    /// Requests that are served by one run, none or more.
+    /// Requests that are served in one run. There may be none.
     AtOnce(Vec<Block>),
 }
 
@@ -72,18 +72,18 @@ impl Script for Trace {
     }
 }
 
-/// What has been read of a script.
+/// The part of a script that was read.
 #[derive(Drop)]
 struct TraceReader {
     steps: Vec<Step>,
-    /// What reads the blocks with requests.
+    /// The reader of the blocks with requests.
     blocks: BlockReader,
-    /// The block of calls that further lines belong to.
+    /// The open block of calls, to which further lines belong.
     calls: Option<OpenCalls>,
 }
 
 impl TraceReader {
-    /// Reads the line of this number, without its line feed.
+    /// Reads the line with this number, without its line feed.
     fn read_line(&mut self, number: u64, line: &[u8]) -> Result<(), ScriptError> {
         if line.is_empty() {
             return self.end_block();
@@ -111,7 +111,7 @@ impl TraceReader {
         Ok(())
     }
 
-    /// Ends the block that is open, where one is.
+    /// Ends the open block, if there is one.
     fn end_block(&mut self) -> Result<(), ScriptError> {
         if let Some(block) = self.blocks.end_block()? {
             self.add_request(block)?;
@@ -122,7 +122,8 @@ impl TraceReader {
         Ok(())
     }
 
-    /// Adds a block with a request: to those that are served at once, where it follows them.
+    /// Adds a block with a request: to the requests that are served in one run if it follows them, otherwise
+    /// on its own.
     fn add_request(&mut self, block: Block) -> Result<(), AllocError> {
         if let Some(Step::AtOnce(blocks)) = self.steps.last_mut() {
             blocks.push(block)?;
@@ -132,7 +133,7 @@ impl TraceReader {
         Ok(())
     }
 
-    /// Adds a block of calls, and begins the requests that are served at once behind it, where it says so.
+    /// Adds a block of calls. If it says so, the requests that follow are collected for one run.
     fn add_calls(&mut self, calls: Vec<CallLine>) -> Result<(), AllocError> {
         let alloc = *calls.allocator();
         let at_once = calls.iter().any(CallLine::is_at_once);
@@ -144,15 +145,15 @@ impl TraceReader {
     }
 }
 
-/// A block of calls, of which some lines were read.
+/// A block of calls that is being read.
 #[derive(Drop)]
 struct OpenCalls {
     lines: Vec<CallLine>,
-    /// The line that an outline follows to which further lines belong.
+    /// The line whose outline is being read, to which further lines belong.
     outlined: Option<OutlinedLine>,
 }
 
-/// A line of which the outline is being read.
+/// A line whose outline is being read.
 #[derive(Drop)]
 struct OutlinedLine {
     number: u64,
@@ -161,7 +162,7 @@ struct OutlinedLine {
 }
 
 impl OpenCalls {
-    /// Reads the line of this number: a call, or a line of the outline that follows one.
+    /// Reads the line with this number: a call, or a line of the outline that follows one.
     fn read_line(&mut self, number: u64, line: &[u8]) -> Result<(), ScriptError> {
         let Ok(text) = str::from_utf8(line) else {
             return Err(ScriptError::Fault(number, Fault::NotUtf8));
@@ -191,7 +192,7 @@ impl OpenCalls {
         Ok(())
     }
 
-    /// The whole block.
+    /// Returns the whole block.
     fn end(mut self) -> Result<Vec<CallLine>, ScriptError> {
         if let Some(line) = self.outlined.take() {
             let call = line.end(*self.lines.allocator())?;
@@ -202,7 +203,7 @@ impl OpenCalls {
 }
 
 impl OutlinedLine {
-    /// The whole line. A tree that it can't have is its fault.
+    /// Returns the whole line. An outline that the line does not allow is a fault at the line's number.
     fn end(self, alloc: Global) -> Result<CallLine, ScriptError> {
         let OutlinedLine {
             number,

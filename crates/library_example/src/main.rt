@@ -1,4 +1,5 @@
-//! Serves three WebDAV requests over a store and a lock system in memory, and prints the replies and what is left.
+//! Executes three WebDAV requests against a store and a lock system in memory, and prints the responses and
+//! what is left.
 #![tactic(auto)]
 
 use anyhow::{Context, Result};
@@ -15,7 +16,7 @@ fn main(rt: HostRuntime) -> Result<()> {
     serve(&rt, &mut store, &mut locks)
 }
 
-/// The store and the lock system are lent to the engine under one lifetime.
+/// Executes the requests. The engine borrows the store and the lock system for one lifetime.
 fn serve<'a>(rt: &HostRuntime, store: &'a mut MemFs, locks: &'a mut MemLs) -> Result<()> {
     let alloc = rt.alloc();
     let hi = b"hi".to_vec(alloc)?;
@@ -24,7 +25,7 @@ fn serve<'a>(rt: &HostRuntime, store: &'a mut MemFs, locks: &'a mut MemLs) -> Re
         request(alloc, "PUT", "/d/a", ReqBody::Bytes(Items::from_vec(hi)))?,
         request(alloc, "LOCK", "/d/a", ReqBody::Tree(lock_info(alloc)?))?,
     ];
-    // No prefix, every method is let, and the store knows the caller by nothing.
+    // No prefix, all methods enabled, no credentials.
     let mut engine = DavInner::new(store, Some(locks), String::new(alloc), None, ());
     for reply in &engine.run(&requests)? {
         match reply {
@@ -32,7 +33,7 @@ fn serve<'a>(rt: &HostRuntime, store: &'a mut MemFs, locks: &'a mut MemLs) -> Re
             Err(error) => println!(rt; "{}", error.statuscode())?,
         }
     }
-    // Both come back as the requests have left them.
+    // Returns both, as the requests left them.
     let (store, _) = engine.finish();
     for (path, _, _) in &store.dump()? {
         println!(rt; "left: {}", path.as_url_string()?)?;
@@ -41,7 +42,7 @@ fn serve<'a>(rt: &HostRuntime, store: &'a mut MemFs, locks: &'a mut MemLs) -> Re
 }
 
 fn request(alloc: Global, method: &str, path: &str, body: ReqBody) -> Result<DavRequest> {
-    // What a lock of this request is known by; a server makes a new one for each request.
+    // The token of the lock that this request creates. A server makes a new one for each request.
     let token = String::from_str(alloc, "urn:lock:1")?;
     Ok(DavRequest {
         method: Method::from_bytes(alloc, method.as_bytes())?,
@@ -54,7 +55,7 @@ fn request(alloc: Global, method: &str, path: &str, body: ReqBody) -> Result<Dav
     })
 }
 
-/// The body of a LOCK that asks for an exclusive write lock; a server reads it from XML.
+/// Builds the body of a LOCK that asks for an exclusive write lock. A server reads it from XML.
 fn lock_info(alloc: Global) -> Result<Element> {
     let mut info = Element::new(alloc, "lockinfo")?;
     for (name, choice) in [("lockscope", "exclusive"), ("locktype", "write")] {
