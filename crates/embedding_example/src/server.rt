@@ -1,0 +1,86 @@
+//! A server's state, and how it serves one request after another.
+use dav_engine::{
+    Body, DavError, DavInner, DavLockSystem, DavPath, DavRequest, DavResult, FsResult,
+    GuardedFileSystem, UpdateRange, read_content_range, read_update_range,
+};
+use dav_memfs::MemFs;
+use dav_memls::MemLs;
+use http::{Response, StatusCode};
+use std::alloc::Global;
+
+/// The largest offset, in bytes, at which a partial update may begin. A write past the end of a file fills the gap with
+/// zeros, and a store in memory allocates them.
+const MAX_OFFSET: u64 = 1 << 30;
+
+/// The state of a server: the documents and the locks.
+#[derive(Drop)]
+pub struct Server {
+    alloc: Global,
+    store: MemFs,
+    locks: MemLs,
+}
+
+impl Server {
+    /// Creates a server that has only the root collection. Fails only if memory runs out.
+    pub fn new(alloc: Global) -> FsResult<Server> {
+        Ok(Server {
+            alloc,
+            store: MemFs::new(alloc)?,
+            locks: MemLs::new(alloc),
+        })
+    }
+
+    /// Executes one request. Removes the locks that have expired by its time first, and empties the log afterwards.
+    ///
+    /// A partial update past `MAX_OFFSET` fails with 507. Every other error is the engine's.
+    pub fn serve(&mut self, request: &DavRequest) -> DavResult<Response<Body>> {
+        self.store.set_now(request.now);
+        self.remove_expired(request.now)?;
+        if offset_of(request)? > MAX_OFFSET {
+            return Err(DavError::StatusClose(StatusCode::INSUFFICIENT_STORAGE));
+        }
+        let result = answer(self.alloc, &mut self.store, &mut self.locks, request);
+        GuardedFileSystem::<()>::clear_log(&mut self.store);
+        result
+    }
+
+    /// Removes each lock whose timeout has passed. Fails only if memory runs out.
+    fn remove_expired(&mut self, now: u64) -> DavResult<()> {
+        let mut expired: Vec<(DavPath, String)> = Vec::new(self.alloc);
+        for lock in self.locks.locks() {
+            if lock.timeout_at.is_some_and(|end| end <= now) {
+                let token = String::from_str(self.alloc, lock.token.as_str())?;
+                expired.push((lock.path.clone()?, token))?;
+            }
+        }
+        for (path, token) in &expired {
+            // `MemLs` never fails to remove a lock that exists.
+            let _ = self.locks.unlock(path, token.as_str());
+        }
+        Ok(())
+    }
+}
+
+/// Executes a request. The engine borrows the store and the lock system for one lifetime.
+fn answer<'a>(
+    alloc: Global,
+    store: &'a mut MemFs,
+    locks: &'a mut MemLs,
+    request: &DavRequest,
+) -> DavResult<Response<Body>> {
+    // No prefix, all methods allowed, no credentials for the store.
+    let mut engine = DavInner::new(store, Some(locks), String::new(alloc), None, ());
+    engine.serve(request)
+}
+
+/// The offset at which a partial update begins, in bytes, and 0 for any other request. The error is that of a
+/// malformed `Content-Range`.
+fn offset_of(request: &DavRequest) -> DavResult<u64> {
+    if let Some(range) = read_content_range(&request.headers)? {
+        return Ok(range.first);
+    }
+    match read_update_range(&request.headers)? {
+        Some(UpdateRange::FromTo(first, _) | UpdateRange::AllFrom(first)) => Ok(first),
+        _ => Ok(0),
+    }
+}
