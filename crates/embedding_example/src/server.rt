@@ -1,6 +1,6 @@
 //! A server's state, and how it serves one request after another.
 use dav_engine::{
-    Body, DavError, DavInner, DavLockSystem, DavPath, DavRequest, DavResult, FsResult,
+    Body, DavError, DavInner, DavLockSystem, DavMethod, DavPath, DavRequest, DavResult, FsResult,
     GuardedFileSystem, UpdateRange, read_content_range, read_update_range,
 };
 use dav_memfs::MemFs;
@@ -36,7 +36,7 @@ impl Server {
     pub fn serve(&mut self, request: &DavRequest) -> DavResult<Response<Body>> {
         self.store.set_now(request.now);
         self.remove_expired(request.now)?;
-        if offset_of(request)? > MAX_OFFSET {
+        if writes_too_far(request) {
             return Err(DavError::StatusClose(StatusCode::INSUFFICIENT_STORAGE));
         }
         let result = answer(self.alloc, &mut self.store, &mut self.locks, request);
@@ -68,19 +68,25 @@ fn answer<'a>(
     locks: &'a mut MemLs,
     request: &DavRequest,
 ) -> DavResult<Response<Body>> {
-    // No prefix, all methods allowed, no credentials for the store.
+    // No prefix, `Allow` may list all methods, no credentials for the store.
     let mut engine = DavInner::new(store, Some(locks), String::new(alloc), None, ());
     engine.serve(request)
 }
 
-/// The offset at which a partial update begins, in bytes, and 0 for any other request. The error is that of a
-/// malformed `Content-Range`.
-fn offset_of(request: &DavRequest) -> DavResult<u64> {
-    if let Some(range) = read_content_range(&request.headers)? {
-        return Ok(range.first);
+/// Whether the request is a partial update that begins past `MAX_OFFSET`. Headers that cannot be parsed are left to
+/// the engine, which rejects them.
+fn writes_too_far(request: &DavRequest) -> bool {
+    let method = DavMethod::from_method(&request.method);
+    if !matches!(method, Some(DavMethod::Put | DavMethod::Patch)) {
+        return false;
     }
-    match read_update_range(&request.headers)? {
-        Some(UpdateRange::FromTo(first, _) | UpdateRange::AllFrom(first)) => Ok(first),
-        _ => Ok(0),
-    }
+    let first = match (
+        read_content_range(&request.headers),
+        read_update_range(&request.headers),
+    ) {
+        (Ok(Some(range)), _) => range.first,
+        (_, Ok(Some(UpdateRange::FromTo(first, _) | UpdateRange::AllFrom(first)))) => first,
+        _ => 0,
+    };
+    first > MAX_OFFSET
 }
