@@ -30,7 +30,7 @@ def file_locks(count):
 
 
 def file_locks_and(request, *lines):
-    """The same, and a request for each, in which `{0}` stands for its number, and `{1}` for that of its lock."""
+    """The same, and a request for each, with its number in the place of `{0}` and that of its lock for `{1}`."""
     others = lambda it: block(*[line.format(it, it + 2) for line in (request, *lines)])
     return lambda count: script(*file_locks(count), *[others(it) for it in range(count)])
 
@@ -57,13 +57,13 @@ def find_names(count):
 
 
 def find_all_and_names(count):
-    """A PROPFIND of all properties that names so many besides."""
+    """A PROPFIND of all properties that also names so many."""
     asked = tree("D:propfind {DAV:}", "  D:allprop {DAV:}", "  D:include {DAV:}", *properties(count, 2))
     return block("PROPFIND /", "Depth: 0", *asked)
 
 
 def patch_one(*lines):
-    """A PROPPATCH of one property, in which these lines stand."""
+    """A PROPPATCH of one property with these lines in it."""
     return block("PROPPATCH /", *update_tree("      p", *lines))
 
 
@@ -128,8 +128,8 @@ def lock_loads():
     shallow = lambda n: [make("/d/"), *requests("LOCK", ["/d/"] * n, "Depth: 0", *lock_tree("shared"))]
     yield Load("PUTs below as many shared locks of Depth 0", 500, lambda n: script(*shallow(n), *[put("/d/f")] * n))
     asked = block("PROPFIND /d/", "Depth: 1", *find_tree("    D:lockdiscovery {DAV:}"))
-    told = lambda n: script(*members(n), *shallow(n)[1:], asked)
-    yield Load("lockdiscovery below as many shared locks of Depth 0", 250, told)
+    listed = lambda n: script(*members(n), *shallow(n)[1:], asked)
+    yield Load("lockdiscovery below as many shared locks of Depth 0", 250, listed)
     above = lambda n: requests("LOCK", ["/d/"] * n, *lock_tree("shared"))
     inside = lambda n: requests("LOCK", [f"/d/{it}" for it in range(n)], *lock_tree("shared"))
     yield Load("shared LOCKs above as many", 500, lambda n: script(make("/d/"), *inside(n), *above(n)))
@@ -140,8 +140,8 @@ def lock_loads():
     beside = lambda n: [make(name(n)), block(f"LOCK {name(n)}/x", *lock_tree()), put(name(n) + "/b" * n)]
     yield Load("a path as long as a name that has a lock below it", 2000, lambda n: script(*beside(n)))
     below = lambda n: script(*chain(n), block(f"LOCK {path_of(n)}", *lock_tree()), block("OPTIONS *"))
-    gone = lambda n: block("DELETE /a", f"If: (<urn:lock:{n + 1}>)")
-    yield Load("a LOCK below as many directories", 50, lambda n: script(below(n), gone(n)))
+    removed = lambda n: block("DELETE /a", f"If: (<urn:lock:{n + 1}>)")
+    yield Load("a LOCK below as many directories", 50, lambda n: script(below(n), removed(n)))
     yield Load("a LOCK of a path that isn't there", 200, lambda n: block(f"LOCK {path_of(n)}", *lock_tree()))
 
 
@@ -187,11 +187,11 @@ def property_loads():
 def nesting_loads():
     delete = lambda *keys: script(*requests("DELETE", keys))
     litmus = ("X-Litmus: 1", "Depth: infinity", *find_tree("    D:resourcetype {DAV:}"))
-    told, copied = block("PROPFIND /a", *litmus), block("COPY /a", "Destination: /b")
+    listed, copied = block("PROPFIND /a", *litmus), block("COPY /a", "Destination: /b")
     yield Load("nested directories that are left", 25, chain_and())
     yield Load("nested directories that are deleted", 50, chain_and(delete("/a")))
     yield Load("nested directories that copies make", 50, doubled)
-    yield Load("nested directories that are told", 50, chain_and(told, delete("/a")))
+    yield Load("nested directories that are listed", 50, chain_and(listed, delete("/a")))
     yield Load("nested directories that are copied", 50, chain_and(copied, delete("/a", "/b")))
     yield Load("nested directories that are moved", 50, chain_and(block("MOVE /a", "Destination: /b"), delete("/b")))
 
@@ -214,13 +214,13 @@ def measure(load, size):
 
 
 def growth(rows, idle):
-    """How much longer a byte takes in the greatest size than in the least, but for what an empty script takes."""
+    """How much longer a byte takes in the greatest size than in the least, without what an empty script takes."""
     a_byte = lambda row: max(row.seconds - idle, 0.001) / row.bytes
     return a_byte(rows[-1]) / a_byte(rows[0])
 
 
 def try_load(load):
-    """Measures a load in four sizes, and gives what it took and what is wrong with that."""
+    """Measures a load in four sizes, and returns what it took and what is wrong with that."""
     idle, size = run(b"").seconds, load.first
     while size < load.greatest and measure(load, size).seconds - idle < ENOUGH:
         size = min(2 * size, load.greatest)
@@ -235,7 +235,7 @@ def try_load(load):
 
 
 def try_loads(words):
-    """Measures each load whose name holds one of the words, and gives its name and what is wrong."""
+    """Measures each load whose name has one of the words, and yields its name and what is wrong."""
     for load in (it for group in LOADS for it in group()):
         if not words or any(it in load.name for it in words):
             took, wrong = try_load(load)

@@ -1,4 +1,4 @@
-"""Scripts for the built davrun, how they run, and what must come of them: what tools/hostile stands on."""
+"""Scripts for the built davrun, how they run, and how they must end: what tools/hostile uses."""
 import collections
 import os
 import pathlib
@@ -8,7 +8,8 @@ import subprocess
 import tempfile
 import typing
 
-TOP = pathlib.Path(__file__).resolve().parent.parent
+from tool import TOP
+
 PROGRAM = os.environ.get("DAVRUN", TOP / "crates/davrun/out/davrun")
 
 MEGABYTE = 1_000_000
@@ -67,7 +68,7 @@ def limit(limits, seconds, memory):
 
 
 def run(script, arguments=(), limits={}, seconds=SECONDS, memory=MEMORY, **streams):
-    """How the program ends on a script, and what it took. Streams may stand in the place of its own."""
+    """How the program ends on a script, and what it took. Streams may replace its own."""
     with tempfile.TemporaryFile() as wrote, tempfile.TemporaryFile() as said, tempfile.TemporaryFile() as read:
         read.write(script)
         read.seek(0)
@@ -83,7 +84,7 @@ def run(script, arguments=(), limits={}, seconds=SECONDS, memory=MEMORY, **strea
 
 
 def ill_ended(ran, seconds):
-    """What is wrong with a run whatever its script is, where something is."""
+    """What is wrong with a run whatever its script is, if anything is."""
     if ran.status in (-signal.SIGXCPU, -signal.SIGKILL) or ran.seconds > seconds:
         return f"it took {ran.seconds:.1f} s, and may take {seconds}"
     if ran.status < 0:
@@ -101,7 +102,7 @@ def shown(text):
 
 
 def ended(status, said, wrote=None):
-    """It ends with this status and message and, where that is given, this output."""
+    """It ends with this status and message and, if that is given, this output."""
 
     def judge(ran):
         if (ran.status, ran.said) != (status, said):
@@ -113,13 +114,13 @@ def ended(status, said, wrote=None):
 
 
 def fault(line, text):
-    """The script isn't served, for this fault."""
+    """The script is not served, for this fault."""
     return ended(2, f"line {line}: {text}\n".encode(), b"")
 
 
-def served(replies, resources=None, locks=None, told=()):
-    """The script is served: each block has the reply of this status. Then these are left, without those that are always
-    there or where they are given, and these lines are among those that are printed."""
+def served(replies, resources=None, locks=None, lines=()):
+    """The script is served: each block has a response of this status. The resources (except the root) and the locks
+    that remain are these, if they are given, and these lines are among those that are printed."""
 
     def judge(ran):
         if ran.status or ran.said:
@@ -133,9 +134,9 @@ def served(replies, resources=None, locks=None, told=()):
         for what, (got, right) in wanted.items():
             if right is not None and got != right:
                 return f"{what}: {difference(got, right)}"
-        lines = set(ran.wrote.split(b"\n"))
-        for line in map(to_bytes, told):
-            if line not in lines:
+        got = set(ran.wrote.split(b"\n"))
+        for line in map(to_bytes, lines):
+            if line not in got:
                 return f"no line {shown(line)}"
 
     return judge
@@ -199,17 +200,17 @@ def lock_tree(scope="exclusive", *owner):
 
 
 def update_tree(*lines):
-    """The body that sets properties; their lines stand four levels in."""
+    """The body that sets properties; their lines are four levels in."""
     return tree("D:propertyupdate {DAV:}", "  D:set {DAV:}", "    D:prop {DAV:}", *lines)
 
 
 def find_tree(*lines):
-    """The body that asks for properties; their lines stand two levels in."""
+    """The body that requests properties; their lines are two levels in."""
     return tree("D:propfind {DAV:}", "  D:prop {DAV:}", *lines)
 
 
 def nested(first, last):
-    """Elements that stand in each other, from one level to another, which begin at 0."""
+    """Elements within each other, from one level to another, which begin at 0."""
     return ["  " * it + "x" for it in range(first, last + 1)]
 
 
