@@ -44,7 +44,7 @@ pub record CopiesSourceInPart (depth : Depth) (source destination : PathValue) (
 abbrev pub Copies : Depth → PathValue → Transfer → State → List Logged → List Item → State → Type 0
 Copies depth source found = Replaces (CopiesSource depth source found.destination) (is_some (replaced depth found.there)) found.destination
 
--- memory ran out in the removal at the destination, or in the copy
+-- memory ran out in the removal at the destination, in the copy, or after it
 abbrev pub CopiesSoFar : Depth → PathValue → Transfer → State → List Logged → State → Type 0
 CopiesSoFar depth source found = ReplacesInPart (CopiesSourceInPart depth source found.destination) (is_some (replaced depth found.there)) found.destination
 

@@ -1,5 +1,5 @@
 -- What a request may change, and what its result says, in a user's terms. Each law follows from the method's definition (RFC 4918, sections 9.1, 9.2,
--- 9.6, 9.7, 9.9, 9.10 and 13).
+-- 9.6 to 9.10 and 13).
 use Rattle.std.specs.Prelude.{◌≡◌, ◌≢◌, ◌⊎◌, ◌||◌, nat_eq, Bool, true, false, List, [], ◌++◌, map, Option, None, option_map, Ok, Err}
 use Rattle.std.specs.FinMap.{get}
 use Rattle.std.specs.List.{list_all}
@@ -208,8 +208,8 @@ StoresNothingBesideRefused settings request old new =
 
 -- ---- PROPFIND
 
--- The response reports some list of resources. Their keys are the range of the Depth by the records that the log gained (`TellsRange`). It does not
--- say which properties are reported.
+-- The response reports some list of resources. Their keys are those that the Depth reaches, except members hidden by a listing that was not granted
+-- (`TellsRange`). It does not say which properties are reported.
 pub record ShowsRange (request : DavRequest) (old : Seen) (reply : Reply) (new : Seen) : Type 0 where
   pub found : Meta × Asking
   pub visits : List Visit

@@ -77,7 +77,7 @@ MovesInPart source destination old records new = ((records ≡ []) × (new ≡ o
 abbrev pub Moves : PathValue → Transfer → State → List Logged → List Item → State → Type 0
 Moves source found = Replaces (MovesSource source found.destination) (is_some found.there) found.destination
 
--- memory ran out in the removal at the destination, or in the renaming
+-- memory ran out in the removal at the destination, in the renaming, or after it
 abbrev pub MovesSoFar : PathValue → Transfer → State → List Logged → State → Type 0
 MovesSoFar source found = ReplacesInPart (MovesInPart source found.destination) (is_some found.there) found.destination
 

@@ -22,7 +22,7 @@ options_rules request state = if request.path.star then Passed None else look st
 
 -- ---- the methods by kind of resource
 
--- nothing exists: the methods that may create something, and OPTIONS
+-- nothing exists: OPTIONS, MKCOL, PUT and LOCK, but not PATCH, which may also create a file
 abbrev pub missing_methods : List DavMethod
 missing_methods = Options ∷ MkCol ∷ Put ∷ Lock ∷ []
 

@@ -52,8 +52,8 @@ abbrev pub unless_some_refused : DavRequest → Option Meta → List Change → 
 unless_some_refused request found changes =
     if some_refused changes then Refuses (Ok (proppatch_reply request.path found (grouped (told_failed changes)))) else Passed (found, changes)
 
--- after `found_rules` the body is read, and each change gets its status before the store is asked, which depends on whether it supports dead
--- properties
+-- after `found_rules` the body is read, and each change gets its status before the store is asked; the status depends on whether the store supports
+-- dead properties
 abbrev pub proppatch_rules : Bool → DavRequest → State → Dialogue Update
 proppatch_rules keeps request state =
     found_rules request state >>= λ found.

@@ -22,14 +22,14 @@ known_headers meta =
     option_map_or (λ tag. field (codes "etag") (quoted tag) ∷ []) meta.etag []
     ++ option_map_or (λ secs. field (codes "last-modified") (http_date_text secs) ∷ []) (shown_change meta) []
 
--- the header fields of the response: `accept-ranges`, `content-length` if the file is new, and those for its present metadata, if known
+-- the header fields of the response: `accept-ranges`, `content-length` if the lookup found nothing, and those for the file's metadata now, if known
 abbrev pub put_headers : Option Meta → Option Meta → Entries FieldValue
 put_headers found meta =
     field (codes "accept-ranges") (codes "bytes") ∷ []
     ++ (if is_some found then [] else field (codes "content-length") (codes "0") ∷ [])
     ++ option_map_or known_headers meta []
 
--- 204 if the file existed before, else 201
+-- 204 if the lookup found something at the path, else 201 (also if the lookup failed, whatever exists there)
 abbrev pub put_reply : Option Meta → Option Meta → Reply
 put_reply found meta = bare_reply (if is_some found then 204 else 201) (put_headers found meta)
 
@@ -39,6 +39,6 @@ put_reply found meta = bare_reply (if is_some found then 204 else 201) (put_head
 abbrev pub shown_tag : Option Meta → Option (List ℕ)
 shown_tag meta = option_and_then (λ m. m.etag) meta
 
--- the value of `content-length`, 0, if the file is new
+-- the value of `content-length`, 0, if the lookup found nothing
 abbrev pub empty_length : Option Meta → Option FieldValue
 empty_length found = if is_some found then None else Some (plain_value (codes "0"))

@@ -102,8 +102,8 @@ abbrev pub permits_transfer : Bool → Option (List DavLock) → DavRequest → 
 permits_transfer moving locks request tokens destination =
     (not moving || permits_by locks request.path.key request.principal true tokens) && permits_by locks destination request.principal true tokens
 
--- In order: the Depth and the destination, a lookup of the source, of the destination's parent and of the destination, whether the destination is
--- allowed, the conditions, and the locks (423).
+-- In order: the Depth and the destination, a lookup of the source, of the destination's parent and of the destination, whether the destination may be
+-- replaced and is allowed (`place_verdict`), the conditions, and the locks (423).
 abbrev pub transfer_rules : Bool → Settings → DavRequest → State → Dialogue Transfer
 transfer_rules moving settings request state =
     judged (asked_destination moving settings request) >>= λ destination.

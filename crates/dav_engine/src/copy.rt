@@ -36,9 +36,9 @@ impl<'a, C: Drop, F: GuardedFileSystem<C>, L: DavLockSystem> DavInner<'a, C, F, 
     /// reported for the source itself, the response has its status instead. If the destination is below the
     /// source, what was at or below the destination is not copied.
     ///
-    /// If the removal succeeded and Depth is not 0, the response reports for each other resource that is not
-    /// copied its path, its destination, or a path above one of these. With Depth 0, a directory that is
-    /// copied onto a directory leaves it as it is, and that it exists is not reported.
+    /// If the removal succeeded and Depth is not 0, each other resource that is not copied is reported: the
+    /// response lists its path, its destination, or a path above one of these. With Depth 0, a directory that
+    /// is copied onto a directory leaves it as it is, and that it exists is not reported.
     ///
     /// Errors, checked in this order. After each of them the store's contents and the locks are as before.
     /// - 400 for Depth 1.
@@ -51,7 +51,7 @@ impl<'a, C: Drop, F: GuardedFileSystem<C>, L: DavLockSystem> DavInner<'a, C, F, 
     /// - 403 if source and destination are the same or, unless Depth is 0, if the source is below the
     ///   destination.
     /// - The status of a condition that does not hold (RFC 7232; RFC 4918, section 10.4).
-    /// - 423 if the locks at or below the destination do not permit the request.
+    /// - 423 if the locks that cover the destination, or are below it, do not permit the request.
     ///
     /// `Memory` can come at any time. What was removed or copied by then stays so. The locks at the
     /// destination are dropped only after everything there was removed.
@@ -110,7 +110,11 @@ impl<'a, C: Drop, F: GuardedFileSystem<C>, L: DavLockSystem> DavInner<'a, C, F, 
     ///
     /// A failed call adds a status for the path that is copied, or for its destination if a directory cannot
     /// be created. With Depth 0 it is no failure that the directory already exists. If the store does not
-    /// list a member, a status is added for the directory, and the rest of its members is not copied.
+    /// list a member, a status is added for the directory, and other members of it may be left uncopied.
+    ///
+    /// Unless Depth is 0 or `source` is `topdest`, the caller ensures that the source exists and is not at or
+    /// below `topdest`, that `dest` is at or below `topdest`, that nothing exists at `dest`, and that its
+    /// parent is a directory.
     ///
     /// Errors: `Status` of the first failure, if one was added; `Memory`. What was copied stays so.
     pub fn do_copy(

@@ -34,7 +34,7 @@ impl<'a, C: Drop, F: GuardedFileSystem<C>, L: DavLockSystem> DavInner<'a, C, F, 
     /// - 400 for Depth 1.
     /// - The store's error if the lookup of the path fails.
     /// - The status of a condition that does not hold (RFC 7232; RFC 4918, section 10.4).
-    /// - 423 if the locks at or below the path do not permit the request.
+    /// - 423 if the locks that cover the path, or are below it, do not permit the request.
     ///
     /// `Memory` can come at any time. What was removed by then stays removed. The locks are dropped only
     /// after everything was removed.
@@ -48,8 +48,8 @@ impl<'a, C: Drop, F: GuardedFileSystem<C>, L: DavLockSystem> DavInner<'a, C, F, 
         self.delete_found(request, &meta)
     }
 
-    /// Checks the rules: the Depth, the lookup of the path, the conditions, and the locks at and below the
-    /// path. Returns what was found.
+    /// Checks the rules: the Depth, the lookup of the path, the conditions, and the locks that cover the path
+    /// or are below it. Returns what was found.
     fn judge_delete(&mut self, request: &DavRequest) -> DavResult<Meta>
         ensures same_engine { frame self.new ≡ frame self.old }
         ensures same_locks { lent_locks self.new ≡ lent_locks self.old }

@@ -38,10 +38,11 @@ impl<'a, C: Drop, F: GuardedFileSystem<C>, L: DavLockSystem> DavInner<'a, C, F, 
     /// (RFC 4918, section 7.3). The body says whether the lock is shared or exclusive. With Depth 0 it covers
     /// only the path, else also everything below it. It lasts as long as `get_timeout` says. A request
     /// without a body, or with an empty one, refreshes the lock whose token is in its header `If`, and
-    /// returns 200.
+    /// returns 200. Its conditions are not checked. The new timeout is that of an exclusive lock, even if the
+    /// lock is shared.
     ///
     /// Errors of a new lock, checked in this order. After each of them, and after `Memory`, no file has been
-    /// created and no lock is left, but a lock system that is not reliable may have kept it.
+    /// created and no lock added, except that a lock system that is not reliable may keep the new lock.
     /// - 405 without a lock system.
     /// - 400 for Depth 1.
     /// - The status of a condition that does not hold (RFC 7232; RFC 4918, section 10.4).

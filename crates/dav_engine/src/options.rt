@@ -66,14 +66,14 @@ const FILE: [DavMethod; 11] = [
 ];
 
 impl<'a, C: Drop, F: GuardedFileSystem<C>, L: DavLockSystem> DavInner<'a, C, F, L> {
-    /// Returns 200 with the methods for the resource at the path in `Allow`, and the compliance classes of
-    /// the server in `DAV`. A failed lookup counts as nothing there. For `*` there is no lookup. Executes any
-    /// request as OPTIONS, whatever its method.
+    /// Returns 200. `Allow` lists methods for the resource at the path, `DAV` the compliance classes of the
+    /// server. A failed lookup counts as nothing there. For `*` there is no lookup. Executes any request as
+    /// OPTIONS, whatever its method.
     ///
-    /// `Allow` lists methods by the kind of what was found, and of these only the ones that are enabled
-    /// (`allow` of `new`). LOCK and UNLOCK need a lock system. The request's own method is not listed, unless
-    /// it is OPTIONS. HEAD and GET may be listed, though the engine itself answers them with 501. Conditions,
-    /// locks and the body are not checked.
+    /// Which methods `Allow` lists depends on what was found. It lists only enabled ones (`allow` of `new`),
+    /// and LOCK and UNLOCK only with a lock system. The request's own method is not listed, unless it is
+    /// OPTIONS. PROPPATCH is never listed, though the engine executes it. HEAD and GET may be listed, though
+    /// the engine itself answers them with 501. Conditions, locks and the body are not checked.
     ///
     /// The only error is `Memory`. The store's contents and the locks never change.
     pub fn handle_options(&mut self, request: &DavRequest) -> DavResult<Response<Body>>

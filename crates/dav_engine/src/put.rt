@@ -34,10 +34,12 @@ impl<'a, C: Drop, F: GuardedFileSystem<C>, L: DavLockSystem> DavInner<'a, C, F, 
     /// request of any method but PATCH is executed as PUT.
     ///
     /// A PUT replaces the whole file, unless its Content-Range names a part of it. A PATCH writes the body at
-    /// the offset that X-Update-Range names, or at the end of the file. If the file ends before the offset,
-    /// zeros fill the gap. No body counts as an empty one.
+    /// the offset that X-Update-Range names, or at the end of the file. A Content-Range also applies to a
+    /// PATCH: its offset replaces the one of X-Update-Range, but an append still appends. If the file ends
+    /// before the offset and the body is not empty, zeros fill the gap. No body counts as an empty one.
     ///
-    /// Errors until the file is opened, after which nothing has changed:
+    /// Errors before the file is opened. After each of them nothing has changed. Each status here and in the
+    /// next paragraph is a `StatusClose`: the server closes the connection. The store's errors are not.
     /// - Only for a PATCH: 415, 411 and 400 unless it is a partial update with a length and a range.
     /// - 400 for a Content-Range that cannot be read.
     /// - 416 for a range that cannot be satisfied, or that does not have the stated length.
@@ -46,9 +48,9 @@ impl<'a, C: Drop, F: GuardedFileSystem<C>, L: DavLockSystem> DavInner<'a, C, F, 
     /// - The status of a condition that does not hold (RFC 7232; RFC 4918, section 10.4).
     /// - 423 if the locks do not permit the request.
     /// - 400 for a body that is not bytes, or that does not have the stated length.
-    /// - If the file cannot be opened: with If-Match or If-None-Match `*`, 412 if its parent is not a
-    ///   collection or if the condition does not hold after all; without them, 409 if its parent is not a
-    ///   collection; else the store's error.
+    /// - If the file cannot be opened with `If-Match: *` or `If-None-Match: *`: 412 if its parent is not a
+    ///   collection or if the condition does not hold after all. Without them: 409 if its parent is not a
+    ///   collection. Else the store's error.
     ///
     /// Errors after that: 416 if the store refuses the offset, and the store's error if it refuses to write
     /// or flush. The file is then as it was opened, empty or with the bytes that are kept, or it has the

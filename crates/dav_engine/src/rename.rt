@@ -41,7 +41,8 @@ impl<'a, C: Drop, F: GuardedFileSystem<C>, L: DavLockSystem> DavInner<'a, C, F, 
     /// - 412 if something is there and Overwrite is `F`.
     /// - 403 if source and destination are the same, or if one is below the other.
     /// - The status of a condition that does not hold (RFC 7232; RFC 4918, section 10.4).
-    /// - 423 if the locks at or below the source, or at or below the destination, do not permit the request.
+    /// - 423 if the locks that cover the source or the destination, or are below one of them, do not permit
+    ///   the request.
     ///
     /// `Memory` can come at any time. What was removed by then stays removed, and the source may have been
     /// moved. Locks at the destination are dropped only after everything there was removed, and locks at the

@@ -14,7 +14,7 @@ use Rattle.dav_parts.specs.Conditions.{locks_in}
 use Rattle.dav_find.specs.Finding.{View}
 use Rattle.dav_find.specs.declared.finding.Finder.{Finder}
 
--- the view of a finder, over a store that keeps properties or does not
+-- the view of a finder, over a store that supports dead properties or does not
 abbrev pub view_of : {C L : Type 0} → (L → Locks) → Finder C L → Bool → View
 view_of seen finder keeps =
     record {

@@ -25,7 +25,7 @@ use Rattle.dav_find.specs.declared.search.AskedProperty.{AskedProperty}
 use Rattle.dav_find.specs.declared.finding.Found.{Found}
 use Rattle.dav_find.specs.Asked.{names_only, named_only}
 
--- the kind of search, whether the store keeps properties, the locks if there is a lock system, and the principal and client of the request
+-- the kind of search, whether the store supports dead properties, the locks if there is a lock system, and the principal and client of the request
 pub record View : Type 0 where
   pub kind : FindKind
   pub keeps : Bool
@@ -89,7 +89,7 @@ find_live view contents here element property quota =
 abbrev pub name_in : Tree → Key
 name_in element = property_key element.tag.namespace element.tag.name
 
--- the property is looked up only for `prop`, if the store keeps properties and can keep this one
+-- the property is looked up only for `prop`, if the store supports dead properties and can keep this one
 abbrev pub is_looked_up : View → Tree → Bool
 is_looked_up view element = view.keeps && named_only view.kind && is_kept element
 
@@ -135,7 +135,7 @@ find_each view contents here (asked ∷ more) quota =
 abbrev pub AreKept : Contents → Key → List Tree → Type 0
 AreKept contents key kept = IsPermutation (map (λ e. e.1) (entries (properties_at contents key))) kept
 
--- the `get_props` call, of a store that keeps properties
+-- the `get_props` call, of a store that supports dead properties
 abbrev pub props_call : Contents → Key → Call
 props_call contents key = get_props_call (record { contents = contents; keeps_properties = true; log = [] }) key
 

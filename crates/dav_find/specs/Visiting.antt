@@ -26,7 +26,7 @@ response_of visit = property_response visit.path (grouped visit.told)
 
 -- ---- what a Depth reaches
 
--- the target itself is reported unless no Depth is given. RFC 4918, section 10.2, would treat that as infinity. Here, as in the Rust crate, only the
+-- the target itself is reported unless no Depth is given. RFC 4918, section 9.1, would treat that as infinity. Here, as in the Rust crate, only the
 -- members of the target are reported.
 abbrev pub is_shown : Depth → Bool
 is_shown Default = false

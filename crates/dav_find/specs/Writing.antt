@@ -83,7 +83,7 @@ module _ {C L : Type 0} (seen : L → Locks) (finder : Finder C L) where
   abbrev pub StopsBy : Bool → Bool → Resource → Option QuotaTold → Store → Store → Type 0
   StopsBy shown listed here quota old new = IsVisitedInPart (view_of seen finder old.keeps_properties) finder.search.now.asked.items shown listed here quota old new
 
--- if the resource exists, fewer keys are pending afterwards
+-- if the resource exists, fewer keys are pending afterwards than before it was taken
 abbrev pub TakesAway : Contents → Resource → List Resource → List Resource → Type 0
 TakesAway contents here before after =
     contents.metas here.path.key ≡ Some here.meta → 0 < count_below here.path.key (keys contents.tree) → AreFewer contents here.path.key before after

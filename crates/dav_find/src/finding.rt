@@ -176,9 +176,9 @@ impl<'r, C, L: DavLockSystem> Finder<'r, C, L> {
 
     /// Returns the elements of all properties that the store keeps for the path, by one `get_props` call.
     ///
-    /// For `prop`, and if the store keeps no properties, there is no call and the result is empty. If the
-    /// call failed, the result is a status: that of the refusal if the store refused the call, 404 if it was
-    /// barred. The only error is `Memory`.
+    /// For `prop`, and if the store does not support dead properties, there is no call and the result is
+    /// empty. If the call failed, the result is a status: that of the refusal if the store refused the call,
+    /// 404 if it was barred. The only error is `Memory`.
     pub(crate) fn find_stored<F: GuardedFileSystem<C>>(
         &self,
         fs: &mut F,
@@ -197,7 +197,8 @@ impl<'r, C, L: DavLockSystem> Finder<'r, C, L> {
         }
     }
 
-    /// Returns whether the store is asked for all properties it keeps. `keeps` says whether it keeps any.
+    /// Returns whether the store is asked for all properties it keeps. `keeps` says whether it supports dead
+    /// properties.
     fn is_all_sought(&self, keeps: bool) -> bool
         ensures { result ≡ is_all_sought_in (view_of L.seen self.now keeps) }
     {
@@ -205,7 +206,7 @@ impl<'r, C, L: DavLockSystem> Finder<'r, C, L> {
     }
 
     /// Returns whether the store is asked for this property by its name: for `prop`, if the store can keep
-    /// it. `keeps` says whether the store keeps any.
+    /// it. `keeps` says whether the store supports dead properties.
     fn is_looked_up(&self, keeps: bool, element: &Element) -> bool
         ensures { result ≡ is_looked_up_in (view_of L.seen self.now keeps) element.now }
     {

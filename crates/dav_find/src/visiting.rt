@@ -24,7 +24,8 @@ impl<'r, C, L: DavLockSystem> Finder<'r, C, L> {
     /// directory's listing fails, its members are left out, with everything below them. So is a member that
     /// the store does not list.
     ///
-    /// The only error is `Memory`. Nothing changes except the store's log.
+    /// The caller ensures that the target exists and has this metadata. The only error is `Memory`. Nothing
+    /// changes except the store's log.
     pub fn propfind_directory<F: GuardedFileSystem<C>>(
         &self,
         fs: &mut F,

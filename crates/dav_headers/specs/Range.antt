@@ -22,7 +22,8 @@ both_numbers parts = option_zip (number_in parts.0) (number_in parts.1)
 
 -- ---- X-Update-Range
 
--- the range from the strings before and after the `-`: without the first that many bytes at the end, without the second all from the first on
+-- the range from the strings before and after the `-`: if the first is empty, the second is a number of bytes at the end; if the second is empty,
+-- everything from the first on
 abbrev pub range_between : List ℕ × List ℕ → Option UpdateRange
 range_between parts =
     if length parts.0 == 0 then option_map Last (number_in parts.1) else (

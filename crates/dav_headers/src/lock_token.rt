@@ -8,7 +8,7 @@ use dav_resource::DavResult;
 use http_header::{HeaderMap, HeaderValue};
 
 /// Reads Lock-Token (RFC 4918, section 10.5): the token of the lock that the request is about. All `<` and
-/// `>` at both ends are removed, and blanks inside of them stay. Returns `None` if there is no such header,
+/// `>` at both ends are removed, and blanks inside them stay. Returns `None` if there is no such header,
 /// or its first value is not readable. An empty token is returned as the empty string. Never returns an
 /// error.
 pub fn read_lock_token(headers: &HeaderMap<HeaderValue>) -> DavResult<Option<&str>>

@@ -122,8 +122,8 @@ fn none_match_status(method: Option<DavMethod>) -> StatusCode
 /// it holds.
 ///
 /// Lists are evaluated in order up to the first that holds. A list is evaluated up to its first condition
-/// that does not hold. A condition on an entity tag looks up the path that its list applies to, once. If that
-/// path cannot be parsed, there is no lookup. The only error is `Memory`.
+/// that does not hold. Each condition on an entity tag that is evaluated makes one lookup of the path that its
+/// list applies to. If that path cannot be parsed, there is no lookup. The only error is `Memory`.
 pub fn dav_if_match<C, F: GuardedFileSystem<C>, L: DavLockSystem>(
     alloc: Global,
     req: &DavRequest,

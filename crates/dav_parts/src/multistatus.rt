@@ -48,8 +48,8 @@ pub fn xml_headers(alloc: Global) -> DavResult<HeaderMap<HeaderValue>>
     Ok(headers)
 }
 
-/// Appends the header field `content-type` for XML in UTF-8 (RFC 4918, section 8.2). The only error is
-/// `Memory`, and then the fields are unchanged.
+/// Appends the header field `content-type` for XML in UTF-8 (RFC 4918, section 8.2). The caller ensures that it
+/// is not set yet, as for `add_header`. The only error is `Memory`, and then the fields are unchanged.
 pub fn add_xml_type(headers: &mut HeaderMap<HeaderValue>) -> DavResult<()>
     requires { HasRoomFor headers.old (codes "content-type") }
     ensures ok { OnOk result (headers.new ≡ headers.old ++ field (codes "content-type") xml_type ∷ []) }

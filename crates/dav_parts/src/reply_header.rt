@@ -7,8 +7,9 @@ ghost use Rattle.dav_parts.specs.ReplyHeader.{HasRoomFor, optional_field};
 use dav_resource::DavResult;
 use http_header::{HeaderMap, HeaderName, HeaderValue};
 
-/// Appends a header field if there is a value for it, else leaves the fields unchanged. The only error is
-/// `Memory`, and then the fields are unchanged.
+/// Appends a header field if there is a value for it, else leaves the fields unchanged. The caller ensures that
+/// the name is not set yet, and that there are at most 100 names and 100 values. The only error is `Memory`, and
+/// then the fields are unchanged.
 pub fn add_header(
     headers: &mut HeaderMap<HeaderValue>,
     name: HeaderName,
@@ -26,7 +27,8 @@ pub fn add_header(
     Ok(())
 }
 
-/// Returns the value of a header field with this string. The only error is `Memory`.
+/// Returns the value of a header field with this string. The caller ensures that it is a valid value. The only
+/// error is `Memory`.
 pub fn header_value(text: String) -> DavResult<HeaderValue>
     requires { IsFieldValue (string_bytes text) }
     ensures ok { IfOk result (λ value. value ≡ plain_value (string_bytes text)) }

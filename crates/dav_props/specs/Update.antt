@@ -76,8 +76,8 @@ patches_of changes = map patch_of (filter is_dead changes)
 
 -- ---- how the changes are reported
 
--- If some change is rejected, every change that is not rejected itself fails with 424. If the store had to set the property, it is reported with its
--- value.
+-- If some change is rejected, every change that is not itself rejected is reported with 424: with its value if the store would have set the property,
+-- else by name.
 abbrev pub failed : Change → Told
 failed change =
     if is_refused change then (change.status, bare change.element)

@@ -38,8 +38,9 @@ pub fn patches(
     Ok(patches)
 }
 
-/// Groups the properties by status if a change was rejected. A change that was not rejected itself fails with
-/// 424. Fails only if memory runs out.
+/// Groups the properties by status if a change was rejected. Every change that was not itself rejected is
+/// reported with 424. A property that the store would have set is reported with its value, every other one by
+/// name. Fails only if memory runs out.
 pub fn tell_failed(
     alloc: Global,
     changes: &[PropertyChange<'_>],

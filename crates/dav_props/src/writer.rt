@@ -24,7 +24,8 @@ pub struct PropWriter {
 
 impl PropWriter {
     /// Creates a writer without a `response`. Sets the status of `res` to 207 and appends the header field
-    /// `content-type`. The only error is `Memory`, and then `res` is unchanged.
+    /// `content-type`, which the caller ensures is not set yet, as for `add_header`. The only error is
+    /// `Memory`, and then `res` is unchanged.
     pub fn new(alloc: Global, res: &mut Response<Body>) -> DavResult<PropWriter>
         requires { HasRoomFor (reply_of res.old).headers (codes "content-type") }
         ensures empty { IfOk result (λ writer. writer.tree ≡ property_multistatus []) }
@@ -50,7 +51,8 @@ impl PropWriter {
     }
 
     /// Writes one more `response`: a resource's path, and its properties grouped by status, the least status
-    /// first (RFC 4918, section 14.24). The only error is `Memory`, and then nothing was written.
+    /// first (RFC 4918, section 14.24). The caller ensures that the keys of `props` are status codes. The only
+    /// error is `Memory`, and then nothing was written.
     pub fn write_propresponse(
         &mut self,
         path: &DavPath,

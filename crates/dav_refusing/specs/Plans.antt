@@ -78,7 +78,7 @@ without_first op key plan = with_errors op key (drop 1 (plan op key)) plan
 
 -- ---- listings
 
--- an entry, or the error with which it is not listed
+-- an entry, or the error in its place
 abbrev pub shown_as : Option FsError → DirEntry → Result DirEntry FsError
 shown_as None entry = Ok entry
 shown_as (Some e) entry = Err e

@@ -30,8 +30,8 @@ use std::alloc::Global;
 /// A store that wraps another store and refuses calls by plan or by number. It passes on each call for which
 /// no error is due.
 ///
-/// Each refusal is used once. A refused call is recorded in a log of its own, and so is each call that was
-/// passed on. A call that runs out of memory uses up no refusal and leaves no record.
+/// Each refusal is used once. The wrapper has its own log, with a record of each refused call and of each call
+/// that was passed on. A call that runs out of memory uses up no refusal and leaves no record.
 ///
 /// In a listing that was passed on, a member for which the plan has a refusal of `Op::Entry` is not listed.
 /// The record of such a member has the listing's path with the member's name, without a trailing slash.

@@ -21,7 +21,8 @@ pub struct Meta {
     pub status_changed: Option<u64>,
     /// Whether the file is executable, if known.
     pub executable: Option<bool>,
-    /// The string between the quotes of the strong entity tag (RFC 7232, section 2.3), if there is one.
+    /// The string between the quotes of the strong entity tag (RFC 7232, section 2.3), if there is one. A store
+    /// sets only strings of bytes 0x21 to 0x7E without the quote.
     pub etag: Option<Text>,
 }
 

@@ -194,7 +194,8 @@ impl DavPath {
 
     /// Appends a segment, and removes the trailing slash: the path becomes that of the member with this name.
     /// If another path shares the key's segments, they are copied first, and the other path does not change.
-    /// Fails only if memory runs out, and the path is then unchanged.
+    /// The caller ensures that the name may be a segment. Fails only if memory runs out, and the path is then
+    /// unchanged.
     pub fn push_segment(&mut self, name: &str) -> Result<(), AllocError>
         requires { IsSegment name.now }
         ensures ok { OnOk result (self.new ≡ member_path self.old name.now) }

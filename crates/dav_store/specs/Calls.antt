@@ -157,7 +157,7 @@ FindsFile op old key = Answers (file_call op old.contents key) (λ _ before afte
 abbrev pub Seeks : Store → Key → Result (Unit {0}) FsError → Store → Type 0
 Seeks old key = FindsFile Seek old key
 
--- a file's bytes after a write at an offset; zeros fill a gap, and writing no bytes changes nothing
+-- a file's bytes after a write at an offset; zeros fill a gap, and writing no bytes leaves them as they are
 abbrev pub written_at : List ℕ → ℕ → List ℕ → List ℕ
 written_at bytes place [] = bytes
 written_at bytes place (b ∷ more) = take place bytes ++ replicate (place - length bytes) 0 ++ (b ∷ more) ++ drop (place + length (b ∷ more)) bytes

@@ -77,7 +77,7 @@ read_dir_bar (Some Directory) = None
 abbrev pub read_dir_call : Contents → Key → Call
 read_dir_call old key = record { op = ReadDir; keys = key ∷ []; bar = read_dir_bar (get old.tree key) }
 
--- a member: its name, and its item in a listing, which is an entry or the error with which the store does not list it
+-- a member: its name, and its item in a listing, which is an entry, or the error that the store returns in its place
 abbrev pub Child : Type 0
 Child = List ℕ × Result DirEntry FsError
 

@@ -64,8 +64,8 @@ MetaFits (Some node) None = ⊥
 MetaFits (Some Directory) (Some meta) = (meta.dir ≡ true) × ForSome meta.etag IsTagText
 MetaFits (Some (File bytes)) (Some meta) = (meta.dir ≡ false) × (meta.len ≡ length bytes) × ForSome meta.etag IsTagText
 
--- the root is a directory, and so is the parent of each other key at which something exists; only such keys have properties, and no key has an empty
--- map of them; the metadata fits the tree
+-- the root is a directory, and so is the parent of each key at which something exists; each such key is a valid key; a key at which nothing exists
+-- has no properties, and no key has an empty map of them; the metadata fits the tree
 pub record IsWellFormed (contents : Contents) : Type 0 where
   pub root : get contents.tree [] ≡ Some Directory
   pub parents : (key : Key) → get contents.tree key ≢ None → get contents.tree (parent key) ≡ Some Directory

@@ -27,9 +27,11 @@ use http::StatusCode;
 ///   any error except `NotFound`, `Exists` and `Memory`. A store may also refuse a call that could be barred.
 /// - Out of memory: the call returns `FsError::Memory`. Nothing changes, and the call leaves no record.
 ///
-/// A call that is granted, barred or refused adds one record to the log. Two methods differ: `read_dir` adds
-/// one more record for each member that it does not list, and `patch_props` can return `Ok` for a call
-/// recorded as refused. A call that is not granted changes nothing except the log.
+/// A call that is granted, barred or refused adds one record to the log, and `read_dir` adds one more for each
+/// member that it does not list. One call differs from the outcomes above: `patch_props` can return `Ok` for a
+/// call that is recorded as refused. A call that is not granted changes nothing except the log. After a granted
+/// change the times and entity tags of any resource, the length of a directory and the number of used bytes may
+/// be any that are well formed.
 pub trait GuardedFileSystem<C> {
     /// What the contracts see of the store: the tree, the dead properties, the metadata, the quota, whether
     /// the store supports dead properties, and the log.
@@ -118,9 +120,9 @@ pub trait GuardedFileSystem<C> {
 
     /// Writes bytes at the file's offset, or at the end of a file that was opened to append.
     ///
-    /// If the offset is past the end, bytes of value 0 fill the gap. Without any bytes to write, the file
-    /// stays as it is. The offset moves to the end of the written bytes. Without `append`, the caller ensures
-    /// that this end is less than 2^64.
+    /// If the offset is past the end, bytes of value 0 fill the gap. Without any bytes to write, the bytes of
+    /// the file stay the same. The offset moves to the end of the written bytes. Without `append`, the caller
+    /// ensures that this end is less than 2^64.
     ///
     /// Barred: `NotFound` if no file exists at the handle's path. After any error the offset is unchanged.
     fn write_bytes(&mut self, file: &mut DavFile, bytes: &[u8], credentials: &C) -> FsResult<()>
@@ -185,8 +187,9 @@ pub trait GuardedFileSystem<C> {
     fn clear_log(&mut self)
         ensures { seen self.new ≡ record (seen self.old) { log = [] } };
 
-    /// The root is a directory, and the parent of every other file or directory is a directory. Exactly the
-    /// files and directories that exist have metadata, and only these have properties. Metadata gives the
-    /// right kind and, for a file, the right length.
+    /// The root is a directory, and the parent of every other file or directory is a directory. Every key that
+    /// exists is a valid key. Exactly the files and directories that exist have metadata, and only these have
+    /// properties; no key has an empty map of them. Metadata gives the right kind and, for a file, the right
+    /// length, and an entity tag has only visible ASCII bytes except the quote.
     ghost well_formed: { (store : Self) → IsWellFormed (seen store).contents };
 }

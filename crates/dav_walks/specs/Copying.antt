@@ -92,14 +92,14 @@ copied (Some Directory, properties) = (Some Directory, None)
 copied (None, properties) = (None, None)
 
 pub record IsLawfulCopy (s top d : Key) (old new : Contents) (steps : List CopyStep) : Type 0 where
-  -- Each call is called for, and none of one kind is made twice on a key. In all at most three are made for each key of the snapshot.
+  -- Each call is called for, and no kind of call is made twice on a key. In all at most three are made for each key of the snapshot.
   pub called_for : (step : CopyStep) → IsIn step steps → IsCalledFor (snapshot old.tree s top) step.op step.at steps
   pub once : AreDistinct {X = Key × Op} (map (λ step. (step.at, step.op)) steps)
   pub bound : length (filter (λ step. is_call step.op) steps) ≤ 3 * length (keys_of_snapshot old.tree s top)
   -- no call is barred, each refusal is an error of the store's own, and no `Entry` is granted
   pub free : (step : CopyStep) → IsIn step steps → IsLawful None step.outcome
   pub unseen : (x : Key) → IsGranted Entry x steps → ⊥
-  -- Each copy that was made is at its destination. Nothing else changes, and the quota keeps its limit.
+  -- Each copy that was made is at its destination. No other node and no other properties change, and the quota keeps its limit.
   pub made : (x : Key) → IsMade x steps → standing new (d ++ x) ≡ copied (standing old (s ++ x))
   pub others : (key : Key) → ((x : Key) → IsMade x steps → key ≢ d ++ x) → standing new key ≡ standing old key
   pub limit : limit_of new ≡ limit_of old

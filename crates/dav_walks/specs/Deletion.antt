@@ -141,7 +141,7 @@ pub record IsLawfulRemoval (p : Key) (old new : Contents) (calls : List KeyCall)
   -- only the removal of the root is barred, and each refusal is an error of the store's own
   pub barred : (call : KeyCall) (e : FsError) → IsIn call calls → call.outcome ≡ Barred e → IsRootRemoval call e
   pub own : (call : KeyCall) (e : FsError) → IsIn call calls → call.outcome ≡ Refused e → IsOwn e
-  -- Each key at or below p is unchanged, or is removed with its properties. Elsewhere nothing changes, and the quota keeps its limit.
+  -- Each key at or below p is unchanged, or is removed with its properties. Elsewhere no node and no properties change. The quota keeps its limit.
   pub kept_or_gone : (x : Key) → (standing new (p ++ x) ≡ standing old (p ++ x)) ⊎ (standing new (p ++ x) ≡ (None, None))
   pub outside : (key : Key) → ((x : Key) → key ≢ p ++ x) → standing new key ≡ standing old key
   pub limit : limit_of new ≡ limit_of old

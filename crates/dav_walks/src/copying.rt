@@ -19,16 +19,21 @@ use std::alloc::Global;
 /// It continues after a failure. It adds a status to `res` for each call that fails. The status is added at
 /// the destination if a directory could not be made, else at the resource's own path. With Depth 0, a
 /// directory whose destination already exists adds none. A member that the store does not list adds one for
-/// its directory, once, and ends the copying of that directory: members before it in the listing are copied,
-/// members after it are not.
+/// its directory (one for each unbroken sequence of such members), and ends the copying of that directory.
+/// Which of its other members are copied is not promised. A file is copied with its dead properties. The copy
+/// of a directory has none.
+///
+/// Unless Depth is 0 or nothing is done, the caller ensures that `source` exists and is not at or below
+/// `topdest`, that `dest` is at or below `topdest`, that nothing exists at `dest`, and that its parent is a
+/// directory.
 ///
 /// With Depth infinity, unless memory runs out, every resource that should have been copied and was not has a
 /// status: at its path, at its destination, or at a path above one of these, up to `source` or `dest`.
 ///
 /// Errors: `Status` with the first status added, if any was added, or `Memory` if memory runs out. After an
-/// error a part of the copy may exist, and nothing else has changed. With Depth 0 nothing has changed. After
-/// `Memory` statuses may be missing, each status that was added is that of a failure, and with Depth 0 none
-/// was added.
+/// error a part of the copy may exist, and the kind, bytes and properties of no other resource have changed.
+/// With Depth 0 nothing has changed except the log. After `Memory` statuses may be missing, each status that
+/// was added is that of a failure, and with Depth 0 none was added.
 pub fn do_copy<C, F: GuardedFileSystem<C>>(
     alloc: Global,
     fs: &mut F,

@@ -12,15 +12,17 @@ use dav_resource::{DavError, DavPath, DavResult, Depth, Meta};
 use dav_store::GuardedFileSystem;
 use std::alloc::Global;
 
-/// Deletes the resource at a path and, unless Depth is 0, everything below it (RFC 4918, section 9.6). It
-/// continues after a failure. It adds a status to `res` for each call that fails, and for each member that
-/// the store does not list. Every Depth other than 0 is treated as infinity. `meta` is the metadata of the
-/// path.
+/// Deletes the resource at a path and, unless Depth is 0, everything below it (RFC 4918, section 9.6). Every
+/// Depth other than 0 is treated as infinity. `meta` is the metadata of the path.
+///
+/// It continues after a failure. It adds a status to `res` for each call that fails, at the call's own path,
+/// and for each member that the store does not list, at the path of its directory. A directory in which
+/// something failed is not removed, and adds no status for that.
 ///
 /// Errors: `Status` with the first status added, if any was added, or `Memory` if memory runs out. After an
-/// error each resource at or below the path is unchanged or removed, and nothing else has changed. With Depth
-/// 0 nothing has changed. After `Memory` statuses may be missing, each status that was added is that of a
-/// failure, and with Depth 0 none was added.
+/// error each resource at or below the path is unchanged or removed, and the kind, bytes and properties of no
+/// other resource have changed. With Depth 0 nothing has changed except the log. After `Memory` statuses may
+/// be missing, each status that was added is that of a failure, and with Depth 0 none was added.
 pub fn delete_items<C, F: GuardedFileSystem<C>>(
     alloc: Global,
     fs: &mut F,

@@ -8,8 +8,8 @@ use dav_memls::MemLs;
 use http::{Response, StatusCode};
 use std::alloc::Global;
 
-/// The largest offset, in bytes, at which a partial update may begin. A write past the end of a file fills the gap with
-/// zeros, and a store in memory allocates them.
+/// The largest offset, in bytes, at which a partial update may begin. A write past the end of a file fills the
+/// gap with zeros, and a store in memory allocates them.
 const MAX_OFFSET: u64 = 1 << 30;
 
 /// The state of a server: the documents and the locks.
