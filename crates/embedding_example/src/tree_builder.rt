@@ -64,9 +64,17 @@ impl TreeBuilder {
 
     /// Returns the body. The engine rejects a malformed one with 400.
     pub fn finish(self) -> ReqBody {
-        match self.root {
-            Some(root) if !self.malformed && self.open.is_empty() => ReqBody::Tree(root),
-            _ => ReqBody::Malformed,
+        let TreeBuilder {
+            open,
+            root,
+            malformed,
+        } = self;
+        if malformed || !open.is_empty() {
+            return ReqBody::Malformed;
+        }
+        match root {
+            Some(root) => ReqBody::Tree(root),
+            None => ReqBody::Malformed,
         }
     }
 }
