@@ -4,6 +4,7 @@ pub mod Key
 pub mod PathText
 pub mod PathForms
 pub mod PathLaws
+pub mod Paths
 pub mod Texts
 pub mod Path
 pub mod Mime

@@ -1,6 +1,7 @@
 //! The values of a WebDAV engine: errors, paths, elements, metadata, requests and response bodies.
 #![tactic(auto)]
 
+mod body_number;
 mod element;
 mod error;
 mod etag;
@@ -8,12 +9,14 @@ mod lock_token;
 mod meta;
 mod method;
 mod path;
+mod paths;
 mod property;
 mod record;
 mod request;
 mod shared_element;
 mod text;
 
+pub use body_number::BodyNumber;
 pub use element::{ChildElements, Element, XMLNode};
 pub use error::{DavError, DavResult, FsError, FsResult};
 pub use etag::{ETag, ETagList, IfRange};
@@ -21,6 +24,7 @@ pub use lock_token::LockToken;
 pub use meta::{DavFile, DirEntry, Meta, OpenOptions};
 pub use method::{DavMethod, DavMethodSet};
 pub use path::DavPath;
+pub use paths::Paths;
 pub use property::DavProp;
 pub use record::{Op, Outcome, Record};
 pub use request::{Body, DavRequest, Depth, ReqBody};

@@ -1,9 +1,9 @@
 //! Records of store calls, as a store's log keeps them.
 ghost use Rattle.std.specs.Prelude.{◌≡◌, IfOk};
 
-use crate::{DavPath, FsError, Items};
+use crate::{FsError, Items, Paths};
 use http::StatusCode;
-use std::alloc::{AllocError, Global};
+use std::alloc::AllocError;
 
 /// The store call that a record is about. Each variant is the call of the same name, except the two with a
 /// comment.
@@ -11,6 +11,7 @@ use std::alloc::{AllocError, Global};
 pub enum Op {
     Metadata,
     ReadDir,
+    ReadBytes,
     CreateDir,
     /// The call `open`.
     OpenFile,
@@ -48,7 +49,7 @@ pub struct Record {
     pub op: Op,
     /// The paths passed to the call. For a call on an open file it is the file's path, and for `Entry` the
     /// member's path. `get_quota` has none.
-    pub paths: Items<DavPath>,
+    pub paths: Paths,
     /// How the call ended.
     pub outcome: Outcome,
     /// The statuses that `patch_props` returned. Empty for every other call.
@@ -60,24 +61,13 @@ impl Record {
     pub fn clone(&self) -> Result<Record, AllocError>
         ensures { IfOk result (λ copy. copy ≡ self.now) }
     {
-        let paths = clone_paths(self.paths.allocator(), self.paths.as_slice())?;
+        let paths = self.paths.clone()?;
         let statuses = Vec::from_slice(self.statuses.allocator(), self.statuses.as_slice())?;
         Ok(Record {
             op: self.op,
-            paths: Items::from_vec(paths),
+            paths,
             outcome: self.outcome,
             statuses: Items::from_vec(statuses),
         })
     }
-}
-
-/// Copies the paths, in order.
-fn clone_paths(alloc: Global, paths: &[DavPath]) -> Result<Vec<DavPath>, AllocError>
-    ensures { IfOk result (λ copies. copies.items ≡ paths.now) }
-{
-    let mut copies = Vec::with_capacity(alloc, paths.len())?;
-    for path in paths {
-        copies.push(path.clone()?)?;
-    }
-    Ok(copies)
 }

@@ -1,5 +1,5 @@
 //! Requests, and the bodies of responses.
-use crate::{DavPath, Element, Items, LockToken, Text};
+use crate::{BodyNumber, DavPath, Element, Items, LockToken, Text};
 use http::Method;
 use http_header::{HeaderMap, HeaderValue};
 
@@ -24,6 +24,9 @@ pub enum ReqBody {
     None,
     /// Bytes that were not parsed.
     Bytes(Items<u8>),
+    /// Bytes that were not parsed and that the store holds, under this number. A number that the store does
+    /// not know counts as `Malformed`.
+    Stored(BodyNumber),
     /// XML, as the tree of its root element.
     Tree(Element),
     /// A body that should be XML and could not be parsed.
