@@ -1,5 +1,6 @@
 -- What each call of a store does. One definition for all: a call is granted, barred or refused, or memory runs out.
-use Rattle.std.specs.Prelude.{◌≡◌, ◌≢◌, ℕ, ◌+◌, ◌-◌, ◌||◌, if◌then◌else◌, List, [], ◌∷◌, ◌++◌, length, take, drop, replicate, Option, Some, None, Result, ◌⊎◌, IfOk, IfErr}
+use Rattle.std.specs.Prelude.{◌≡◌, ◌≢◌, ℕ, ◌+◌, ◌-◌, Bool, true, ◌||◌, if◌then◌else◌, List, [], ◌∷◌, ◌++◌, length, take, drop, replicate, Option, Some, None, Result, Vec, ◌⊎◌, IfOk, IfErr}
+use Rattle.std.specs.declared.alloc.Global.{Global}
 use Rattle.std.specs.Option.{option_map}
 use Rattle.std.specs.FinMap.{get, insert}
 use Rattle.dav_resource.specs.Key.{Key, parent}
@@ -8,7 +9,7 @@ use Rattle.dav_resource.specs.declared.meta.Meta.{Meta}
 use Rattle.dav_resource.specs.declared.meta.OpenOptions.{OpenOptions}
 use Rattle.dav_resource.specs.declared.meta.DavFile.{DavFile}
 use Rattle.dav_resource.specs.declared.record.Op.{Op}
-use Rattle.dav_resource.specs.declared.record.Op.TheVariants.{Metadata, CreateDir, OpenFile, Seek, WriteBytes, Flush, FileMetadata}
+use Rattle.dav_resource.specs.declared.record.Op.TheVariants.{Metadata, CreateDir, OpenFile, ReadBytes, Seek, WriteBytes, Flush, FileMetadata}
 use Rattle.dav_resource.specs.declared.record.Outcome.{Outcome}
 use Rattle.dav_resource.specs.declared.record.Outcome.TheVariants.{Granted, Barred, Refused}
 use Rattle.dav_resource.specs.declared.error.FsError.{FsError}
@@ -50,7 +51,7 @@ pub record Grants (call : Call) (Effect : Contents → Contents → Type 0) (old
   pub allowed : call.bar ≡ None
   pub effect : Effect old.contents new.contents
   pub told : new.log ≡ old.log ++ record_of call Granted ∷ []
-  pub fixed : new.keeps_properties ≡ old.keeps_properties
+  pub fixed : new.facts ≡ old.facts
 
 -- the call is not granted: one record is added to the log, and nothing else changes
 pub record Declines (call : Call) (e : FsError) (old new : Store) : Type 0 where
@@ -60,7 +61,7 @@ pub record Declines (call : Call) (e : FsError) (old new : Store) : Type 0 where
   pub not_memory : e ≢ Memory
   pub same : new.contents ≡ old.contents
   pub told : new.log ≡ old.log ++ record_of call outcome ∷ []
-  pub fixed : new.keeps_properties ≡ old.keeps_properties
+  pub fixed : new.facts ≡ old.facts
 
 -- the call is granted, or declined, or memory runs out and nothing changes
 pub record Answers {A : Type 0} (call : Call) (Effect : A → Contents → Contents → Type 0) (old : Store) (answer : Result A FsError) (new : Store) : Type 0 where
@@ -137,6 +138,30 @@ pub record IsOpened (path : PathValue) (options : OpenOptions) (file : DavFile) 
 
 abbrev pub Opens : Store → PathValue → OpenOptions → Result DavFile FsError → Store → Type 0
 Opens old path options = Answers (open_call old.contents path.key options) (IsOpened path options) old
+
+-- ---- read_bytes
+
+-- a file must exist at the key, and not a directory
+abbrev pub must_be_file : Option Node → Option FsError
+must_be_file None = Some NotFound
+must_be_file (Some Directory) = Some Forbidden
+must_be_file (Some (File bytes)) = None
+
+abbrev pub read_bytes_call : Contents → Key → Call
+read_bytes_call old key = record { op = ReadBytes; keys = key ∷ []; bar = must_be_file (get old.tree key) }
+
+-- at most `count` bytes from an offset: fewer only at the end
+abbrev pub bytes_from : ℕ → ℕ → List ℕ → List ℕ
+bytes_from place count bytes = take count (drop place bytes)
+
+-- the result has as many bytes as the file has there, and they are the file's bytes if the medium is honest; the contents stay the same
+pub record IsReadAt (honest : Bool) (key : Key) (place count : ℕ) (bytes : List ℕ) (old new : Contents) : Type 0 where
+  pub number : length bytes ≡ length (bytes_from place count (bytes_at (get old.tree key)))
+  pub answer : honest ≡ true → bytes ≡ bytes_from place count (bytes_at (get old.tree key))
+  pub same : new ≡ old
+
+abbrev pub ReadsBytes : Bool → Store → Key → ℕ → ℕ → Result (Vec ℕ Global) FsError → Store → Type 0
+ReadsBytes honest old key place count = Answers (read_bytes_call old.contents key) (λ bytes. IsReadAt honest key place count bytes.items) old
 
 -- ---- the calls on an open file
 

@@ -3,6 +3,8 @@ pub mod Logged
 pub mod Store
 pub mod Calls
 pub mod Members
+pub mod Allowed
+pub mod BodyCalls
 pub mod BelowLaws
 pub mod Transfers
 pub mod PropertyCalls

@@ -50,11 +50,11 @@ pub record RemovesLock (key : Key) (token : List ℕ) (old new : Locks) : Type 0
   pub named : has_named key token old.list ≡ true
   pub removed : new ≡ record old { list = without_named key token old.list }
 
--- there is no such lock, or the lock system is not reliable
+-- there is no such lock, or `unlock` is not reliable
 abbrev pub KeepsNamed : Key → List ℕ → Locks → Type 0
-KeepsNamed key token locks = (locks.dependable && has_named key token locks.list) ≡ false
+KeepsNamed key token locks = (locks.reliable.unlock && has_named key token locks.list) ≡ false
 
--- `NotFound` if there is no such lock, or `Failed`; a reliable lock system does not fail if there is such a lock
+-- `NotFound` if there is no such lock, or `Failed`; a reliable `unlock` does not fail if there is such a lock
 abbrev pub RefusesUnlock : Key → List ℕ → Locks → LockError → Type 0
 RefusesUnlock key token old e = ((e ≡ NotFound) × (has_named key token old.list ≡ false)) ⊎ ((e ≡ Failed) × KeepsNamed key token old)
 
@@ -81,6 +81,6 @@ RefusesRefresh key token old e = (e ≡ Memory) ⊎ ((e ≡ NotFound) × (has_na
 abbrev pub RemovesLocks : Key → Locks → Locks → Type 0
 RemovesLocks key old new = new ≡ record old { list = elsewhere old.list key }
 
--- `Failed`, which a reliable lock system never returns
+-- `Failed`, which a reliable `delete` never returns
 abbrev pub RefusesDelete : Locks → LockError → Type 0
-RefusesDelete old e = (e ≡ Failed) × (old.dependable ≡ false)
+RefusesDelete old e = (e ≡ Failed) × (old.reliable.delete ≡ false)

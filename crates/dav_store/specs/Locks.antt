@@ -7,11 +7,19 @@ use Rattle.dav_resource.specs.Key.{Key, is_same_key}
 use Rattle.dav_store.specs.declared.lock.DavLock.{DavLock}
 pub use Rattle.dav_store.specs.Below.{is_at_or_below}
 
--- what contracts see of a lock system: its locks, the oldest first, and whether it is reliable, which means that it never fails to remove a lock that
--- exists
+-- which calls of a lock system are reliable: whether `delete` never fails, and whether `unlock` of a lock that exists never fails
+pub record Reliable : Type 0 where
+  pub delete : Bool
+  pub unlock : Bool
+
+-- both calls are reliable
+abbrev pub all_reliable : Reliable
+all_reliable = record { delete = true; unlock = true }
+
+-- what contracts see of a lock system: its locks, the oldest first, and which of its calls are reliable
 pub record Locks : Type 0 where
   pub list : List DavLock
-  pub dependable : Bool
+  pub reliable : Reliable
 
 -- ---- what a lock covers
 

@@ -1,5 +1,5 @@
 -- The calls of a store that list a directory, or remove a file or a directory (RFC 4918, sections 5.2 and 9.6).
-use Rattle.std.specs.Prelude.{◌≡◌, ℕ, if◌then◌else◌, bytes_eq, List, [], ◌∷◌, ◌++◌, map, filter_map, Option, Some, None, Result, Ok, Err, Vec, ◌⊎◌, IfOk, IfErr, IsPermutation}
+use Rattle.std.specs.Prelude.{◌≡◌, ℕ, Bool, true, if◌then◌else◌, bytes_eq, List, [], ◌∷◌, ◌++◌, map, filter_map, Option, Some, None, Result, Ok, Err, Vec, ◌⊎◌, IfOk, IfErr, IsPermutation}
 use Rattle.std.specs.declared.alloc.Global.{Global}
 use Rattle.std.specs.FinMap.{get, remove, keys}
 use Rattle.dav_resource.specs.Key.{Key}
@@ -10,7 +10,7 @@ use Rattle.dav_resource.specs.declared.error.FsError.{FsError}
 use Rattle.dav_resource.specs.declared.error.FsError.TheVariants.{NotFound, Exists, Forbidden, Memory}
 use Rattle.dav_store.specs.Logged.{Logged, logged}
 use Rattle.dav_store.specs.Store.{Store, Contents, Node, File, Directory, Tree}
-use Rattle.dav_store.specs.Calls.{Call, record_of, IsOwn, Answers, Declines, limit_of}
+use Rattle.dav_store.specs.Calls.{Call, record_of, IsOwn, Answers, Declines, limit_of, must_be_file}
 
 -- ---- members
 
@@ -32,14 +32,8 @@ member directory name = directory ++ name ∷ []
 
 -- ---- remove_file
 
--- a file must exist at the key
-abbrev pub remove_file_bar : Option Node → Option FsError
-remove_file_bar None = Some NotFound
-remove_file_bar (Some Directory) = Some Forbidden
-remove_file_bar (Some (File bytes)) = None
-
 abbrev pub remove_file_call : Contents → Key → Call
-remove_file_call old key = record { op = RemoveFile; keys = key ∷ []; bar = remove_file_bar (get old.tree key) }
+remove_file_call old key = record { op = RemoveFile; keys = key ∷ []; bar = must_be_file (get old.tree key) }
 
 -- the file or directory at the key is removed, with its properties
 pub record IsRemovedAt (key : Key) (old new : Contents) : Type 0 where
@@ -94,15 +88,16 @@ abbrev pub AreDistinct : {X : Type 0} → List X → Type 0
 AreDistinct [] = Unit {0}
 AreDistinct (x ∷ xs) = (IsIn x xs → ⊥) × AreDistinct xs
 
--- an entry has the member's name and metadata; an error is one that the store may return for its own reasons
-abbrev pub IsShownAs : Contents → Key → Child → Type 0
-IsShownAs old directory (name, Ok entry) = (entry.name ≡ name) × (old.metas (member directory name) ≡ Some entry.meta)
-IsShownAs old directory (name, Err e) = IsOwn e
+-- an entry has the member's name and metadata, and may be shown; an error is one that the store may return for its own reasons
+abbrev pub IsShownAs : (Key → Bool) → Contents → Key → Child → Type 0
+IsShownAs shows old directory (name, Ok entry) =
+    (entry.name ≡ name) × (old.metas (member directory name) ≡ Some entry.meta) × (shows (member directory name) ≡ true)
+IsShownAs shows old directory (name, Err e) = IsOwn e
 
 -- each member once, in any order
-pub record AreChildren (old : Contents) (directory : Key) (children : List Child) : Type 0 where
+pub record AreChildren (shows : Key → Bool) (old : Contents) (directory : Key) (children : List Child) : Type 0 where
   pub each_once : IsPermutation (members old.tree directory) (names_of children)
-  pub shown : (c : Child) → IsIn c children → IsShownAs old directory c
+  pub shown : (c : Child) → IsIn c children → IsShownAs shows old directory c
 
 -- the record of a member that is not listed
 abbrev pub unseen_record : Key → Child → Option Logged
@@ -113,11 +108,11 @@ unseen_record directory (name, Err e) = Some (logged Entry (member directory nam
 pub record Lists (directory : Key) (old : Store) (listing : List (Result DirEntry FsError)) (new : Store) : Type 0 where
   pub allowed : read_dir_bar (get old.contents.tree directory) ≡ None
   pub children : List Child
-  pub are : AreChildren old.contents directory children
+  pub are : AreChildren old.facts.shows old.contents directory children
   pub listed : listing ≡ map (λ c. c.1) children
   pub same : new.contents ≡ old.contents
   pub told : new.log ≡ old.log ++ record_of (read_dir_call old.contents directory) Granted ∷ filter_map (unseen_record directory) children
-  pub fixed : new.keeps_properties ≡ old.keeps_properties
+  pub fixed : new.facts ≡ old.facts
 
 -- the directory is listed, or the call is declined, or memory runs out and nothing changes
 pub record ReadsDir (old : Store) (directory : Key) (answer : Result (Vec (Result DirEntry FsError) Global) FsError) (new : Store) : Type 0 where

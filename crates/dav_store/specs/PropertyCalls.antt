@@ -1,5 +1,5 @@
 -- The calls of a store that read or change dead properties (RFC 4918, sections 4.2 and 9.2), or return the quota (RFC 4331).
-use Rattle.std.specs.Prelude.{◌≡◌, ◌≢◌, ℕ, ◌==◌, Bool, true, false, if◌then◌else◌, List, [], ◌∷◌, ◌++◌, map, length, replicate, Option, Some, None, IsSome, Result, Vec, ◌⊎◌, IfOk, IfErr, IsPermutation}
+use Rattle.std.specs.Prelude.{◌≡◌, ◌≢◌, ℕ, ◌==◌, Bool, true, false, if◌then◌else◌, List, [], ◌∷◌, ◌++◌, map, length, replicate, Option, Some, None, Result, Vec, ◌⊎◌, IfOk, IfErr, IsPermutation}
 use Rattle.std.specs.declared.alloc.Global.{Global}
 use Rattle.std.specs.List.{fold}
 use Rattle.std.specs.Option.{unwrap_or, option_map}
@@ -14,7 +14,7 @@ use Rattle.dav_resource.specs.declared.error.FsError.{FsError}
 use Rattle.dav_resource.specs.declared.error.FsError.TheVariants.{NotFound, NotImplemented, GeneralFailure, Memory}
 use Rattle.dav_store.specs.Below.{put_at}
 use Rattle.dav_store.specs.Logged.{Logged}
-use Rattle.dav_store.specs.Store.{Store, Contents, Node, PropertyMap, Quota, property_key}
+use Rattle.dav_store.specs.Store.{Store, Contents, Node, PropertyMap, Quota, property_key, element_key}
 use Rattle.dav_store.specs.Calls.{Call, Answers, Declines, limit_of}
 
 -- the name of a property, as a key
@@ -52,7 +52,7 @@ properties_bar true None = Some NotFound
 properties_bar true (Some node) = None
 
 abbrev pub get_props_call : Store → Key → Call
-get_props_call old key = record { op = GetProps; keys = key ∷ []; bar = properties_bar old.keeps_properties (get old.contents.tree key) }
+get_props_call old key = record { op = GetProps; keys = key ∷ []; bar = properties_bar old.facts.keeps_properties (get old.contents.tree key) }
 
 -- the name and the element of a property
 abbrev pub named_element : DavProp → Key × Option elements.Tree
@@ -77,9 +77,9 @@ GetsProps old key = Answers (get_props_call old key) (λ props. ArePropertiesAt 
 abbrev pub Patch : Type 0
 Patch = Bool × DavProp
 
--- a property to set has an element
+-- a property to set has an element of its own name
 abbrev pub IsWhole : Patch → Type 0
-IsWhole (true, prop) = IsSome prop.element
+IsWhole (true, prop) = option_map element_key prop.element ≡ Some (name_of prop)
 IsWhole (false, prop) = Unit {0}
 
 -- the properties after one change, and after all changes in order
@@ -95,7 +95,7 @@ abbrev pub some_properties : PropertyMap → Option PropertyMap
 some_properties properties = if len properties == 0 then None else Some properties
 
 abbrev pub patch_props_call : Store → Key → Call
-patch_props_call old key = record { op = PatchProps; keys = key ∷ []; bar = properties_bar old.keeps_properties (get old.contents.tree key) }
+patch_props_call old key = record { op = PatchProps; keys = key ∷ []; bar = properties_bar old.facts.keeps_properties (get old.contents.tree key) }
 
 -- the record of a call that returned statuses
 abbrev pub patch_record : Key → Outcome → List ℕ → Logged
@@ -113,7 +113,7 @@ pub record Patches (key : Key) (patches : List Patch) (statuses : List ℕ) (old
   pub answered : statuses ≡ replicate (length patches) 200
   pub effect : IsPatchedAt key patches old.contents new.contents
   pub told : new.log ≡ old.log ++ patch_record key Granted statuses ∷ []
-  pub fixed : new.keeps_properties ≡ old.keeps_properties
+  pub fixed : new.facts ≡ old.facts
 
 -- no change is made; there is a status for each, and not all are 200
 pub record DropsPatches (key : Key) (patches : List Patch) (statuses : List ℕ) (old new : Store) : Type 0 where
@@ -121,7 +121,7 @@ pub record DropsPatches (key : Key) (patches : List Patch) (statuses : List ℕ)
   pub not_all : statuses ≢ replicate (length patches) 200
   pub same : new.contents ≡ old.contents
   pub told : new.log ≡ old.log ++ patch_record key (Refused GeneralFailure) statuses ∷ []
-  pub fixed : new.keeps_properties ≡ old.keeps_properties
+  pub fixed : new.facts ≡ old.facts
 
 -- all changes are made or none, with a status for each; or the call is declined, or memory runs out and nothing changes
 pub record PatchesProps (old : Store) (key : Key) (patches : List Patch) (answer : Result (Vec ℕ Global) FsError) (new : Store) : Type 0 where

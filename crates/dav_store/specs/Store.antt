@@ -22,6 +22,10 @@ abbrev pub property_key : Option (List ℕ) → List ℕ → Key
 property_key None name = [] ∷ name ∷ []
 property_key (Some namespace) name = (1 ∷ namespace) ∷ name ∷ []
 
+-- the name of an element, as a key
+abbrev pub element_key : elements.Tree → Key
+element_key element = property_key element.tag.namespace element.tag.name
+
 -- dead properties (RFC 4918, section 4.2): their elements, by the names of the properties
 abbrev pub PropertyMap : Type 0
 PropertyMap = FinMap key_cmp elements.Tree
@@ -42,10 +46,22 @@ pub record Contents : Type 0 where
   pub metas : Key → Option Meta
   pub quota : Option Quota
 
--- its contents, whether it supports dead properties, and its log, the oldest record first
+-- the bodies that a store holds for requests to come, by number
+abbrev pub Bodies : Type 0
+Bodies = ℕ → Option (List ℕ)
+
+-- what no recorded call changes: whether the store supports dead properties, the bodies that it holds, and for the caller of the present requests which
+-- records of granted calls are allowed, and which members a listing may show
+pub record Facts : Type 0 where
+  pub keeps_properties : Bool
+  pub bodies : Bodies
+  pub allows : Logged → Bool
+  pub shows : Key → Bool
+
+-- its contents, its facts, and its log, the oldest record first
 pub record Store : Type 0 where
   pub contents : Contents
-  pub keeps_properties : Bool
+  pub facts : Facts
   pub log : List Logged
 
 -- ---- invariants
@@ -64,12 +80,17 @@ MetaFits (Some node) None = ⊥
 MetaFits (Some Directory) (Some meta) = (meta.dir ≡ true) × ForSome meta.etag IsTagText
 MetaFits (Some (File bytes)) (Some meta) = (meta.dir ≡ false) × (meta.len ≡ length bytes) × ForSome meta.etag IsTagText
 
+-- each property's element has the name of the property
+abbrev pub AreNamed : PropertyMap → Type 0
+AreNamed properties = (name : Key) (element : elements.Tree) → get properties name ≡ Some element → element_key element ≡ name
+
 -- the root is a directory, and so is the parent of each key at which something exists; each such key is a valid key; a key at which nothing exists
--- has no properties, and no key has an empty map of them; the metadata fits the tree
+-- has no properties, and no key has an empty map of them; the properties' elements have their names; the metadata fits the tree
 pub record IsWellFormed (contents : Contents) : Type 0 where
   pub root : get contents.tree [] ≡ Some Directory
   pub parents : (key : Key) → get contents.tree key ≢ None → get contents.tree (parent key) ≡ Some Directory
   pub keys : (key : Key) → get contents.tree key ≢ None → IsKey key
   pub properties : (key : Key) → get contents.tree key ≡ None → get contents.properties key ≡ None
   pub none_empty : (key : Key) → get contents.properties key ≢ Some empty
+  pub named : (key : Key) → ForSome (get contents.properties key) AreNamed
   pub metas : (key : Key) → MetaFits (get contents.tree key) (contents.metas key)

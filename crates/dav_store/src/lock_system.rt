@@ -12,11 +12,10 @@ use dav_resource::{DavPath, Element, Items, Text};
 /// Locks do not expire. A lock stays, also after its timeout, until a call removes it. A call that returns an
 /// error changes nothing.
 ///
-/// A lock system is reliable (`dependable` in the contracts) or not, and no call changes that. A reliable one
-/// never fails to remove a lock that exists: `unlock` returns an error only if there is no such lock, and
-/// `delete` always succeeds.
+/// Two of its calls may be reliable, and no call changes that. A reliable `delete` always succeeds. A reliable
+/// `unlock` returns an error only if there is no such lock.
 pub trait DavLockSystem {
-    /// What the contracts see of the lock system: its locks, and whether it is reliable.
+    /// What the contracts see of the lock system: its locks, and which of its calls are reliable.
     ghost seen: { Self → Locks };
 
     /// Whether the locks allow a request at this path that submits these tokens as this principal (RFC 4918,
@@ -64,8 +63,7 @@ pub trait DavLockSystem {
     /// Removes the lock with this token, if its path is this path or above it (RFC 4918, section 9.11). The
     /// lock need not be deep.
     ///
-    /// `NotFound`: there is no such lock. `Failed`: the lock system is not reliable, or there is no such
-    /// lock.
+    /// `NotFound`: there is no such lock. `Failed`: `unlock` is not reliable, or there is no such lock.
     fn unlock(&mut self, path: &DavPath, token: &str) -> Result<(), LockError>
         ensures removed { OnOk result (RemovesLock path.now.key token.now (seen self.old) (seen self.new)) }
         ensures err { OnErr result (seen self.new ≡ seen self.old) }
@@ -92,8 +90,7 @@ pub trait DavLockSystem {
         ensures ok { IfOk result (λ locks. locks ≡ covering (seen self.now).list path.now.key) }
         ensures err { IfErr result (λ e. e ≡ LockError.Memory) };
 
-    /// Removes the locks at and below the path. `Failed`: the lock system is not reliable. There is no other
-    /// error.
+    /// Removes the locks at and below the path. `Failed`: `delete` is not reliable. There is no other error.
     fn delete(&mut self, path: &DavPath) -> Result<(), LockError>
         ensures removed { OnOk result (RemovesLocks path.now.key (seen self.old) (seen self.new)) }
         ensures err { OnErr result (seen self.new ≡ seen self.old) }

@@ -1,14 +1,16 @@
 //! The contract of a store.
-ghost use Rattle.std.specs.Prelude.{◌≡◌, ◌≢◌, ◌+◌, ◌<◌, ◌^◌, All, false, [], length, map, MatchResult};
+ghost use Rattle.std.specs.Prelude.{◌≡◌, ◌≢◌, ◌+◌, ◌<◌, ◌^◌, All, Bool, false, true, [], length, map, option_map, None, MatchResult};
 ghost use Rattle.dav_store.specs.Logged.{logged_of};
 ghost use Rattle.dav_store.specs.Store.{Store, IsWellFormed};
-ghost use Rattle.dav_store.specs.Calls.{Looks, MakesDirectory, Opens, Seeks, Writes, Flushes, LooksAtFile, place_of};
+ghost use Rattle.dav_store.specs.Calls.{Looks, MakesDirectory, Opens, ReadsBytes, Seeks, Writes, Flushes, LooksAtFile, place_of};
 ghost use Rattle.dav_store.specs.Members.{ReadsDir, RemovesFile, RemovesDir};
+ghost use Rattle.dav_store.specs.Allowed.{IsAllowed};
+ghost use Rattle.dav_store.specs.BodyCalls.{StartsBody, AddsToBody, with_body, stored_bytes};
 ghost use Rattle.dav_store.specs.Transfers.{Copies, Renames};
 ghost use Rattle.dav_store.specs.PropertyCalls.{GetsProp, GetsProps, PatchesProps, GetsQuota, IsWhole, name_of};
 
 use dav_resource::{
-    DavFile, DavPath, DavProp, DirEntry, Element, FsResult, Meta, OpenOptions, Record,
+    BodyNumber, DavFile, DavPath, DavProp, DirEntry, Element, FsResult, Meta, OpenOptions, Record,
 };
 use http::StatusCode;
 
@@ -32,10 +34,18 @@ use http::StatusCode;
 /// call that is recorded as refused. A call that is not granted changes nothing except the log. After a granted
 /// change the times and entity tags of any resource, the length of a directory and the number of used bytes may
 /// be any that are well formed.
+///
+/// A store also holds bodies of requests, each under a number. The calls `start_body`, `add_to_body`,
+/// `drop_body` and `body_length` leave no record. They are for the HTTP server, which passes a body on piece by
+/// piece as it arrives, then names it in a request (`ReqBody::Stored`), and drops it after the request.
 pub trait GuardedFileSystem<C> {
-    /// What the contracts see of the store: the tree, the dead properties, the metadata, the quota, whether
-    /// the store supports dead properties, and the log.
+    /// What the contracts see of the store: the tree, the dead properties, the metadata, the quota, the facts
+    /// that no recorded call changes, and the log.
     ghost seen: { Self → Store };
+
+    /// Whether the medium has returned what was written to it, up to this state. Only the bytes that
+    /// `read_bytes` returns rest on it. A store in memory is always honest.
+    ghost is_honest: { Self → Bool } = { λ _. true };
 
     /// Returns the metadata of a file or directory. Barred: `NotFound` if nothing exists at the path.
     fn metadata(&mut self, path: &DavPath, credentials: &C) -> FsResult<Meta>
@@ -44,8 +54,8 @@ pub trait GuardedFileSystem<C> {
     /// Lists the members of a directory, each once, in any order.
     ///
     /// An item is a member's name and metadata, or an error if the store does not list the member for its own
-    /// reasons. Each such member leaves a record (`Op::Entry`, refused with that error). These records follow
-    /// the record of the call, in the order of the listing.
+    /// reasons, as for each member that the caller may not see. Each such member leaves a record (`Op::Entry`,
+    /// refused with that error). These records follow the record of the call, in the order of the listing.
     ///
     /// Barred: `NotFound` if nothing exists at the path, `Forbidden` if a file does.
     fn read_dir(&mut self, path: &DavPath, credentials: &C) -> FsResult<Vec<FsResult<DirEntry>>>
@@ -111,6 +121,22 @@ pub trait GuardedFileSystem<C> {
     fn open(&mut self, path: &DavPath, options: &OpenOptions, credentials: &C) -> FsResult<DavFile>
         ensures { Opens (seen self.old) path.now options.now result (seen self.new) };
 
+    /// Returns bytes of a file: `count` of them from the offset `place`, or fewer if the file ends before. No
+    /// call of a method needs it: it is for the HTTP server, which answers a GET with it.
+    ///
+    /// The number of bytes is right on any medium. The bytes are right on an honest one (`is_honest`), in the
+    /// state after this call.
+    ///
+    /// Barred: `NotFound` if nothing exists at the path, `Forbidden` if a directory does.
+    fn read_bytes(
+        &mut self,
+        path: &DavPath,
+        place: u64,
+        count: usize,
+        credentials: &C,
+    ) -> FsResult<Vec<u8>>
+        ensures { ReadsBytes (is_honest self.new) (seen self.old) path.now.key place count result (seen self.new) };
+
     /// Sets the offset of an open file, in bytes. It may be past the end of the file.
     ///
     /// Barred: `NotFound` if no file exists at the handle's path. After any error the offset is unchanged.
@@ -129,6 +155,21 @@ pub trait GuardedFileSystem<C> {
         requires { file.old.append ≡ false → file.old.pos + length bytes.now < 2 ^ 64 }
         ensures written { Writes (seen self.old) file.old bytes.now result (seen self.new) }
         ensures place { MatchResult result (λ _. file.new ≡ record file.old { pos = place_of file.old (seen self.old).contents + length bytes.now }) (λ _. file.new ≡ file.old) };
+
+    /// Writes the bytes of a body that the store holds, as `write_bytes` does, with the same record. A number
+    /// without a body means no bytes. The body stays. Without `append`, the caller ensures that the end of the
+    /// written bytes is less than 2^64.
+    ///
+    /// Barred: `NotFound` if no file exists at the handle's path. After any error the offset is unchanged.
+    fn write_body(
+        &mut self,
+        file: &mut DavFile,
+        number: BodyNumber,
+        credentials: &C,
+    ) -> FsResult<()>
+        requires { file.old.append ≡ false → file.old.pos + length (stored_bytes (seen self.old).facts.bodies number) < 2 ^ 64 }
+        ensures written { Writes (seen self.old) file.old (stored_bytes (seen self.old).facts.bodies number) result (seen self.new) }
+        ensures place { MatchResult result (λ _. file.new ≡ record file.old { pos = place_of file.old (seen self.old).contents + length (stored_bytes (seen self.old).facts.bodies number) }) (λ _. file.new ≡ file.old) };
 
     /// Flushes a file after writing. Nothing changes except the log.
     ///
@@ -157,7 +198,7 @@ pub trait GuardedFileSystem<C> {
     ///
     /// If all changes are made, each status is 200. Otherwise no change is made, and not all statuses are
     /// 200. Such a call is recorded as refused with `GeneralFailure`. In both cases the record has the
-    /// statuses. The caller passes at least one change, and an element for each property to set.
+    /// statuses. The caller passes at least one change, and for each property to set an element of its name.
     ///
     /// Barred: `NotFound` if the store does not support dead properties, or if nothing exists at the path.
     fn patch_props(
@@ -177,7 +218,29 @@ pub trait GuardedFileSystem<C> {
 
     /// Whether the store supports dead properties. It leaves no record, and no call changes the result.
     fn have_props(&self) -> bool
-        ensures { result ≡ (seen self.now).keeps_properties };
+        ensures { result ≡ (seen self.now).facts.keeps_properties };
+
+    /// Starts a body of no bytes, and returns its number, under which the store held no body. Nothing else
+    /// changes.
+    ///
+    /// Errors: `Memory`, or one of the store's own (any except `NotFound` and `Exists`). Then nothing changes.
+    fn start_body(&mut self) -> FsResult<BodyNumber>
+        ensures { StartsBody (seen self.old) result (seen self.new) };
+
+    /// Adds bytes at the end of a body. Nothing else changes.
+    ///
+    /// Errors: `NotFound` if there is no body of this number; `Memory`, or one of the store's own. After any
+    /// error nothing changes.
+    fn add_to_body(&mut self, number: BodyNumber, bytes: &[u8]) -> FsResult<()>
+        ensures { AddsToBody number bytes.now (seen self.old) result (seen self.new) };
+
+    /// Removes the body of this number, if there is one. Nothing else changes.
+    fn drop_body(&mut self, number: BodyNumber)
+        ensures { seen self.new ≡ with_body (seen self.old) number None };
+
+    /// Returns the length of the body of this number in bytes, if there is one.
+    fn body_length(&self, number: BodyNumber) -> Option<u64>
+        ensures { result ≡ option_map length ((seen self.now).facts.bodies number) };
 
     /// Returns the records in the log, the oldest first.
     fn records(&self) -> &[Record]
@@ -189,7 +252,11 @@ pub trait GuardedFileSystem<C> {
 
     /// The root is a directory, and the parent of every other file or directory is a directory. Every key that
     /// exists is a valid key. Exactly the files and directories that exist have metadata, and only these have
-    /// properties; no key has an empty map of them. Metadata gives the right kind and, for a file, the right
-    /// length, and an entity tag has only visible ASCII bytes except the quote.
+    /// properties. No key has an empty map of them, and the element of each property has its name. Metadata
+    /// gives the right kind and, for a file, the right length, and an entity tag has only visible ASCII bytes
+    /// except the quote.
     ghost well_formed: { (store : Self) → IsWellFormed (seen store).contents };
+
+    /// Each record of a granted call in the log is one that the caller is allowed.
+    ghost allowed: { (store : Self) → IsAllowed (seen store) };
 }
