@@ -87,7 +87,7 @@ pub record Judges {A : Type 0} (dialogue : Dialogue A) (old : Store) (verdict : 
   pub records : List Logged
   pub told : new.log ≡ old.log ++ records
   pub same : new.contents ≡ old.contents
-  pub fixed : new.keeps_properties ≡ old.keeps_properties
+  pub fixed : new.facts ≡ old.facts
   pub ends : EndsIn dialogue records verdict
 
 -- The dialogue was carried out up to here, and nothing changed except the log. `left` is what follows.
@@ -95,5 +95,5 @@ pub record Reaches {A : Type 0} (dialogue : Dialogue A) (old : Store) (left : Di
   pub records : List Logged
   pub told : new.log ≡ old.log ++ records
   pub same : new.contents ≡ old.contents
-  pub fixed : new.keeps_properties ≡ old.keeps_properties
+  pub fixed : new.facts ≡ old.facts
   pub leads : LeadsTo dialogue records left

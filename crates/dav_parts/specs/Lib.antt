@@ -6,3 +6,4 @@ pub mod ReplyHeader
 pub mod DavElement
 pub mod Multistatus
 pub mod LockTree
+pub mod RequestBody

@@ -1,5 +1,5 @@
 //! Parts that several methods share: the conditions of a request, the statuses of several resources, the XML
-//! of locks, and the header fields of a response.
+//! of locks, the header fields of a response, and the bodies of requests.
 #![tactic(auto)]
 
 mod conditional;
@@ -10,6 +10,7 @@ mod looking;
 mod multierror;
 mod multistatus;
 mod reply_header;
+mod request_body;
 
 pub use conditional::{
     dav_if_match, etaglist_match, http_if_match, if_match, if_match_get_tokens, ifrange_match,
@@ -20,3 +21,4 @@ pub use looking::look;
 pub use multierror::{MultiError, multi_error};
 pub use multistatus::{add_xml_type, status_line, xml_headers};
 pub use reply_header::{add_header, header_value};
+pub use request_body::{body_length, is_empty_body};
