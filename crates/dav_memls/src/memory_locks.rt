@@ -21,8 +21,8 @@ use std::alloc::{AllocError, Global};
 use std::collections::btree_map::Values;
 use submitted::Submitted;
 
-/// A lock system in memory. It is reliable, and `check`, `unlock` and `delete` never fail when memory runs
-/// out.
+/// A lock system in memory. Its `unlock` and `delete` are reliable: neither fails when memory runs out, and
+/// nor does `check`.
 ///
 /// The locks are stored in these maps:
 ///

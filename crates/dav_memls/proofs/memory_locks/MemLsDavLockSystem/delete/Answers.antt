@@ -1,5 +1,5 @@
-use Rattle.std.proofs.Common.{◌∙◌, sym, ap, length, arith, true}
-use Rattle.dav_store.specs.Locks.{elsewhere}
+use Rattle.std.proofs.Common.{◌∙◌, sym, ap, length, arith}
+use Rattle.dav_store.specs.Locks.{elsewhere, all_reliable}
 use Rattle.dav_memls.specs.IndexedLocks.{locks_in}
 use Rattle.dav_memls.proofs.LockLists.{is_gone, elsewhere-all}
 use Rattle.dav_memls.proofs.memory_locks.MemLsDavLockSystem.delete.Goals as goal
@@ -23,4 +23,4 @@ loop-below-preserved c =
     ap (λ ls. elsewhere ls c.args.path.now.key) c.remove.ensures ∙ gone.elsewhere ∙ c.loop-below.invariant
 
 pub returns-clause-removed : goal.returns-clause-removed
-returns-clause-removed c = ap (λ list. record { list = list; dependable = true }) (sym (elsewhere-all c.args.path.now.key (locks_in c.loop-below.self.locks) c.in_default.ensures) ∙ c.loop-below.invariant)
+returns-clause-removed c = ap (λ list. record { list = list; reliable = all_reliable }) (sym (elsewhere-all c.args.path.now.key (locks_in c.loop-below.self.locks) c.in_default.ensures) ∙ c.loop-below.invariant)

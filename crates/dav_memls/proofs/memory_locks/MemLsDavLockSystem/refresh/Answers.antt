@@ -1,4 +1,5 @@
-use Rattle.std.proofs.Common.{◌∙◌, ap, true}
+use Rattle.std.proofs.Common.{◌∙◌, ap}
+use Rattle.dav_store.specs.Locks.{all_reliable}
 use Rattle.dav_memls.specs.MemLs.{list_of}
 use Rattle.dav_memls.proofs.LockLists.{only_named, distinct-refreshed, compatible-refreshed, found-refreshed}
 use Rattle.dav_memls.proofs.memory_locks.MemLsDavLockSystem.refresh.Goals as goal
@@ -23,5 +24,5 @@ returns-clause-refreshed c =
     let only = only_named key token self.locks.locks.entries c.in-Some.number c.in-Some.lock.now self.distinct_tokens self.locks.ordered c.in-Some.ensures.held c.in-Some.ensures.named in
     record {
       named = found-refreshed key token c.args.timeout c.args.now self.locks.locks.entries c.in-Some.number c.in-Some.lock.now c.in_ok-copy.copy c.refresh.new.self only c.in_ok-copy.ensures c.refresh.ensures;
-      refreshed_alone = ap (λ list. record { list = list; dependable = true }) (c.refresh-2.ensures ∙ only.changed c.args.timeout c.args.now);
+      refreshed_alone = ap (λ list. record { list = list; reliable = all_reliable }) (c.refresh-2.ensures ∙ only.changed c.args.timeout c.args.now);
     }

@@ -1,4 +1,5 @@
-use Rattle.std.proofs.Common.{◌∙◌, ap, true}
+use Rattle.std.proofs.Common.{◌∙◌, ap}
+use Rattle.dav_store.specs.Locks.{all_reliable}
 use Rattle.dav_memls.specs.IndexedLocks.{locks_in}
 use Rattle.dav_memls.specs.MemLs.{list_of}
 use Rattle.dav_memls.proofs.LockLists.{only_named, distinct-without, compatible-without}
@@ -20,4 +21,4 @@ pub returns-clause-removed : goal.returns-clause-removed
 returns-clause-removed c =
     let self = c.args.self.now in
     let only = only_named c.args.path.now.key c.args.token.now self.locks.locks.entries c.in-Some.number c.in-Some.field-0-1.now self.distinct_tokens self.locks.ordered c.in-Some.ensures.held c.in-Some.ensures.named in
-    record { named = only.has; removed = ap (λ list. record { list = list; dependable = true }) (c.remove.ensures ∙ only.rest) }
+    record { named = only.has; removed = ap (λ list. record { list = list; reliable = all_reliable }) (c.remove.ensures ∙ only.rest) }
