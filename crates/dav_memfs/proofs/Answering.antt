@@ -24,12 +24,12 @@ use Rattle.dav_store.specs.Below.{put_at, is_below}
 use Rattle.dav_memfs.specs.EachLaws.{each-put_at, each-IsMoved, put_at-same}
 use Rattle.dav_store.specs.Logged.{logged_of}
 use Rattle.dav_store.specs.Store.{Node, File, Directory, Quota, Contents, Store}
-use Rattle.dav_store.specs.Calls.{Call, Answers, Declines, IsLawful, IsOwn, error_of, limit_of, create_dir_bar, open_bar, file_bar, bytes_at, IsMadeAt, IsOpened, IsWritten}
-use Rattle.dav_store.specs.Members.{remove_file_bar, remove_dir_bar, read_dir_bar, IsRemovedAt}
+use Rattle.dav_store.specs.Calls.{Call, Answers, Declines, IsLawful, IsOwn, error_of, limit_of, create_dir_bar, open_bar, file_bar, bytes_at, must_be_file, IsMadeAt, IsOpened, IsWritten}
+use Rattle.dav_store.specs.Members.{remove_dir_bar, read_dir_bar, IsRemovedAt}
 use Rattle.dav_store.specs.Transfers.{copy_bar, rename_bar, IsCopiedTo, IsRenamedTo}
 use Rattle.dav_store.specs.PropertyCalls.{Patch, patched, some_properties, properties_at, get_prop_bar, properties_bar, get_quota_bar, IsPatchedAt, ArePropertiesAt, PatchesProps, patch_props_call}
 use Rattle.dav_memfs.specs.Memory as memory
-use Rattle.dav_memfs.specs.Memory.{Stored, Resources, tree_of, properties_of, contents_of, seen_of, change_at, with_bytes, with_properties, copy_of, fresh, made, filled, without, copied, with_patches, IsRenamed}
+use Rattle.dav_memfs.specs.Memory.{Stored, Resources, tree_of, properties_of, contents_of, seen_of, change_at, with_bytes, with_properties, copy_of, fresh, facts_of, made, filled, without, copied, with_patches, IsRenamed}
 use Rattle.dav_memfs.specs.MemoryCalls.{Yields, Gives, Tells, TellsWith, outcome_of, change_error, open_error, error_of_opening, opened, opened_from, file_error, write_error, written, copy_error, properties_error, IsPropertyList}
 use Rattle.dav_store.specs.Logged.{record_with}
 use Rattle.dav_memfs.specs.Lawful.{node_in, get-tree, get-properties}
@@ -109,10 +109,10 @@ file_row (Some (File bytes)) = tt
 file_row (Some Directory) = tt
 file_row None = tt
 
-pub remove_file_row : (at : Option Node) → IfSome (remove_file_bar at) IsRowError
-remove_file_row None = tt
-remove_file_row (Some Directory) = tt
-remove_file_row (Some (File bytes)) = tt
+pub must_be_file_row : (at : Option Node) → IfSome (must_be_file at) IsRowError
+must_be_file_row None = tt
+must_be_file_row (Some Directory) = tt
+must_be_file_row (Some (File bytes)) = tt
 
 pub remove_dir_row : (key : Key) (at : Option Node) (names : List (List ℕ)) → IfSome (remove_dir_bar key at names) IsRowError
 remove_dir_row key None names = tt
@@ -181,7 +181,7 @@ declines statuses call paths error old new before after e ks same (inr is) (inr 
   not_memory = p.0;
   same = ap contents_of same;
   told = one_more call.op paths call.keys (outcome_of e) [] before after ks p.1;
-  fixed = refl;
+  fixed = ap (λ (m : memory.Memory). facts_of m.held) same;
 })
 
 -- an exact answer and its record are what the engine sees of a call
@@ -189,18 +189,18 @@ pub answers : {A : Type 0} (call : Call) (paths : List PathValue) (Effect : A �
     (old new : memory.Memory) (before after : List Record) (answer : Result A FsError)
     → map (λ (p : PathValue). p.key) paths ≡ call.keys → Yields error Becomes old answer new → Tells call.op paths answer before after
     → (error ≡ None → call.bar ≡ None) → ((e : FsError) → error ≡ Some e → IsLawful call.bar (outcome_of e) × (e ≢ Memory))
-    → IfOk answer (λ a. error ≡ None → Becomes old new → Effect a (contents_of old) (contents_of new))
+    → (Becomes old new → new.held ≡ old.held) → IfOk answer (λ a. error ≡ None → Becomes old new → Effect a (contents_of old) (contents_of new))
     → Answers call Effect (seen old before) answer (seen new after)
-answers call paths Effect error Becomes old new before after (Ok a) ks y t none law effect = record {
+answers call paths Effect error Becomes old new before after (Ok a) ks y t none law held effect = record {
   granted = record {
     allowed = none y.granted.0;
     effect = effect y.granted.0 y.granted.1;
     told = one_more call.op paths call.keys Granted [] before after ks t;
-    fixed = refl;
+    fixed = ap facts_of (held y.granted.1);
   };
   declined = tt;
 }
-answers {A} call paths Effect error Becomes old new before after (Err e) ks y t none law effect =
+answers {A} call paths Effect error Becomes old new before after (Err e) ks y t none law held effect =
     record { granted = tt; declined = declines {A = A} (λ _. []) call paths error old new before after e ks y.declined.0 y.declined.1 t law }
 
 -- ---- effects
@@ -302,6 +302,10 @@ properties-opened options key old (Some s) here =
       | true ↦ changed-properties old.resources key (with_bytes [] (old.version + 1) old.moment) s here refl
       | false ↦ refl
     ]
+
+pub held-opened : (options : OpenOptions) (key : Key) (old : memory.Memory) (o : Option Stored) → (opened_from options key o old).held ≡ old.held
+held-opened options key old None = refl
+held-opened options key old (Some s) = elim options.truncate as (λ t. (if t then filled key [] old else old).held ≡ old.held) [ true ↦ refl | false ↦ refl ]
 
 limit-opened : (options : OpenOptions) (key : Key) (old : memory.Memory) (o : Option Stored) → (opened_from options key o old).limit ≡ old.limit
 limit-opened options key old None = refl
@@ -420,7 +424,7 @@ patches_props key patches paths old new before after (Ok statuses) ks g t all = 
     answered = all;
     effect = patches_at key patches old new g.granted.0 g.granted.1;
     told = one_more PatchProps paths (key ∷ []) Granted statuses.items before after ks t;
-    fixed = refl;
+    fixed = ap (λ (m : memory.Memory). facts_of m.held) g.granted.1;
   });
   declined = tt;
 }
@@ -441,13 +445,13 @@ pub answers-call : {A : Type 0} (call : Call) (paths : List PathValue) (Effect :
     → result ≡ answer → begun ≡ old → ended ≡ done → begun_log ≡ log → done_log ≡ begun_log → map (λ (p : PathValue). p.key) paths ≡ call.keys
     → Yields (error begun) Becomes begun answer done → Tells call.op paths answer done_log ended_log
     → (error old ≡ None → call.bar ≡ None) → ((e : FsError) → error old ≡ Some e → IsLawful call.bar (outcome_of e) × (e ≢ Memory))
-    → IfOk answer Says → ((a : A) → Says a → error old ≡ None → Becomes old ended → Effect a (contents_of old) (contents_of ended))
+    → (Becomes old ended → ended.held ≡ old.held) → IfOk answer Says → ((a : A) → Says a → error old ≡ None → Becomes old ended → Effect a (contents_of old) (contents_of ended))
     → Answers call Effect (seen old log) result (seen ended ended_log)
-answers-call {A} call paths Effect error Becomes old begun done ended log begun_log done_log ended_log answer result Says same b d bl dl ks y t none law says effect =
+answers-call {A} call paths Effect error Becomes old begun done ended log begun_log done_log ended_log answer result Says same b d bl dl ks y t none law keeps says effect =
     let held : Yields (error old) Becomes old answer ended = subst (λ (m : memory.Memory). Yields (error m) Becomes m answer ended) b (subst (λ (m : memory.Memory). Yields (error begun) Becomes begun answer m) (sym d) y) in
     let told : Tells call.op paths answer log ended_log = subst (λ (ls : List Record). Tells call.op paths answer ls ended_log) (dl ∙ bl) t in
     subst (λ r. Answers call Effect (seen old log) r (seen ended ended_log)) (sym same)
-    (answers call paths Effect (error old) Becomes old ended log ended_log answer ks held told none law (ok_then answer says effect))
+    (answers call paths Effect (error old) Becomes old ended log ended_log answer ks held told none law keeps (ok_then answer says effect))
 
 pub any_ok : {A : Type 0} (answer : Result A FsError) → IfOk answer (λ _. Unit {0})
 any_ok (Ok a) = tt

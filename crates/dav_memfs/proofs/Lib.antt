@@ -1,5 +1,6 @@
 pub mod Keys
 pub mod Bytes
+pub mod Named
 pub mod Sound
 pub mod Rows
 pub mod Answering

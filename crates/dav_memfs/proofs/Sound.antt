@@ -1,23 +1,25 @@
 -- What always holds of a store in memory stays so.
 use Rattle.std.proofs.Common.{zero, suc, ◌+◌, ◌-◌, ◌≤◌, length, append_assoc, arith, ◌≡◌, ◌≢◌, ◌∙◌, ℕ, Bool, true, false, cond, not, ◌&&◌, List, [], ◌∷◌, ◌++◌, Option, Some, None, refl, sym, ap, subst, ◌⊎◌, inl, inr}
 use Rattle.std.proofs.lemmas.List.{append-nil, length-append, length-take}
-use Rattle.std.specs.Prelude.{Result, Ok, Err, OnOk, OnErr}
+use Rattle.std.specs.Prelude.{Result, Ok, Err, OnOk, OnErr, All}
 use Rattle.std.specs.Option.{option_map, option_and_then}
 use Rattle.std.specs.Ordering.{eq_by_cmp}
 use Rattle.std.specs.FinMap.{get, empty, insert, remove, get-insert, get-remove, get-empty}
 use Rattle.dav_resource.specs.Key.{Key, key_cmp, key_cmp_total, parent, is_same_key, same_key_decides, tied_decides}
 use Rattle.dav_resource.specs.PathText.{IsKey}
-use Rattle.dav_store.specs.Store.{Node, File, Directory, Tree}
+use Rattle.dav_store.specs.Store.{Node, File, Directory, Tree, AreNamed}
 use Rattle.dav_store.specs.Calls.{bytes_at}
-use Rattle.dav_store.specs.Below.{is_at_or_below, is_below}
+use Rattle.dav_store.specs.Below.{put_at, is_at_or_below, is_below}
+use Rattle.dav_store.specs.PropertyCalls.{Patch, patched, IsWhole}
 use Rattle.dav_store.specs.BelowLaws.{at_or_below-append, at_or_below-tail}
 use Rattle.dav_store.specs.Members.{member, members, IsIn}
 use Rattle.dav_store.specs.MemberLaws.{parent-below, member-parent, parent-member, there_members}
 use Rattle.dav_store.specs.Transfers.{IsMoved}
-use Rattle.dav_memfs.specs.EachLaws.{each-put_at, each-IsMoved, put_at-same}
+use Rattle.dav_memfs.specs.EachLaws.{get-put_at, each-put_at, each-IsMoved, put_at-same}
 use Rattle.dav_memfs.specs.Lawful.{node_in, get-tree}
-use Rattle.dav_memfs.specs.Memory.{Stored, Resources, tree_of, IsSound, is_directory, change_at, with_bytes}
+use Rattle.dav_memfs.specs.Memory.{Stored, Resources, tree_of, IsSound, is_directory, change_at, with_bytes, with_properties}
 use Rattle.dav_memfs.proofs.Answering.{tree-put, changed-tree}
+use Rattle.dav_memfs.proofs.Named.{named-empty, named-patched}
 
 -- directories stay where something is put in no directory's place
 stays : (tree : Tree) (key : Key) (node : Node) (q : Key) → get tree key ≢ Some Directory → get tree q ≡ Some Directory → get (insert tree key node) q ≡ Some Directory
@@ -42,12 +44,33 @@ pub record IsSoundTree (tree : Tree) : Type 0 where
   pub parents : (key : Key) → get tree key ≢ None → get tree (parent key) ≡ Some Directory
   pub keys : (key : Key) → get tree key ≢ None → IsKey key
 
-pub sound-tree : (resources : Resources) (tree : Tree) → tree_of resources ≡ tree → IsSoundTree tree → IsSound resources
-sound-tree resources tree is sound = record {
+-- each property's element has the name of the property
+abbrev pub AllNamed : Resources → Type 0
+AllNamed resources = (key : Key) (s : Stored) → get resources key ≡ Some s → AreNamed s.properties
+
+pub sound-tree : (resources : Resources) (tree : Tree) → tree_of resources ≡ tree → IsSoundTree tree → AllNamed resources → IsSound resources
+sound-tree resources tree is sound named = record {
   root = ap (λ t. get t []) is ∙ sound.root;
   parents = λ key some. ap (λ t. get t (parent key)) is ∙ sound.parents key (subst (λ t. get t key ≢ None) is some);
   keys = λ key some. sound.keys key (subst (λ t. get t key ≢ None) is some);
+  named = named;
 }
+
+-- something else is put at a key, or nothing
+named-put : (old new : Resources) (key : Key) (o : Option Stored) → AllNamed old → new ≡ put_at old key o → ((s : Stored) → o ≡ Some s → AreNamed s.properties) → AllNamed new
+named-put old new key o named is put q s here = by (eq_by_cmp key_cmp q key) (sym (ap (λ m. get m q) is ∙ get-put_at old key o q) ∙ here)
+  where
+    by : (b : Bool) → cond b o (get old q) ≡ Some s → AreNamed s.properties
+    by true at = put s at
+    by false at = named q s at
+
+-- the resource at a key is changed
+named-changed : (old new : Resources) (key : Key) (change : Stored → Stored) → AllNamed old → new ≡ change_at key change old → ((s : Stored) → AreNamed s.properties → AreNamed (change s).properties) → AllNamed new
+named-changed old new key change named is keeps = named-put old new key (option_map change (get old key)) named is (by (get old key) refl)
+  where
+    by : (o : Option Stored) → get old key ≡ o → (s : Stored) → option_map change o ≡ Some s → AreNamed s.properties
+    by None here s e = absurd cc
+    by (Some t) here s e = let same : change t ≡ s = cc in subst (λ (x : Stored). AreNamed x.properties) same (keeps t (named key t here))
 
 -- something is put below a directory, in no directory's place
 sound-insert : (old : Resources) (key : Key) (node : Node) → IsSound old → IsKey key → get (tree_of old) (parent key) ≡ Some Directory → get (tree_of old) key ≢ Some Directory → IsSoundTree (insert (tree_of old) key node)
@@ -65,8 +88,10 @@ sound-insert old key node sound is_key above apart = record {
     key_of q (inl e) = rw e is_key
     key_of q (inr h) = sound.keys q h
 
-pub sound-kept : (old new : Resources) (key : Key) (s : Stored) → IsSound old → new ≡ insert old key s → IsKey key → get (tree_of old) (parent key) ≡ Some Directory → get (tree_of old) key ≢ Some Directory → IsSound new
-sound-kept old new key s sound is is_key above apart = sound-tree new _ (ap tree_of is ∙ tree-put old key s) (sound-insert old key s.node sound is_key above apart)
+pub sound-kept : (old new : Resources) (key : Key) (s : Stored) → IsSound old → new ≡ insert old key s → IsKey key → get (tree_of old) (parent key) ≡ Some Directory → get (tree_of old) key ≢ Some Directory → AreNamed s.properties → IsSound new
+sound-kept old new key s sound is is_key above apart named =
+    sound-tree new _ (ap tree_of is ∙ tree-put old key s) (sound-insert old key s.node sound is_key above apart)
+    (named-put old new key (Some s) sound.named is (λ t e. let same : s ≡ t = cc in subst (λ (x : Stored). AreNamed x.properties) same named))
 
 some_at : (old : Resources) (key : Key) (s : Stored) → get old key ≡ Some s → get (tree_of old) key ≡ Some s.node
 some_at old key s here = get-tree old key ∙ ap (option_map node_in) here
@@ -85,25 +110,33 @@ sound-filled old new key bytes version moment s sound is found file =
     let here = some_at old key s found in
     sound-tree new _ (ap tree_of is ∙ changed-tree old key (with_bytes bytes version moment) s found)
     (sound-insert old key (File bytes) sound (sound.keys key (not_none _ s.node here)) (sound.parents key (not_none _ s.node here)) (λ e. no_directory s.node file (sym here ∙ e)))
+    (named-changed old new key (with_bytes bytes version moment) sound.named is (λ t named. named))
 
--- a resource is changed, but not in what stands there
-pub sound-patched : (old new : Resources) (key : Key) (change : Stored → Stored) → IsSound old → new ≡ change_at key change old → ((s : Stored) → (change s).node ≡ s.node) → IsSound new
-sound-patched old new key change sound is same = sound-tree new (tree_of old)
+-- the properties of a resource are changed
+pub sound-patched : (old new : Resources) (key : Key) (patches : List Patch) → IsSound old → new ≡ change_at key (λ s. with_properties (patched patches s.properties) s) old → All IsWhole patches → IsSound new
+sound-patched old new key patches sound is whole = sound-tree new (tree_of old)
     (ap tree_of is ∙ each-put_at (λ s. Some s.node) old key (option_map change (get old key)) ∙ put_at-same (tree_of old) key _ (get-tree old key ∙ nodes (get old key)))
     (record { root = sound.root; parents = sound.parents; keys = sound.keys })
+    (named-changed old new key change sound.named is (λ s named. named-patched patches s.properties named whole))
   where
+    change : Stored → Stored
+    change s = with_properties (patched patches s.properties) s
+
     nodes : (o : Option Stored) → option_map node_in o ≡ option_and_then (λ s. Some s.node) (option_map change o)
     nodes None = refl
-    nodes (Some s) = ap Some (sym (same s))
+    nodes (Some s) = refl
 
 -- the root alone
-pub sound-root : (resources : Resources) (s : Stored) → resources ≡ insert empty [] s → s.node ≡ Directory → IsSound resources
-sound-root resources s is node = sound-tree resources _ (ap tree_of is ∙ tree-put empty [] s ∙ ap (insert (tree_of empty) []) node) (record {
+pub sound-root : (resources : Resources) (s : Stored) → resources ≡ insert empty [] s → s.node ≡ Directory → s.properties ≡ empty → IsSound resources
+sound-root resources s is node none = sound-tree resources _ (ap tree_of is ∙ tree-put empty [] s ∙ ap (insert (tree_of empty) []) node) (record {
   root = root;
   parents = λ q h. rw (at_root q h) root;
   keys = λ q h. rw (at_root q h) tt;
-})
+}) (named-put empty resources [] (Some s) nowhere is (λ t e. let same : s ≡ t = cc in subst (λ (x : Stored). AreNamed x.properties) same (subst AreNamed (sym none) named-empty)))
   where
+    nowhere : AllNamed empty
+    nowhere key t here = absurd (let clash : None ≡ Some t = sym (get-empty key_cmp key) ∙ here in cc)
+
     root : get (insert (tree_of empty) [] Directory) [] ≡ Some Directory
     root = get-insert key_cmp_total (tree_of empty) [] Directory []
 
@@ -163,6 +196,7 @@ sound-removed old new segment above sound is alone =
       parents = λ q h. removed-other (tree_of old) key (parent q) (parent-other (tree_of old) segment above q alone (stood (tree_of old) key q h)) ∙ sound.parents q (stood (tree_of old) key q h);
       keys = λ q h. sound.keys q (stood (tree_of old) key q h);
     })
+    (named-put old new key None sound.named is (λ t e. absurd cc))
 
 file_is : (node : Node) → is_directory node ≡ false → node ≡ File (bytes_at (Some node))
 file_is (File bytes) d = refl
@@ -261,7 +295,7 @@ moved-tree : (from to : Key) (old new : Resources) → IsMoved from to old new �
 moved-tree from to old new m = each-IsMoved (λ s. Some s.node) from to old new m
 
 pub sound-renamed : (from to : Key) (old new : Resources) → IsSound old → IsMoved from to old new → from ≢ [] → is_at_or_below to from ≡ false → get (tree_of old) to ≡ None → IsKey to → get (tree_of old) (parent to) ≡ Some Directory → IsSound new
-sound-renamed from to old new sound moved not_from off none is_key above = record { root = root; parents = parents; keys = keys }
+sound-renamed from to old new sound moved not_from off none is_key above = record { root = root; parents = parents; keys = keys; named = named }
   where
     m : IsMoved from to (tree_of old) (tree_of new)
     m = moved-tree from to old new moved
@@ -293,6 +327,14 @@ sound-renamed from to old new sound moved not_from off none is_key above = recor
         by_to (inl t) f = let (below, is) = at_or_below-tail to q t in subst IsKey (sym is) (IsKey-append to below is_key (IsKey-parts from below (sound.keys (from ++ below) (λ e. some (ap (get (tree_of new)) is ∙ m.moved below ∙ e)))))
         by_to (inr t) (inl f) = let (below, is) = at_or_below-tail from q f in absurd (some (ap (get (tree_of new)) is ∙ m.gone below))
         by_to (inr t) (inr f) = sound.keys q (λ e. some (m.rest q f t ∙ e))
+
+    named : AllNamed new
+    named q s here = by_to (decide (is_at_or_below q to)) (decide (is_at_or_below q from))
+      where
+        by_to : (is_at_or_below q to ≡ true) ⊎ (is_at_or_below q to ≡ false) → (is_at_or_below q from ≡ true) ⊎ (is_at_or_below q from ≡ false) → AreNamed s.properties
+        by_to (inl t) f = let (below, is) = at_or_below-tail to q t in sound.named (from ++ below) s (sym (ap (get new) is ∙ moved.moved below) ∙ here)
+        by_to (inr t) (inl f) = let (below, is) = at_or_below-tail from q f in absurd (let clash : None ≡ Some s = sym (ap (get new) is ∙ moved.gone below) ∙ here in cc)
+        by_to (inr t) (inr f) = sound.named q s (sym (moved.rest q f t) ∙ here)
 
 kept_nothing : (o : Option Stored) → option_map node_in o ≡ None → o ≡ None
 kept_nothing None e = refl

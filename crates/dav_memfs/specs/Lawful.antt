@@ -1,13 +1,13 @@
 -- The in-memory store is well formed: this project's own choice.
 use Rattle.std.proofs.Common.{◌≡◌, ◌∙◌, ℕ, zero, suc, ◌<◌, ◌%◌, ◌/◌, true, false, List, [], ◌∷◌, Option, Some, None, refl, sym, ap, subst, arith, ◌&&◌, ◌==◌, if◌then◌else◌}
-use Rattle.std.specs.Option.{option_map, option_and_then}
+use Rattle.std.specs.Option.{option_map, option_and_then, ForSome}
 use Rattle.std.specs.List.{list_all}
 use Rattle.std.specs.Fmt.{digits, digits_onto, digit_glyph}
 use Rattle.std.proofs.lemmas.Bool.Decides.{nat_tests}
 use Rattle.std.specs.FinMap.{get, empty, len, len-empty}
 use Rattle.dav_resource.specs.Key.{Key, key_cmp}
 use Rattle.dav_resource.specs.Tree as elements
-use Rattle.dav_store.specs.Store.{Node, File, Directory, PropertyMap, IsWellFormed, MetaFits, IsTagText, is_tag_byte}
+use Rattle.dav_store.specs.Store.{Node, File, Directory, PropertyMap, IsWellFormed, AreNamed, MetaFits, IsTagText, is_tag_byte}
 use Rattle.dav_store.specs.PropertyCalls.{some_properties}
 use Rattle.dav_memfs.specs.Memory.{Stored, Resources, Memory, tree_of, properties_of, meta_of, contents_of, IsSound, tag_text, is_directory, size_of}
 use Rattle.dav_memfs.specs.EachLaws.{get-each}
@@ -49,6 +49,17 @@ none_empty : (o : Option Stored) → option_and_then (λ s. some_properties s.pr
 none_empty None e = absurd cc
 none_empty (Some s) e = not_no_properties s.properties e
 
+only_same : (properties kept : PropertyMap) → some_properties properties ≡ Some kept → properties ≡ kept
+only_same properties kept = elim (len properties == 0) as (λ b. (if b then None else Some properties) ≡ Some kept → properties ≡ kept) [
+  | true ↦ λ e. absurd cc
+  | false ↦ λ e. cc
+]
+
+named_kept : (o : Option Stored) → ((s : Stored) → o ≡ Some s → AreNamed s.properties)
+    → ForSome (option_and_then (λ s. some_properties s.properties) o) AreNamed
+named_kept None named properties e = absurd cc
+named_kept (Some s) named properties e = subst AreNamed (only_same s.properties properties e) (named s refl)
+
 -- ---- the metadata
 
 glyph_is_tag : (d : ℕ) → d < 16 → is_tag_byte (digit_glyph false d) ≡ true
@@ -85,5 +96,7 @@ is_well_formed memory sound = record {
   keys = sound.keys;
   properties = none_without memory.resources;
   none_empty = λ key e. none_empty (get memory.resources key) (sym (get-properties memory.resources key) ∙ e);
+  named = λ key. subst (λ o. ForSome o AreNamed) (sym (get-properties memory.resources key))
+      (named_kept (get memory.resources key) (sound.named key));
   metas = λ key. subst (λ o. MetaFits o (option_map meta_of (get memory.resources key))) (sym (get-tree memory.resources key)) (meta_fits (get memory.resources key));
 }

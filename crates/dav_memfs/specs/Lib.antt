@@ -10,6 +10,8 @@ pub mod Hop
 pub mod Moves
 pub mod Entry
 pub mod Dump
+pub mod Bodies
+pub mod HeldBodies
 pub mod MemFs
 pub mod KeyProps
 pub mod Lawful

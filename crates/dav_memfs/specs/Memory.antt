@@ -1,5 +1,5 @@
 -- The state of the in-memory store without its log, and the effects of its calls on it: this project's own choice.
-use Rattle.std.specs.Prelude.{◌≡◌, ◌≢◌, ℕ, ◌+◌, ◌-◌, ◌^◌, min, Bool, true, false, List, [], length, filter_map, Option, Some, None}
+use Rattle.std.specs.Prelude.{◌≡◌, ◌≢◌, ℕ, ◌+◌, ◌-◌, ◌^◌, min, Bool, true, false, List, [], ◌++◌, length, filter_map, Option, Some, None}
 use Rattle.std.specs.Option.{option_map}
 use Rattle.std.specs.List.{sum_by}
 use Rattle.std.specs.Fmt.{digits}
@@ -9,7 +9,9 @@ use Rattle.dav_resource.specs.PathText.{IsKey}
 use Rattle.dav_resource.specs.declared.meta.Meta.{Meta}
 use Rattle.dav_store.specs.Below.{put_at}
 use Rattle.dav_store.specs.Logged.{Logged}
-use Rattle.dav_store.specs.Store.{Node, File, Directory, Tree, PropertyMap, Properties, Quota, Contents, Store}
+use Rattle.dav_store.specs.Store.{Node, File, Directory, Tree, PropertyMap, Properties, Quota, Contents, Bodies, Facts, Store, AreNamed}
+use Rattle.dav_store.specs.Calls.{bytes_at}
+use Rattle.dav_store.specs.BodyCalls.{put_body, stored_bytes}
 use Rattle.dav_store.specs.Transfers.{IsMoved}
 use Rattle.dav_store.specs.PropertyCalls.{Patch, patched, some_properties}
 
@@ -25,12 +27,18 @@ pub record Stored : Type 0 where
 abbrev pub Resources : Type 0
 Resources = FinMap key_cmp Stored
 
--- the resources, the number of changes so far, the current time, and the quota, if any: its total bytes, or no limit
+-- the bodies held for requests to come, and the number of the next one
+pub record Held : Type 0 where
+  pub bodies : Bodies
+  pub next : ℕ
+
+-- the resources, the number of changes so far, the current time, the quota, if any: its total bytes, or no limit; and the bodies
 pub record Memory : Type 0 where
   pub resources : Resources
   pub version : ℕ
   pub moment : ℕ
   pub limit : Option (Option ℕ)
+  pub held : Held
 
 -- ---- what contracts see of it
 
@@ -57,6 +65,10 @@ pub record IsFileAt (key : Key) (resources : Resources) (s : Stored) : Type 0 wh
   pub there : get resources key ≡ Some s
   pub file : is_directory s.node ≡ false
 
+-- the bytes of the file at the key
+abbrev pub file_bytes : Key → Resources → List ℕ
+file_bytes key resources = bytes_at (get (tree_of resources) key)
+
 -- the number of bytes in all files
 abbrev pub used_by : Resources → ℕ
 used_by resources = sum_by (λ e. size_of e.1.node) (entries resources)
@@ -75,15 +87,21 @@ quota_of memory = option_map (λ total. record { used = min (used_by memory.reso
 abbrev pub contents_of : Memory → Contents
 contents_of memory = record { tree = tree_of memory.resources; properties = properties_of memory.resources; metas = λ key. option_map meta_of (get memory.resources key); quota = quota_of memory }
 
--- the store with this log, which has dead properties
-abbrev pub seen_of : Memory → List Logged → Store
-seen_of memory log = record { contents = contents_of memory; keeps_properties = true; log = log }
+-- it has dead properties, allows every call and shows every member
+abbrev pub facts_of : Held → Facts
+facts_of held = record { keeps_properties = true; bodies = held.bodies; allows = λ _. true; shows = λ _. true }
 
--- the invariant: the root is a directory, each other resource's parent is a directory, and each resource's key is valid
+-- the store with this log
+abbrev pub seen_of : Memory → List Logged → Store
+seen_of memory log = record { contents = contents_of memory; facts = facts_of memory.held; log = log }
+
+-- the invariant: the root is a directory, each other resource's parent is a directory, each resource's key is valid, and each property's element has
+-- the name of the property
 pub record IsSound (resources : Resources) : Type 0 where
   pub root : get (tree_of resources) [] ≡ Some Directory
   pub parents : (key : Key) → get (tree_of resources) key ≢ None → get (tree_of resources) (parent key) ≡ Some Directory
   pub keys : (key : Key) → get (tree_of resources) key ≢ None → IsKey key
+  pub named : (key : Key) (s : Stored) → get resources key ≡ Some s → AreNamed s.properties
 
 -- ---- the effects of the calls
 
@@ -137,7 +155,32 @@ pub record IsRenamed (from to : Key) (old new : Memory) : Type 0 where
   pub version : new.version ≡ old.version
   pub moment : new.moment ≡ old.moment
   pub limit : new.limit ≡ old.limit
+  pub held : new.held ≡ old.held
 
--- the root only, with this number of changes and this quota
+-- ---- the effects of the calls on bodies
+
+-- there is this body at a number, or none
+abbrev pub put_held : ℕ → Option (List ℕ) → Held → Held
+put_held number body held = record held { bodies = put_body held.bodies number body }
+
+-- a body of no bytes is started at the next number, which isn't given again
+abbrev pub begun : Held → Held
+begun held = record { bodies = put_body held.bodies held.next (Some []); next = held.next + 1 }
+
+-- the body at a number gets these bytes after those that it has
+abbrev pub lengthened : ℕ → List ℕ → Held → Held
+lengthened number more held = put_held number (Some (stored_bytes held.bodies number ++ more)) held
+
+abbrev pub with_held : (Held → Held) → Memory → Memory
+with_held change old = record old { held = change old.held }
+
+-- ---- the first state
+
+-- no bodies, and the first number to give is 0
+abbrev pub none_held : Held
+none_held = record { bodies = λ _. None; next = 0 }
+
+-- the root only, with this number of changes and this quota, and no bodies
 abbrev pub first_memory : ℕ → Option (Option ℕ) → Memory
-first_memory version limit = record { resources = insert empty [] (fresh Directory 0 0); version = version; moment = 0; limit = limit }
+first_memory version limit =
+    record { resources = insert empty [] (fresh Directory 0 0); version = version; moment = 0; limit = limit; held = none_held }

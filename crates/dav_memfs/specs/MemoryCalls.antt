@@ -1,5 +1,5 @@
 -- The exact result and effect of each call of the in-memory store: this project's own choice.
-use Rattle.std.specs.Prelude.{map, ◌≡◌, ◌≢◌, true, ℕ, ◌-◌, ◌^◌, ◌==◌, if◌then◌else◌, List, [], ◌∷◌, ◌++◌, Option, Some, None, Result, Ok, Err, ◌⊎◌, IfOk, IfErr}
+use Rattle.std.specs.Prelude.{map, ◌≡◌, ◌≢◌, true, ℕ, ◌+◌, ◌-◌, ◌^◌, ◌==◌, if◌then◌else◌, List, [], ◌∷◌, ◌++◌, length, Option, Some, None, Result, Ok, Err, ◌⊎◌, IfOk, IfErr}
 use Rattle.std.specs.Option.{option_map}
 use Rattle.std.specs.List.{AllZip}
 use Rattle.std.specs.FinMap.{get, entries}
@@ -17,11 +17,11 @@ use Rattle.dav_resource.specs.declared.record.Outcome.{Outcome}
 use Rattle.dav_resource.specs.declared.record.Outcome.TheVariants.{Granted, Barred, Refused}
 use Rattle.dav_store.specs.Logged.{record_with, record_on}
 use Rattle.dav_store.specs.Store.{File, PropertyMap}
-use Rattle.dav_store.specs.Calls.{metadata_bar, create_dir_bar, open_bar, file_bar, bytes_at, written_at, place_of}
+use Rattle.dav_store.specs.Calls.{metadata_bar, create_dir_bar, open_bar, file_bar, bytes_at, written_at, place_of, must_be_file}
 use Rattle.dav_store.specs.Transfers.{copy_bar, rename_bar}
 use Rattle.dav_store.specs.PropertyCalls.{properties_at, get_prop_bar, properties_bar, get_quota_bar, named_element, HavePrefixes}
-use Rattle.dav_store.specs.Members.{members, member, remove_file_bar, remove_dir_bar, read_dir_bar}
-use Rattle.dav_memfs.specs.Memory.{Stored, Resources, Memory, tree_of, contents_of, quota_of, meta_of, made, filled}
+use Rattle.dav_store.specs.Members.{members, member, remove_dir_bar, read_dir_bar}
+use Rattle.dav_memfs.specs.Memory.{Stored, Resources, Held, Memory, tree_of, contents_of, quota_of, meta_of, made, filled}
 
 -- a call that succeeds has no error due, and the new state is one that the old becomes; a call that fails changes nothing, and its error is `Memory`
 -- or the one that is due
@@ -92,7 +92,7 @@ IsListing directory resources listing = AllZip (IsShown directory resources) (me
 -- ---- remove_file and remove_dir: not counted as changes, so never refused
 
 abbrev pub remove_file_error : Key → Memory → Option FsError
-remove_file_error key old = remove_file_bar (get (tree_of old.resources) key)
+remove_file_error key old = must_be_file (get (tree_of old.resources) key)
 
 abbrev pub remove_dir_error : Key → Memory → Option FsError
 remove_dir_error key old = remove_dir_bar key (get (tree_of old.resources) key) (members (tree_of old.resources) key)
@@ -113,6 +113,11 @@ opened_from options key (Some s) old = if options.truncate then filled key [] ol
 abbrev pub opened : OpenOptions → Key → Memory → Memory
 opened options key old = opened_from options key (get old.resources key) old
 
+-- ---- read_bytes
+
+abbrev pub read_bytes_error : Key → Memory → Option FsError
+read_bytes_error key old = must_be_file (get (tree_of old.resources) key)
+
 -- ---- the calls on an open file
 
 abbrev pub file_error : Key → Memory → Option FsError
@@ -123,6 +128,10 @@ write_error key old = change_error (file_error key old) old
 
 abbrev pub written : DavFile → List ℕ → Memory → Memory
 written file more old = filled file.path.key (written_at (bytes_at (get (tree_of old.resources) file.path.key)) (place_of file (contents_of old)) more) old
+
+-- the open file after these bytes are written to it
+abbrev pub after_write : DavFile → List ℕ → Memory → DavFile
+after_write file more old = record file { pos = place_of file (contents_of old) + length more }
 
 -- ---- copy and rename: only the copy counts as a change
 
@@ -149,3 +158,16 @@ pub record IsPropertyList (properties : PropertyMap) (props : List DavProp) : Ty
 
 abbrev pub quota_error : Memory → Option FsError
 quota_error old = get_quota_bar (quota_of old)
+
+-- ---- the calls on bodies
+
+-- GeneralFailure if no number is left
+abbrev pub start_error : Held → Option FsError
+start_error held = if held.next == 2 ^ 64 - 1 then Some errors.GeneralFailure else None
+
+abbrev pub missing_error : Option (List ℕ) → Option FsError
+missing_error None = Some errors.NotFound
+missing_error (Some bytes) = None
+
+abbrev pub add_error : ℕ → Held → Option FsError
+add_error number held = missing_error (held.bodies number)

@@ -1,19 +1,21 @@
 //! An in-memory store.
-ghost use Rattle.std.specs.Prelude.{◌≡◌, ◌≢◌, ◌<◌, ◌+◌, ◌^◌, [], ◌∷◌, map, All, length, replicate, false, IfOk, IfErr, MatchResult, Some, None};
+ghost use Rattle.std.specs.Prelude.{◌≡◌, ◌≢◌, ◌<◌, ◌+◌, ◌^◌, [], ◌∷◌, map, All, length, option_map, replicate, false, true, IfOk, IfErr, MatchResult, Some, None, refl};
 ghost use Rattle.dav_resource.specs.PathText.{IsKey};
 ghost use Rattle.dav_store.specs.Logged.{logged_of};
 ghost use Rattle.dav_store.specs.Store.{Directory};
-ghost use Rattle.dav_store.specs.Calls.{Looks, MakesDirectory, Opens, Seeks, Writes, Flushes, LooksAtFile, place_of};
+ghost use Rattle.dav_store.specs.Calls.{Looks, MakesDirectory, Opens, ReadsBytes, bytes_from, Seeks, Writes, Flushes, LooksAtFile, place_of};
+ghost use Rattle.dav_store.specs.BodyCalls.{StartsBody, AddsToBody, with_body};
 ghost use Rattle.dav_store.specs.Members.{ReadsDir, RemovesFile, RemovesDir};
 ghost use Rattle.dav_store.specs.Transfers.{Copies, Renames};
 ghost use Rattle.dav_store.specs.PropertyCalls.{name_of, properties_at, IsWhole, GetsProp, GetsProps, PatchesProps, GetsQuota};
-ghost use Rattle.dav_memfs.specs.Memory.{IsSound, contents_of, made, without, copied, IsRenamed, with_patches};
+ghost use Rattle.dav_memfs.specs.Memory.{IsSound, file_bytes, contents_of, begun, lengthened, put_held, with_held, made, without, copied, IsRenamed, with_patches};
 ghost use Rattle.dav_memfs.specs.Dump.{IsDump};
 ghost use Rattle.dav_memfs.specs.Lawful.{is_well_formed};
-ghost use Rattle.dav_memfs.specs.MemoryCalls.{Yields, Gives, Tells, TellsWith, kept, look_error, read_dir_error, IsListing, create_dir_error, remove_file_error, remove_dir_error, open_error, opened, file_error, write_error, written, copy_error, rename_error, get_prop_error, properties_error, IsPropertyList, quota_error};
+ghost use Rattle.dav_memfs.specs.MemoryCalls.{Yields, Gives, Tells, TellsWith, kept, look_error, read_dir_error, IsListing, create_dir_error, remove_file_error, remove_dir_error, read_bytes_error, open_error, opened, file_error, write_error, written, after_write, copy_error, rename_error, get_prop_error, properties_error, IsPropertyList, quota_error, start_error, add_error};
 ghost use Rattle.std.proofs.Props.{props};
 ghost use Rattle.dav_memfs.specs.KeyProps.{IsKey-prop};
 
+mod bodies;
 mod entries;
 mod entry;
 mod files;
@@ -22,9 +24,10 @@ mod properties;
 mod records;
 mod tree;
 
+use bodies::HeldBodies;
 use dav_resource::{
-    DavFile, DavPath, DavProp, DirEntry, Element, FsError, FsResult, Items, Meta, Op, OpenOptions,
-    Record,
+    BodyNumber, DavFile, DavPath, DavProp, DirEntry, Element, FsError, FsResult, Items, Meta, Op,
+    OpenOptions, Record,
 };
 use dav_store::GuardedFileSystem;
 use entries::Entries;
@@ -34,11 +37,15 @@ use std::alloc::Global;
 
 /// An in-memory store with dead properties.
 ///
-/// It refuses a call for its own reasons in one case only: the call would count as a change, and the change
-/// counter is at `u64::MAX`. The error is then `GeneralFailure`. The counter starts at 0 (`with_version` sets
-/// another start). Each successful `create_dir`, `copy` and `write_bytes`, and each `open` that creates or
-/// truncates a file, adds one. The new number, in lower-case hexadecimal, is the entity tag of the resource
-/// created or changed.
+/// It refuses a recorded call for its own reasons in one case only: the call would count as a change, and the
+/// change counter is at `u64::MAX`. The error is then `GeneralFailure`. The counter starts at 0
+/// (`with_version` sets another start). Each successful `create_dir`, `copy`, `write_bytes` and `write_body`,
+/// and each `open` that creates or truncates a file, adds one. The new number, in lower-case hexadecimal, is
+/// the entity tag of the resource created or changed.
+///
+/// It allows every call and lists every member. The bodies that it holds for requests to come do not count in
+/// the quota. Their numbers are given in ascending order from 0, and each only once. `start_body` refuses
+/// with `GeneralFailure` when no number is left.
 ///
 /// All resources are in one map, ordered by whole keys. A lookup takes a number of comparisons logarithmic in
 /// the number of resources. Each call makes a few lookups, and `read_dir` one more for each member. Other
@@ -49,6 +56,7 @@ pub struct MemFs {
     version: u64,
     moment: u64,
     limit: Option<Option<u64>>,
+    bodies: HeldBodies,
     log: Vec<Record>,
     ghost sound: { IsSound entries } by { Prim.hlevel (props, IsKey-prop) },
 }
@@ -57,8 +65,8 @@ impl MemFs {
     ghost use Rattle.dav_memfs.specs.MemFs.{memory_of, store_of, records_of};
     ghost use Rattle.dav_memfs.specs.Memory.{first_memory};
 
-    /// Creates a store that holds only the root, created at time 0, with an empty log and no quota. Fails
-    /// only if memory runs out.
+    /// Creates a store that holds only the root, created at time 0, with an empty log, no bodies and no
+    /// quota. Fails only if memory runs out.
     pub fn new(alloc: Global) -> FsResult<MemFs>
         ensures memory { IfOk result (λ store. memory_of store ≡ first_memory 0 None) }
         ensures log { IfOk result (λ store. (store_of store).log ≡ []) }
@@ -105,6 +113,7 @@ impl MemFs {
             version,
             moment: 0,
             limit,
+            bodies: HeldBodies::new(alloc),
             log: Vec::new(alloc),
         })
     }
@@ -130,11 +139,13 @@ impl MemFs {
 }
 
 impl<C> GuardedFileSystem<C> for MemFs {
-    ghost use Rattle.dav_memfs.specs.MemFs.{memory_of, store_of, records_of};
+    ghost use Rattle.dav_memfs.specs.MemFs.{memory_of, store_of, records_of, body_of};
 
     ghost seen = { store_of };
 
     ghost well_formed = { λ store. is_well_formed (memory_of store) store.sound };
+
+    ghost allowed = { λ store call inside granted. refl };
 
     fn metadata(&mut self, path: &DavPath, _credentials: &C) -> FsResult<Meta>
         ensures seen { Looks (store_of self.old) path.now.key result (store_of self.new) }
@@ -197,6 +208,24 @@ impl<C> GuardedFileSystem<C> for MemFs {
         self.end_record(Op::OpenFile, paths, answer)
     }
 
+    /// Copies the bytes that it returns.
+    fn read_bytes(
+        &mut self,
+        path: &DavPath,
+        place: u64,
+        count: usize,
+        _credentials: &C,
+    ) -> FsResult<Vec<u8>>
+        ensures seen { ReadsBytes true (store_of self.old) path.now.key place count result (store_of self.new) }
+        ensures bytes { IfOk result (λ bytes. bytes.items ≡ bytes_from place count (file_bytes path.now.key (memory_of self.old).resources)) }
+        ensures memory { Gives (read_bytes_error path.now.key (memory_of self.old)) kept (memory_of self.old) result (memory_of self.new) }
+        ensures record { Tells Op.ReadBytes (path.now ∷ []) result (records_of self.old) (records_of self.new) }
+    {
+        let paths = self.begin_record(path)?;
+        let answer = self.read_file(path, place, count);
+        self.end_record(Op::ReadBytes, paths, answer)
+    }
+
     fn seek(&mut self, file: &mut DavFile, pos: u64, _credentials: &C) -> FsResult<()>
         ensures sought { Seeks (store_of self.old) file.old.path.key result (store_of self.new) }
         ensures place { MatchResult result (λ _. file.new ≡ record file.old { pos = pos }) (λ _. file.new ≡ file.old) }
@@ -217,6 +246,23 @@ impl<C> GuardedFileSystem<C> for MemFs {
     {
         let paths = self.begin_record(&file.path)?;
         let answer = self.write_file(file, bytes);
+        self.end_record(Op::WriteBytes, paths, answer)
+    }
+
+    fn write_body(
+        &mut self,
+        file: &mut DavFile,
+        number: BodyNumber,
+        _credentials: &C,
+    ) -> FsResult<()>
+        requires { file.old.append ≡ false → file.old.pos + length (body_of self.old number) < 2 ^ 64 }
+        ensures written { Writes (store_of self.old) file.old (body_of self.old number) result (store_of self.new) }
+        ensures place { MatchResult result (λ _. file.new ≡ after_write file.old (body_of self.old number) (memory_of self.old)) (λ _. file.new ≡ file.old) }
+        ensures memory { let old = memory_of self.old in Gives (write_error file.old.path.key old) (written file.old (body_of self.old number)) old result (memory_of self.new) }
+        ensures record { Tells Op.WriteBytes (file.old.path ∷ []) result (records_of self.old) (records_of self.new) }
+    {
+        let paths = self.begin_record(&file.path)?;
+        let answer = self.write_stored(file, number);
         self.end_record(Op::WriteBytes, paths, answer)
     }
 
@@ -318,6 +364,37 @@ impl<C> GuardedFileSystem<C> for MemFs {
 
     fn have_props(&self) -> bool {
         true
+    }
+
+    fn start_body(&mut self) -> FsResult<BodyNumber>
+        ensures seen { StartsBody (store_of self.old) result (store_of self.new) }
+        ensures number { IfOk result (λ number. number ≡ (memory_of self.old).held.next) }
+        ensures memory { Gives (start_error (memory_of self.old).held) (with_held begun) (memory_of self.old) result (memory_of self.new) }
+        ensures records { records_of self.new ≡ records_of self.old }
+    {
+        self.bodies.start()
+    }
+
+    fn add_to_body(&mut self, number: BodyNumber, bytes: &[u8]) -> FsResult<()>
+        ensures seen { AddsToBody number bytes.now (store_of self.old) result (store_of self.new) }
+        ensures memory { let old = memory_of self.old in Gives (add_error number old.held) (with_held (lengthened number bytes.now)) old result (memory_of self.new) }
+        ensures records { records_of self.new ≡ records_of self.old }
+    {
+        self.bodies.add(number, bytes)
+    }
+
+    fn drop_body(&mut self, number: BodyNumber)
+        ensures seen { store_of self.new ≡ with_body (store_of self.old) number None }
+        ensures memory { memory_of self.new ≡ with_held (put_held number None) (memory_of self.old) }
+        ensures records { records_of self.new ≡ records_of self.old }
+    {
+        self.bodies.remove(number);
+    }
+
+    fn body_length(&self, number: BodyNumber) -> Option<u64>
+        ensures { result ≡ option_map length ((store_of self.now).facts.bodies number) }
+    {
+        self.bodies.body_length(number)
     }
 
     fn records(&self) -> &[Record]

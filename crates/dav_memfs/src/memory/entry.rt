@@ -2,7 +2,7 @@
 ghost use Rattle.std.specs.Prelude.{◌≡◌, ◌<◌, ◌+◌, ◌^◌, IfOk, OnOk, OnErr, false, [], ◌++◌, ◌-◌, ◌≤◌, length, take, drop, replicate, string_bytes, Vec};
 ghost use Rattle.std.specs.Option.{option_copied, option_map};
 ghost use Rattle.dav_store.specs.Store.{File, Directory};
-ghost use Rattle.dav_store.specs.Calls.{bytes_at, written_at};
+ghost use Rattle.dav_store.specs.Calls.{bytes_at, bytes_from, written_at};
 ghost use Rattle.dav_store.specs.PropertyCalls.{patched};
 ghost use Rattle.dav_memfs.specs.Memory.{is_directory, size_of, tag_text, meta_of, fresh, with_bytes, with_properties};
 ghost use Rattle.dav_memfs.specs.Dump.{node_of};
@@ -138,6 +138,17 @@ impl Entry {
         }
     }
 
+    /// Returns a copy of a file's bytes: `count` of them from an offset, or fewer if the file ends before. A
+    /// directory has no bytes. Fails only if memory runs out.
+    pub fn bytes_from(&self, alloc: Global, place: u64, count: usize) -> Result<Vec<u8>, AllocError>
+        ensures { IfOk result (λ copy. copy.items ≡ bytes_from place count (bytes_at (Some self.now.node))) }
+    {
+        match &self.resource {
+            Resource::File(bytes) => bytes_from(bytes, place, count).to_vec(alloc),
+            Resource::Directory => Ok(Vec::new(alloc)),
+        }
+    }
+
     /// Returns a copy with the same bytes and properties, created at time `created` and changed at time `now`
     /// by change number `version`. Fails only if memory runs out.
     pub fn copy(&self, created: u64, version: u64, now: u64) -> Result<Entry, AllocError>
@@ -196,6 +207,14 @@ fn tag_text(alloc: Global, version: u64) -> Result<String, AllocError>
     ensures { IfOk result (λ text. string_bytes text ≡ tag_text version) }
 {
     format!(in alloc; "{version:x}")
+}
+
+/// Borrows `count` bytes from an offset on, or fewer if the bytes end before.
+fn bytes_from(bytes: &[u8], place: u64, count: usize) -> &[u8]
+    ensures { result.now ≡ bytes_from place count bytes.now }
+{
+    let rest = &bytes[bytes.len().min(place as usize)..];
+    &rest[..rest.len().min(count)]
 }
 
 /// Writes bytes at an offset, filling a gap with zeros. Requests all capacity at once. If that fails, nothing

@@ -1,15 +1,17 @@
 //! The in-memory store's calls on open files.
 ghost use Rattle.std.specs.Prelude.{◌≡◌, ◌<◌, ◌+◌, ◌^◌, IsTrue, false, length, IfOk, MatchResult, Some, None, ◌||◌, if◌then◌else◌};
 ghost use Rattle.std.specs.FinMap.{get};
-ghost use Rattle.dav_store.specs.Calls.{place_of};
-ghost use Rattle.dav_memfs.specs.MemFs.{memory_of};
-ghost use Rattle.dav_memfs.specs.Memory.{Stored, contents_of, size_of, is_directory, IsFileAt};
-ghost use Rattle.dav_memfs.specs.MemoryCalls.{Gives, kept, open_error, opened, file_error, write_error, written};
+ghost use Rattle.dav_store.specs.Calls.{place_of, bytes_from};
+ghost use Rattle.dav_memfs.specs.MemFs.{memory_of, body_of};
+ghost use Rattle.dav_memfs.specs.Memory.{Stored, file_bytes, contents_of, size_of, is_directory, IsFileAt};
+ghost use Rattle.dav_memfs.specs.MemoryCalls.{Gives, kept, read_bytes_error, open_error, opened, file_error, write_error, written, after_write};
 
 use super::MemFs;
+use super::bodies::HeldBodies;
 use super::entry::Entry;
 use super::tree::parent_key;
-use dav_resource::{DavFile, DavPath, FsError, FsResult, Meta, OpenOptions};
+use dav_resource::{BodyNumber, DavFile, DavPath, FsError, FsResult, Meta, OpenOptions};
+use std::mem::replace;
 
 impl MemFs {
     pub(super) fn open_file(&mut self, path: &DavPath, options: &OpenOptions) -> FsResult<DavFile>
@@ -72,6 +74,21 @@ impl MemFs {
         self.keep(path, entry, version)
     }
 
+    /// Returns bytes of the file at a path, as `Entry::bytes_from` does. Returns `NotFound` if nothing exists
+    /// at the path, and `Forbidden` if a directory does.
+    pub(super) fn read_file(&self, path: &DavPath, place: u64, count: usize) -> FsResult<Vec<u8>>
+        ensures bytes { IfOk result (λ bytes. bytes.items ≡ bytes_from place count (file_bytes path.now.key (memory_of self.now).resources)) }
+        ensures answer { Gives (read_bytes_error path.now.key (memory_of self.now)) kept (memory_of self.now) result (memory_of self.now) }
+    {
+        let Some(entry) = self.entries.get(path.segments()) else {
+            return Err(FsError::NotFound);
+        };
+        if entry.is_directory() {
+            return Err(FsError::Forbidden);
+        }
+        Ok(entry.bytes_from(*self.log.allocator(), place, count)?)
+    }
+
     /// Sets the offset of an open file. Returns `NotFound` if the file no longer exists, and then the offset
     /// stays.
     pub(super) fn move_place(&self, file: &mut DavFile, pos: u64) -> FsResult<()>
@@ -96,6 +113,20 @@ impl MemFs {
         self.version = version;
         file.pos = place + bytes.len() as u64;
         Ok(())
+    }
+
+    /// Writes the bytes of a body, as `write_file` does. The body stays.
+    pub(super) fn write_stored(&mut self, file: &mut DavFile, number: BodyNumber) -> FsResult<()>
+        requires { file.old.append ≡ false → file.old.pos + length (body_of self.old number) < 2 ^ 64 }
+        ensures log { self.new.log ≡ self.old.log }
+        ensures written { let old = memory_of self.old in Gives (write_error file.old.path.key old) (written file.old (body_of self.old number)) old result (memory_of self.new) }
+        ensures place { MatchResult result (λ _. file.new ≡ after_write file.old (body_of self.old number) (memory_of self.old)) (λ _. file.new ≡ file.old) }
+    {
+        // The bodies are taken out of the store, so that the write can borrow one of them.
+        let bodies = replace(&mut self.bodies, HeldBodies::new(*self.log.allocator()));
+        let answer = self.write_file(file, bodies.bytes(number));
+        self.bodies = bodies;
+        answer
     }
 
     /// Checks that an open file still exists, and returns `NotFound` if it does not.

@@ -1,10 +1,10 @@
 //! The in-memory store's calls on dead properties.
-ghost use Rattle.std.specs.Prelude.{◌≡◌, length, replicate, IfOk, Some};
+ghost use Rattle.std.specs.Prelude.{◌≡◌, All, length, replicate, IfOk, Some};
 ghost use Rattle.std.specs.FinMap.{get};
 ghost use Rattle.dav_memfs.specs.MemFs.{memory_of};
 ghost use Rattle.dav_memfs.specs.Memory.{contents_of, with_patches};
 ghost use Rattle.dav_memfs.specs.MemoryCalls.{Gives, kept, get_prop_error, properties_error, IsPropertyList};
-ghost use Rattle.dav_store.specs.PropertyCalls.{name_of, properties_at};
+ghost use Rattle.dav_store.specs.PropertyCalls.{IsWhole, name_of, properties_at};
 
 use super::MemFs;
 use dav_resource::{DavPath, DavProp, Element, FsError, FsResult};
@@ -45,6 +45,7 @@ impl MemFs {
         path: &DavPath,
         patches: &[(bool, DavProp)],
     ) -> FsResult<Vec<StatusCode>>
+        requires { All IsWhole patches.now }
         ensures log { self.new.log ≡ self.old.log }
         ensures statuses { IfOk result (λ statuses. statuses.items ≡ replicate (length patches.now) 200) }
         ensures patched { Gives (properties_error path.now.key (memory_of self.old)) (with_patches path.now.key patches.now) (memory_of self.old) result (memory_of self.new) }

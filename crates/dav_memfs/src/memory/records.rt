@@ -5,13 +5,13 @@ ghost use Rattle.dav_memfs.specs.MemoryCalls.{Tells, TellsWith, outcome_of};
 ghost use Rattle.dav_store.specs.Logged.{record_with};
 
 use super::MemFs;
-use dav_resource::{DavPath, FsError, FsResult, Items, Op, Outcome, Record};
+use dav_resource::{DavPath, FsError, FsResult, Items, Op, Outcome, Paths, Record};
 use dav_store::{one_path, two_paths};
 use http::StatusCode;
 
 impl MemFs {
     /// Reserves capacity for the record of a call on a path, and returns the record's copy of the path.
-    pub(super) fn begin_record(&mut self, path: &DavPath) -> FsResult<Items<DavPath>>
+    pub(super) fn begin_record(&mut self, path: &DavPath) -> FsResult<Paths>
         ensures memory { memory_of self.new ≡ memory_of self.old }
         ensures log { self.new.log.items ≡ self.old.log.items }
         ensures room { OnOk result (vec_len self.new.log < vec_capacity self.new.log) }
@@ -19,15 +19,11 @@ impl MemFs {
         ensures err { IfErr result (λ e. e ≡ FsError.Memory) }
     {
         self.log.reserve(1)?;
-        Ok(one_path(*self.log.allocator(), path)?)
+        Ok(one_path(path)?)
     }
 
     /// Reserves capacity for the record of a call on two paths, and returns the record's copies of them.
-    pub(super) fn begin_record_of_two(
-        &mut self,
-        from: &DavPath,
-        to: &DavPath,
-    ) -> FsResult<Items<DavPath>>
+    pub(super) fn begin_record_of_two(&mut self, from: &DavPath, to: &DavPath) -> FsResult<Paths>
         ensures memory { memory_of self.new ≡ memory_of self.old }
         ensures log { self.new.log.items ≡ self.old.log.items }
         ensures room { OnOk result (vec_len self.new.log < vec_capacity self.new.log) }
@@ -35,11 +31,11 @@ impl MemFs {
         ensures err { IfErr result (λ e. e ≡ FsError.Memory) }
     {
         self.log.reserve(1)?;
-        Ok(two_paths(*self.log.allocator(), from, to)?)
+        Ok(two_paths(from, to)?)
     }
 
-    /// Reserves capacity for the record of a call that has no path, and returns an empty list of paths.
-    pub(super) fn begin_record_of_none(&mut self) -> FsResult<Items<DavPath>>
+    /// Reserves capacity for the record of a call that has no path, and returns no paths.
+    pub(super) fn begin_record_of_none(&mut self) -> FsResult<Paths>
         ensures memory { memory_of self.new ≡ memory_of self.old }
         ensures log { self.new.log.items ≡ self.old.log.items }
         ensures room { OnOk result (vec_len self.new.log < vec_capacity self.new.log) }
@@ -47,17 +43,12 @@ impl MemFs {
         ensures err { IfErr result (λ e. e ≡ FsError.Memory) }
     {
         self.log.reserve(1)?;
-        Ok(Items::from_vec(Vec::new(*self.log.allocator())))
+        Ok(Paths::none())
     }
 
     /// Writes the record of a result without statuses, and returns the result. The error `Memory` is not
     /// recorded.
-    pub(super) fn end_record<T>(
-        &mut self,
-        op: Op,
-        paths: Items<DavPath>,
-        answer: FsResult<T>,
-    ) -> FsResult<T>
+    pub(super) fn end_record<T>(&mut self, op: Op, paths: Paths, answer: FsResult<T>) -> FsResult<T>
         requires { vec_len self.old.log < vec_capacity self.old.log }
         ensures answer { result ≡ answer }
         ensures memory { memory_of self.new ≡ memory_of self.old }
@@ -72,7 +63,7 @@ impl MemFs {
     pub(super) fn end_record_with<T>(
         &mut self,
         op: Op,
-        paths: Items<DavPath>,
+        paths: Paths,
         statuses: Items<StatusCode>,
         answer: FsResult<T>,
     ) -> FsResult<T>
@@ -93,7 +84,7 @@ impl MemFs {
     }
 
     /// Appends a record to the log.
-    fn tell(&mut self, op: Op, paths: Items<DavPath>, outcome: Outcome, statuses: Items<StatusCode>)
+    fn tell(&mut self, op: Op, paths: Paths, outcome: Outcome, statuses: Items<StatusCode>)
         requires { vec_len self.old.log < vec_capacity self.old.log }
         ensures memory { memory_of self.new ≡ memory_of self.old }
         ensures record { self.new.log.items ≡ self.old.log.items ++ record_with op paths outcome statuses ∷ [] }

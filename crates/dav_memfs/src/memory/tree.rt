@@ -5,7 +5,7 @@ ghost use Rattle.std.specs.FinMap.{get, insert};
 ghost use Rattle.dav_resource.specs.Key.{parent};
 ghost use Rattle.dav_resource.specs.Texts.{texts};
 ghost use Rattle.dav_store.specs.Below.{is_below};
-ghost use Rattle.dav_store.specs.Store.{Directory};
+ghost use Rattle.dav_store.specs.Store.{Directory, AreNamed};
 ghost use Rattle.dav_memfs.specs.MemFs.{memory_of};
 ghost use Rattle.dav_memfs.specs.Memory.{contents_of, tree_of, quota_of, made_when, made, without, copied, IsRenamed};
 ghost use Rattle.dav_memfs.specs.MemoryCalls.{Yields, Gives, kept, change_error, look_error, read_dir_error, IsListing, create_dir_error, remove_file_error, remove_dir_error, copy_error, rename_error, quota_error};
@@ -79,6 +79,7 @@ impl MemFs {
     pub(super) fn keep(&mut self, path: &DavPath, entry: Entry, version: u64) -> FsResult<()>
         requires free { get (tree_of (memory_of self.old).resources) path.now.key ≢ Some Directory }
         requires above { get (tree_of (memory_of self.old).resources) (parent path.now.key) ≡ Some Directory }
+        requires named { AreNamed entry.properties }
         ensures log { self.new.log ≡ self.old.log }
         ensures ok { OnOk result (memory_of self.new ≡ record (memory_of self.old) { resources = insert (memory_of self.old).resources path.now.key entry; version = version }) }
         ensures err { IfErr result (λ e. (e ≡ FsError.Memory) × (memory_of self.new ≡ memory_of self.old)) }

@@ -1,6 +1,6 @@
-use Rattle.std.proofs.Common.{◌≡◌, ◌≢◌, ◌∙◌, true, false, ap, sym, Some}
+use Rattle.std.proofs.Common.{◌≡◌, ◌≢◌, ◌∙◌, true, false, ap, sym, subst, Some}
 use Rattle.std.specs.FinMap.{get}
-use Rattle.dav_store.specs.Store.{Directory}
+use Rattle.dav_store.specs.Store.{Directory, AreNamed}
 use Rattle.dav_memfs.specs.Memory.{tree_of, made_when}
 use Rattle.dav_memfs.specs.MemFs.{memory_of}
 use Rattle.dav_memfs.specs.MemoryCalls.{change_error}
@@ -35,3 +35,8 @@ returns-clause-copied c =
     gives-copied _ c.args.from.now.key c.args.to.now.key (memory_of c.args.self.now) _ c.in-Some.source.now c.in_ok-entry.entry c.in_ok-version.version c.made_when-created.result c.keep.result
     (ap (λ b. change_error b (memory_of c.args.self.now)) (copy_free c.args.self.now.entries c.args.from.now.key c.args.to.now.key c.in-Some.source.now here (sym c.is_directory-2.ensures ∙ c.if-is_directory.false) there (rw (c.parent_key.ensures, c.segments-2.ensures.value) at (c.is_directory.ensures.0 c.if-not-is_directory.false))) ∙ c.in_ok-version.ensures.1)
     here c.in_ok-entry.ensures (c.made_when-created.ensures ∙ ap (λ o. made_when o c.args.self.now.moment) (rw c.segments-4.ensures.value at c.get-2.ensures)) c.in_ok-version.ensures.0 c.keep.ensures.ok c.keep.ensures.err
+
+pub keep-requires-clause-named : goal.keep-requires-clause-named
+keep-requires-clause-named c =
+    let here = sym (rw c.segments.ensures.value at c.in-Some.ensures) in
+    subst AreNamed (sym (ap (λ s. s.properties) c.in_ok-entry.ensures)) (c.args.self.now.sound.named c.args.from.now.key c.in-Some.source.now here)

@@ -56,4 +56,4 @@ returns-clause-renamed c =
     let (s, here) = some_found c.args.self.now.entries c.args.from.now.key c.get.result (rw c.segments.ensures.value at c.get.ensures) (c.is_none.ensures ∙ ap not c.if-is_none.false) in
     let free = none_found c.args.self.now.entries c.args.to.now.key c.get-2.result (rw c.segments-3.ensures.value at c.get-2.ensures) (sym c.is_some.ensures ∙ c.if-is_some.false) in
     yields-ok _ _ _ _ _ (rename_at c.args.self.now.entries c.args.from.now.key c.args.to.now.key s here (not_root _ _ c.segments-2.ensures.value (sym c.is_empty.ensures ∙ c.if-is_empty.false)) ∙ ap (λ b. if b then Some Forbidden else create_dir_bar (get (tree_of c.args.self.now.entries) c.args.to.now.key) (get (tree_of c.args.self.now.entries) (parent c.args.to.now.key))) (sym c.is_below.ensures ∙ c.if-is_below.false) ∙ place_free c.args.self.now.entries c.args.to.now.key _ free (rw (c.parent_key.ensures, c.segments-4.ensures.value) at (c.is_directory.ensures.0 c.if-not-is_directory.false)))
-    (record { resources = rw (c.segments-5.ensures.value, c.segments-6.ensures.value) at c.in_ok-rename.ensures.ok; version = refl; moment = refl; limit = refl })
+    (record { resources = rw (c.segments-5.ensures.value, c.segments-6.ensures.value) at c.in_ok-rename.ensures.ok; version = refl; moment = refl; limit = refl; held = refl })

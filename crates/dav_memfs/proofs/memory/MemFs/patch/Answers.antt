@@ -1,7 +1,6 @@
-use Rattle.std.proofs.Common.{◌∙◌, ap, not, Some, None, true, refl}
+use Rattle.std.proofs.Common.{◌∙◌, ap, not, Some, None, true}
 use Rattle.dav_memfs.specs.MemFs.{memory_of}
-use Rattle.dav_memfs.specs.Memory.{with_properties}
-use Rattle.dav_store.specs.PropertyCalls.{properties_bar, patched}
+use Rattle.dav_store.specs.PropertyCalls.{properties_bar}
 use Rattle.dav_memfs.proofs.Sound.{sound-patched, sound-either}
 use Rattle.dav_memfs.proofs.Rows.{gives-error, gives-ok, node_at, none_found, some_found}
 use Rattle.dav_memfs.proofs.memory.MemFs.patch.Goals as goal
@@ -14,7 +13,7 @@ returns-then-is_none-clause-patched c =
 pub invariant_of-self : goal.invariant_of-self
 invariant_of-self c = record {
   sound = sound-either c.patch.result _ c.args.self.now.entries c.patch.new.self c.args.self.now.sound c.patch.ensures.ok c.patch.ensures.err
-      (λ is. sound-patched c.args.self.now.entries c.patch.new.self c.args.path.now.key (λ s. with_properties (patched c.args.patches.now s.properties) s) c.args.self.now.sound (rw c.segments-2.ensures.value at is) (λ s. refl));
+      (λ is. sound-patched c.args.self.now.entries c.patch.new.self c.args.path.now.key c.args.patches.now c.args.self.now.sound (rw c.segments-2.ensures.value at is) c.requires);
 }
 
 pub returns-clause-patched : goal.returns-clause-patched

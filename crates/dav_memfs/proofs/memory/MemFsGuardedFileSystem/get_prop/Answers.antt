@@ -18,4 +18,4 @@ returns-clause-seen g c =
     c.end_record.ensures.answer c.in_ok-paths.ensures.memory c.end_record.ensures.memory c.in_ok-paths.ensures.log (refl) (ap (map (λ (p : PathValue). p.key)) c.in_ok-paths.ensures.paths)
     c.find_prop-answer.ensures.answer c.end_record.ensures.record
     (λ none. none) (λ e. lawful-bar (get_prop_call (contents_of m) c.args.path.now.key (name_of c.args.prop.now)).bar e (get_prop_row (get (properties_at (contents_of m) c.args.path.now.key) (name_of c.args.prop.now))))
-    (subst (λ (x : Memory). IfOk c.find_prop-answer.result (λ element. get (properties_at (contents_of x) c.args.path.now.key) (name_of c.args.prop.now) ≡ Some element)) c.in_ok-paths.ensures.memory c.find_prop-answer.ensures.element) (λ a says none is. record { answer = says; same = ap contents_of is }))
+    (λ is. ap (λ (x : Memory). x.held) is) (subst (λ (x : Memory). IfOk c.find_prop-answer.result (λ element. get (properties_at (contents_of x) c.args.path.now.key) (name_of c.args.prop.now) ≡ Some element)) c.in_ok-paths.ensures.memory c.find_prop-answer.ensures.element) (λ a says none is. record { answer = says; same = ap contents_of is }))
