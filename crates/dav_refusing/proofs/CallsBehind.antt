@@ -1,13 +1,13 @@
 -- The calls of a store, each as one that writes one record.
-use Rattle.std.proofs.Common.{◌≡◌, ℕ, List, [], ◌∷◌}
+use Rattle.std.proofs.Common.{◌≡◌, ℕ, Bool, List, [], ◌∷◌}
 use Rattle.std.specs.FinMap.{get}
 use Rattle.dav_resource.specs.Key.{Key, parent}
 use Rattle.dav_resource.specs.PathText.{PathValue}
 use Rattle.dav_resource.specs.declared.meta.OpenOptions.{OpenOptions}
 use Rattle.dav_resource.specs.declared.meta.DavFile.{DavFile}
-use Rattle.dav_resource.specs.declared.record.Op.TheVariants.{Metadata, CreateDir, RemoveFile, RemoveDir, Copy, Rename, OpenFile, Seek, WriteBytes, Flush, FileMetadata, GetProp, GetProps, GetQuota}
-use Rattle.dav_store.specs.Calls.{metadata_bar, IsMetaAt, Looks, create_dir_bar, IsMadeAt, MakesDirectory, open_bar, IsOpened, Opens, file_bar, Seeks, IsWritten, Writes, Flushes, LooksAtFile}
-use Rattle.dav_store.specs.Members.{members, remove_file_bar, IsRemovedAt, RemovesFile, remove_dir_bar, RemovesDir}
+use Rattle.dav_resource.specs.declared.record.Op.TheVariants.{Metadata, ReadBytes, CreateDir, RemoveFile, RemoveDir, Copy, Rename, OpenFile, Seek, WriteBytes, Flush, FileMetadata, GetProp, GetProps, GetQuota}
+use Rattle.dav_store.specs.Calls.{metadata_bar, IsMetaAt, Looks, create_dir_bar, IsMadeAt, MakesDirectory, open_bar, IsOpened, Opens, must_be_file, IsReadAt, ReadsBytes, file_bar, Seeks, IsWritten, Writes, Flushes, LooksAtFile}
+use Rattle.dav_store.specs.Members.{members, IsRemovedAt, RemovesFile, remove_dir_bar, RemovesDir}
 use Rattle.dav_store.specs.Transfers.{copy_bar, IsCopiedTo, Copies, rename_bar, IsRenamedTo, Renames}
 use Rattle.dav_store.specs.PropertyCalls.{properties_at, get_prop_bar, IsPropertyAt, GetsProp, properties_bar, ArePropertiesAt, GetsProps, get_quota_bar, IsQuota, GetsQuota}
 use Rattle.dav_refusing.proofs.Refusals.{IsCall, no_statuses, answers_call}
@@ -19,7 +19,7 @@ pub makes_directory_call : (key : Key) → IsCall CreateDir (key ∷ []) no_stat
 makes_directory_call key = answers_call CreateDir (key ∷ []) (λ keeps old. create_dir_bar (get old.tree key) (get old.tree (parent key))) (λ _. IsMadeAt key)
 
 pub removes_file_call : (key : Key) → IsCall RemoveFile (key ∷ []) no_statuses (λ s. RemovesFile s key)
-removes_file_call key = answers_call RemoveFile (key ∷ []) (λ keeps old. remove_file_bar (get old.tree key)) (λ _. IsRemovedAt key)
+removes_file_call key = answers_call RemoveFile (key ∷ []) (λ keeps old. must_be_file (get old.tree key)) (λ _. IsRemovedAt key)
 
 pub removes_dir_call : (key : Key) → IsCall RemoveDir (key ∷ []) no_statuses (λ s. RemovesDir s key)
 removes_dir_call key = answers_call RemoveDir (key ∷ []) (λ keeps old. remove_dir_bar key (get old.tree key) (members old.tree key)) (λ _. IsRemovedAt key)
@@ -32,6 +32,9 @@ renames_call from to = answers_call Rename (from ∷ to ∷ []) (λ keeps old. r
 
 pub opens_call : (path : PathValue) (options : OpenOptions) → IsCall OpenFile (path.key ∷ []) no_statuses (λ s. Opens s path options)
 opens_call path options = answers_call OpenFile (path.key ∷ []) (λ keeps old. open_bar options (get old.tree path.key) (get old.tree (parent path.key))) (IsOpened path options)
+
+pub reads_bytes_call : (honest : Bool) (key : Key) (place count : ℕ) → IsCall ReadBytes (key ∷ []) no_statuses (λ s. ReadsBytes honest s key place count)
+reads_bytes_call honest key place count = answers_call ReadBytes (key ∷ []) (λ keeps old. must_be_file (get old.tree key)) (λ bytes. IsReadAt honest key place count bytes.items)
 
 pub seeks_call : (key : Key) → IsCall Seek (key ∷ []) no_statuses (λ s. Seeks s key)
 seeks_call key = answers_call Seek (key ∷ []) (λ keeps old. file_bar (get old.tree key)) (λ _ before after. after ≡ before)

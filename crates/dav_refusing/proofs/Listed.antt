@@ -64,6 +64,6 @@ listed_names directory old new listing well lists =
     let names = All-permutation IsSegment (members old.contents.tree directory) (names_of lists.children) lists.are.each_once (segments_of directory (keys old.contents.tree) (λ k d less. well.keys _ (there old.contents.tree k d less))) in
     subst (All P) (sym lists.listed) (all_shown P lists.children (λ c within. of_child c (at_name IsSegment lists.children names c within) (lists.are.shown c within)))
   where
-    of_child : (c : Child) → IsSegment c.0 → IsShownAs old.contents directory c → IfOk c.1 (λ entry. IsSegment entry.name)
+    of_child : (c : Child) → IsSegment c.0 → IsShownAs old.facts.shows old.contents directory c → IfOk c.1 (λ entry. IsSegment entry.name)
     of_child (name, Ok entry) is shown = subst IsSegment (sym shown.0) is
     of_child (name, Err e) is shown = tt

@@ -1,5 +1,5 @@
 -- Listings of a store that refuses by plan or by number.
-use Rattle.std.proofs.Common.{◌≡◌, ◌≢◌, ◌∙◌, ℕ, Option, Some, None, Result, Ok, Err, Vec, refl, sym, ap, subst, ◌⊎◌, inl, inr, List, [], ◌∷◌, ◌++◌, ◌+◌, ◌-◌, Bool, map, filter_map, length, take, drop, suc, zero, arith, length-append}
+use Rattle.std.proofs.Common.{◌≡◌, ◌≢◌, ◌∙◌, ℕ, Option, Some, None, Result, Ok, Err, Vec, refl, sym, ap, subst, ◌⊎◌, inl, inr, List, [], ◌∷◌, ◌++◌, ◌+◌, ◌-◌, ◌≤◌, Bool, map, filter_map, length, take, drop, suc, zero, arith, length-append}
 use Rattle.std.specs.declared.alloc.Global.{Global}
 use Rattle.std.proofs.lemmas.List.{map-append, drop_at, append_assoc, take_all, length-drop}
 use Rattle.std.specs.FinMap.{get}
@@ -17,7 +17,7 @@ use Rattle.dav_store.specs.Members.{Child, IsIn, AreChildren, IsShownAs, Lists, 
 use Rattle.dav_store.specs.Logged.{record_on}
 use Rattle.dav_refusing.specs.Plans.{Plan, Call, refusal_for, shown_as, shown_by, refused_record, hidden_by, left_by, without_firsts, IsNamed, IsListingOf, IsLetBy}
 use Rattle.dav_refusing.specs.Pending.{Pending, due, passed_by}
-use Rattle.dav_refusing.specs.Refusing.{inner_of, pending_of, plan_of, records_of, seen_behind, IsWhollyKept, Passes, GoesByPlan, Follows, PassesListing, PassesReadDir, HasListed, KeepsReading, FollowsReading}
+use Rattle.dav_refusing.specs.Refusing.{all_allowed, inner_of, pending_of, plan_of, records_of, seen_behind, IsWhollyKept, Passes, GoesByPlan, Follows, PassesListing, PassesReadDir, HasListed, KeepsReading, FollowsReading}
 use Rattle.dav_refusing.specs.declared.refusing.Refusing.{Refusing}
 use Rattle.dav_refusing.proofs.Queues.{own_planned}
 use Rattle.dav_refusing.proofs.Refusals.{CallBehind, IsOwnPlan, looks_kept, IsCall, answers_call, no_statuses, lawful}
@@ -32,22 +32,22 @@ names-shown plan directory [] = refl
 names-shown plan directory ((name, Ok entry) ∷ children) = ap (λ ns. name ∷ ns) (names-shown plan directory children)
 names-shown plan directory ((name, Err e) ∷ children) = ap (λ ns. name ∷ ns) (names-shown plan directory children)
 
-still_shown : (old : Contents) (directory : Key) (plan : Plan) (children : List Child) → IsOwnPlan plan → ((c : Child) → IsIn c children → IsShownAs old directory c) → (c : Child) → IsIn c (shown_by plan directory children) → IsShownAs old directory c
-still_shown old directory plan [] own are c within = absurd within
-still_shown old directory plan ((name, Err e) ∷ children) own are c (inl is) = subst (IsShownAs old directory) is (are (name, Err e) (inl refl))
-still_shown old directory plan ((name, Err e) ∷ children) own are c (inr within) = still_shown old directory plan children own (λ c' w. are c' (inr w)) c within
-still_shown old directory plan ((name, Ok entry) ∷ children) own are c (inl is) =
-    subst (IsShownAs old directory) is (by_error (refusal_for Entry (member directory name) plan) refl)
+still_shown : (shows : Key → Bool) (old : Contents) (directory : Key) (plan : Plan) (children : List Child) → IsOwnPlan plan → ((c : Child) → IsIn c children → IsShownAs shows old directory c) → (c : Child) → IsIn c (shown_by plan directory children) → IsShownAs shows old directory c
+still_shown shows old directory plan [] own are c within = absurd within
+still_shown shows old directory plan ((name, Err e) ∷ children) own are c (inl is) = subst (IsShownAs shows old directory) is (are (name, Err e) (inl refl))
+still_shown shows old directory plan ((name, Err e) ∷ children) own are c (inr within) = still_shown shows old directory plan children own (λ c' w. are c' (inr w)) c within
+still_shown shows old directory plan ((name, Ok entry) ∷ children) own are c (inl is) =
+    subst (IsShownAs shows old directory) is (by_error (refusal_for Entry (member directory name) plan) refl)
   where
-    by_error : (o : Option FsError) → refusal_for Entry (member directory name) plan ≡ o → IsShownAs old directory (name, shown_as o entry)
+    by_error : (o : Option FsError) → refusal_for Entry (member directory name) plan ≡ o → IsShownAs shows old directory (name, shown_as o entry)
     by_error None e = are (name, Ok entry) (inl refl)
     by_error (Some e) found = own Entry (member directory name) e found
-still_shown old directory plan ((name, Ok entry) ∷ children) own are c (inr within) =
-    still_shown old directory plan children own (λ c' w. are c' (inr w)) c within
+still_shown shows old directory plan ((name, Ok entry) ∷ children) own are c (inr within) =
+    still_shown shows old directory plan children own (λ c' w. are c' (inr w)) c within
 
-named : (old : Contents) (directory : Key) (c : Child) → IsShownAs old directory c → IsNamed c
-named old directory (name, Ok entry) is = is.0
-named old directory (name, Err e) is = tt
+named : (shows : Key → Bool) (old : Contents) (directory : Key) (c : Child) → IsShownAs shows old directory c → IsNamed c
+named shows old directory (name, Ok entry) is = is.0
+named shows old directory (name, Err e) is = tt
 
 -- ---- the records of members that the store behind doesn't show
 
@@ -76,6 +76,13 @@ map-drop (suc n) (x ∷ xs) = map-drop n xs
 length-map : (xs : List Record) → length (map logged_of xs) ≡ length xs
 length-map [] = refl
 length-map (x ∷ xs) = ap suc (length-map xs)
+
+-- the log has the record of the call
+pub one_more_told : (before after : List Record) (old_log new_log : List Logged) (r : Logged) (others : List Logged) → map logged_of before ≡ old_log → map logged_of after ≡ new_log → new_log ≡ old_log ++ r ∷ others
+    → length before + 1 ≤ length after
+one_more_told before after old_log new_log r others b a told =
+    let count : length (map logged_of after) ≡ length (map logged_of before ++ r ∷ others) = ap length (a ∙ told ∙ ap (λ l. l ++ r ∷ others) (sym b)) in
+    omega (arith, count, length-map before, length-map after, length-append (map logged_of before) (r ∷ others))
 
 -- what stands behind the record of the call
 pub hidden_are : (before after hidden : List Record) (old_log new_log : List Logged) (r : Logged) (others : List Logged) → map logged_of before ≡ old_log → map logged_of after ≡ new_log → new_log ≡ old_log ++ r ∷ others
@@ -129,7 +136,7 @@ module _ {F : Type 0} (see : F → Store) (path : PathValue) where
     where
       by_inner : (see (inner_of new) ≡ see (inner_of old)) ⊎ HasListed see path old new → seen_behind see new ≡ seen_behind see old
       by_inner (inl same) = looks_kept see old new same kept.records
-      by_inner (inr h) = λ i. record { contents = h.behind.same i; keeps_properties = h.behind.fixed i; log = map logged_of (kept.records i) }
+      by_inner (inr h) = λ i. record { contents = h.behind.same i; facts = all_allowed (h.behind.fixed i); log = map logged_of (kept.records i) }
 
   -- ---- a listing that is granted
 
@@ -143,17 +150,17 @@ module _ {F : Type 0} (see : F → Store) (path : PathValue) where
       let was : see (inner_of begun) ≡ see (inner_of old) = ap see kept.inner in
       let is : see called ≡ see (inner_of ended) = ap see (sym inner) in
       let hide : map logged_of hidden ≡ filter_map (unseen_record path.key) g.children = hidden_are before after hidden (see (inner_of begun)).log (see called).log (logged ReadDir (path.key ∷ []) Granted) (filter_map (unseen_record path.key) g.children) b a g.told (hidden_is ∙ take_all (length after - (length before + 1)) (drop (length before + 1) after) (omega (arith, length-drop (length before + 1) after))) in
-      let let_by = lets g.children (record { named = λ c within. named (see (inner_of begun)).contents path.key c (g.are.shown c within); listed = g.listed; told = hide }) in
+      let let_by = lets g.children (record { named = λ c within. named (see (inner_of begun)).facts.shows (see (inner_of begun)).contents path.key c (g.are.shown c within); listed = g.listed; told = hide }) in
       record {
         listed = listed;
         behind = record {
           allowed = subst (λ (s : Store). read_dir_bar (get s.contents.tree path.key) ≡ None) was g.allowed;
           children = g.children;
-          are = subst (λ (s : Store). AreChildren s.contents path.key g.children) was g.are;
+          are = subst (λ (s : Store). AreChildren s.facts.shows s.contents path.key g.children) was g.are;
           listed = g.listed;
           same = ap (λ (s : Store). s.contents) (sym is) ∙ g.same ∙ ap (λ (s : Store). s.contents) was;
           told = ap (λ (s : Store). s.log) (sym is) ∙ g.told ∙ ap (λ (s : Store). s.log ++ logged ReadDir (path.key ∷ []) Granted ∷ filter_map (unseen_record path.key) g.children) was;
-          fixed = ap (λ (s : Store). s.keeps_properties) (sym is) ∙ g.fixed ∙ ap (λ (s : Store). s.keeps_properties) was;
+          fixed = ap (λ (s : Store). s.facts) (sym is) ∙ g.fixed ∙ ap (λ (s : Store). s.facts) was;
         };
         shown = let_by.shown ∙ ap (λ (p : Pending). map (λ c. c.1) (shown_by p.plan path.key g.children)) kept.pending;
         left = pending ∙ (λ i. record (passed_by (pending_of begun)) { plan = without_firsts (let_by.refused_are i) (plan_of begun) }) ∙ ap (λ (p : Pending). record (passed_by p) { plan = left_by p.plan path.key g.children }) kept.pending;
@@ -168,13 +175,13 @@ module _ {F : Type 0} (see : F → Store) (path : PathValue) where
     children = shown_by (plan_of old) path.key h.behind.children;
     are = record {
       each_once = rw (names-shown (plan_of old) path.key h.behind.children) h.behind.are.each_once;
-      shown = still_shown (see (inner_of old)).contents path.key (plan_of old) h.behind.children (own_planned old.pending.plan.queues) h.behind.are.shown;
+      shown = still_shown (see (inner_of old)).facts.shows (see (inner_of old)).contents path.key (plan_of old) h.behind.children (own_planned old.pending.plan.queues) h.behind.are.shown;
     };
     listed = h.shown;
     same = h.behind.same;
     told = ap (map logged_of) h.records ∙ map-append logged_of (records_of old) (record_on ReadDir (path ∷ []) Granted ∷ hidden_by (plan_of old) path h.behind.children h.hidden)
         ∙ ap (λ l. map logged_of (records_of old) ++ logged ReadDir (path.key ∷ []) Granted ∷ l) (told-keys (plan_of old) path h.behind.children h.hidden h.told);
-    fixed = h.behind.fixed;
+    fixed = ap all_allowed h.behind.fixed;
   }
 
   pub follows_listing : (old new : Refusing F) (listing : Listing) (shown : List (Result DirEntry FsError)) → due ReadDir path.key (pending_of old) ≡ None → listing.items ≡ shown → PassesListing see path old shown new

@@ -22,7 +22,7 @@ use Rattle.dav_refusing.specs.Plans.{Plan, first_key, refusal_for}
 use Rattle.dav_refusing.specs.Slots.{plan_in}
 use Rattle.dav_refusing.specs.Pending as pendings
 use Rattle.dav_refusing.specs.Pending.{Pending, numbered_of, error_now, one_later, due, plan_after, after_call, passed_by}
-use Rattle.dav_refusing.specs.Refusing.{last_outcome, inner_of, pending_of, records_of, seen_behind, IsWhollyKept, Refuses, Passes, GoesByPlan, Follows}
+use Rattle.dav_refusing.specs.Refusing.{last_outcome, all_allowed, seen_with, inner_of, pending_of, records_of, seen_behind, IsWhollyKept, Refuses, Passes, GoesByPlan, Follows}
 use Rattle.dav_refusing.specs.declared.refusing.Refusing.{Refusing}
 use Rattle.dav_refusing.specs.declared.refusing.pending.NumberedRefusal.{NumberedRefusal}
 use Rattle.dav_refusing.specs.declared.refusing.pending.Pending as code
@@ -87,16 +87,16 @@ after-passed op key pending free =
 
 -- where nothing behind changes, and no record is added, nothing changes that is seen
 pub looks_kept : {F : Type 0} (see : F → Store) (old new : Refusing F) → see (inner_of new) ≡ see (inner_of old) → records_of new ≡ records_of old → seen_behind see new ≡ seen_behind see old
-looks_kept see old new inner records = λ i. record (inner i) { log = map logged_of (records i) }
+looks_kept see old new inner records = λ i. seen_with (inner i) (map logged_of (records i))
 
 -- ---- the calls of a store behind
 
--- the call wasn't without memory, and writes one record: so it does over any other log
+-- the call wasn't without memory, and writes one record: so it does over any other log, where all calls are allowed
 pub record WritesOne {A : Type 0} (op : Op) (keys : List Key) (statuses : List ℕ) (Behind : Store → Result A FsError → Store → Type 0) (old : Store) (answer : Result A FsError) (new : Store) : Type 0 where
   pub not_memory : answer ≢ Err Memory
   pub outcome : Outcome
   pub told : new.log ≡ old.log ++ record { op = op; keys = keys; outcome = outcome; statuses = statuses } ∷ []
-  pub over : (log : List Logged) → Behind (record old { log = log }) answer (record new { log = log ++ record { op = op; keys = keys; outcome = outcome; statuses = statuses } ∷ [] })
+  pub over : (log : List Logged) → Behind (seen_with old log) answer (seen_with new (log ++ record { op = op; keys = keys; outcome = outcome; statuses = statuses } ∷ []))
 
 -- what is known of each call but a listing that is granted
 pub record IsCall {A : Type 0} (op : Op) (keys : List Key) (statuses : Result A FsError → List ℕ) (Behind : Store → Result A FsError → Store → Type 0) : Type 0 where
@@ -108,7 +108,7 @@ abbrev pub no_statuses : {A : Type 0} → Result A FsError → List ℕ
 no_statuses answer = []
 
 abbrev pub CallBehind : {A : Type 0} → Op → List Key → (Bool → Contents → Option FsError) → (A → Contents → Contents → Type 0) → Store → Result A FsError → Store → Type 0
-CallBehind op keys bar Effect old = Answers (record { op = op; keys = keys; bar = bar old.keeps_properties old.contents }) Effect old
+CallBehind op keys bar Effect old = Answers (record { op = op; keys = keys; bar = bar old.facts.keeps_properties old.contents }) Effect old
 
 module _ {A : Type 0} (op : Op) (keys : List Key) (bar : Bool → Contents → Option FsError) (Effect : A → Contents → Contents → Type 0) where
   abbrev Behind : Store → Result A FsError → Store → Type 0
@@ -119,17 +119,17 @@ module _ {A : Type 0} (op : Op) (keys : List Key) (bar : Bool → Contents → O
     not_memory = λ e. absurd cc;
     outcome = Granted;
     told = h.granted.told;
-    over = λ log. record { granted = record { allowed = h.granted.allowed; effect = h.granted.effect; told = refl; fixed = h.granted.fixed }; declined = tt };
+    over = λ log. record { granted = record { allowed = h.granted.allowed; effect = h.granted.effect; told = refl; fixed = ap all_allowed h.granted.fixed }; declined = tt };
   })
   told_by old new (Err e) h = by_cause h.declined
     where
-      by_cause : ((e ≡ Memory) × (new ≡ old)) ⊎ Declines (record { op = op; keys = keys; bar = bar old.keeps_properties old.contents }) e old new → (◌≡◌ {A = Result A FsError} (Err e) (Err Memory) × (new ≡ old)) ⊎ WritesOne op keys [] Behind old (Err e) new
+      by_cause : ((e ≡ Memory) × (new ≡ old)) ⊎ Declines (record { op = op; keys = keys; bar = bar old.facts.keeps_properties old.contents }) e old new → (◌≡◌ {A = Result A FsError} (Err e) (Err Memory) × (new ≡ old)) ⊎ WritesOne op keys [] Behind old (Err e) new
       by_cause (inl p) = inl (ap Err p.0, p.1)
       by_cause (inr d) = inr (record {
         not_memory = λ m. d.not_memory (let same : e ≡ Memory = cc in same);
         outcome = d.outcome;
         told = d.told;
-        over = λ log. record { granted = tt; declined = inr (record { outcome = d.outcome; cause = d.cause; lawful = d.lawful; not_memory = d.not_memory; same = d.same; told = refl; fixed = d.fixed }) };
+        over = λ log. record { granted = tt; declined = inr (record { outcome = d.outcome; cause = d.cause; lawful = d.lawful; not_memory = d.not_memory; same = d.same; told = refl; fixed = ap all_allowed d.fixed }) };
       })
 
   pub answers_call : IsCall op keys no_statuses Behind
@@ -160,13 +160,13 @@ module _ (key : Key) (patches : List Patch) where
         not_memory = λ e. absurd cc;
         outcome = Granted;
         told = g.told;
-        over = λ log. record { granted = inl (record { allowed = g.allowed; answered = g.answered; effect = g.effect; told = refl; fixed = g.fixed }); declined = tt };
+        over = λ log. record { granted = inl (record { allowed = g.allowed; answered = g.answered; effect = g.effect; told = refl; fixed = ap all_allowed g.fixed }); declined = tt };
       })
       by_form (inr d) = inr (record {
         not_memory = λ e. absurd cc;
         outcome = Refused GeneralFailure;
         told = d.told;
-        over = λ log. record { granted = inr (record { answered = d.answered; not_all = d.not_all; same = d.same; told = refl; fixed = d.fixed }); declined = tt };
+        over = λ log. record { granted = inr (record { answered = d.answered; not_all = d.not_all; same = d.same; told = refl; fixed = ap all_allowed d.fixed }); declined = tt };
       })
   patches_told_by old new (Err e) h = by_cause h.declined
     where
@@ -176,7 +176,7 @@ module _ (key : Key) (patches : List Patch) where
         not_memory = λ m. d.not_memory (let same : e ≡ Memory = cc in same);
         outcome = d.outcome;
         told = d.told;
-        over = λ log. record { granted = tt; declined = inr (record { outcome = d.outcome; cause = d.cause; lawful = d.lawful; not_memory = d.not_memory; same = d.same; told = refl; fixed = d.fixed }) };
+        over = λ log. record { granted = tt; declined = inr (record { outcome = d.outcome; cause = d.cause; lawful = d.lawful; not_memory = d.not_memory; same = d.same; told = refl; fixed = ap all_allowed d.fixed }) };
       })
 
   pub patches_call : IsCall PatchProps (key ∷ []) answered_statuses PatchesBehind
@@ -241,7 +241,7 @@ module _ {F : Type 0} (see : F → Store) (op : Op) (paths : List PathValue) {A 
       refused : (e : FsError) → IsOwn e → Refuses op paths e old new → Behind (seen_behind see old) (Err e) (seen_behind see new)
       refused e own h =
           let log = logged-push (record_on op paths (Refused e)) (records_of old) (records_of new) h.records in
-          let after : seen_behind see new ≡ record (seen_behind see old) { log = map logged_of (records_of old) ++ logged op (map (λ (p : PathValue). p.key) paths) (Refused e) ∷ [] } = λ i. record (see (h.inner i)) { log = log i } in
+          let after : seen_behind see new ≡ record (seen_behind see old) { log = map logged_of (records_of old) ++ logged op (map (λ (p : PathValue). p.key) paths) (Refused e) ∷ [] } = λ i. seen_with (see (h.inner i)) (log i) in
           subst (Behind (seen_behind see old) (Err e)) (sym after) (call.refused (seen_behind see old) e own)
 
       passed : Passes see op paths Behind old answer new → Behind (seen_behind see old) answer (seen_behind see new)
@@ -252,7 +252,7 @@ module _ {F : Type 0} (see : F → Store) (op : Op) (paths : List PathValue) {A 
           by_telling (inr w) =
               let one = same_last (see (inner_of old)).log (logged_of (record_with op paths h.outcome h.statuses)) (record { op = op; keys = map (λ (p : PathValue). p.key) paths; outcome = w.outcome; statuses = statuses answer }) (sym h.told ∙ w.told) in
               let log = logged-push (record_with op paths h.outcome h.statuses) (records_of old) (records_of new) h.records ∙ ap (λ r. map logged_of (records_of old) ++ r ∷ []) one in
-              subst (λ l. Behind (seen_behind see old) answer (record (see (inner_of new)) { log = l })) (sym log) (w.over (map logged_of (records_of old)))
+              subst (λ l. Behind (seen_behind see old) answer (seen_with (see (inner_of new)) l)) (sym log) (w.over (map logged_of (records_of old)))
 
       by_due : (r : Option FsError) → due op (first_key paths) (pending_of old) ≡ r → GoesByPlan op paths (Passes see op paths Behind) r old answer new → Behind (seen_behind see old) answer (seen_behind see new)
       by_due (Some e) is h = subst (λ a. Behind (seen_behind see old) a (seen_behind see new)) (sym h.0) (refused e (own_due op (first_key paths) old.pending e is) h.1)

@@ -4,7 +4,7 @@ use Rattle.std.specs.Ordering.{eq_by_cmp}
 use Rattle.dav_resource.specs.Key.{Key, key_cmp}
 use Rattle.dav_resource.specs.declared.meta.DirEntry.{DirEntry}
 use Rattle.dav_resource.specs.declared.record.Op.{Op}
-use Rattle.dav_resource.specs.declared.record.Op.TheVariants.{Metadata, ReadDir, CreateDir, OpenFile, RemoveFile, RemoveDir, Copy, Rename, Seek, WriteBytes, Flush, FileMetadata, GetProp, GetProps, PatchProps, GetQuota, Entry}
+use Rattle.dav_resource.specs.declared.record.Op.TheVariants.{Metadata, ReadDir, ReadBytes, CreateDir, OpenFile, RemoveFile, RemoveDir, Copy, Rename, Seek, WriteBytes, Flush, FileMetadata, GetProp, GetProps, PatchProps, GetQuota, Entry}
 use Rattle.dav_resource.specs.declared.record.Outcome.TheVariants.{Refused}
 use Rattle.dav_resource.specs.declared.record.Record.{Record}
 use Rattle.dav_resource.specs.declared.error.FsError.{FsError}
@@ -18,21 +18,22 @@ use Rattle.dav_store.specs.Logged.{record_on}
 abbrev pub place_of_op : Op → ℕ
 place_of_op Metadata = 0
 place_of_op ReadDir = 1
-place_of_op CreateDir = 2
-place_of_op OpenFile = 3
-place_of_op RemoveFile = 4
-place_of_op RemoveDir = 5
-place_of_op Copy = 6
-place_of_op Rename = 7
-place_of_op Seek = 8
-place_of_op WriteBytes = 9
-place_of_op Flush = 10
-place_of_op FileMetadata = 11
-place_of_op GetProp = 12
-place_of_op GetProps = 13
-place_of_op PatchProps = 14
-place_of_op GetQuota = 15
-place_of_op Entry = 16
+place_of_op ReadBytes = 2
+place_of_op CreateDir = 3
+place_of_op OpenFile = 4
+place_of_op RemoveFile = 5
+place_of_op RemoveDir = 6
+place_of_op Copy = 7
+place_of_op Rename = 8
+place_of_op Seek = 9
+place_of_op WriteBytes = 10
+place_of_op Flush = 11
+place_of_op FileMetadata = 12
+place_of_op GetProp = 13
+place_of_op GetProps = 14
+place_of_op PatchProps = 15
+place_of_op GetQuota = 16
+place_of_op Entry = 17
 
 -- two calls are of the same kind
 abbrev pub same_op : Op → Op → Bool

@@ -1,5 +1,5 @@
 -- What each call does in a store that refuses by plan or by number: this project's own choice.
-use Rattle.std.specs.Prelude.{◌≡◌, ◌≢◌, ℕ, List, [], ◌∷◌, ◌++◌, map, filter_map, Option, Some, None, Result, Ok, Err, Vec, ◌⊎◌}
+use Rattle.std.specs.Prelude.{◌≡◌, ◌≢◌, ℕ, true, List, [], ◌∷◌, ◌++◌, map, filter_map, Option, Some, None, Result, Ok, Err, Vec, ◌⊎◌}
 use Rattle.std.specs.declared.alloc.Global.{Global}
 use Rattle.dav_resource.specs.PathText.{PathValue}
 use Rattle.dav_resource.specs.declared.meta.DirEntry.{DirEntry}
@@ -11,7 +11,8 @@ use Rattle.dav_resource.specs.declared.record.Record.{Record}
 use Rattle.dav_resource.specs.declared.error.FsError.{FsError}
 use Rattle.dav_resource.specs.declared.error.FsError.TheVariants.{Memory}
 use Rattle.dav_store.specs.Logged.{Logged, logged_of}
-use Rattle.dav_store.specs.Store.{Store}
+use Rattle.dav_store.specs.Store.{Store, Facts}
+use Rattle.dav_store.specs.BodyCalls.{stored_bytes}
 use Rattle.dav_store.specs.Members.{Lists, ReadsDir, unseen_record}
 use Rattle.dav_store.specs.Logged.{record_with, record_on}
 use Rattle.dav_refusing.specs.Plans.{Plan, first_key, shown_by, hidden_by, left_by}
@@ -24,6 +25,14 @@ abbrev pub last_outcome : List Logged → Outcome
 last_outcome [] = Granted
 last_outcome (r ∷ []) = r.outcome
 last_outcome (r ∷ next ∷ rs) = last_outcome (next ∷ rs)
+
+-- the facts of a store, but all calls are allowed
+abbrev pub all_allowed : Facts → Facts
+all_allowed facts = record facts { allows = λ _. true }
+
+-- a store, but all calls are allowed, and the log is this one
+abbrev pub seen_with : Store → List Logged → Store
+seen_with store log = record { contents = store.contents; facts = all_allowed store.facts; log = log }
 
 module _ {F : Type 0} where
   -- the wrapped store
@@ -42,9 +51,13 @@ module _ {F : Type 0} where
   abbrev pub records_of : Refusing F → List Record
   records_of store = store.log.items
 
-  -- what contracts see: what they see of the wrapped store, except the log, which is its own
+  -- what contracts see: what they see of the wrapped store, but all calls are allowed, and the log is its own
   abbrev pub seen_behind : (F → Store) → Refusing F → Store
-  seen_behind see store = record (see store.inner) { log = map logged_of store.log.items }
+  seen_behind see store = seen_with (see store.inner) (map logged_of store.log.items)
+
+  -- the bytes of a body, which the wrapped store holds under a number
+  abbrev pub body_behind : (F → Store) → Refusing F → ℕ → List ℕ
+  body_behind see store number = stored_bytes (see store.inner).facts.bodies number
 
   -- ---- a call
 

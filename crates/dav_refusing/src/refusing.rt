@@ -1,9 +1,10 @@
 //! A store that refuses calls by plan or by number.
-ghost use Rattle.std.specs.Prelude.{◌≡◌, ◌≢◌, ◌⊎◌, ◌<◌, ◌≤◌, ◌+◌, ◌-◌, ◌^◌, [], ◌∷◌, ◌++◌, All, false, map, length, vec_len, vec_capacity, IfOk, IfErr, OnOk, OnErr, MatchResult, Some, None};
+ghost use Rattle.std.specs.Prelude.{◌≡◌, ◌≢◌, refl, ◌⊎◌, ◌<◌, ◌≤◌, ◌+◌, ◌-◌, ◌^◌, [], ◌∷◌, ◌++◌, All, false, map, length, vec_len, vec_capacity, IfOk, IfErr, OnOk, OnErr, MatchResult, Some, None};
 ghost use Rattle.std.specs.Borrow.{sem};
 ghost use Rattle.dav_store.specs.Logged.{logged_of};
-ghost use Rattle.dav_store.specs.Calls.{IsOwn, Looks, MakesDirectory, Opens, Seeks, Writes, Flushes, LooksAtFile, place_of};
+ghost use Rattle.dav_store.specs.Calls.{IsOwn, Looks, MakesDirectory, Opens, ReadsBytes, Seeks, Writes, Flushes, LooksAtFile, place_of};
 ghost use Rattle.dav_store.specs.Members.{ReadsDir, RemovesFile, RemovesDir};
+ghost use Rattle.dav_store.specs.BodyCalls.{StartsBody, AddsToBody, with_body};
 ghost use Rattle.dav_store.specs.Transfers.{Copies, Renames};
 ghost use Rattle.dav_store.specs.PropertyCalls.{GetsProp, GetsProps, PatchesProps, GetsQuota, IsWhole, name_of};
 ghost use Rattle.dav_store.specs.Logged.{record_on};
@@ -18,8 +19,8 @@ mod plan;
 mod slot;
 
 use dav_resource::{
-    DavFile, DavPath, DavProp, DirEntry, Element, FsError, FsResult, Items, Meta, Op, OpenOptions,
-    Outcome, Record,
+    BodyNumber, DavFile, DavPath, DavProp, DirEntry, Element, FsError, FsResult, Items, Meta, Op,
+    OpenOptions, Outcome, Paths, Record,
 };
 use dav_store::{GuardedFileSystem, one_path, two_paths};
 use http::StatusCode;
@@ -35,6 +36,9 @@ use std::alloc::Global;
 ///
 /// In a listing that was passed on, a member for which the plan has a refusal of `Op::Entry` is not listed.
 /// The record of such a member has the listing's path with the member's name, without a trailing slash.
+///
+/// The calls `start_body`, `add_to_body`, `drop_body` and `body_length` are always passed on. They leave no
+/// record, and no refusal is used for them.
 ///
 /// If memory runs out, the wrapped store stays as it was, except that its log may have records of a listing.
 #[derive(Debug, Drop)]
@@ -66,8 +70,8 @@ impl<F> Refusing<F> {
     /// after those already planned for the same kind and key.
     ///
     /// The first path of a call on an open file is that of the file. `get_quota` has no path, so any path
-    /// will do for it. `Op::Entry` stands for a member in a listing. The error must be one that a store may
-    /// return for its own reasons.
+    /// will do for it. `Op::Entry` stands for a member in a listing, and `Op::WriteBytes` for both
+    /// `write_bytes` and `write_body`. The error must be one that a store may return for its own reasons.
     ///
     /// Fails only if memory runs out, and then nothing changes. The time is logarithmic in the number of
     /// planned calls.
@@ -86,8 +90,9 @@ impl<F> Refusing<F> {
     /// return for its own reasons.
     ///
     /// Calls on open files and refused calls are counted. `have_props`, `records`, `clear_log`, the members
-    /// of a listing and calls that run out of memory are not. The numbered refusal comes before the plan and
-    /// uses up none of it. It replaces an earlier numbered refusal.
+    /// of a listing and calls that run out of memory are not. Nor are `start_body`, `add_to_body`, `drop_body`
+    /// and `body_length`. The numbered refusal comes before the plan and uses up none of it. It replaces an
+    /// earlier numbered refusal.
     pub fn refuse_call(&mut self, n: u64, error: FsError)
         requires counted { 1 ≤ n }
         requires own { IsOwn error }
@@ -113,7 +118,7 @@ impl<F> Refusing<F> {
 
     /// Refuses a call on these paths if an error is due. Otherwise reserves capacity for its record, and
     /// returns the record of a granted call without statuses.
-    fn begin(&mut self, op: Op, paths: Items<DavPath>) -> FsResult<Record>
+    fn begin(&mut self, op: Op, paths: Paths) -> FsResult<Record>
         ensures call { IfOk result (λ call. call ≡ record_on op paths Outcome.Granted) }
         ensures room { OnOk result (vec_len self.new.log < vec_capacity self.new.log) }
         ensures free { OnOk result (due op (first_key paths) (pending_of self.old) ≡ None) }
@@ -174,17 +179,21 @@ impl<F> Refusing<F> {
 }
 
 impl<C, F: GuardedFileSystem<C>> GuardedFileSystem<C> for Refusing<F> {
-    ghost use Rattle.dav_refusing.specs.Refusing.{seen_behind, inner_of, pending_of, records_of, Follows, FollowsReading};
+    ghost use Rattle.dav_refusing.specs.Refusing.{seen_behind, inner_of, body_behind, pending_of, records_of, Follows, FollowsReading};
 
     ghost seen = { seen_behind F.seen };
 
+    ghost is_honest = { λ store. F.is_honest store.inner };
+
     ghost well_formed = { λ store. F.well_formed store.inner };
+
+    ghost allowed = { λ store call within granted. refl };
 
     fn metadata(&mut self, path: &DavPath, credentials: &C) -> FsResult<Meta>
         ensures seen { Looks (seen_behind F.seen self.old) path.now.key result (seen_behind F.seen self.new) }
         ensures plan { Follows F.seen Op.Metadata (path.now ∷ []) (λ s. Looks s path.now.key) self.old result self.new }
     {
-        let paths = one_path(self.allocator(), path)?;
+        let paths = one_path(path)?;
         let mut call = self.begin(Op::Metadata, paths)?;
         let answer = self.inner.metadata(path, credentials);
         call.outcome = last_outcome(self.inner.records());
@@ -195,7 +204,7 @@ impl<C, F: GuardedFileSystem<C>> GuardedFileSystem<C> for Refusing<F> {
         ensures seen { ReadsDir (seen_behind F.seen self.old) path.now.key result (seen_behind F.seen self.new) }
         ensures plan { FollowsReading F.seen path.now self.old result self.new }
     {
-        let paths = one_path(self.allocator(), path)?;
+        let paths = one_path(path)?;
         let mut call = self.begin(Op::ReadDir, paths)?;
         let told = self.inner.records().len();
         match self.inner.read_dir(path, credentials) {
@@ -216,7 +225,7 @@ impl<C, F: GuardedFileSystem<C>> GuardedFileSystem<C> for Refusing<F> {
         ensures seen { MakesDirectory (seen_behind F.seen self.old) path.now.key result (seen_behind F.seen self.new) }
         ensures plan { Follows F.seen Op.CreateDir (path.now ∷ []) (λ s. MakesDirectory s path.now.key) self.old result self.new }
     {
-        let paths = one_path(self.allocator(), path)?;
+        let paths = one_path(path)?;
         let mut call = self.begin(Op::CreateDir, paths)?;
         let answer = self.inner.create_dir(path, credentials);
         call.outcome = last_outcome(self.inner.records());
@@ -227,7 +236,7 @@ impl<C, F: GuardedFileSystem<C>> GuardedFileSystem<C> for Refusing<F> {
         ensures seen { RemovesFile (seen_behind F.seen self.old) path.now.key result (seen_behind F.seen self.new) }
         ensures plan { Follows F.seen Op.RemoveFile (path.now ∷ []) (λ s. RemovesFile s path.now.key) self.old result self.new }
     {
-        let paths = one_path(self.allocator(), path)?;
+        let paths = one_path(path)?;
         let mut call = self.begin(Op::RemoveFile, paths)?;
         let answer = self.inner.remove_file(path, credentials);
         call.outcome = last_outcome(self.inner.records());
@@ -238,7 +247,7 @@ impl<C, F: GuardedFileSystem<C>> GuardedFileSystem<C> for Refusing<F> {
         ensures seen { RemovesDir (seen_behind F.seen self.old) path.now.key result (seen_behind F.seen self.new) }
         ensures plan { Follows F.seen Op.RemoveDir (path.now ∷ []) (λ s. RemovesDir s path.now.key) self.old result self.new }
     {
-        let paths = one_path(self.allocator(), path)?;
+        let paths = one_path(path)?;
         let mut call = self.begin(Op::RemoveDir, paths)?;
         let answer = self.inner.remove_dir(path, credentials);
         call.outcome = last_outcome(self.inner.records());
@@ -249,7 +258,7 @@ impl<C, F: GuardedFileSystem<C>> GuardedFileSystem<C> for Refusing<F> {
         ensures seen { Copies (seen_behind F.seen self.old) from.now.key to.now.key result (seen_behind F.seen self.new) }
         ensures plan { Follows F.seen Op.Copy (from.now ∷ to.now ∷ []) (λ s. Copies s from.now.key to.now.key) self.old result self.new }
     {
-        let paths = two_paths(self.allocator(), from, to)?;
+        let paths = two_paths(from, to)?;
         let mut call = self.begin(Op::Copy, paths)?;
         let answer = self.inner.copy(from, to, credentials);
         call.outcome = last_outcome(self.inner.records());
@@ -260,7 +269,7 @@ impl<C, F: GuardedFileSystem<C>> GuardedFileSystem<C> for Refusing<F> {
         ensures seen { Renames (seen_behind F.seen self.old) from.now.key to.now.key result (seen_behind F.seen self.new) }
         ensures plan { Follows F.seen Op.Rename (from.now ∷ to.now ∷ []) (λ s. Renames s from.now.key to.now.key) self.old result self.new }
     {
-        let paths = two_paths(self.allocator(), from, to)?;
+        let paths = two_paths(from, to)?;
         let mut call = self.begin(Op::Rename, paths)?;
         let answer = self.inner.rename(from, to, credentials);
         call.outcome = last_outcome(self.inner.records());
@@ -271,9 +280,26 @@ impl<C, F: GuardedFileSystem<C>> GuardedFileSystem<C> for Refusing<F> {
         ensures seen { Opens (seen_behind F.seen self.old) path.now options.now result (seen_behind F.seen self.new) }
         ensures plan { Follows F.seen Op.OpenFile (path.now ∷ []) (λ s. Opens s path.now options.now) self.old result self.new }
     {
-        let paths = one_path(self.allocator(), path)?;
+        let paths = one_path(path)?;
         let mut call = self.begin(Op::OpenFile, paths)?;
         let answer = self.inner.open(path, options, credentials);
+        call.outcome = last_outcome(self.inner.records());
+        self.finish(call, answer)
+    }
+
+    fn read_bytes(
+        &mut self,
+        path: &DavPath,
+        place: u64,
+        count: usize,
+        credentials: &C,
+    ) -> FsResult<Vec<u8>>
+        ensures seen { ReadsBytes (F.is_honest (inner_of self.new)) (seen_behind F.seen self.old) path.now.key place count result (seen_behind F.seen self.new) }
+        ensures plan { Follows F.seen Op.ReadBytes (path.now ∷ []) (λ s. ReadsBytes (F.is_honest (inner_of self.new)) s path.now.key place count) self.old result self.new }
+    {
+        let paths = one_path(path)?;
+        let mut call = self.begin(Op::ReadBytes, paths)?;
+        let answer = self.inner.read_bytes(path, place, count, credentials);
         call.outcome = last_outcome(self.inner.records());
         self.finish(call, answer)
     }
@@ -283,7 +309,7 @@ impl<C, F: GuardedFileSystem<C>> GuardedFileSystem<C> for Refusing<F> {
         ensures place { MatchResult result (λ _. file.new ≡ record file.old { pos = pos }) (λ _. file.new ≡ file.old) }
         ensures plan { Follows F.seen Op.Seek (file.old.path ∷ []) (λ s. Seeks s file.old.path.key) self.old result self.new }
     {
-        let paths = one_path(self.allocator(), &file.path)?;
+        let paths = one_path(&file.path)?;
         let mut call = self.begin(Op::Seek, paths)?;
         let answer = self.inner.seek(file, pos, credentials);
         call.outcome = last_outcome(self.inner.records());
@@ -296,9 +322,27 @@ impl<C, F: GuardedFileSystem<C>> GuardedFileSystem<C> for Refusing<F> {
         ensures place { MatchResult result (λ _. file.new ≡ record file.old { pos = place_of file.old (seen_behind F.seen self.old).contents + length bytes.now }) (λ _. file.new ≡ file.old) }
         ensures plan { Follows F.seen Op.WriteBytes (file.old.path ∷ []) (λ s. Writes s file.old bytes.now) self.old result self.new }
     {
-        let paths = one_path(self.allocator(), &file.path)?;
+        let paths = one_path(&file.path)?;
         let mut call = self.begin(Op::WriteBytes, paths)?;
         let answer = self.inner.write_bytes(file, bytes, credentials);
+        call.outcome = last_outcome(self.inner.records());
+        self.finish(call, answer)
+    }
+
+    fn write_body(
+        &mut self,
+        file: &mut DavFile,
+        number: BodyNumber,
+        credentials: &C,
+    ) -> FsResult<()>
+        requires { file.old.append ≡ false → file.old.pos + length (body_behind F.seen self.old number) < 2 ^ 64 }
+        ensures written { Writes (seen_behind F.seen self.old) file.old (body_behind F.seen self.old number) result (seen_behind F.seen self.new) }
+        ensures place { MatchResult result (λ _. file.new ≡ record file.old { pos = place_of file.old (seen_behind F.seen self.old).contents + length (body_behind F.seen self.old number) }) (λ _. file.new ≡ file.old) }
+        ensures plan { Follows F.seen Op.WriteBytes (file.old.path ∷ []) (λ s. Writes s file.old (body_behind F.seen self.old number)) self.old result self.new }
+    {
+        let paths = one_path(&file.path)?;
+        let mut call = self.begin(Op::WriteBytes, paths)?;
+        let answer = self.inner.write_body(file, number, credentials);
         call.outcome = last_outcome(self.inner.records());
         self.finish(call, answer)
     }
@@ -307,7 +351,7 @@ impl<C, F: GuardedFileSystem<C>> GuardedFileSystem<C> for Refusing<F> {
         ensures seen { Flushes (seen_behind F.seen self.old) file.now.path.key result (seen_behind F.seen self.new) }
         ensures plan { Follows F.seen Op.Flush (file.now.path ∷ []) (λ s. Flushes s file.now.path.key) self.old result self.new }
     {
-        let paths = one_path(self.allocator(), &file.path)?;
+        let paths = one_path(&file.path)?;
         let mut call = self.begin(Op::Flush, paths)?;
         let answer = self.inner.flush(file, credentials);
         call.outcome = last_outcome(self.inner.records());
@@ -318,7 +362,7 @@ impl<C, F: GuardedFileSystem<C>> GuardedFileSystem<C> for Refusing<F> {
         ensures seen { LooksAtFile (seen_behind F.seen self.old) file.now.path.key result (seen_behind F.seen self.new) }
         ensures plan { Follows F.seen Op.FileMetadata (file.now.path ∷ []) (λ s. LooksAtFile s file.now.path.key) self.old result self.new }
     {
-        let paths = one_path(self.allocator(), &file.path)?;
+        let paths = one_path(&file.path)?;
         let mut call = self.begin(Op::FileMetadata, paths)?;
         let answer = self.inner.file_metadata(file, credentials);
         call.outcome = last_outcome(self.inner.records());
@@ -329,7 +373,7 @@ impl<C, F: GuardedFileSystem<C>> GuardedFileSystem<C> for Refusing<F> {
         ensures seen { GetsProp (seen_behind F.seen self.old) path.now.key (name_of prop.now) result (seen_behind F.seen self.new) }
         ensures plan { Follows F.seen Op.GetProp (path.now ∷ []) (λ s. GetsProp s path.now.key (name_of prop.now)) self.old result self.new }
     {
-        let paths = one_path(self.allocator(), path)?;
+        let paths = one_path(path)?;
         let mut call = self.begin(Op::GetProp, paths)?;
         let answer = self.inner.get_prop(path, prop, credentials);
         call.outcome = last_outcome(self.inner.records());
@@ -340,7 +384,7 @@ impl<C, F: GuardedFileSystem<C>> GuardedFileSystem<C> for Refusing<F> {
         ensures seen { GetsProps (seen_behind F.seen self.old) path.now.key result (seen_behind F.seen self.new) }
         ensures plan { Follows F.seen Op.GetProps (path.now ∷ []) (λ s. GetsProps s path.now.key) self.old result self.new }
     {
-        let paths = one_path(self.allocator(), path)?;
+        let paths = one_path(path)?;
         let mut call = self.begin(Op::GetProps, paths)?;
         let answer = self.inner.get_props(path, credentials);
         call.outcome = last_outcome(self.inner.records());
@@ -358,7 +402,7 @@ impl<C, F: GuardedFileSystem<C>> GuardedFileSystem<C> for Refusing<F> {
         ensures seen { PatchesProps (seen_behind F.seen self.old) path.now.key patches.now result (seen_behind F.seen self.new) }
         ensures plan { Follows F.seen Op.PatchProps (path.now ∷ []) (λ s. PatchesProps s path.now.key patches.now) self.old result self.new }
     {
-        let paths = one_path(self.allocator(), path)?;
+        let paths = one_path(path)?;
         let mut call = self.begin(Op::PatchProps, paths)?;
         let mut statuses = Vec::with_capacity(self.allocator(), patches.len())?;
         let answer = self.inner.patch_props(path, patches, credentials);
@@ -374,7 +418,7 @@ impl<C, F: GuardedFileSystem<C>> GuardedFileSystem<C> for Refusing<F> {
         ensures seen { GetsQuota (seen_behind F.seen self.old) result (seen_behind F.seen self.new) }
         ensures plan { Follows F.seen Op.GetQuota [] GetsQuota self.old result self.new }
     {
-        let paths = Items::from_vec(Vec::new(self.allocator()));
+        let paths = Paths::none();
         let mut call = self.begin(Op::GetQuota, paths)?;
         let answer = self.inner.get_quota(credentials);
         call.outcome = last_outcome(self.inner.records());
@@ -383,6 +427,40 @@ impl<C, F: GuardedFileSystem<C>> GuardedFileSystem<C> for Refusing<F> {
 
     fn have_props(&self) -> bool {
         self.inner.have_props()
+    }
+
+    /// Passes the call on. It leaves no record, and no refusal is for it.
+    fn start_body(&mut self) -> FsResult<BodyNumber>
+        ensures seen { StartsBody (seen_behind F.seen self.old) result (seen_behind F.seen self.new) }
+        ensures inner { StartsBody (F.seen (inner_of self.old)) result (F.seen (inner_of self.new)) }
+        ensures plan { pending_of self.new ≡ pending_of self.old }
+        ensures records { records_of self.new ≡ records_of self.old }
+    {
+        self.inner.start_body()
+    }
+
+    /// Passes the call on. It leaves no record, and no refusal is for it.
+    fn add_to_body(&mut self, number: BodyNumber, bytes: &[u8]) -> FsResult<()>
+        ensures seen { AddsToBody number bytes.now (seen_behind F.seen self.old) result (seen_behind F.seen self.new) }
+        ensures inner { AddsToBody number bytes.now (F.seen (inner_of self.old)) result (F.seen (inner_of self.new)) }
+        ensures plan { pending_of self.new ≡ pending_of self.old }
+        ensures records { records_of self.new ≡ records_of self.old }
+    {
+        self.inner.add_to_body(number, bytes)
+    }
+
+    /// Passes the call on. It leaves no record, and no refusal is for it.
+    fn drop_body(&mut self, number: BodyNumber)
+        ensures seen { seen_behind F.seen self.new ≡ with_body (seen_behind F.seen self.old) number None }
+        ensures inner { F.seen (inner_of self.new) ≡ with_body (F.seen (inner_of self.old)) number None }
+        ensures plan { pending_of self.new ≡ pending_of self.old }
+        ensures records { records_of self.new ≡ records_of self.old }
+    {
+        self.inner.drop_body(number);
+    }
+
+    fn body_length(&self, number: BodyNumber) -> Option<u64> {
+        self.inner.body_length(number)
     }
 
     fn records(&self) -> &[Record]

@@ -7,7 +7,7 @@ ghost use Rattle.dav_refusing.specs.Slots.{plan_in, slot_call};
 
 use super::plan::Plan;
 use super::slot::Slot;
-use dav_resource::{DavPath, DirEntry, FsError, FsResult, Items, Op, Outcome, Record};
+use dav_resource::{DavPath, DirEntry, FsError, FsResult, Items, Op, Outcome, Paths, Record};
 use std::alloc::Global;
 
 /// The members that a listing does not list.
@@ -87,15 +87,14 @@ fn refuse_member(
     let alloc = plan.allocator();
     let mut member = path.clone()?;
     member.push_segment(entry.name.as_str())?;
-    let mut paths = Vec::with_capacity(alloc, 1)?;
-    paths.push(member)?;
-    let slot = Slot::of_call(Op::Entry, &paths)?;
+    let paths = Paths::one(member);
+    let slot = Slot::of_call(Op::Entry, paths.as_slice())?;
     let Some(error) = plan.first(&slot) else {
         return Ok(None);
     };
     unseen.records.push(Record {
         op: Op::Entry,
-        paths: Items::from_vec(paths),
+        paths,
         outcome: Outcome::Refused(error),
         statuses: Items::from_vec(Vec::new(alloc)),
     })?;

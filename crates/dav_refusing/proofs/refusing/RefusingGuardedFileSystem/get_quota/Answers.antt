@@ -1,4 +1,4 @@
-use Rattle.std.proofs.Common.{◌∙◌, [], ap}
+use Rattle.std.proofs.Common.{[], ap}
 use Rattle.dav_resource.specs.declared.record.Record.{Record}
 use Rattle.dav_resource.specs.declared.record.Op.TheVariants.{GetQuota}
 use Rattle.dav_refusing.proofs.CallsBehind.{gets_quota_call}
@@ -8,8 +8,8 @@ use Rattle.dav_refusing.proofs.refusing.RefusingGuardedFileSystem.get_quota.Goal
 pub returns-clause-plan : goal.returns-clause-plan
 returns-clause-plan g c =
     passes g.F.GuardedFileSystem.seen GetQuota [] gets_quota_call
-    c.args.self.now c.begin.new.self c.finish.new.self c.get_quota-answer.new.self c.from_vec-paths.result (record c.in_ok-call.call { outcome = c.last_outcome-call.result }) c.last_outcome-call.result c.records.result.now c.get_quota-answer.result c.finish.result
-    (c.from_vec-paths.ensures ∙ c.new.ensures.items) c.in_ok-call.ensures.free c.in_ok-call.ensures.kept c.get_quota-answer.ensures
+    c.args.self.now c.begin.new.self c.finish.new.self c.get_quota-answer.new.self c.none-paths.result (record c.in_ok-call.call { outcome = c.last_outcome-call.result }) c.last_outcome-call.result c.records.result.now c.get_quota-answer.result c.finish.result
+    c.none-paths.ensures c.in_ok-call.ensures.free c.in_ok-call.ensures.kept c.get_quota-answer.ensures
     (ap (λ (r : Record). record r { outcome = c.last_outcome-call.result }) c.in_ok-call.ensures.call) c.records.ensures c.last_outcome-call.ensures
     c.finish.ensures.answer c.finish.ensures.inner c.finish.ensures.memory c.finish.ensures.counted c.finish.ensures.told
 

@@ -11,8 +11,15 @@ use Rattle.dav_refusing.specs.Pending.{due}
 use Rattle.dav_refusing.specs.Refusing.{pending_of, FollowsReading}
 use Rattle.dav_refusing.proofs.Refusals.{passes}
 use Rattle.dav_refusing.proofs.Listed.{listed_names}
-use Rattle.dav_refusing.proofs.ListingCalls.{lists, follows_listing, lawful_reading, as_listing, declining_call}
+use Rattle.dav_refusing.proofs.ListingCalls.{one_more_told, lists, follows_listing, lawful_reading, as_listing, declining_call}
 use Rattle.dav_refusing.proofs.refusing.RefusingGuardedFileSystem.read_dir.Goals as goal
+
+pub slice_bounds-hidden-count : goal.slice_bounds-hidden-count
+slice_bounds-hidden-count g c =
+    one_more_told c.records-told.result.now c.records.result.now (g.F.GuardedFileSystem.seen c.begin.new.self.inner).log (g.F.GuardedFileSystem.seen c.read_dir.new.self).log _ _ c.records-told.ensures c.records.ensures c.in-Ok.ensures.granted.told
+
+pub slice_bounds-hidden-start : goal.slice_bounds-hidden-start
+slice_bounds-hidden-start g c = slice_bounds-hidden-count g c
 
 pub refuse_members-requires : goal.refuse_members-requires
 refuse_members-requires g c =
