@@ -1,6 +1,5 @@
 -- The members of a listing, as they come to wait.
-use Rattle.std.proofs.Common.{◌≡◌, ◌≢◌, ◌⊎◌, OnErr, MatchOption, ◌-◌, take, ◌<◌, ◌≤◌, ◌+◌, ℕ, List, [], ◌∷◌, ◌++◌, Option, None, Some, Result, Ok, Err, map, reverse, refl, sym, ap, ◌∙◌, subst, inl, inr, arith, append_assoc, append-nil}
-use Rattle.std.specs.Prelude.{filter_map}
+use Rattle.std.proofs.Common.{◌≡◌, ◌≢◌, ◌⊎◌, OnErr, MatchOption, ◌-◌, take, ◌<◌, ◌≤◌, ◌+◌, ℕ, Bool, List, [], ◌∷◌, ◌++◌, Option, None, Some, Result, Ok, Err, map, reverse, refl, sym, ap, ◌∙◌, subst, inl, inr, arith, append_assoc, append-nil}
 use Rattle.std.specs.Option.{option_to_list}
 use Rattle.std.specs.FinMap.{get, keys}
 use Rattle.std.proofs.lemmas.List.{reverse-append}
@@ -12,13 +11,13 @@ use Rattle.dav_resource.specs.declared.meta.DirEntry.{DirEntry}
 use Rattle.dav_resource.specs.declared.meta.Meta.{Meta}
 use Rattle.dav_resource.specs.declared.error.FsError.{FsError}
 use Rattle.dav_store.specs.Store.{Contents, Node, Store, IsWellFormed, MetaFits}
-use Rattle.dav_store.specs.Calls.{Declines, error_of, IsLawful, record_of}
+use Rattle.dav_store.specs.Calls.{Declines}
 use Rattle.dav_store.specs.Members.{Child, AreChildren, IsIn, names_of, member, Lists, read_dir_call}
 use Rattle.dav_store.specs.MemberLaws.{come_from, IsIn-permuted, IsIn-unpermuted}
 use Rattle.dav_parts.specs.Dialogues.{unlike}
 use Rattle.dav_walks.specs.Counting.{total, count_below}
 use Rattle.dav_walks.specs.Frames.{path_of_entry}
-use Rattle.dav_walks.specs.Listing.{ListsAt, listed, unlisted, Listed, resource_of, shown_in, in_turn, AreThere, waiting_count}
+use Rattle.dav_walks.specs.Listing.{listed, unlisted, Listed, resource_of, shown_in, in_turn, AreThere, waiting_count}
 use Rattle.dav_walks.specs.declared.listing.Resource.{Resource}
 use Rattle.dav_walks.proofs.Among.{stands_among}
 use Rattle.dav_walks.proofs.Counting.{total-cons, total-nil, total-append, children_count}
@@ -61,13 +60,13 @@ shown_child [] shown i = absurd i
 shown_child (c ∷ cs) shown (inl e) = (c.0, inl (λ i. (c.0, e i)))
 shown_child (c ∷ cs) shown (inr i) = let f = shown_child cs shown i in (f.0, inr f.1)
 
-pub shown_segment : (old : Contents) (directory : Key) (cs : List Child) → AreChildren old directory cs → IsWellFormed old → (entry : DirEntry) → IsIn (Ok entry) (map (λ (c : Child). c.1) cs) → IsSegment entry.name
+pub shown_segment : {shows : Key → Bool} (old : Contents) (directory : Key) (cs : List Child) → AreChildren shows old directory cs → IsWellFormed old → (entry : DirEntry) → IsIn (Ok entry) (map (λ (c : Child). c.1) cs) → IsSegment entry.name
 shown_segment old directory cs are formed entry i =
     let f = shown_child cs (Ok entry) i in
     subst IsSegment (sym (are.shown (f.0, Ok entry) f.1).0) (child_segment old directory cs are formed f.0 (Ok entry) f.1)
 
 -- a member that is shown is there
-pub shown_there : (old : Contents) (directory : PathValue) (cs : List Child) → AreChildren old directory.key cs → (r : Resource) → IsIn r (shown_in directory (map (λ (c : Child). c.1) cs)) → old.metas r.path.key ≡ Some r.meta
+pub shown_there : {shows : Key → Bool} (old : Contents) (directory : PathValue) (cs : List Child) → AreChildren shows old directory.key cs → (r : Resource) → IsIn r (shown_in directory (map (λ (c : Child). c.1) cs)) → old.metas r.path.key ≡ Some r.meta
 shown_there old directory cs are r i = told (come_from (resource_of directory) (map (λ (c : Child). c.1) cs) r i)
   where
     told : (s : Shown) × IsIn s (map (λ (c : Child). c.1) cs) × (resource_of directory s ≡ Some r) → old.metas r.path.key ≡ Some r.meta
@@ -79,7 +78,7 @@ shown_there old directory cs are r i = told (come_from (resource_of directory) (
     told (Err e, inside, is) = absurd cc
 
 -- and each that waited before
-pub all_there : (old : Contents) (directory : PathValue) (cs : List Child) (before after : List Resource) → AreChildren old directory.key cs → in_turn after ≡ shown_in directory (map (λ (c : Child). c.1) cs) ++ in_turn before
+pub all_there : {shows : Key → Bool} (old : Contents) (directory : PathValue) (cs : List Child) (before after : List Resource) → AreChildren shows old directory.key cs → in_turn after ≡ shown_in directory (map (λ (c : Child). c.1) cs) ++ in_turn before
     → AreThere old before → AreThere old after
 all_there old directory cs before after are added there r i = either (IsIn-append r (shown_in directory (map (λ (c : Child). c.1) cs)) (reverse before) (subst (λ rs. IsIn r rs) added (IsIn-permuted _ _ r (IsPermutation-reverse after) i)))
   where
@@ -111,7 +110,7 @@ there_in_tree : (o : Option Node) (known : Option Meta) (meta : Meta) → MetaFi
 there_in_tree None known meta fits is none = let p : None ≡ Some meta = sym fits ∙ is in cc
 there_in_tree (Some node) known meta fits is none = cc
 
-pub less_waits : (old : Contents) (directory : PathValue) (cs : List Child) (meta : Meta) (before after : List Resource) → IsWellFormed old → AreChildren old directory.key cs
+pub less_waits : {shows : Key → Bool} (old : Contents) (directory : PathValue) (cs : List Child) (meta : Meta) (before after : List Resource) → IsWellFormed old → AreChildren shows old directory.key cs
     → in_turn after ≡ shown_in directory (map (λ (c : Child). c.1) cs) ++ in_turn before → old.metas directory.key ≡ Some meta
     → waiting_count old after < waiting_count old before + count_below directory.key (keys old.tree)
 less_waits old directory cs meta before after formed are added is =

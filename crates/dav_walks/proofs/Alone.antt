@@ -69,7 +69,7 @@ module _ (path : PathValue) (old new : Store) where
     alone_off had (inl same) = record {
       records = [];
       told = ap (λ (s : Store). s.log) same ∙ sym (append-nil old.log);
-      fixed = ap (λ (s : Store). s.keeps_properties) same;
+      fixed = ap (λ (s : Store). s.facts) same;
       stops = stopped had [] (inl (refl, ap (λ (s : Store). s.contents) same)) (ap (λ (s : Store). s.contents) same);
     }
     alone_off had (inr d) =

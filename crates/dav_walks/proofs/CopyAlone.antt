@@ -64,7 +64,7 @@ module _ (source dest : PathValue) (top : Key) {old : Store} (formed : IsWellFor
   look_off had (inl same) = record {
     records = [];
     told = ap (λ (s : Store). s.log) same ∙ sym (append-nil old.log);
-    fixed = ap (λ (s : Store). s.keeps_properties) same;
+    fixed = ap (λ (s : Store). s.facts) same;
     stops = stopped source dest top _ _ had [] (inl (inl refl, ap (λ (s : Store). s.contents) same)) (ap (λ (s : Store). s.contents) same);
   }
   look_off had (inr (e, dec)) = record {
@@ -99,7 +99,7 @@ module _ (source dest : PathValue) (top : Key) {old : Store} (formed : IsWellFor
       }
 
       placed_whole : {had has : Names} (outcome : Outcome) (names : Names) → IsLawful call.bar outcome → EndsAlone source dest old.contents new.contents names outcome → new.log ≡ mid.log ++ record_of call outcome ∷ []
-          → new.keeps_properties ≡ mid.keeps_properties → has ≡ had ++ names → CopiesWhole Zero source dest top old new had has
+          → new.facts ≡ mid.facts → has ≡ had ++ names → CopiesWhole Zero source dest top old new had has
       placed_whole outcome names lawful ended told fixed added = record {
         records = record_of (metadata_call old.contents source.key) Granted ∷ record_of (placing_call old.contents source.key dest.key) outcome ∷ [];
         told = log_of outcome told;
@@ -114,7 +114,7 @@ module _ (source dest : PathValue) (top : Key) {old : Store} (formed : IsWellFor
       placed_off had (inl at_mid) = record {
         records = record_of (metadata_call old.contents source.key) Granted ∷ [];
         told = ap (λ (s : Store). s.log) at_mid ∙ found.looked.told;
-        fixed = ap (λ (s : Store). s.keeps_properties) at_mid ∙ found.looked.fixed;
+        fixed = ap (λ (s : Store). s.facts) at_mid ∙ found.looked.fixed;
         stops = stopped source dest top _ _ had (record_of (metadata_call old.contents source.key) Granted ∷ []) (inl (inr refl, ap (λ (s : Store). s.contents) at_mid ∙ same)) (ap (λ (s : Store). s.contents) at_mid ∙ same);
       }
       placed_off had (inr (e, dec)) = record {

@@ -5,7 +5,7 @@ use Rattle.std.specs.FinMap.{get, keys}
 use Rattle.std.proofs.lemmas.List.{length-map}
 use Rattle.dav_resource.specs.Key.{Key}
 use Rattle.dav_resource.specs.declared.record.Op.{Op}
-use Rattle.dav_resource.specs.declared.record.Op.TheVariants.{Metadata, ReadDir, CreateDir, RemoveFile, RemoveDir, Copy, Rename, OpenFile, Seek, WriteBytes, Flush, FileMetadata, GetProp, GetProps, PatchProps, GetQuota, Entry}
+use Rattle.dav_resource.specs.declared.record.Op.TheVariants.{Metadata, ReadDir, ReadBytes, CreateDir, RemoveFile, RemoveDir, Copy, Rename, OpenFile, Seek, WriteBytes, Flush, FileMetadata, GetProp, GetProps, PatchProps, GetQuota, Entry}
 use Rattle.dav_store.specs.Below.{is_at_or_below}
 use Rattle.dav_store.specs.Store.{Contents, Tree}
 use Rattle.dav_store.specs.Members.{IsIn, AreDistinct}
@@ -108,6 +108,7 @@ module _ (tree : Tree) (s top : Key) where
     one_of CreateDir x call is = among_all tree _ (s ++ x) _ (in_snapshot x (kind_present true _ is.0)) (inr (inl (ap (λ (op : Op). (s ++ x, op)) (sym (second_is true x is.0)))))
     one_of ReadDir x call is = among_all tree _ (s ++ x) _ (in_snapshot x (kind_present true _ is.0)) (inr (inr (inl refl)))
     one_of Entry x call is = let p : false ≡ true = call in absurd (cc)
+    one_of ReadBytes x call is = absurd is
     one_of RemoveFile x call is = absurd is
     one_of RemoveDir x call is = absurd is
     one_of Rename x call is = absurd is

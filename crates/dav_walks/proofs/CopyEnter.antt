@@ -119,7 +119,8 @@ pub record OpensAt (source dest : PathValue) (new : Contents) (p : Key) (more : 
   pub dest_at : frame.dest ≡ path_at dest true (dest.key ++ p)
   pub first : frame.next ≡ 0
   pub children : List Child
-  pub are : AreChildren new (source.key ++ p) children
+  pub shows : Key → Bool
+  pub are : AreChildren shows new (source.key ++ p) children
   pub shown : frame.listing.items ≡ map (λ c. c.1) children
   pub listed : IsGranted ReadDir p more
   pub unseen : (n : List ℕ) (error : FsError) → IsIn {X = Child} (n, Err error) children → IsDenied Entry (member p n) more

@@ -4,7 +4,7 @@ use Rattle.std.specs.Prelude.{filter_map}
 use Rattle.std.proofs.lemmas.List.{append-nil, map-append}
 use Rattle.dav_resource.specs.Key.{Key}
 use Rattle.dav_resource.specs.declared.record.Op.{Op}
-use Rattle.dav_resource.specs.declared.record.Op.TheVariants.{Metadata, ReadDir, CreateDir, RemoveFile, RemoveDir, Copy, Rename, OpenFile, Seek, WriteBytes, Flush, FileMetadata, GetProp, GetProps, PatchProps, GetQuota, Entry}
+use Rattle.dav_resource.specs.declared.record.Op.TheVariants.{Metadata, ReadDir, ReadBytes, CreateDir, RemoveFile, RemoveDir, Copy, Rename, OpenFile, Seek, WriteBytes, Flush, FileMetadata, GetProp, GetProps, PatchProps, GetQuota, Entry}
 use Rattle.dav_resource.specs.declared.record.Outcome.{Outcome}
 use Rattle.dav_resource.specs.declared.record.Outcome.TheVariants.{Granted, Refused}
 use Rattle.dav_resource.specs.declared.error.FsError.{FsError}
@@ -67,6 +67,7 @@ module _ (steps more : Steps) where
   called_later snap CreateDir x is = (is.0, IsIn-left _ steps more is.1)
   called_later snap ReadDir x is = (is.0, IsIn-left _ steps more is.1)
   called_later snap Entry x is = listed_later x is
+  called_later snap ReadBytes x is = is
   called_later snap RemoveFile x is = is
   called_later snap RemoveDir x is = is
   called_later snap Rename x is = is

@@ -168,7 +168,7 @@ module _ (source dest : PathValue) (top : Key) (old mid : Store) (had has : Name
     missed = λ x there. missed_from x [] x refl there begun;
   }
 
-  pub whole : mid.keeps_properties ≡ old.keeps_properties → IsAsked Metadata [] steps → CopiesWhole Infinity source dest top old mid had has
+  pub whole : mid.facts ≡ old.facts → IsAsked Metadata [] steps → CopiesWhole Infinity source dest top old mid had has
   whole fixed begun = record {
     records = map (logged_step source.key dest.key) steps;
     told = underway.reached.log;
@@ -182,7 +182,7 @@ module _ (source dest : PathValue) (top : Key) (old mid : Store) (had has : Name
 
 -- what was named so far are some of the names of the calls
 pub breaks_off : {source dest : PathValue} {top : Key} {old mid : Store} {had has : Names} {steps : Steps} {frames : List CopyFrame} {hand : List Key} → Underway source dest top old mid had has steps frames hand
-    → (new : Store) → new.keeps_properties ≡ old.keeps_properties → (more : Steps) → Reached source.key top dest.key old new (steps ++ more) → StartsAnew source dest (snapshot old.contents.tree source.key top) more
+    → (new : Store) → new.facts ≡ old.facts → (more : Steps) → Reached source.key top dest.key old new (steps ++ more) → StartsAnew source dest (snapshot old.contents.tree source.key top) more
     → BreaksOffCopy Infinity source dest top old new had has
 breaks_off {source} {dest} {top} {old} {mid} {had} {has} {steps} {frames} underway new fixed more reached anew = record {
   records = map (logged_step source.key dest.key) (steps ++ more);

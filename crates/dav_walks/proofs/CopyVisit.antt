@@ -102,7 +102,7 @@ module _ (source dest : PathValue) {top : Key} {old mid : Store} {had has : Name
       dest_path = (path_of_member dest frame.dest entry (record { below = mine.at; key = dest_key; is = mine.dest_at ∙ ap (path_at dest true) (sym dest_key) })).is
           ∙ ap (path_at dest entry.meta.dir) (ap (λ k. member k entry.name) dest_key ∙ append_assoc dest.key mine.at (entry.name ∷ []))
 
-      member_cut : (new : Store) → new.keeps_properties ≡ old.keeps_properties → IsCutCopy (path_of_entry frame.source entry) (path_of_entry frame.dest entry) mid new → BreaksOffCopy Infinity source dest top old new had has
+      member_cut : (new : Store) → new.facts ≡ old.facts → IsCutCopy (path_of_entry frame.source entry) (path_of_entry frame.dest entry) mid new → BreaksOffCopy Infinity source dest top old new had has
       member_cut new fixed cut =
           let c = went_cut source dest room formed underway.reached sound hand (path_of_entry frame.source entry) (path_of_entry frame.dest entry) source_path dest_path new cut in
           breaks_off underway new fixed c.0 c.1 c.2
@@ -147,13 +147,13 @@ module _ (source dest : PathValue) {top : Key} {old mid : Store} {had has : Name
       subst (GoesOn new finally o) (sym is) (member_going entry next other new sound_new finally o enters, member_less entry next other new sound_new finally o enters o (came entry next other new sound_new finally o enters).opens)
 
   -- memory was lacking
-  pub visit_cut : (new : Store) → new.keeps_properties ≡ old.keeps_properties → IsCutMember frame top mid new → BreaksOffCopy Infinity source dest top old new had has
+  pub visit_cut : (new : Store) → new.facts ≡ old.facts → IsCutMember frame top mid new → BreaksOffCopy Infinity source dest top old new had has
   visit_cut new fixed (inl same) = breaks_off underway new fixed [] (subst (λ (t : Store). Reached source.key top dest.key old t (going.steps ++ [])) (sym same) (subst (Reached source.key top dest.key old mid) (sym (append-nil going.steps)) underway.reached)) (λ told. refl)
   visit_cut new fixed (inr (entry, next, other, cut)) = member_cut entry next other new fixed cut
 
 -- ---- the begin, and the end
 
-pub going_off : {source dest : PathValue} {top : Key} {old mid : Store} {had has : Names} {frames : List CopyFrame} → Going source dest top old mid had has frames → mid.keeps_properties ≡ old.keeps_properties → BreaksOffCopy Infinity source dest top old mid had has
+pub going_off : {source dest : PathValue} {top : Key} {old mid : Store} {had has : Names} {frames : List CopyFrame} → Going source dest top old mid had has frames → mid.facts ≡ old.facts → BreaksOffCopy Infinity source dest top old mid had has
 going_off {source} {dest} {top} {old} {mid} going fixed = breaks_off going.underway mid fixed [] (subst (Reached source.key top dest.key old mid) (sym (append-nil going.steps)) going.underway.reached) (λ told. refl)
 
 pub none_next : (frame : CopyFrame) → length frame.listing.items ≤ frame.next → rest frame ≡ []
@@ -177,12 +177,12 @@ module _ (source dest : PathValue) (top : Key) (old : Store) (had : Names) (room
       let came : Went source dest top old new had has [] [] opened = went source dest room formed begins.reached formed hand_first from to first_source first_dest new had has opened enters in
       record { steps = came.more; underway = state.entered source dest room formed begins hand_first (steps_of.begins_beside source dest top old had room) came sound; begun = came.asked }
 
-  pub begun_cut : (new : Store) → new.keeps_properties ≡ old.keeps_properties → IsCutCopy from to old new → BreaksOffCopy Infinity source dest top old new had had
+  pub begun_cut : (new : Store) → new.facts ≡ old.facts → IsCutCopy from to old new → BreaksOffCopy Infinity source dest top old new had had
   begun_cut new fixed cut =
       let c = went_cut source dest room formed begins.reached formed hand_first from to first_source first_dest new cut in
       breaks_off begins new fixed c.0 c.1 c.2
 
-pub going_over : (source dest : PathValue) (top : Key) (old mid : Store) (had has : Names) → IsWellFormed old.contents → Going source dest top old mid had has [] → mid.keeps_properties ≡ old.keeps_properties → CopiesWhole Infinity source dest top old mid had has
+pub going_over : (source dest : PathValue) (top : Key) (old mid : Store) (had has : Names) → IsWellFormed old.contents → Going source dest top old mid had has [] → mid.facts ≡ old.facts → CopiesWhole Infinity source dest top old mid had has
 going_over source dest top old mid had has formed going fixed = whole source dest top old mid had has going.steps formed going.underway fixed going.begun
 
 pub going_back : {source dest : PathValue} {top : Key} {old mid : Store} {had has : Names} {frame : CopyFrame} {frames : List CopyFrame} → Going source dest top old mid had has (frame ∷ frames) → length frame.listing.items ≤ frame.next

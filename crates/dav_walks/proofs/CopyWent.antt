@@ -284,7 +284,8 @@ module _ (source dest : PathValue) {top : Key} {old mid : Store} {steps : Steps}
           dest_at = opens.at_dest ∙ at_dest ∙ ap (λ b. path_at dest b (dest.key ++ p)) (kind_found made.found);
           first = opens.first;
           children = opens.lists.children;
-          are = subst (λ (c : Contents). AreChildren c (source.key ++ p) opens.lists.children) (sym opens.lists.same) (subst (λ (k : Key). AreChildren middle.contents k opens.lists.children) from_key opens.lists.are);
+          shows = middle.facts.shows;
+          are = subst (λ (c : Contents). AreChildren middle.facts.shows c (source.key ++ p) opens.lists.children) (sym opens.lists.same) (subst (λ (k : Key). AreChildren middle.facts.shows middle.contents k opens.lists.children) from_key opens.lists.are);
           shown = opens.lists.listed;
           listed = inr (inr (inl refl));
           unseen = λ n error i. (Refused error, (λ e. cc), inr (inr (inr (unseen_among p opens.lists.children n error i))));

@@ -115,7 +115,7 @@ module _ {path : PathValue} {old mid : Store} {had names : Names} {frame : Frame
 
 -- ---- the whole
 
-pub walked_all : (path : PathValue) (old new : Store) (had has : Names) (clean : Bool) → IsWellFormed old.contents → new.keeps_properties ≡ old.keeps_properties
+pub walked_all : (path : PathValue) (old new : Store) (had has : Names) (clean : Bool) → IsWellFormed old.contents → new.facts ≡ old.facts
     → Walks path old.contents new.contents old.log new.log had has path.key clean → RemovesAll Infinity path old new had has
 walked_all path old new had has clean formed fixed walks =
     let whole = walk_deletes path old.contents new.contents old.log new.log had has clean formed walks in
@@ -128,7 +128,7 @@ walked_all path old new had has clean formed fixed walks =
       removes = (whole.calls, refl, whole.deletes);
     }
 
-pub halted_off : (path : PathValue) (old new : Store) (had has : Names) → new.keeps_properties ≡ old.keeps_properties → Halts path old.contents new.contents old.log new.log had has path.key → BreaksOff Infinity path old new had has
+pub halted_off : (path : PathValue) (old new : Store) (had has : Names) → new.facts ≡ old.facts → Halts path old.contents new.contents old.log new.log had has path.key → BreaksOff Infinity path old new had has
 halted_off path old new had has fixed halts = record {
   records = map logged_call halts.calls;
   told = halts.log;

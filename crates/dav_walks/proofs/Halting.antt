@@ -130,7 +130,7 @@ pause_child {path} {old} {mid} {new} {before} {after} {had} {has} {finally} {k} 
         fresh (subst (λ b. IsIn b (names_of seen)) (same_head k v.0 n v.2 x (sym v.4 ∙ q ∙ child_below k n x)) (IsIn-name (v.0, Ok v.1) seen v.3))))))
 
 -- the directory's walk is broken off
-module _ {path : PathValue} {old new : Contents} {had has : Names} {k : Key} {cs seen : List Child} {calls : List KeyCall} (formed : IsWellFormed old) (is : get old.tree k ≡ Some Directory) (are : AreChildren old k cs)
+module _ {shows : Key → Bool} {path : PathValue} {old new : Contents} {had has : Names} {k : Key} {cs seen : List Child} {calls : List KeyCall} (formed : IsWellFormed old) (is : get old.tree k ≡ Some Directory) (are : AreChildren shows old k cs)
     (unseen_yet : List Child) (split : seen ++ unseen_yet ≡ cs) (came : Pausing path old new had has k seen calls) where
   inside : (c : Child) → IsIn c seen → IsIn c cs
   inside c i = subst (λ (l : List Child). IsIn c l) split (IsIn-left c seen unseen_yet i)

@@ -145,7 +145,7 @@ pub record Listed (path : PathValue) (old new : Store) (had has : Names) (k : Ke
   pub formed : IsWellFormed old.contents
   pub is : get old.contents.tree k ≡ Some Directory
   pub children : List Child
-  pub are : AreChildren old.contents k children
+  pub are : AreChildren old.facts.shows old.contents k children
   pub shown : listing ≡ map (λ c. c.1) children
   pub calls : List KeyCall
   pub log : new.log ≡ (old.log ++ map logged_call (listed k children)) ++ map logged_call calls

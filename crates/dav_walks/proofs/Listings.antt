@@ -106,7 +106,7 @@ last_segment : (k : Key) (n : List ℕ) → IsKey (member k n) → IsSegment n
 last_segment [] n is = is.0
 last_segment (s ∷ k) n is = last_segment k n is.1
 
-module _ (old : Contents) (k : Key) (cs : List Child) (are : AreChildren old k cs) where
+module _ {shows : Key → Bool} (old : Contents) (k : Key) (cs : List Child) (are : AreChildren shows old k cs) where
   pub children_once : AreDistinct (names_of cs)
   children_once = AreDistinct-permuted _ _ are.each_once (members_distinct old.tree k)
 

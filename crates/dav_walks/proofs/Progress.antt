@@ -46,8 +46,8 @@ pub record Progress (path : PathValue) (old new : Contents) (had has : Names) (k
   pub untouched : NothingRemoved calls → new ≡ old
 
 -- a key below a member that wasn't shown, or isn't there, and the end of a directory's walk
-module _ (path : PathValue) (old mid : Contents) (had has : Names) (k : Key) (cs : List Child) (calls : List KeyCall) (clean : Bool)
-    (formed : IsWellFormed old) (is : get old.tree k ≡ Some Directory) (are : AreChildren old k cs) (came : Progress path old mid had has k cs calls clean) where
+module _ {shows : Key → Bool} (path : PathValue) (old mid : Contents) (had has : Names) (k : Key) (cs : List Child) (calls : List KeyCall) (clean : Bool)
+    (formed : IsWellFormed old) (is : get old.tree k ≡ Some Directory) (are : AreChildren shows old k cs) (came : Progress path old mid had has k cs calls clean) where
   once : AreDistinct (names_of cs)
   once = children_once old k cs are
 

@@ -16,8 +16,8 @@ use Rattle.dav_resource.specs.declared.record.Outcome.TheVariants.{Granted, Barr
 use Rattle.dav_resource.specs.declared.error.FsError.{FsError}
 use Rattle.dav_store.specs.Logged.{Logged}
 use Rattle.dav_store.specs.Store.{Store, Contents, Node, File, Directory, IsWellFormed}
-use Rattle.dav_store.specs.Calls.{Grants, Declines, IsLawful, IsOwn, error_of}
-use Rattle.dav_store.specs.Members.{IsIn, member, IsRemovedAt, remove_file_call, remove_file_bar, read_dir_call, read_dir_bar}
+use Rattle.dav_store.specs.Calls.{Grants, Declines, IsLawful, IsOwn, error_of, must_be_file}
+use Rattle.dav_store.specs.Members.{IsIn, member, IsRemovedAt, remove_file_call, read_dir_call, read_dir_bar}
 use Rattle.dav_parts.specs.Multistatus.{Item}
 use Rattle.dav_walks.specs.KeyCall.{KeyCall, logged_call, same_key, standing}
 use Rattle.dav_walks.specs.Deletion.{look_below, calls_below, WasRefused, named_path, path_at, IsRootRemoval}
@@ -134,8 +134,8 @@ refused_file : (old : Contents) → IsWellFormed old → (k : Key) → HasKind f
 refused_file old formed k is outcome error refused = file outcome (subst (λ (j : Key). HasKind false (get old.tree j)) (sym (append-nothing k)) is) (alone k RemoveFile outcome) (stays outcome error _ refused)
     (none_below_file old formed k is) (λ n x. record { uncalled = alone_below k RemoveFile outcome n x; same = refl })
 
-no_file_bar : (node : Option Node) (e : FsError) → HasKind false node → remove_file_bar node ≡ Some e → ⊥
-no_file_bar it e is bar = let p : None ≡ Some e = sym (ap remove_file_bar is.1) ∙ bar in cc
+no_file_bar : (node : Option Node) (e : FsError) → HasKind false node → must_be_file node ≡ Some e → ⊥
+no_file_bar it e is bar = let p : None ≡ Some e = sym (ap must_be_file is.1) ∙ bar in cc
 
 no_listing_bar : (node : Option Node) (e : FsError) → node ≡ Some Directory → read_dir_bar node ≡ Some e → ⊥
 no_listing_bar it e is bar = let p : None ≡ Some e = sym (ap read_dir_bar is) ∙ bar in cc

@@ -114,5 +114,5 @@ CopiesOrStops depth source dest top old new records had has answer =
 pub record Copying (depth : Depth) (source dest : PathValue) (top : Key) (old new : Store) (had has : List Item) (answer : Result (Unit {0}) DavError) : Type 0 where
   pub records : List Logged
   pub told : new.log ≡ old.log ++ records
-  pub fixed : new.keeps_properties ≡ old.keeps_properties
+  pub fixed : new.facts ≡ old.facts
   pub done : CopiesOrStops depth source dest top old.contents new.contents records had has answer

@@ -102,7 +102,7 @@ IsCutMember frame top old new =
 pub record CopiesWhole (depth : Depth) (source dest : PathValue) (top : Key) (old new : Store) (had has : List Item) : Type 0 where
   pub records : List Logged
   pub told : new.log ≡ old.log ++ records
-  pub fixed : new.keeps_properties ≡ old.keeps_properties
+  pub fixed : new.facts ≡ old.facts
   pub names : List Item
   pub added : has ≡ had ++ names
   pub copies : CopiesAll depth source dest top old.contents new.contents records names
@@ -111,5 +111,5 @@ pub record CopiesWhole (depth : Depth) (source dest : PathValue) (top : Key) (ol
 pub record BreaksOffCopy (depth : Depth) (source dest : PathValue) (top : Key) (old new : Store) (had has : List Item) : Type 0 where
   pub records : List Logged
   pub told : new.log ≡ old.log ++ records
-  pub fixed : new.keeps_properties ≡ old.keeps_properties
+  pub fixed : new.facts ≡ old.facts
   pub stops : StopsCopy depth source dest top old.contents new.contents records had has

@@ -223,5 +223,5 @@ RemovesOrStops depth path old new records had has answer =
 pub record Removal (depth : Depth) (path : PathValue) (old new : Store) (had has : List Item) (answer : Result (Unit {0}) DavError) : Type 0 where
   pub records : List Logged
   pub told : new.log ≡ old.log ++ records
-  pub fixed : new.keeps_properties ≡ old.keeps_properties
+  pub fixed : new.facts ≡ old.facts
   pub done : RemovesOrStops depth path old.contents new.contents records had has answer

@@ -109,7 +109,7 @@ Closes true path old new had has removed = RemovesOne true path old new had has 
 pub record RemovesAll (depth : Depth) (path : PathValue) (old new : Store) (had has : List Item) : Type 0 where
   pub records : List Logged
   pub told : new.log ≡ old.log ++ records
-  pub fixed : new.keeps_properties ≡ old.keeps_properties
+  pub fixed : new.facts ≡ old.facts
   pub names : List Item
   pub added : has ≡ had ++ names
   pub removes : Removes depth path old.contents new.contents records names
@@ -118,5 +118,5 @@ pub record RemovesAll (depth : Depth) (path : PathValue) (old new : Store) (had 
 pub record BreaksOff (depth : Depth) (path : PathValue) (old new : Store) (had has : List Item) : Type 0 where
   pub records : List Logged
   pub told : new.log ≡ old.log ++ records
-  pub fixed : new.keeps_properties ≡ old.keeps_properties
+  pub fixed : new.facts ≡ old.facts
   pub stops : StopsRemoval depth path old.contents new.contents records had has

@@ -1,6 +1,6 @@
 -- A work list, by which the members of directories are visited one after the other (RFC 4918, section 9.1): this project's own choice.
-use Rattle.std.specs.Prelude.{◌≡◌, ◌≢◌, ◌⊎◌, ◌+◌, ◌<◌, ℕ, List, [], ◌∷◌, ◌++◌, map, filter_map, reverse, Option, Some, None, Result, Ok, Err}
-use Rattle.std.specs.FinMap.{get, keys}
+use Rattle.std.specs.Prelude.{◌≡◌, ◌≢◌, ◌⊎◌, ◌+◌, ◌<◌, ℕ, Bool, List, [], ◌∷◌, ◌++◌, map, filter_map, reverse, Option, Some, None, Result, Ok, Err}
+use Rattle.std.specs.FinMap.{keys}
 use Rattle.dav_resource.specs.Key.{Key}
 use Rattle.dav_resource.specs.PathText.{PathValue}
 use Rattle.dav_resource.specs.declared.meta.DirEntry.{DirEntry}
@@ -19,13 +19,15 @@ use Rattle.dav_walks.specs.declared.listing.Resource.{Resource}
 abbrev pub Shown : Type 0
 Shown = Result DirEntry FsError
 
--- With these records the directory is listed: the listing has one item for each member, an entry or an error. Or the call is not granted, and the
--- listing is empty.
-pub data ListsAt (contents : Contents) (directory : Key) (records : List Logged) (listing : List Shown) : Type 0 where
-  listed : (children : List Child) → (read_dir_call contents directory).bar ≡ None → AreChildren contents directory children → listing ≡ map (λ c. c.1) children
-      → records ≡ record_of (read_dir_call contents directory) Granted ∷ filter_map (unseen_record directory) children → ListsAt contents directory records listing
+-- With these records the directory is listed: the listing has one item for each member, an entry or an error, and an entry only for a member that
+-- `shows` lets it show. Or the call is not granted, and the listing is empty.
+pub data ListsAt (shows : Key → Bool) (contents : Contents) (directory : Key) (records : List Logged) (listing : List Shown) : Type 0 where
+  listed : (children : List Child) → (read_dir_call contents directory).bar ≡ None → AreChildren shows contents directory children
+      → listing ≡ map (λ c. c.1) children
+      → records ≡ record_of (read_dir_call contents directory) Granted ∷ filter_map (unseen_record directory) children
+      → ListsAt shows contents directory records listing
   unlisted : (outcome : Outcome) → outcome ≢ Granted → IsLawful (read_dir_call contents directory).bar outcome → listing ≡ []
-      → records ≡ record_of (read_dir_call contents directory) outcome ∷ [] → ListsAt contents directory records listing
+      → records ≡ record_of (read_dir_call contents directory) outcome ∷ [] → ListsAt shows contents directory records listing
 
 -- the member at its path, none if the store does not list it
 abbrev pub resource_of : PathValue → Shown → Option Resource
@@ -43,10 +45,10 @@ in_turn waiting = reverse waiting
 -- the directory was listed, or the call was not granted, and nothing changed except the log
 pub record Listed (directory : PathValue) (old : Store) (listing : List Shown) (new : Store) : Type 0 where
   pub records : List Logged
-  pub lists : ListsAt old.contents directory.key records listing
+  pub lists : ListsAt old.facts.shows old.contents directory.key records listing
   pub told : new.log ≡ old.log ++ records
   pub same : new.contents ≡ old.contents
-  pub fixed : new.keeps_properties ≡ old.keeps_properties
+  pub fixed : new.facts ≡ old.facts
 
 -- the listed members come next, in the order of the listing, and then the resources that were pending before
 pub record AddsMembers (directory : PathValue) (old : Store) (before : List Resource) (new : Store) (after : List Resource) : Type 0 where

@@ -34,7 +34,7 @@ pub(crate) fn look<C, F: GuardedFileSystem<C>>(
     path: &DavPath,
 ) -> DavResult<Option<Meta>>
     ensures done { IfOk result (LooksAt path.now (F.seen fs.old) (F.seen fs.new) res.old res.new) }
-    ensures fixed { (F.seen fs.new).keeps_properties ≡ (F.seen fs.old).keeps_properties }
+    ensures fixed { (F.seen fs.new).facts ≡ (F.seen fs.old).facts }
     ensures err { IfErr result (λ e. e ≡ DavError.Memory) }
     ensures unnamed { OnErr result (res.new ≡ res.old) }
     ensures stopped { OnErr result (IsCut (metadata_call (F.seen fs.old).contents path.now.key) (F.seen fs.old) (F.seen fs.new)) }
@@ -59,7 +59,7 @@ pub(crate) fn copy_file<C, F: GuardedFileSystem<C>>(
     dest: &DavPath,
 ) -> DavResult<bool>
     ensures done { IfOk result (CopiesFile source.now dest.now (F.seen fs.old) (F.seen fs.new) res.old res.new) }
-    ensures fixed { (F.seen fs.new).keeps_properties ≡ (F.seen fs.old).keeps_properties }
+    ensures fixed { (F.seen fs.new).facts ≡ (F.seen fs.old).facts }
     ensures err { IfErr result (λ e. e ≡ DavError.Memory) }
     ensures unnamed { OnErr result (res.new ≡ res.old) }
     ensures stopped { OnErr result (IsCut (copy_call (F.seen fs.old).contents source.now.key dest.now.key) (F.seen fs.old) (F.seen fs.new)) }
@@ -83,7 +83,7 @@ fn make_directory<C, F: GuardedFileSystem<C>>(
     dest: &DavPath,
 ) -> DavResult<bool>
     ensures done { IfOk result (MakesPlace dest.now (F.seen fs.old) (F.seen fs.new) res.old res.new) }
-    ensures fixed { (F.seen fs.new).keeps_properties ≡ (F.seen fs.old).keeps_properties }
+    ensures fixed { (F.seen fs.new).facts ≡ (F.seen fs.old).facts }
     ensures err { IfErr result (λ e. e ≡ DavError.Memory) }
     ensures unnamed { OnErr result (res.new ≡ res.old) }
     ensures stopped { OnErr result (IsCut (create_dir_call (F.seen fs.old).contents dest.now.key) (F.seen fs.old) (F.seen fs.new)) }
@@ -108,7 +108,7 @@ fn open_directory<C, F: GuardedFileSystem<C>>(
     dest: DavPath,
 ) -> DavResult<Option<CopyFrame>>
     ensures done { IfOk result (ListsSource source dest (F.seen fs.old) (F.seen fs.new) res.old res.new) }
-    ensures fixed { (F.seen fs.new).keeps_properties ≡ (F.seen fs.old).keeps_properties }
+    ensures fixed { (F.seen fs.new).facts ≡ (F.seen fs.old).facts }
     ensures err { IfErr result (λ e. e ≡ DavError.Memory) }
     ensures unnamed { OnErr result (res.new ≡ res.old) }
     ensures stopped { OnErr result (IsCut (read_dir_call (F.seen fs.old).contents source.key) (F.seen fs.old) (F.seen fs.new)) }
@@ -139,7 +139,7 @@ pub(crate) fn enter_copy<C, F: GuardedFileSystem<C>>(
     dest: DavPath,
 ) -> DavResult<Option<CopyFrame>>
     ensures done { IfOk result (EntersCopy source dest (F.seen fs.old) (F.seen fs.new) res.old res.new) }
-    ensures fixed { (F.seen fs.new).keeps_properties ≡ (F.seen fs.old).keeps_properties }
+    ensures fixed { (F.seen fs.new).facts ≡ (F.seen fs.old).facts }
     ensures err { IfErr result (λ e. e ≡ DavError.Memory) }
     ensures unnamed { OnErr result (res.new ≡ res.old) }
     ensures stopped { OnErr result (IsCutCopy source dest (F.seen fs.old) (F.seen fs.new)) }
@@ -172,7 +172,7 @@ pub(crate) fn visit_member<C, F: GuardedFileSystem<C>>(
     requires more { frame.old.next < length frame.old.listing.items }
     requires names { (entry : DirEntry) → IsNextOf frame.old (Ok entry) → IsSegment entry.name }
     ensures done { IfOk result (VisitsMember frame.old topdest.now.key frame.new (F.seen fs.old) (F.seen fs.new) res.old res.new) }
-    ensures fixed { (F.seen fs.new).keeps_properties ≡ (F.seen fs.old).keeps_properties }
+    ensures fixed { (F.seen fs.new).facts ≡ (F.seen fs.old).facts }
     ensures err { IfErr result (λ e. e ≡ DavError.Memory) }
     ensures unnamed { OnErr result (res.new ≡ res.old) }
     ensures stopped { OnErr result (IsCutMember frame.old topdest.now.key (F.seen fs.old) (F.seen fs.new)) }

@@ -39,7 +39,7 @@ pub(crate) fn remove<C, F: GuardedFileSystem<C>>(
     path: &DavPath,
 ) -> DavResult<bool>
     ensures done { IfOk result (RemovesOne dir path.now (F.seen fs.old) (F.seen fs.new) res.old res.new) }
-    ensures fixed { (F.seen fs.new).keeps_properties ≡ (F.seen fs.old).keeps_properties }
+    ensures fixed { (F.seen fs.new).facts ≡ (F.seen fs.old).facts }
     ensures err { IfErr result (λ e. e ≡ DavError.Memory) }
     ensures unnamed { OnErr result (res.new ≡ res.old) }
     ensures stopped { OnErr result (IsCut (removal_by dir (F.seen fs.old).contents path.now.key) (F.seen fs.old) (F.seen fs.new)) }
@@ -69,7 +69,7 @@ pub(crate) fn enter<C, F: GuardedFileSystem<C>>(
     path: DavPath,
 ) -> DavResult<Entered>
     ensures done { IfOk result (Enters dir path (F.seen fs.old) (F.seen fs.new) res.old res.new) }
-    ensures fixed { (F.seen fs.new).keeps_properties ≡ (F.seen fs.old).keeps_properties }
+    ensures fixed { (F.seen fs.new).facts ≡ (F.seen fs.old).facts }
     ensures err { IfErr result (λ e. e ≡ DavError.Memory) }
     ensures unnamed { OnErr result (res.new ≡ res.old) }
     ensures stopped { OnErr result (IsCut (entering_call dir (F.seen fs.old).contents path.key) (F.seen fs.old) (F.seen fs.new)) }
@@ -104,7 +104,7 @@ pub(crate) fn visit<C, F: GuardedFileSystem<C>>(
     requires more { frame.old.next < length frame.old.listing.items }
     requires names { (entry : DirEntry) → IsNext frame.old (Ok entry) → IsSegment entry.name }
     ensures done { IfOk result (Visits frame.old frame.new (F.seen fs.old) (F.seen fs.new) res.old res.new) }
-    ensures fixed { (F.seen fs.new).keeps_properties ≡ (F.seen fs.old).keeps_properties }
+    ensures fixed { (F.seen fs.new).facts ≡ (F.seen fs.old).facts }
     ensures err { IfErr result (λ e. e ≡ DavError.Memory) }
     ensures unnamed { OnErr result (res.new ≡ res.old) }
     ensures stopped { OnErr result (IsCutNext frame.old (F.seen fs.old) (F.seen fs.new)) }
@@ -141,7 +141,7 @@ pub(crate) fn close<C, F: GuardedFileSystem<C>>(
     frame: &Frame,
 ) -> DavResult<bool>
     ensures done { IfOk result (Closes frame.now.clean frame.now.path (F.seen fs.old) (F.seen fs.new) res.old res.new) }
-    ensures fixed { (F.seen fs.new).keeps_properties ≡ (F.seen fs.old).keeps_properties }
+    ensures fixed { (F.seen fs.new).facts ≡ (F.seen fs.old).facts }
     ensures err { IfErr result (λ e. e ≡ DavError.Memory) }
     ensures unnamed { OnErr result (res.new ≡ res.old) }
     ensures clean { OnErr result (frame.now.clean ≡ true) }

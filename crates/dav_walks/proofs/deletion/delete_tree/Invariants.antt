@@ -7,7 +7,7 @@ invariant-walk g l =
     let seen = g.F.GuardedFileSystem.seen in
     record {
       going : Going l.path (seen l.fn.fs) (seen l.fs) l.fn.res l.res l.frame l.parents.items;
-      fixed : (seen l.fs).keeps_properties ≡ (seen l.fn.fs).keeps_properties;
+      fixed : (seen l.fs).facts ≡ (seen l.fn.fs).facts;
     }
 
 abbrev pub decreases-walk : goal.decreases-walk

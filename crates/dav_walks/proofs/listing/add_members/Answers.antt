@@ -1,6 +1,5 @@
-use Rattle.std.proofs.Common.{◌≡◌, ◌++◌, [], Ok, inl, inr, refl, sym, subst, ap, ◌∙◌, map}
-use Rattle.dav_store.specs.Store.{Store}
-use Rattle.dav_store.specs.Members.{Child, IsIn}
+use Rattle.std.proofs.Common.{◌++◌, [], Ok, inl, inr, refl, subst, ap, ◌∙◌}
+use Rattle.dav_store.specs.Members.{IsIn}
 use Rattle.dav_walks.specs.Listing.{Listed, shown_in, in_turn}
 use Rattle.dav_walks.proofs.Adding.{on_err, shown_segment, all_there, less_waits, none_waits, listing_shown, listing_declined}
 use Rattle.dav_walks.proofs.listing.add_members.Goals as goal

@@ -1,4 +1,4 @@
-use Rattle.std.proofs.Common.{◌≡◌, ◌++◌, ◌∷◌, [], ◌∙◌, ◌+◌, ◌<◌, ℕ, MatchOption, vec_len, List, Option, None, Some, IfSome, append-nil, refl, subst, sym, ap}
+use Rattle.std.proofs.Common.{◌≡◌, ◌++◌, ◌∙◌, ◌+◌, ◌<◌, ℕ, MatchOption, vec_len, List, Option, None, Some, IfSome, append-nil, refl, subst, ap}
 use Rattle.std.specs.Option.{option_to_list}
 use Rattle.std.specs.FinMap.{keys}
 use Rattle.dav_store.specs.Store.{Contents}
