@@ -82,7 +82,7 @@ module _ (view : View) (key : Key) (old : Store) where
   pub stored_lacked : (verdict : Result (Result (List Tree) ℕ) DavError) → IsErrAnd verdict (λ d. d ≡ Memory) → FindsStored view key old verdict old
   stored_lacked verdict is = record { kept = in_order old.contents key; are = in_some_order old.contents key; held = judges_memory _ _ _ is }
 
-  module _ (keeps : old.keeps_properties ≡ true) (sought : is_all_sought view ≡ true) (new : Store) where
+  module _ (keeps : old.facts.keeps_properties ≡ true) (sought : is_all_sought view ≡ true) (new : Store) where
     pub stored_granted : (props : Vec DavProp Global) → Grants (get_props_call old key) (ArePropertiesAt key props.items) old new → FindsStored view key old (Ok (Ok (told_elements props.items))) new
     stored_granted props granted = record {
       kept = told_elements props.items;

@@ -11,7 +11,7 @@ use Rattle.dav_resource.specs.declared.error.DavError.{DavError}
 use Rattle.dav_resource.specs.declared.error.DavError.TheVariants.{Memory}
 use Rattle.dav_resource.specs.declared.request.Depth.{Depth}
 use Rattle.dav_store.specs.Logged.{Logged}
-use Rattle.dav_store.specs.Store.{Store, Contents}
+use Rattle.dav_store.specs.Store.{Store, Facts}
 use Rattle.dav_parts.specs.Dialogue.{Dialogue, Refuses, EndsIn}
 use Rattle.dav_parts.specs.DavElement.{with_elements}
 use Rattle.dav_props.specs.Propstat.{Told, grouped, property_response}
@@ -117,12 +117,16 @@ module _ (view : View) (asked : List AskedProperty) where
     added = refl;
   }
 
-  lists_at : (old mid : Contents) (key : Key) (records : List Logged) (listing : List Shown) → mid ≡ old → ListsAt mid key records listing → ListsAt old key records listing
-  lists_at old mid key records listing same h = subst (λ contents. ListsAt contents key records listing) same h
+  lists_at : (old mid : Store) (key : Key) (records : List Logged) (listing : List Shown) → mid.facts ≡ old.facts → mid.contents ≡ old.contents
+      → ListsAt mid.facts.shows mid.contents key records listing → view.shows ≡ old.facts.shows → ListsAt view.shows old.contents key records listing
+  lists_at old mid key records listing fixed same h is =
+      subst (λ shows. ListsAt shows old.contents key records listing) (ap (λ (f : Facts). f.shows) fixed ∙ sym is)
+      (subst (λ contents. ListsAt mid.facts.shows contents key records listing) same h)
 
   pub visited_listed : (shown : Bool) (here : Resource) (quota : Option QuotaTold) (waits wait : List Resource) (before : Tree) (old mid new : Store) (after : PropWriter) (next : Option QuotaTold)
-      → IsShown view asked shown here quota before old after next mid → AddsMembers here.path mid waits new wait → IsVisited view asked shown true here quota waits before old after next wait new
-  visited_listed shown here quota waits wait before old mid new after next h adds = record {
+      → IsShown view asked shown here quota before old after next mid → AddsMembers here.path mid waits new wait → view.shows ≡ old.facts.shows
+      → IsVisited view asked shown true here quota waits before old after next wait new
+  visited_listed shown here quota waits wait before old mid new after next h adds is = record {
     visits = h.visits;
     members = shown_in here.path adds.listing;
     read = record {
@@ -135,7 +139,7 @@ module _ (view : View) (asked : List AskedProperty) where
         rest = adds.read.records;
         cut = refl;
         shows = h.read.over;
-        finds = (adds.listing, lists_at old.contents mid.contents here.path.key adds.read.records adds.listing h.read.same adds.read.lists, refl);
+        finds = (adds.listing, lists_at old mid here.path.key adds.read.records adds.listing h.read.fixed h.read.same adds.read.lists is, refl);
       };
     };
     tree = h.tree;
@@ -143,10 +147,11 @@ module _ (view : View) (asked : List AskedProperty) where
   }
 
   pub part_unlisted : (shown : Bool) (here : Resource) (quota : Option QuotaTold) (before : Tree) (old mid new : Store) (after : PropWriter) (next : Option QuotaTold)
-      → IsShown view asked shown here quota before old after next mid → StopsAdding here.path mid new → IsVisitedInPart view asked shown true here quota old new
-  part_unlisted shown here quota before old mid new after next h (inl same) =
+      → IsShown view asked shown here quota before old after next mid → StopsAdding here.path mid new → view.shows ≡ old.facts.shows
+      → IsVisitedInPart view asked shown true here quota old new
+  part_unlisted shown here quota before old mid new after next h (inl same) is =
       rw same (record { records = h.read.records; told = h.read.told; same = h.read.same; fixed = h.read.fixed; over = told h.visits next h.read.over })
-  part_unlisted shown here quota before old mid new after next h (inr (listing, read)) = record {
+  part_unlisted shown here quota before old mid new after next h (inr (listing, read)) is = record {
     records = h.read.records ++ read.records;
     told = rw (read.told, h.read.told, append_assoc);
     same = read.same ∙ h.read.same;
@@ -156,7 +161,7 @@ module _ (view : View) (asked : List AskedProperty) where
       rest = read.records;
       cut = refl;
       shows = h.read.over;
-      finds = (listing, lists_at old.contents mid.contents here.path.key read.records listing h.read.same read.lists, refl);
+      finds = (listing, lists_at old mid here.path.key read.records listing h.read.fixed h.read.same read.lists is, refl);
     });
   }
 

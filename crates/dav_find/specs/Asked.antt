@@ -1,6 +1,6 @@
 -- What a PROPFIND asks for (RFC 4918, sections 9.1, 14.2, 14.8, 14.18, 14.20 and 14.21). Which properties the server adds is this project's own
 -- choice. The elements `propname`, `prop`, `allprop` and `include` are recognized by their local names only, the root element also by its namespace.
-use Rattle.std.specs.Prelude.{ℕ, Bool, true, false, ◌&&◌, ◌||◌, nat_eq, if◌then◌else◌, List, [], ◌∷◌, ◌++◌, map, length, codes, bytes_eq, Option, Some, None, Result, Ok, Err}
+use Rattle.std.specs.Prelude.{ℕ, Bool, true, false, ◌&&◌, ◌||◌, if◌then◌else◌, List, [], ◌∷◌, ◌++◌, map, codes, bytes_eq, Option, Some, None, Result, Ok, Err}
 use Rattle.std.specs.List.{list_any, fold, find}
 use Rattle.std.specs.Option.{option_eq, option_map_or}
 use Rattle.dav_resource.specs.Tree.{Tree, elements_of, no_nodes}
@@ -8,7 +8,9 @@ use Rattle.dav_resource.specs.declared.error.DavError.{DavError}
 use Rattle.dav_resource.specs.declared.error.DavError.TheVariants.{XmlParseError}
 use Rattle.dav_resource.specs.declared.request.ReqBody.{ReqBody}
 use Rattle.dav_resource.specs.declared.request.ReqBody.TheVariants as bodies
+use Rattle.dav_store.specs.Store.{Bodies}
 use Rattle.dav_parts.specs.DavElement.{is_named}
+use Rattle.dav_parts.specs.RequestBody.{is_empty_body}
 use Rattle.dav_live.specs.Viewing.{names_microsoft}
 use Rattle.dav_find.specs.declared.search.FindKind.{FindKind}
 use Rattle.dav_find.specs.declared.search.FindKind.TheVariants.{AllProp, PropName, Prop}
@@ -130,9 +132,11 @@ is_propfind root = is_named (codes "propfind") root && is_of (codes "DAV:") root
 abbrev pub asking_in : Option (List ℕ) → Tree → Result Asking DavError
 asking_in user_agent root = if is_propfind root then asking_or_not user_agent root (find says_kind (elements_of root.children)) else Err XmlParseError
 
+-- what a body that is not empty asks for
+abbrev pub asking_by_body : ReqBody → Option (List ℕ) → Result Asking DavError
+asking_by_body (bodies.Tree root) user_agent = asking_in user_agent root
+asking_by_body _ user_agent = Err XmlParseError
+
 -- without a body, or with an empty one, all properties are requested
-abbrev pub asking_of : ReqBody → Option (List ℕ) → Result Asking DavError
-asking_of bodies.None user_agent = Ok (asking AllProp [] user_agent)
-asking_of (bodies.Bytes bytes) user_agent = if nat_eq (length bytes) 0 then Ok (asking AllProp [] user_agent) else Err XmlParseError
-asking_of (bodies.Tree root) user_agent = asking_in user_agent root
-asking_of bodies.Malformed user_agent = Err XmlParseError
+abbrev pub asking_of : Bodies → ReqBody → Option (List ℕ) → Result Asking DavError
+asking_of held body user_agent = if is_empty_body held body then Ok (asking AllProp [] user_agent) else asking_by_body body user_agent

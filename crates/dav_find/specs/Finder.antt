@@ -1,5 +1,5 @@
 -- The view of a `Finder`, and how it interprets a store's results: this project's own choice.
-use Rattle.std.specs.Prelude.{◌≡◌, ◌≢◌, ℕ, Bool, List, [], ◌∷◌, ◌++◌, Result, Ok, Err, IfOk, IfErr}
+use Rattle.std.specs.Prelude.{◌≡◌, ◌≢◌, ℕ, List, [], ◌∷◌, ◌++◌, Result, Ok, Err, IfOk, IfErr}
 use Rattle.std.specs.Option.{option_copied}
 use Rattle.dav_resource.specs.Errors.{fs_status}
 use Rattle.dav_resource.specs.declared.error.DavError.{DavError}
@@ -10,16 +10,18 @@ use Rattle.dav_resource.specs.declared.record.Outcome.{Outcome}
 use Rattle.dav_resource.specs.declared.record.Outcome.TheVariants.{Granted, Barred, Refused}
 use Rattle.dav_store.specs.Locks.{Locks}
 use Rattle.dav_store.specs.Logged.{Logged}
+use Rattle.dav_store.specs.Store.{Facts}
 use Rattle.dav_parts.specs.Conditions.{locks_in}
 use Rattle.dav_find.specs.Finding.{View}
 use Rattle.dav_find.specs.declared.finding.Finder.{Finder}
 
--- the view of a finder, over a store that supports dead properties or does not
-abbrev pub view_of : {C L : Type 0} → (L → Locks) → Finder C L → Bool → View
-view_of seen finder keeps =
+-- the view of a finder, over a store of these facts
+abbrev pub view_of : {C L : Type 0} → (L → Locks) → Finder C L → Facts → View
+view_of seen finder facts =
     record {
       kind = finder.search.now.kind;
-      keeps = keeps;
+      keeps = facts.keeps_properties;
+      shows = facts.shows;
       locks = locks_in seen (option_copied finder.ls);
       principal = option_copied finder.principal;
       user_agent = option_copied finder.user_agent;

@@ -7,10 +7,11 @@ use Rattle.dav_resource.specs.Errors.{fs_status}
 use Rattle.dav_resource.specs.Key.{Key}
 use Rattle.dav_resource.specs.Tree.{Tree}
 use Rattle.dav_resource.specs.declared.error.DavError.{DavError}
+use Rattle.dav_resource.specs.declared.record.Op.TheVariants.{GetProps}
 use Rattle.dav_resource.specs.declared.record.Outcome.{Outcome}
 use Rattle.dav_resource.specs.declared.record.Outcome.TheVariants.{Granted, Barred, Refused}
 use Rattle.dav_store.specs.Calls.{Call}
-use Rattle.dav_store.specs.PropertyCalls.{get_prop_call, get_props_call, get_quota_call, properties_at}
+use Rattle.dav_store.specs.PropertyCalls.{get_prop_call, get_quota_call, properties_at, properties_bar}
 use Rattle.dav_store.specs.Store.{Contents, Quota, property_key}
 use Rattle.dav_store.specs.declared.lock.DavLock.{DavLock}
 use Rattle.dav_parts.specs.Dialogue.{Dialogue, Asks, Passed, ◌>>=◌}
@@ -25,10 +26,12 @@ use Rattle.dav_find.specs.declared.search.AskedProperty.{AskedProperty}
 use Rattle.dav_find.specs.declared.finding.Found.{Found}
 use Rattle.dav_find.specs.Asked.{names_only, named_only}
 
--- the kind of search, whether the store supports dead properties, the locks if there is a lock system, and the principal and client of the request
+-- the kind of search, whether the store supports dead properties, which members a listing may show, the locks if there is a lock system, and the
+-- principal and client of the request
 pub record View : Type 0 where
   pub kind : FindKind
   pub keeps : Bool
+  pub shows : Key → Bool
   pub locks : Option (List DavLock)
   pub principal : Option (List ℕ)
   pub user_agent : Option (List ℕ)
@@ -137,7 +140,7 @@ AreKept contents key kept = IsPermutation (map (λ e. e.1) (entries (properties_
 
 -- the `get_props` call, of a store that supports dead properties
 abbrev pub props_call : Contents → Key → Call
-props_call contents key = get_props_call (record { contents = contents; keeps_properties = true; log = [] }) key
+props_call contents key = record { op = GetProps; keys = key ∷ []; bar = properties_bar true (get contents.tree key) }
 
 -- the store is asked for all properties that it keeps, unless the request names the properties (`prop`)
 abbrev pub is_all_sought : View → Bool

@@ -185,14 +185,15 @@ members_are contents directory ((n, Ok entry) ∷ children) named =
 members_are contents directory ((n, Err e) ∷ children) named = members_are contents directory children (λ c j. named c (inr j))
 
 -- each of them exists with its metadata
-shown_there : (contents : Contents) (directory : PathValue) (children : List Child) → ((c : Child) → IsIn c children → IsShownAs contents directory.key c)
+shown_there : (shows : Key → Bool) (contents : Contents) (directory : PathValue) (children : List Child)
+    → ((c : Child) → IsIn c children → IsShownAs shows contents directory.key c)
     → (r : Resource) → IsIn r (shown_in directory (map (λ (c : Child). c.1) children)) → contents.metas r.path.key ≡ Some r.meta
-shown_there contents directory [] shown r i = absurd i
-shown_there contents directory ((n, Ok entry) ∷ children) shown r (inl e) =
+shown_there shows contents directory [] shown r i = absurd i
+shown_there shows contents directory ((n, Ok entry) ∷ children) shown r (inl e) =
     let so = shown (n, Ok entry) (inl refl) in
     subst (λ (v : Resource). contents.metas v.path.key ≡ Some v.meta) e (ap (λ name. contents.metas (member directory.key name)) so.0 ∙ so.1)
-shown_there contents directory ((n, Ok entry) ∷ children) shown r (inr i) = shown_there contents directory children (λ c j. shown c (inr j)) r i
-shown_there contents directory ((n, Err e) ∷ children) shown r i = shown_there contents directory children (λ c j. shown c (inr j)) r i
+shown_there shows contents directory ((n, Ok entry) ∷ children) shown r (inr i) = shown_there shows contents directory children (λ c j. shown c (inr j)) r i
+shown_there shows contents directory ((n, Err e) ∷ children) shown r i = shown_there shows contents directory children (λ c j. shown c (inr j)) r i
 
 -- ---- a step
 
@@ -221,8 +222,10 @@ abbrev op_of : Logged → Op
 op_of r = r.op
 
 module _ (contents : Contents) where
-  lists_step : (directory : PathValue) (records : List Logged) (listing : List Shown) → ListsAt contents directory.key records listing → FindsStep contents directory.key true records (shown_in directory listing)
-  lists_step directory records listing (listed children bar are is called) = record {
+  lists_step : (shows : Key → Bool) (directory : PathValue) (records : List Logged) (listing : List Shown)
+      → ListsAt shows contents directory.key records listing
+      → FindsStep contents directory.key true records (shown_in directory listing)
+  lists_step shows directory records listing (listed children bar are is called) = record {
     names = shown_names children;
     step = record {
       once = shown_once children names_once;
@@ -272,8 +275,8 @@ module _ (contents : Contents) where
           }))
 
       there_is : (r : Resource) → IsIn r (shown_in directory (map (λ (c : Child). c.1) children)) → contents.metas r.path.key ≡ Some r.meta
-      there_is r i = shown_there contents directory children are.shown r i
-  lists_step directory records listing (unlisted outcome other lawful is called) = record {
+      there_is r i = shown_there shows contents directory children are.shown r i
+  lists_step shows directory records listing (unlisted outcome other lawful is called) = record {
     names = [];
     step = record {
       once = tt;
@@ -330,7 +333,7 @@ module _ (contents : Contents) where
   }
 
   finds_step : (view : View) (asked : List AskedProperty) (entered : Bool) (here : Resource) (records : List Logged) (members_found : List Resource) → FindsMembers view contents asked entered here records members_found → FindsStep contents here.path.key entered records members_found
-  finds_step view asked true here records members_found (listing, lists, is) = rw is (lists_step here.path records listing lists)
+  finds_step view asked true here records members_found (listing, lists, is) = rw is (lists_step view.shows here.path records listing lists)
   finds_step view asked false here records members_found (none, is) = rw (none, is) (record { names = []; step = unlisted_step here.path.key; found = refl; there = λ r i. absurd i })
 
   pub visit_step : (view : View) (asked : List AskedProperty) (shown entered : Bool) (here : Resource) (quota : Option QuotaTold) (records : List Logged) (visits : List Visit) (next : Option QuotaTold) (members_found : List Resource)

@@ -50,9 +50,10 @@ module _ (view : View) (contents : Contents) (asked : List AskedProperty) where
       (told : List Told) × Responds view contents asked here quota records (Some (told, next)) × (visits ≡ record { path = here.path; told = told } ∷ [])
   Shows false here quota records visits next = (records ≡ []) × (visits ≡ []) × (next ≡ quota)
 
-  -- its members are found, if they are to be listed
+  -- its members are found, if they are to be listed: those that the listing shows, and each of them may be shown
   abbrev pub FindsMembers : Bool → Resource → List Logged → List Resource → Type 0
-  FindsMembers true here records members = (listing : List Shown) × ListsAt contents here.path.key records listing × (members ≡ shown_in here.path listing)
+  FindsMembers true here records members =
+      (listing : List Shown) × ListsAt view.shows contents here.path.key records listing × (members ≡ shown_in here.path listing)
   FindsMembers false here records members = (records ≡ []) × (members ≡ [])
 
   -- the resource is reported, then its members are found

@@ -28,7 +28,7 @@ pub record IsRead (Over : List Logged → Type 0) (old new : Store) : Type 0 whe
   pub records : List Logged
   pub told : new.log ≡ old.log ++ records
   pub same : new.contents ≡ old.contents
-  pub fixed : new.keeps_properties ≡ old.keeps_properties
+  pub fixed : new.facts ≡ old.facts
   pub over : Over records
 
 module _ (view : View) (asked : List AskedProperty) where
@@ -74,14 +74,14 @@ module _ (view : View) (asked : List AskedProperty) where
 module _ {C L : Type 0} (seen : L → Locks) (finder : Finder C L) where
   abbrev pub ShowsBy : Bool → Resource → Option QuotaTold → Tree → Store → PropWriter × Option QuotaTold → Store → Type 0
   ShowsBy shown here quota before old told new =
-      IsShown (view_of seen finder old.keeps_properties) finder.search.now.asked.items shown here quota before old told.0 told.1 new
+      IsShown (view_of seen finder old.facts) finder.search.now.asked.items shown here quota before old told.0 told.1 new
 
   abbrev pub VisitsBy : Bool → Bool → Resource → Option QuotaTold → List Resource → Tree → Store → PropWriter × Option QuotaTold → List Resource → Store → Type 0
   VisitsBy shown listed here quota waits before old told wait new =
-      IsVisited (view_of seen finder old.keeps_properties) finder.search.now.asked.items shown listed here quota waits before old told.0 told.1 wait new
+      IsVisited (view_of seen finder old.facts) finder.search.now.asked.items shown listed here quota waits before old told.0 told.1 wait new
 
   abbrev pub StopsBy : Bool → Bool → Resource → Option QuotaTold → Store → Store → Type 0
-  StopsBy shown listed here quota old new = IsVisitedInPart (view_of seen finder old.keeps_properties) finder.search.now.asked.items shown listed here quota old new
+  StopsBy shown listed here quota old new = IsVisitedInPart (view_of seen finder old.facts) finder.search.now.asked.items shown listed here quota old new
 
 -- if the resource exists, fewer keys are pending afterwards than before it was taken
 abbrev pub TakesAway : Contents → Resource → List Resource → List Resource → Type 0

@@ -1,7 +1,8 @@
 //! Finding the requested properties of a resource.
-ghost use Rattle.std.specs.Prelude.{◌≡◌, ◌++◌, Bool, filter_map, IfOk, IfErr};
+ghost use Rattle.std.specs.Prelude.{◌≡◌, ◌++◌, filter_map, IfOk, IfErr};
 ghost use Rattle.std.specs.Option.{option_to_list};
 ghost use Rattle.dav_resource.specs.declared.error.DavError.TheVariants.{Memory};
+ghost use Rattle.dav_store.specs.Store.{Facts};
 ghost use Rattle.dav_parts.specs.Dialogue.{Judges};
 ghost use Rattle.dav_find.specs.Finder.{view_of};
 ghost use Rattle.dav_find.specs.Finding.{find_one as rules_of_one, find_quota as rules_of_quota, find_kept as rules_of_kept, ask_quota as rules_of_asking, live_told as told_of_live, is_looked_up as is_looked_up_in, is_all_sought as is_all_sought_in, quota_in as quota_in_told, quota_status as status_of_quota};
@@ -62,7 +63,7 @@ impl<'r, C, L: DavLockSystem> Finder<'r, C, L> {
         element: &Element,
         quota: Option<QuotaTold>,
     ) -> DavResult<(Result<Element, StatusCode>, Option<QuotaTold>)>
-        ensures rules { Judges (rules_of_one (view_of L.seen self.now (F.seen fs.old).keeps_properties) (F.seen fs.old).contents here.now element.now quota) (F.seen fs.old) result (F.seen fs.new) }
+        ensures rules { Judges (rules_of_one (view_of L.seen self.now (F.seen fs.old).facts) (F.seen fs.old).contents here.now element.now quota) (F.seen fs.old) result (F.seen fs.new) }
         ensures err { IfErr result (λ e. e ≡ Memory) }
     {
         match LiveProperty::of_element(element) {
@@ -83,7 +84,7 @@ impl<'r, C, L: DavLockSystem> Finder<'r, C, L> {
         property: LiveProperty,
         quota: Option<QuotaTold>,
     ) -> DavResult<(Result<Element, StatusCode>, Option<QuotaTold>)>
-        ensures rules { Judges (rules_of_quota (view_of L.seen self.now (F.seen fs.old).keeps_properties) (F.seen fs.old).contents here.now element.now property quota) (F.seen fs.old) result (F.seen fs.new) }
+        ensures rules { Judges (rules_of_quota (view_of L.seen self.now (F.seen fs.old).facts) (F.seen fs.old).contents here.now element.now property quota) (F.seen fs.old) result (F.seen fs.new) }
         ensures err { IfErr result (λ e. e ≡ Memory) }
     {
         let quota = Some(self.ask_quota(fs, quota)?);
@@ -118,7 +119,7 @@ impl<'r, C, L: DavLockSystem> Finder<'r, C, L> {
         property: LiveProperty,
         quota: &Option<QuotaTold>,
     ) -> DavResult<Result<Element, StatusCode>>
-        ensures ok { (keeps : Bool) → IfOk result (λ told. told ≡ told_of_live (view_of L.seen self.now keeps) here.now element.now property quota.now) }
+        ensures ok { (facts : Facts) → IfOk result (λ told. told ≡ told_of_live (view_of L.seen self.now facts) here.now element.now property quota.now) }
         ensures err { IfErr result (λ e. e ≡ Memory) }
     {
         let viewer = Viewer {
@@ -143,7 +144,7 @@ impl<'r, C, L: DavLockSystem> Finder<'r, C, L> {
         here: &Resource,
         element: &Element,
     ) -> DavResult<Result<Element, StatusCode>>
-        ensures rules { Judges (rules_of_kept (view_of L.seen self.now (F.seen fs.old).keeps_properties) (F.seen fs.old).contents here.now element.now) (F.seen fs.old) result (F.seen fs.new) }
+        ensures rules { Judges (rules_of_kept (view_of L.seen self.now (F.seen fs.old).facts) (F.seen fs.old).contents here.now element.now) (F.seen fs.old) result (F.seen fs.new) }
         ensures err { IfErr result (λ e. e ≡ Memory) }
     {
         if !self.is_looked_up(fs.have_props(), element) {
@@ -162,7 +163,7 @@ impl<'r, C, L: DavLockSystem> Finder<'r, C, L> {
         here: &Resource,
         mut quota: Option<QuotaTold>,
     ) -> DavResult<(Items<Found<'r>>, Option<QuotaTold>)>
-        ensures rules { FindsEach (view_of L.seen self.now (F.seen fs.old).keeps_properties) here.now self.now.search.now.asked.items quota (F.seen fs.old) result (F.seen fs.new) }
+        ensures rules { FindsEach (view_of L.seen self.now (F.seen fs.old).facts) here.now self.now.search.now.asked.items quota (F.seen fs.old) result (F.seen fs.new) }
         ensures err { IfErr result (λ e. e ≡ Memory) }
     {
         let mut found = Vec::new(self.alloc);
@@ -184,7 +185,7 @@ impl<'r, C, L: DavLockSystem> Finder<'r, C, L> {
         fs: &mut F,
         path: &DavPath,
     ) -> DavResult<Result<Items<SharedElement>, StatusCode>>
-        ensures stored { FindsStored (view_of L.seen self.now (F.seen fs.old).keeps_properties) path.now.key (F.seen fs.old) result (F.seen fs.new) }
+        ensures stored { FindsStored (view_of L.seen self.now (F.seen fs.old).facts) path.now.key (F.seen fs.old) result (F.seen fs.new) }
         ensures err { IfErr result (λ e. e ≡ Memory) }
     {
         if !self.is_all_sought(fs.have_props()) {
@@ -200,7 +201,7 @@ impl<'r, C, L: DavLockSystem> Finder<'r, C, L> {
     /// Returns whether the store is asked for all properties it keeps. `keeps` says whether it supports dead
     /// properties.
     fn is_all_sought(&self, keeps: bool) -> bool
-        ensures { result ≡ is_all_sought_in (view_of L.seen self.now keeps) }
+        ensures { (facts : Facts) → facts.keeps_properties ≡ keeps → result ≡ is_all_sought_in (view_of L.seen self.now facts) }
     {
         keeps && !self.search.kind.named_only()
     }
@@ -208,7 +209,7 @@ impl<'r, C, L: DavLockSystem> Finder<'r, C, L> {
     /// Returns whether the store is asked for this property by its name: for `prop`, if the store can keep
     /// it. `keeps` says whether the store supports dead properties.
     fn is_looked_up(&self, keeps: bool, element: &Element) -> bool
-        ensures { result ≡ is_looked_up_in (view_of L.seen self.now keeps) element.now }
+        ensures { (facts : Facts) → facts.keeps_properties ≡ keeps → result ≡ is_looked_up_in (view_of L.seen self.now facts) element.now }
     {
         keeps && self.search.kind.named_only() && is_kept(element)
     }

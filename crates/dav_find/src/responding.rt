@@ -19,7 +19,7 @@ impl<'r, C, L: DavLockSystem> Finder<'r, C, L> {
         here: &Resource,
         quota: Option<QuotaTold>,
     ) -> DavResult<(Items<Told>, Option<QuotaTold>)>
-        ensures response { IsResponse (view_of L.seen self.now (F.seen fs.old).keeps_properties) self.now.search.now.asked.items here.now quota (F.seen fs.old) result (F.seen fs.new) }
+        ensures response { IsResponse (view_of L.seen self.now (F.seen fs.old).facts) self.now.search.now.asked.items here.now quota (F.seen fs.old) result (F.seen fs.new) }
         ensures err { IfErr result (λ e. e ≡ Memory) }
     {
         let (found, quota) = self.find_each(fs, here, quota)?;

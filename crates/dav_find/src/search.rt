@@ -10,8 +10,9 @@ ghost use Rattle.dav_find.specs.Searching.{asking_for};
 
 use crate::asked_list::AskedList;
 use crate::listed::server_properties;
-use dav_parts::is_named;
+use dav_parts::{is_empty_body, is_named};
 use dav_resource::{DavError, DavResult, Element, ReqBody};
+use dav_store::GuardedFileSystem;
 use std::alloc::{AllocError, Global};
 
 /// The kind of a PROPFIND (RFC 4918, section 14.20).
@@ -86,21 +87,23 @@ pub struct Search {
 ///
 /// Without a body, or with an empty one, it asks for all properties. Otherwise the first `propname`, `prop`
 /// or `allprop` in the root element decides, and with `allprop` the first `include` names further properties.
-/// These elements are recognized by their local names only. `user_agent` is the client, if known.
+/// These elements are recognized by their local names only. A body that the store holds counts as bytes.
+/// `user_agent` is the client, if known.
 ///
 /// Errors: `XmlParseError` if the body is not a `propfind` element of `DAV:`, or has none of the three
 /// elements. Otherwise only `Memory`.
-pub fn read_search(alloc: Global, body: &ReqBody, user_agent: Option<&str>) -> DavResult<Search>
-    ensures { GivesBy asking_for result (asking_of body.now (option_copied user_agent.entry)) }
+pub fn read_search<C, F: GuardedFileSystem<C>>(
+    fs: &F,
+    alloc: Global,
+    body: &ReqBody,
+    user_agent: Option<&str>,
+) -> DavResult<Search>
+    ensures { GivesBy asking_for result (asking_of (F.seen fs.now).facts.bodies body.now (option_copied user_agent.entry)) }
 {
+    if is_empty_body::<C, F>(fs, body) {
+        return Ok(search_for(alloc, FindKind::AllProp, None, user_agent)?);
+    }
     match body {
-        ReqBody::None => Ok(search_for(alloc, FindKind::AllProp, None, user_agent)?),
-        ReqBody::Bytes(bytes) if bytes.as_slice().is_empty() => Ok(search_for(
-            alloc,
-            FindKind::AllProp,
-            None,
-            user_agent,
-        )?),
         ReqBody::Tree(root) if is_propfind(root) => read_propfind(alloc, root, user_agent),
         _ => Err(DavError::XmlParseError),
     }

@@ -34,7 +34,7 @@ impl<'r, C, L: DavLockSystem> Finder<'r, C, L> {
         writer: PropWriter,
     ) -> DavResult<PropWriter>
         requires there { (F.seen fs.old).contents.metas target.now.path.key ≡ Some target.now.meta }
-        ensures { WritesFrom (view_of L.seen self.now (F.seen fs.old).keeps_properties) self.now.search.now.asked.items target.now depth writer.tree (F.seen fs.old) result (F.seen fs.new) }
+        ensures { WritesFrom (view_of L.seen self.now (F.seen fs.old).facts) self.now.search.now.asked.items target.now depth writer.tree (F.seen fs.old) result (F.seen fs.new) }
     {
         let shown = is_shown(depth);
         let listed = is_entered(is_listed(depth), target);
@@ -54,7 +54,7 @@ impl<'r, C, L: DavLockSystem> Finder<'r, C, L> {
         mut writer: PropWriter,
     ) -> DavResult<PropWriter>
         requires there { AreThere (F.seen fs.old).contents waiting.items }
-        ensures { WritesAll (view_of L.seen self.now (F.seen fs.old).keeps_properties) self.now.search.now.asked.items deep (in_turn waiting.items) quota writer.tree (F.seen fs.old) result (F.seen fs.new) }
+        ensures { WritesAll (view_of L.seen self.now (F.seen fs.old).facts) self.now.search.now.asked.items deep (in_turn waiting.items) quota writer.tree (F.seen fs.old) result (F.seen fs.new) }
     {
         'walk: loop {
             let Some(here) = take_next(&mut waiting) else {

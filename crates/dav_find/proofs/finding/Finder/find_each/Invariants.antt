@@ -11,8 +11,8 @@ use Rattle.dav_find.proofs.finding.Finder.find_each.Given as goal
 abbrev pub invariant-loop-asked : goal.invariant-loop-asked
 invariant-loop-asked g l = record {
   same : (g.F.GuardedFileSystem.seen l.fs).contents ≡ (g.F.GuardedFileSystem.seen l.initial.fs).contents;
-  fixed : (g.F.GuardedFileSystem.seen l.fs).keeps_properties ≡ (g.F.GuardedFileSystem.seen l.initial.fs).keeps_properties;
+  fixed : (g.F.GuardedFileSystem.seen l.fs).facts ≡ (g.F.GuardedFileSystem.seen l.initial.fs).facts;
   held : (verdict : Result Sought DavError) (new : Store)
-      → Judges (left_of (view_of g.L.DavLockSystem.seen l.self (g.F.GuardedFileSystem.seen l.initial.fs).keeps_properties) (g.F.GuardedFileSystem.seen l.initial.fs).contents l.here (map finding_of l.found.items) (drop l.asked-index l.self.search.now.asked.items) l.quota) (g.F.GuardedFileSystem.seen l.fs) verdict new
-      → Judges (find_each (view_of g.L.DavLockSystem.seen l.self (g.F.GuardedFileSystem.seen l.initial.fs).keeps_properties) (g.F.GuardedFileSystem.seen l.initial.fs).contents l.here l.self.search.now.asked.items l.initial.quota) (g.F.GuardedFileSystem.seen l.initial.fs) verdict new;
+      → Judges (left_of (view_of g.L.DavLockSystem.seen l.self (g.F.GuardedFileSystem.seen l.initial.fs).facts) (g.F.GuardedFileSystem.seen l.initial.fs).contents l.here (map finding_of l.found.items) (drop l.asked-index l.self.search.now.asked.items) l.quota) (g.F.GuardedFileSystem.seen l.fs) verdict new
+      → Judges (find_each (view_of g.L.DavLockSystem.seen l.self (g.F.GuardedFileSystem.seen l.initial.fs).facts) (g.F.GuardedFileSystem.seen l.initial.fs).contents l.here l.self.search.now.asked.items l.initial.quota) (g.F.GuardedFileSystem.seen l.initial.fs) verdict new;
 }

@@ -14,5 +14,5 @@ returns-in_ok-find_kept-in-None-clause-rules g c =
 
 pub returns-in_ok-live_told-in-Some-2-clause-rules : goal.returns-in_ok-live_told-in-Some-2-clause-rules
 returns-in_ok-live_told-in-Some-2-clause-rules g c =
-    judges_live (view_of g.L.DavLockSystem.seen c.args.self.now (g.F.GuardedFileSystem.seen c.args.fs.now).keeps_properties) (g.F.GuardedFileSystem.seen c.args.fs.now).contents c.args.here.now c.args.element.now c.args.quota c.in-Some.property _ _
-    (sym c.of_element.ensures ∙ c.in-Some.is) (sym c.is_quota.ensures ∙ c.if-is_quota.false) (c.in_ok-live_told-in-Some-2.ensures.ok (g.F.GuardedFileSystem.seen c.args.fs.now).keeps_properties)
+    judges_live (view_of g.L.DavLockSystem.seen c.args.self.now (g.F.GuardedFileSystem.seen c.args.fs.now).facts) (g.F.GuardedFileSystem.seen c.args.fs.now).contents c.args.here.now c.args.element.now c.args.quota c.in-Some.property _ _
+    (sym c.of_element.ensures ∙ c.in-Some.is) (sym c.is_quota.ensures ∙ c.if-is_quota.false) (c.in_ok-live_told-in-Some-2.ensures.ok (g.F.GuardedFileSystem.seen c.args.fs.now).facts)

@@ -13,4 +13,4 @@ returns-in_err-told-clause-rules g c =
 pub returns-clause-rules : goal.returns-clause-rules
 returns-clause-rules g c =
     judges_then _ _ _ _ _ _ _ c.in_ok-ask_quota.ensures.rules
-    (judges_pure _ _ _ (ap (λ told. Passed (told, Some c.in_ok-ask_quota.field-0)) (c.in_ok-told.ensures.ok (g.F.GuardedFileSystem.seen c.args.fs.now).keeps_properties)))
+    (judges_pure _ _ _ (ap (λ told. Passed (told, Some c.in_ok-ask_quota.field-0)) (c.in_ok-told.ensures.ok (g.F.GuardedFileSystem.seen c.args.fs.now).facts)))
