@@ -1,5 +1,5 @@
 -- Where a PUT or a PATCH writes, and the rules of both.
-use Rattle.std.proofs.Common.{◌≡◌, ◌<◌, ◌+◌, ◌^◌, ℕ, Bool, true, false, ◌&&◌, if◌then◌else◌, nat_eq, nat_lt, nat_le, ◌-◌, ◌∙◌, length, Option, Some, None, is_some, unwrap_or, IfOk, Result, Ok, Err, refl, sym, ap, subst}
+use Rattle.std.proofs.Common.{◌≡◌, ◌<◌, ◌+◌, ◌^◌, ℕ, Bool, true, false, ◌&&◌, if◌then◌else◌, nat_eq, nat_lt, nat_le, ◌-◌, ◌∙◌, arith, length, Option, Some, None, is_some, unwrap_or, IfOk, Result, Ok, Err, refl, sym, ap, subst}
 use Rattle.std.specs.Option.{option_map_or}
 use Rattle.std.specs.Result.{IsErrAnd, result_ok}
 use Rattle.std.proofs.lemmas.Bool.{ltb-true, eqb-true}
@@ -18,14 +18,15 @@ use Rattle.dav_headers.specs.Range.{update_range_of, content_range_of}
 use Rattle.dav_headers.specs.declared.range.UpdateRange.{UpdateRange}
 use Rattle.dav_headers.specs.declared.range.UpdateRange.TheVariants.{FromTo, AllFrom, Last, Append}
 use Rattle.dav_headers.specs.declared.range.ContentRange.{ContentRange}
-use Rattle.dav_store.specs.Store.{Store}
+use Rattle.dav_store.specs.Store.{Store, Bodies, Facts}
 use Rattle.dav_parts.specs.Dialogue.{Judges, refusing, told_by, ◌>>=◌}
 use Rattle.dav_parts.specs.Dialogues.{judges_exit, judges_then}
 use Rattle.dav_engine.proofs.Deleting.{judges_known}
 use Rattle.dav_engine.specs.State.{State}
 use Rattle.dav_engine.specs.Rules.{look_closely, path_rules, judged, closing}
 use Rattle.dav_engine.specs.Target.{stated_length, spans, from_to, last_bytes, named_part, update_target, is_update, whole, in_range, within_reach, and_then, first_target, target_of}
-use Rattle.dav_engine.specs.Put.{body_bytes, new_bytes, has_length, body_verdict, as_looked, put_rules}
+use Rattle.dav_parts.specs.RequestBody.{body_bytes}
+use Rattle.dav_engine.specs.Put.{new_bytes, has_length, body_verdict, as_looked, put_rules}
 use Rattle.dav_engine.specs.declared.target.Target.{Target}
 
 -- ---- what is known of a target
@@ -80,18 +81,27 @@ in_range_measured target (Ok None) t measured is = let same : target ≡ t = cc 
 in_range_measured target (Ok (Some range)) t measured is = from_to_measured target range.first range.last t is
 
 -- a body of the stated length ends within reach, where a part is written
-pub reaches_end : (partial : Bool) (headers : Entries FieldValue) (found : Result Meta FsError) (t : Target) (body : ReqBody) → target_of partial headers found ≡ Ok t → has_length t body ≡ true
-    → t.part ≡ true → t.start + length (new_bytes body) < 2 ^ 64
-reaches_end partial headers found t body aimed fits part =
+part_reaches : (held : Bodies) (partial : Bool) (headers : Entries FieldValue) (found : Result Meta FsError) (t : Target) (body : ReqBody) → target_of partial headers found ≡ Ok t → has_length held t body ≡ true
+    → t.part ≡ true → t.start + length (new_bytes held body) < 2 ^ 64
+part_reaches held partial headers found t body aimed fits part =
     let first = then_ok (first_target partial headers found) _ t aimed in
     let ranged = then_ok (in_range first.0 (content_range_of headers)) within_reach t first.2 in
     let within = passed_if (nat_lt (ranged.0.start + unwrap_or ranged.0.length 0) (2 ^ 64)) ranged.0 t (StatusClose 416) ranged.2 in
     let measured = subst IsMeasured within.1 (in_range_measured first.0 (content_range_of headers) ranged.0 (first_measured partial headers found first.0 first.1) ranged.1) part in
     let reach : nat_lt (t.start + unwrap_or t.length 0) (2 ^ 64) ≡ true = subst (λ (x : Target). nat_lt (x.start + unwrap_or x.length 0) (2 ^ 64) ≡ true) within.1 within.0 in
     let reach_of : nat_lt (t.start + measured.0) (2 ^ 64) ≡ true = subst (λ stated. nat_lt (t.start + unwrap_or stated 0) (2 ^ 64) ≡ true) measured.1 reach in
-    let long : nat_eq (length (new_bytes body)) measured.0 ≡ true = subst (λ stated. option_map_or (nat_eq (length (new_bytes body))) stated true ≡ true) measured.1 fits in
-    let same : length (new_bytes body) ≡ measured.0 = eqb-true _ _ long in
+    let long : nat_eq (length (new_bytes held body)) measured.0 ≡ true = subst (λ stated. option_map_or (nat_eq (length (new_bytes held body))) stated true ≡ true) measured.1 fits in
+    let same : length (new_bytes held body) ≡ measured.0 = eqb-true _ _ long in
     subst (λ n. t.start + n < 2 ^ 64) (sym same) (ltb-true (t.start + measured.0) (2 ^ 64) reach_of)
+
+-- and so does one whose length fits, where the whole file is written
+pub reaches_end : (held : Bodies) (partial : Bool) (headers : Entries FieldValue) (found : Result Meta FsError) (t : Target) (body : ReqBody) → target_of partial headers found ≡ Ok t → has_length held t body ≡ true
+    → length (new_bytes held body) < 2 ^ 64 → (if t.part then t.start else 0) + length (new_bytes held body) < 2 ^ 64
+reaches_end held partial headers found t body aimed fits short = by_part t.part (part_reaches held partial headers found t body aimed fits)
+  where
+    by_part : (part : Bool) → (part ≡ true → t.start + length (new_bytes held body) < 2 ^ 64) → (if part then t.start else 0) + length (new_bytes held body) < 2 ^ 64
+    by_part true reaches = reaches refl
+    by_part false reaches = omega (arith, short)
 
 -- ---- a look that was passed over
 
@@ -126,42 +136,46 @@ aims_as_looked partial headers (Err e) t is =
 -- ---- the body
 
 -- a body that passes has the stated length, and what was found passes
-pub body_passed : (target : Target) (body : ReqBody) (found passed : Option Meta) → body_verdict target body found ≡ Ok passed → (has_length target body ≡ true) × (found ≡ passed)
-body_passed target body found passed is =
-    let p = passed_if (is_some (body_bytes body) && has_length target body) found passed (StatusClose 400) is in
-    (both (is_some (body_bytes body)) (has_length target body) p.0, p.1)
+pub body_passed : (held : Bodies) (target : Target) (body : ReqBody) (found passed : Option Meta) → body_verdict held target body found ≡ Ok passed → (has_length held target body ≡ true) × (found ≡ passed)
+body_passed held target body found passed is =
+    let p = passed_if (is_some (body_bytes held body) && has_length held target body) found passed (StatusClose 400) is in
+    (both (is_some (body_bytes held body)) (has_length held target body) p.0, p.1)
   where
     both : (a b : Bool) → (a && b) ≡ true → b ≡ true
     both true b h = h
     both false b h = absurd cc
 
+-- the verdict is the same while the facts of the store are
+pub same_verdict : (target : Target) (body : ReqBody) (found : Option Meta) (old now : Facts) → now ≡ old → body_verdict now.bodies target body found ≡ body_verdict old.bodies target body found
+same_verdict target body found old now fixed = ap (λ (f : Facts). body_verdict f.bodies target body found) fixed
+
 -- ---- the rules together
 
-module _ (partial : Bool) (request : DavRequest) (state : State) (old mid new : Store) (looked : Result Meta FsError) (looks : Judges (look_closely state.contents request.path.key) old (Ok looked) mid) where
+module _ (held : Bodies) (partial : Bool) (request : DavRequest) (state : State) (old mid new : Store) (looked : Result Meta FsError) (looks : Judges (look_closely state.contents request.path.key) old (Ok looked) mid) where
   -- the headers refuse it, by the exit of a `?`
-  pub put_unaimed : (e : DavError) (verdict : Result (Option Meta) DavError) → IsErrAnd verdict (λ d. d ≡ e) → Err e ≡ target_of partial request.headers looked → Judges (put_rules partial request state) old verdict mid
+  pub put_unaimed : (e : DavError) (verdict : Result (Option Meta) DavError) → IsErrAnd verdict (λ d. d ≡ e) → Err e ≡ target_of partial request.headers looked → Judges (put_rules held partial request state) old verdict mid
   put_unaimed e verdict exit is =
       judges_then _ (look_closely state.contents request.path.key) old mid mid looked verdict looks
       (judges_exit _ (judged (target_of partial request.headers looked)) mid mid e verdict exit (judges_known _ (Err e) mid (sym is)))
 
   module _ (target : Target) (aimed : Ok target ≡ target_of partial request.headers looked) where
     after_aim : (verdict : Result (Option Meta) DavError)
-        → Judges (refusing closing (path_rules request state (result_ok looked)) >>= (λ found. judged (body_verdict target request.body found))) mid verdict new → Judges (put_rules partial request state) old verdict new
+        → Judges (refusing closing (path_rules request state (result_ok looked)) >>= (λ found. judged (body_verdict held target request.body found))) mid verdict new → Judges (put_rules held partial request state) old verdict new
     after_aim verdict rest =
         judges_then _ (look_closely state.contents request.path.key) old mid new looked verdict looks
         (judges_then _ (judged (target_of partial request.headers looked)) mid mid new target verdict (judges_known _ (Ok target) mid (sym aimed)) rest)
 
     -- a condition or a lock refuses it
     pub put_unheld : (e : DavError) (verdict : Result (Option Meta) DavError) → IsErrAnd verdict (λ d. d ≡ e) → Judges (refusing closing (path_rules request state (result_ok looked))) mid (Err e) new
-        → Judges (put_rules partial request state) old verdict new
-    put_unheld e verdict exit held = after_aim verdict (judges_exit _ (refusing closing (path_rules request state (result_ok looked))) mid new e verdict exit held)
+        → Judges (put_rules held partial request state) old verdict new
+    put_unheld e verdict exit rules = after_aim verdict (judges_exit _ (refusing closing (path_rules request state (result_ok looked))) mid new e verdict exit rules)
 
     -- the body decides
     pub put_held : (found : Option Meta) (verdict : Result (Option Meta) DavError) → Judges (refusing closing (path_rules request state (result_ok looked))) mid (Ok found) new
-        → verdict ≡ body_verdict target request.body found → Judges (put_rules partial request state) old verdict new
-    put_held found verdict held is =
+        → verdict ≡ body_verdict held target request.body found → Judges (put_rules held partial request state) old verdict new
+    put_held found verdict rules is =
         after_aim verdict
-        (judges_then _ (refusing closing (path_rules request state (result_ok looked))) mid new new found verdict held
+        (judges_then _ (refusing closing (path_rules request state (result_ok looked))) mid new new found verdict rules
         (judges_known _ verdict new (sym is)))
 
 -- what passes, told in another way, is what passed

@@ -163,8 +163,8 @@ pub keeps_move : Keeps move_method
 keeps_move settings request found old new records answer = moved request found old new records answer
 
 pub keeps_lock : Keeps lock_method
-keeps_lock settings request found old new records answer (inl work) h = locked request found old new records answer (is_refresh request.body) work h
-keeps_lock settings request found old new records answer (inr cut) h = lock_cut request found old new records answer (is_refresh request.body) cut.1 h
+keeps_lock settings request found old new records answer (inl work) h = locked request found old new records answer (is_refresh settings.facts.bodies request.body) work h
+keeps_lock settings request found old new records answer (inr cut) h = lock_cut request found old new records answer (is_refresh settings.facts.bodies request.body) cut.1 h
 
 pub keeps_unlock : Keeps unlock_method
 keeps_unlock settings request found old new records answer (inl work) h = by_end work.done

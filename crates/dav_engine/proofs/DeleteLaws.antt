@@ -82,9 +82,9 @@ module _ (key : Key) where
       by_place true is rest = rest
       by_place false is rest = ap (λ b. cond b (lock ∷ at_or_below (elsewhere locks key) key) (at_or_below (elsewhere locks key) key)) is ∙ rest
 
-pub unlocked : (request : DavRequest) (old new : State) → DropsLocks request.path.key old new → old.dependable ≡ true → IsUnlocked request new
-unlocked request old new (inr kept) dependable = absurd (let no : true ≡ false = sym dependable ∙ kept.0 in cc)
-unlocked request old new (inl dropped) dependable = λ locks is. by_system old.locks locks (sym dropped ∙ is)
+pub unlocked : (request : DavRequest) (old new : State) → DropsLocks request.path.key old new → old.reliable.delete ≡ true → IsUnlocked request new
+unlocked request old new (inr kept) reliable = absurd (let no : true ≡ false = sym reliable ∙ kept.0 in cc)
+unlocked request old new (inl dropped) reliable = λ locks is. by_system old.locks locks (sym dropped ∙ is)
   where
     by_system : (there : Option (List DavLock)) (locks : List DavLock) → option_map (λ list. elsewhere list request.path.key) there ≡ Some locks → at_or_below locks request.path.key ≡ []
     by_system None locks is = absurd cc

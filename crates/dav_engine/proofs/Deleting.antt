@@ -19,7 +19,7 @@ use Rattle.dav_resource.specs.declared.request.Depth.{Depth}
 use Rattle.dav_resource.specs.declared.request.DavRequest.{DavRequest}
 use Rattle.dav_store.specs.Store.{Store}
 use Rattle.dav_store.specs.Calls.{Grants, Declines, IsLawful, IsMetaAt, metadata_call, record_of, error_of}
-use Rattle.dav_store.specs.Locks.{Locks}
+use Rattle.dav_store.specs.Locks.{Locks, all_reliable}
 use Rattle.dav_parts.specs.Dialogue.{Passed, Refuses, LeadsTo, Judges}
 use Rattle.dav_parts.specs.Conditions.{conditions}
 use Rattle.dav_parts.specs.Dialogues.{judges_exit, judges_then, judges_pure, judges_if}
@@ -107,15 +107,15 @@ pub some_named : (e : DavError) (names : List Item) → Err e ≡ told_by_names 
 some_named e [] is = absurd cc
 some_named e (item ∷ names) is = λ none. cc
 
-pub same_facts : (old new : Seen) → new.store.keeps_properties ≡ old.store.keeps_properties → new.locks ≡ old.locks → facts_of new ≡ facts_of old
-same_facts old new fixed locks = λ i. (fixed i, option_map (λ (l : Locks). l.dependable) (locks i))
+pub same_facts : (old new : Seen) → new.store.facts ≡ old.store.facts → new.locks ≡ old.locks → facts_of new ≡ facts_of old
+same_facts old new fixed locks = λ i. (fixed i, option_map (λ (l : Locks). l.reliable) (locks i))
 
 pub same_locks : (old new : Seen) → new.locks ≡ old.locks → LocksStay (state_of old) (state_of new)
 same_locks old new locks = ap (option_map (λ (l : Locks). l.list)) locks
 
 pub drops : (key : Key) (old mid new : Seen) → mid.locks ≡ old.locks → DropsLocks key (state_of mid) (state_of new) → DropsLocks key (state_of old) (state_of new)
 drops key old mid new locks dropped =
-    subst (λ (l : Option Locks). DropsLocks key (record { contents = mid.store.contents; locks = option_map (λ (k : Locks). k.list) l; dependable = option_map_or (λ (k : Locks). k.dependable) l true }) (state_of new)) locks dropped
+    subst (λ (l : Option Locks). DropsLocks key (record { contents = mid.store.contents; locks = option_map (λ (k : Locks). k.list) l; reliable = option_map_or (λ (k : Locks). k.reliable) l all_reliable }) (state_of new)) locks dropped
 
 pub named_locks : (names : List Item) (path : PathValue) (old new : State) → names ≢ [] → LocksStay old new → LeavesLocks names path old new
 named_locks [] path old new some same = absurd (some refl)

@@ -13,7 +13,7 @@ use Rattle.dav_resource.specs.declared.method.DavMethod.TheVariants.{Options, Pr
 use Rattle.dav_resource.specs.declared.request.DavRequest.{DavRequest}
 use Rattle.dav_store.specs.Logged.{Logged}
 use Rattle.dav_store.specs.PropertyCalls.{Patch, IsPatchedAt}
-use Rattle.dav_store.specs.Store.{Contents, Node, File}
+use Rattle.dav_store.specs.Store.{Contents, Bodies, Node, File}
 use Rattle.dav_parts.specs.Conditions.{conditions}
 use Rattle.dav_parts.specs.Dialogue.{Passed, LeadsTo, look, refusing}
 use Rattle.dav_parts.specs.Dialogues.{LeadsTo-last, LeadsTo-unrefused}
@@ -62,8 +62,8 @@ shallow_passed request state head found h =
     let looked = LeadsTo-last (look state.contents request.path.key) _ head found h in
     path_passed request state looked.0 looked.2 found looked.4
 
-put_passed : (partial : Bool) (request : DavRequest) (state : State) (head : List Logged) (found : Option Meta) → LeadsTo (put_rules partial request state) head (Passed found) → is_permitted request state request.path.key false ≡ true
-put_passed partial request state head found h =
+put_passed : (held : Bodies) (partial : Bool) (request : DavRequest) (state : State) (head : List Logged) (found : Option Meta) → LeadsTo (put_rules held partial request state) head (Passed found) → is_permitted request state request.path.key false ≡ true
+put_passed held partial request state head found h =
     let looked = LeadsTo-last (look_closely state.contents request.path.key) _ head found h in
     let aimed = LeadsTo-last (judged (target_of partial request.headers looked.0)) _ looked.2 found looked.4 in
     let rules = LeadsTo-last (refusing closing (path_rules request state (result_ok looked.0))) _ aimed.2 found aimed.4 in
@@ -86,8 +86,8 @@ mkcol_elsewhere : (request : DavRequest) (records : List Logged) (old new : Cont
 mkcol_elsewhere request records old new key leaves apart changed =
     unchanged key old new (leaves.untouched (λ granted. put_node_elsewhere request.path.key key _ old new (leaves.made granted).tree (leaves.made granted).properties apart changed)) changed
 
-put_work_elsewhere : (request : DavRequest) (target : Target) (records : List Logged) (old new : Contents) (key : Key) → PutLeaves request target records old new → (key ≢ request.path.key) → IsChanged key old new → ⊥
-put_work_elsewhere request target records old new key leaves apart changed =
+put_work_elsewhere : (held : Bodies) (request : DavRequest) (target : Target) (records : List Logged) (old new : Contents) (key : Key) → PutLeaves held request target records old new → (key ≢ request.path.key) → IsChanged key old new → ⊥
+put_work_elsewhere held request target records old new key leaves apart changed =
     let at : (bytes : List ℕ) → IsFileAt request.path.key bytes old new → ⊥ = λ bytes file. put_node_elsewhere request.path.key key _ old new file.tree file.properties apart changed in
     unchanged key old new (leaves.untouched (λ opened. at _ (leaves.opened opened (λ written. at _ (leaves.written written))))) changed
 
@@ -181,8 +181,8 @@ guards_mkcol settings request found old new head records answer passed (inl work
 guards_mkcol settings request found old new head records answer passed (inr cut) = guarded_at (Some MkCol) request old new (shallow_passed request old head found passed) (λ key apart changed. unchanged key old.contents new.contents cut.1.0.same changed)
 
 pub guards_put : (name : Option DavMethod) (partial : Bool) → Guards name (write_method partial)
-guards_put name partial settings request found old new head records answer passed (inl work) = guarded_at name request old new (put_passed partial request old head found passed) (λ key. put_work_elsewhere request work.0.target records old.contents new.contents key work.0.leaves)
-guards_put name partial settings request found old new head records answer passed (inr cut) = guarded_at name request old new (put_passed partial request old head found passed) (λ key. put_work_elsewhere request cut.1.0.target records old.contents new.contents key cut.1.0.leaves)
+guards_put name partial settings request found old new head records answer passed (inl work) = guarded_at name request old new (put_passed settings.facts.bodies partial request old head found passed) (λ key. put_work_elsewhere settings.facts.bodies request work.0.target records old.contents new.contents key work.0.leaves)
+guards_put name partial settings request found old new head records answer passed (inr cut) = guarded_at name request old new (put_passed settings.facts.bodies partial request old head found passed) (λ key. put_work_elsewhere settings.facts.bodies request cut.1.0.target records old.contents new.contents key cut.1.0.leaves)
 
 pub guards_delete : Guards (Some Delete) delete_method
 guards_delete settings request found old new head records answer passed (inl work) =
@@ -206,7 +206,7 @@ guards_move settings request found old new head records answer passed done = by_
     by_end (inr cut) = both (λ key outside. moved_part_outside (fixed_path request.path (Some found.meta)) found old new records key outside cut.1)
 
 pub guards_lock : Guards (Some Lock) lock_method
-guards_lock settings request found old new head records answer passed (inl work) = locked (is_refresh request.body) work
+guards_lock settings request found old new head records answer passed (inl work) = locked (is_refresh settings.facts.bodies request.body) work
   where
     locked : (refresh : Bool) → LockWorkBy refresh request found old records answer new → IsGuarded (Some Lock) request old new
     locked true work = guarded_contents (Some Lock) request old new work.same
@@ -218,7 +218,7 @@ guards_lock settings request found old new head records answer passed (inl work)
         by_end : GrantsLock request found asked old records answer new ⊎ DeniesLock asked old records answer new → IsGuarded (Some Lock) request old new
         by_end (inl granted) = guarded_file request old new records granted.tells.leaves
         by_end (inr denied) = guarded_same (Some Lock) request old new denied.same
-guards_lock settings request found old new head records answer passed (inr cut) = lock_cut (is_refresh request.body) cut.1
+guards_lock settings request found old new head records answer passed (inr cut) = lock_cut (is_refresh settings.facts.bodies request.body) cut.1
   where
     lock_cut : (refresh : Bool) → LockCutBy refresh request found old records new → IsGuarded (Some Lock) request old new
     lock_cut true cut = guarded_contents (Some Lock) request old new cut.same
@@ -253,7 +253,7 @@ pub guards_proppatch : Guards (Some PropPatch) proppatch_method
 guards_proppatch settings request found old new head records answer passed done = by_end done
   where
     keeps : Bool
-    keeps = settings.keeps_properties
+    keeps = settings.facts.keeps_properties
 
     at_path : ((key : Key) → (key ≢ request.path.key) → IsChanged key old.contents new.contents → ⊥) → IsGuarded (Some PropPatch) request old new
     at_path = guarded_at (Some PropPatch) request old new (update_passed keeps request old head found passed).permitted

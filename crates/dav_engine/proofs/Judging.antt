@@ -1,5 +1,5 @@
 -- The rules, judged where nothing has changed yet.
-use Rattle.std.proofs.Common.{◌≡◌, ℕ, true, List, Option, Result, Ok, Err, option_map, ap, subst}
+use Rattle.std.proofs.Common.{◌≡◌, ℕ, List, Option, Result, Ok, Err, option_map, ap, subst}
 use Rattle.std.specs.Result.{IsErrAnd}
 use Rattle.std.specs.Option.{option_map_or}
 use Rattle.std.proofs.lemmas.Result.{err_from_is_err_and}
@@ -8,7 +8,7 @@ use Rattle.dav_resource.specs.declared.error.DavError.{DavError}
 use Rattle.dav_resource.specs.declared.meta.Meta.{Meta}
 use Rattle.dav_resource.specs.declared.request.DavRequest.{DavRequest}
 use Rattle.dav_store.specs.Store.{Store, Contents}
-use Rattle.dav_store.specs.Locks.{Locks}
+use Rattle.dav_store.specs.Locks.{Locks, all_reliable}
 use Rattle.dav_store.specs.declared.lock.DavLock.{DavLock}
 use Rattle.dav_parts.specs.Conditions.{conditions}
 use Rattle.dav_parts.specs.Dialogue.{Dialogue, Judges}
@@ -17,7 +17,7 @@ use Rattle.dav_engine.specs.Rules.{path_rules, found_in}
 
 abbrev state_over : Contents → Option Locks → State
 state_over contents locks =
-    record { contents = contents; locks = option_map (λ (l : Locks). l.list) locks; dependable = option_map_or (λ (l : Locks). l.dependable) locks true }
+    record { contents = contents; locks = option_map (λ (l : Locks). l.list) locks; reliable = option_map_or (λ (l : Locks). l.reliable) locks all_reliable }
 
 -- the same lock system has the same locks
 pub same_list : {L : Type 0} (seen : L → Locks) (ls ms : Option L) → ls ≡ ms → option_map (λ (l : Locks). l.list) (option_map seen ls) ≡ option_map (λ (l : Locks). l.list) (option_map seen ms)

@@ -17,9 +17,9 @@ use Rattle.dav_resource.specs.declared.record.Outcome.TheVariants as outcomes
 use Rattle.dav_resource.specs.declared.request.Body.{Body}
 use Rattle.dav_resource.specs.declared.request.DavRequest.{DavRequest}
 use Rattle.dav_headers.specs.LockToken.{lock_token_of}
-use Rattle.dav_store.specs.Store.{Store, Contents, Node, File, Directory}
+use Rattle.dav_store.specs.Store.{Store, Contents, Bodies, Node, File, Directory}
 use Rattle.dav_store.specs.Calls.{Call, Grants, Declines, IsOpened, open_call, open_bar, record_of, bytes_at}
-use Rattle.dav_store.specs.Locks.{Locks, grants}
+use Rattle.dav_store.specs.Locks.{Locks, all_reliable, grants}
 use Rattle.dav_store.specs.LockCalls.{AddsLock, RemovesLock, RefreshesLock, KeepsNamed, has_named, without_named, is_named, refreshed}
 use Rattle.dav_store.specs.LockLaws.{granted_named, granted_without}
 use Rattle.dav_store.specs.declared.lock.DavLock.{DavLock}
@@ -59,7 +59,7 @@ module _ (lock : DavLock) (old mid : Seen) (h : ChangesLocks (AddsLock lock) old
   added_facts : facts_of mid ≡ facts_of old
   added_facts = rw (h.was, h.is, h.change.added, h.store) refl
 
-  -- what was there again, or the lock kept by a lock system that isn't dependable
+  -- what was there again, or the lock kept by a lock system whose `unlock` isn't reliable
   module _ (far new : Seen) (same : far.locks ≡ mid.locks) where
     before_is : (before : Locks) → far.locks ≡ Some before → h.after ≡ before
     before_is before was = let e : Some h.after ≡ Some before = sym h.is ∙ sym same ∙ was in cc
@@ -68,15 +68,15 @@ module _ (lock : DavLock) (old mid : Seen) (h : ChangesLocks (AddsLock lock) old
     went r =
         let is = before_is r.before r.was in
         let list : r.after.list ≡ h.before.list = (ap (λ (l : Locks). l.list) r.change.removed ∙ ap (λ (l : Locks). without_named lock.path.key lock.token l.list) (sym is) ∙ ap (λ (l : Locks). without_named lock.path.key lock.token l.list) h.change.added ∙ granted_without lock h.before.list h.change.granted) in
-        let fact : r.after.dependable ≡ h.before.dependable = (ap (λ (l : Locks). l.dependable) r.change.removed ∙ ap (λ (l : Locks). l.dependable) (sym is) ∙ ap (λ (l : Locks). l.dependable) h.change.added) in
+        let fact : r.after.reliable ≡ h.before.reliable = (ap (λ (l : Locks). l.reliable) r.change.removed ∙ ap (λ (l : Locks). l.reliable) (sym is) ∙ ap (λ (l : Locks). l.reliable) h.change.added) in
         (rw (r.is, h.was, list) refl, rw (r.is, h.was, fact, r.store) refl)
 
-    stayed : KeepsLocks (KeepsNamed lock.path.key lock.token) far new → ((state_of old).dependable ≡ false) × AddsToLocks lock (state_of old) (state_of new)
+    stayed : KeepsLocks (KeepsNamed lock.path.key lock.token) far new → ((state_of old).reliable.unlock ≡ false) × AddsToLocks lock (state_of old) (state_of new)
     stayed k =
         let cause : KeepsNamed lock.path.key lock.token h.after = k.cause h.after (same ∙ h.is) in
         let named : has_named lock.path.key lock.token h.after.list ≡ true = rw h.change.added (granted_named lock h.before.list) in
-        let fact : h.after.dependable ≡ h.before.dependable = ap (λ (l : Locks). l.dependable) h.change.added in
-        let out : h.before.dependable ≡ false = unnamed h.before.dependable (rw (named, fact) at cause) in
+        let fact : h.after.reliable ≡ h.before.reliable = ap (λ (l : Locks). l.reliable) h.change.added in
+        let out : h.before.reliable.unlock ≡ false = unnamed h.before.reliable.unlock (rw (named, fact) at cause) in
         (rw h.was out, record { granted = adds.granted; added = ap (λ (s : Seen). option_map (λ (l : Locks). l.list) s.locks) k.same ∙ ap (option_map (λ (l : Locks). l.list)) same ∙ adds.added })
       where
         unnamed : (b : Bool) → (b && true) ≡ false → b ≡ false
@@ -194,14 +194,14 @@ module _ (request : DavRequest) (found : Option Meta) (info : LockInfo) (asked :
         }
           where
             told_facts : facts_of far ≡ facts_of old
-            told_facts = (λ i. (h.fixed i, option_map (λ (l : Locks). l.dependable) (same i))) ∙ added_facts lock old mid added
+            told_facts = (λ i. (h.fixed i, option_map (λ (l : Locks). l.reliable) (same i))) ∙ added_facts lock old mid added
 
     -- it isn't, and is taken back
     pub locks_untold : (e : DavError) (new : Seen) → Tells request found lock mid.store (Err e) far.store → (new.store ≡ far.store) → TakesBack lock (state_of old) (state_of new) → facts_of new ≡ facts_of (record far { locks = old.locks }) → Locks-new old (Err e) new
     locks_untold e new h store taken facts = record {
       records = h.records;
       told = ap (λ (s : Store). s.log) store ∙ h.told ∙ ap (λ (s : Store). s.log ++ h.records) added.store;
-      fixed = facts ∙ (λ i. (h.fixed i, option_map (λ (l : Locks). l.dependable) old.locks)) ∙ (λ i. ((added.store i).keeps_properties, option_map (λ (l : Locks). l.dependable) old.locks));
+      fixed = facts ∙ (λ i. (h.fixed i, option_map (λ (l : Locks). l.reliable) old.locks)) ∙ (λ i. ((added.store i).facts, option_map (λ (l : Locks). l.reliable) old.locks));
       done = by_end h.done;
     }
       where
@@ -238,7 +238,7 @@ module _ (request : DavRequest) (found : Option Meta) (info : LockInfo) (asked :
     locks_removed e new false h gone kept =
         let k = kept refl in
         let s = stayed lock old mid added far new same k in
-        locks_untold e new h (ap (λ (s : Seen). s.store) k.same) (inr s) (ap facts_of k.same ∙ (λ i. (far.store.keeps_properties, option_map (λ (l : Locks). l.dependable) (same i))) ∙ (λ i. (far.store.keeps_properties, (added_facts lock old mid added i).1)))
+        locks_untold e new h (ap (λ (s : Seen). s.store) k.same) (inr s) (ap facts_of k.same ∙ (λ i. (far.store.facts, option_map (λ (l : Locks). l.reliable) (same i))) ∙ (λ i. (far.store.facts, (added_facts lock old mid added i).1)))
 
 -- ---- the work of a refresh
 
@@ -327,24 +327,24 @@ module _ (request : DavRequest) (found : Option Meta) (token : List ℕ) (named 
   })
     where
       kept : (locks : Option Locks) → ForSome locks (KeepsNamed request.path.key token)
-          → (option_map_or (λ (l : Locks). l.dependable) locks true && option_map_or (has_named request.path.key token) (option_map (λ (l : Locks). l.list) locks) false) ≡ false
+          → ((option_map_or (λ (l : Locks). l.reliable) locks all_reliable).unlock && option_map_or (has_named request.path.key token) (option_map (λ (l : Locks). l.list) locks) false) ≡ false
       kept None cause = refl
       kept (Some l) cause = cause l refl
 
 -- ---- as the method that it is
 
-module _ (request : DavRequest) (is : is_refresh request.body ≡ false) where
-  pub judges_new : {old new : Store} {verdict : Result (Option Meta) DavError} (state : State) → Judges (new_lock_rules request state) old verdict new → Judges (lock_rules request state) old verdict new
+module _ (held : Bodies) (request : DavRequest) (is : is_refresh held request.body ≡ false) where
+  pub judges_new : {old new : Store} {verdict : Result (Option Meta) DavError} (state : State) → Judges (new_lock_rules request state) old verdict new → Judges (lock_rules held request state) old verdict new
   judges_new {old = old} {new} {verdict} state h = subst (λ b. Judges (if b then refresh_rules request state else new_lock_rules request state) old verdict new) (sym is) h
 
-  pub works_new : (found : Option Meta) (old new : Seen) (answer : Answer) → Performs (NewLockWork request found) (NewLockCut request found) old answer new → Performs (LockWork request found) (LockCut request found) old answer new
+  pub works_new : (found : Option Meta) (old new : Seen) (answer : Answer) → Performs (NewLockWork request found) (NewLockCut request found) old answer new → Performs (LockWork held request found) (LockCut held request found) old answer new
   works_new found old new answer h = subst (λ b. Performs (LockWorkBy b request found) (LockCutBy b request found) old answer new) (sym is) h
 
-module _ (request : DavRequest) (is : is_refresh request.body ≡ true) where
-  pub judges_refresh : {old new : Store} {verdict : Result (Option Meta) DavError} (state : State) → Judges (refresh_rules request state) old verdict new → Judges (lock_rules request state) old verdict new
+module _ (held : Bodies) (request : DavRequest) (is : is_refresh held request.body ≡ true) where
+  pub judges_refresh : {old new : Store} {verdict : Result (Option Meta) DavError} (state : State) → Judges (refresh_rules request state) old verdict new → Judges (lock_rules held request state) old verdict new
   judges_refresh {old = old} {new} {verdict} state h = subst (λ b. Judges (if b then refresh_rules request state else new_lock_rules request state) old verdict new) (sym is) h
 
-  pub works_refresh : (found : Option Meta) (old new : Seen) (answer : Answer) → Performs (RefreshWork request found) (RefreshCut request) old answer new → Performs (LockWork request found) (LockCut request found) old answer new
+  pub works_refresh : (found : Option Meta) (old new : Seen) (answer : Answer) → Performs (RefreshWork request found) (RefreshCut request) old answer new → Performs (LockWork held request found) (LockCut held request found) old answer new
   works_refresh found old new answer h = subst (λ b. Performs (LockWorkBy b request found) (LockCutBy b request found) old answer new) (sym is) h
 
 -- ---- the token of an UNLOCK

@@ -16,6 +16,7 @@ use Rattle.dav_headers.specs.Destination.{destination_of}
 use Rattle.dav_store.specs.Below.{is_at_or_below, AreApart}
 use Rattle.dav_store.specs.BelowLaws.{at_or_below-tail}
 use Rattle.dav_store.specs.Calls.{error_of, limit_of}
+use Rattle.dav_store.specs.Locks.{Reliable}
 use Rattle.dav_store.specs.Logged.{Logged}
 use Rattle.dav_store.specs.Members.{IsIn}
 use Rattle.dav_store.specs.Store.{IsWellFormed}
@@ -83,7 +84,7 @@ apart_keys (segment ∷ one) (first ∷ other) x apart = by_first (bytes_eq firs
 
 clear_system : (there : Bool) (destination : PathValue) (old mid : State) (head : List Logged) (names : List Item) → ClearsIf there destination old head names mid → HasSameSystem old mid
 clear_system true destination old mid head names cleared = cleared.system
-clear_system false destination old mid head names cleared = record { there = ap (λ (s : State). is_some s.locks) cleared.2; dependable = ap (λ (s : State). s.dependable) cleared.2 }
+clear_system false destination old mid head names cleared = record { there = ap (λ (s : State). is_some s.locks) cleared.2; reliable = ap (λ (s : State). s.reliable) cleared.2 }
 
 clear_limit : (there : Bool) (destination : PathValue) (old mid : State) (head : List Logged) (names : List Item) → ClearsIf there destination old head names mid → limit_of mid.contents ≡ limit_of old.contents
 clear_limit true destination old mid head names cleared = cleared.removed.2.lawful.limit
@@ -254,7 +255,7 @@ module _ (settings : Settings) (request : DavRequest) (old : State) (answer : An
                 destination = found.destination;
                 named = asked_so (reach_verdict true (depth_or_all request)) rules.asked;
                 renamed = whole.0;
-                unlocked = λ dependable. unlocked request whole.1.0 new whole.1.2 (whole.1.1.dependable ∙ dependable);
+                unlocked = λ reliable. unlocked request whole.1.0 new whole.1.2 (ap (λ (r : Reliable). r.delete) whole.1.1.reliable ∙ reliable);
               };
               kept = λ told other key below. absurd (let no : true ≡ false = sym (ap tells_transferred answered ∙ clean_told path found.there) ∙ told in cc);
               refusals = λ reply replied several. absurd (clean_single path found.there reply (sym answered ∙ replied) several);

@@ -14,7 +14,7 @@ use Rattle.dav_resource.specs.declared.record.Outcome.TheVariants.{Granted, Barr
 use Rattle.dav_resource.specs.declared.request.DavRequest.{DavRequest}
 use Rattle.dav_store.specs.Below.{is_at_or_below, AreApart}
 use Rattle.dav_store.specs.Calls.{Call, Grants, Declines, record_of, error_of}
-use Rattle.dav_store.specs.Locks.{Locks}
+use Rattle.dav_store.specs.Locks.{Locks, all_reliable}
 use Rattle.dav_store.specs.Logged.{Logged}
 use Rattle.dav_store.specs.Store.{Store, Node, Directory, IsWellFormed}
 use Rattle.dav_store.specs.Transfers.{rename_call, rename_bar, IsRenamedTo}
@@ -68,7 +68,7 @@ module _ (source destination : PathValue) (old new : Store) where
   renames_unbegun had (inl (memory, same)) = record {
     records = [];
     told = ap (λ (s : Store). s.log) same ∙ sym (append-nil old.log);
-    fixed = ap (λ (s : Store). s.keeps_properties) same;
+    fixed = ap (λ (s : Store). s.facts) same;
     done = inr (refl, (ap (λ (s : Store). s.contents) same, inl refl), refl);
   }
 
@@ -96,7 +96,7 @@ module _ (source destination : PathValue) (old new : Store) where
 -- ---- the source is moved
 
 same_seen : (old new : Seen) → new.store.contents ≡ old.store.contents → new.locks ≡ old.locks → state_of new ≡ state_of old
-same_seen old new same locks = λ i. record { contents = same i; locks = option_map (λ (l : Locks). l.list) (locks i); dependable = option_map_or (λ (l : Locks). l.dependable) (locks i) true }
+same_seen old new same locks = λ i. record { contents = same i; locks = option_map (λ (l : Locks). l.list) (locks i); reliable = option_map_or (λ (l : Locks). l.reliable) (locks i) all_reliable }
 
 module _ (source destination : PathValue) (old mid : Seen) (had has : List Item) (free : (rename_call old.store.contents source.key destination.key).bar ≡ None) where
   abbrev Moved : Seen → Result (Unit {0}) DavError → Type 0

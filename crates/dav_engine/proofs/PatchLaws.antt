@@ -130,7 +130,7 @@ module _ (keeps : Bool) (request : DavRequest) (state : State) (reply : Reply) w
 
 module _ (settings : Settings) (request : DavRequest) (old : State) (records : List Logged) where
   abbrev keeps : Bool
-  keeps = settings.keeps_properties
+  keeps = settings.facts.keeps_properties
 
   module _ (update : Update) (new : State) (passed : UpdatePassed keeps request old update) (locks : LocksStay old new) (rest : List Logged) (statuses : List ℕ) (reply : Reply)
       (shown : reply ≡ proppatch_reply request.path update.0 (grouped (told_made update.1 statuses))) where

@@ -8,7 +8,7 @@ use Rattle.dav_resource.specs.declared.method.DavMethod.TheVariants.{PropFind}
 use Rattle.dav_resource.specs.declared.request.DavRequest.{DavRequest}
 use Rattle.dav_headers.specs.Client.{user_agent_of}
 use Rattle.dav_store.specs.Logged.{Logged}
-use Rattle.dav_store.specs.Store.{IsWellFormed}
+use Rattle.dav_store.specs.Store.{Bodies, IsWellFormed}
 use Rattle.dav_parts.specs.Dialogue.{Dialogue, Passed, Refuses, LeadsTo, ◌>>=◌}
 use Rattle.dav_parts.specs.Dialogues.{LeadsTo-last}
 use Rattle.dav_parts.specs.Reply.{Reply, Answer}
@@ -44,31 +44,31 @@ refused_lists_none : {A : Type 0} (told : Result A FsError) → AsksNoListing (o
 refused_lists_none (Ok a) = tt
 refused_lists_none (Err e) = tt
 
-module _ (request : DavRequest) (state : State) where
+module _ (held : Bodies) (request : DavRequest) (state : State) where
   abbrev wanted : Meta → Dialogue (Meta × Asking)
-  wanted meta = judged (asking_of request.body (user_agent_of request.headers)) >>= λ asking. Passed (meta, asking)
+  wanted meta = judged (asking_of held request.body (user_agent_of request.headers)) >>= λ asking. Passed (meta, asking)
 
-  sought_lists_none : AsksNoListing (sought_rules request state)
+  sought_lists_none : AsksNoListing (sought_rules held request state)
   sought_lists_none =
       no_listing_then (must_find state.contents request.path.key) wanted (refl, λ outcome. refused_lists_none (told_by_look outcome (state.contents.metas request.path.key)))
-      (λ meta. no_listing_then (judged (asking_of request.body (user_agent_of request.headers))) _ (judged_lists_none (asking_of request.body (user_agent_of request.headers))) (λ asking. tt))
+      (λ meta. no_listing_then (judged (asking_of held request.body (user_agent_of request.headers))) _ (judged_lists_none (asking_of held request.body (user_agent_of request.headers))) (λ asking. tt))
 
-  errs_sought : RefusesBy AnyError (sought_rules request state)
+  errs_sought : RefusesBy AnyError (sought_rules held request state)
   errs_sought =
       errs_then AnyError (must_find state.contents request.path.key) wanted (λ outcome. errs_told AnyError (λ e. tt) (told_by_look outcome (state.contents.metas request.path.key)))
-      (λ meta. errs_then AnyError (judged (asking_of request.body (user_agent_of request.headers))) _ (errs_judged (asking_of request.body (user_agent_of request.headers))) (λ asking. tt))
+      (λ meta. errs_then AnyError (judged (asking_of held request.body (user_agent_of request.headers))) _ (errs_judged (asking_of held request.body (user_agent_of request.headers))) (λ asking. tt))
 
   -- what the rules pass is what is there
   record PassedRules (head : List Logged) (found : Meta × Asking) : Type 0 where
     none : HasNoListing head
     there : state.contents.metas request.path.key ≡ Some found.0
 
-  passed_sought : (head : List Logged) (found : Meta × Asking) → LeadsTo (sought_rules request state) head (Passed found) → PassedRules head found
+  passed_sought : (head : List Logged) (found : Meta × Asking) → LeadsTo (sought_rules held request state) head (Passed found) → PassedRules head found
   passed_sought head found led =
       let p = LeadsTo-last (must_find state.contents request.path.key) wanted head found led in
-      let q = LeadsTo-last (judged (asking_of request.body (user_agent_of request.headers))) _ p.2 found p.4 in
+      let q = LeadsTo-last (judged (asking_of held request.body (user_agent_of request.headers))) _ p.2 found p.4 in
       record {
-        none = leads_to_none (sought_rules request state) (Passed found) head sought_lists_none led;
+        none = leads_to_none (sought_rules held request state) (Passed found) head sought_lists_none led;
         there = found_passed state.contents request.path.key p.0 p.1 p.3 ∙ ap Some (meta_is p.0 q.0 q.2 q.4);
       }
     where
@@ -76,28 +76,28 @@ module _ (request : DavRequest) (state : State) where
       meta_is meta asking [] end = let same : found ≡ (meta, asking) = cc in ap (λ (f : Meta × Asking). f.0) (sym same)
       meta_is meta asking (r ∷ rest) end = absurd end
 
-  passed_rules : (head : List Logged) (found : Meta × Asking) → LeadsTo (propfind_rules request state) head (Passed found) → PassedRules head found
+  passed_rules : (head : List Logged) (found : Meta × Asking) → LeadsTo (propfind_rules held request state) head (Passed found) → PassedRules head found
   passed_rules head found led = by_depth (is_too_deep request) refl led
     where
       none_passed : (records : List Logged) → LeadsTo (Refuses (Ok finite_depth_reply)) records (Passed found) → PassedRules head found
       none_passed [] end = absurd cc
       none_passed (r ∷ records) end = absurd end
 
-      by_depth : (deep : Bool) → is_too_deep request ≡ deep → LeadsTo (if deep then Refuses (Ok finite_depth_reply) else sought_rules request state) head (Passed found) → PassedRules head found
+      by_depth : (deep : Bool) → is_too_deep request ≡ deep → LeadsTo (if deep then Refuses (Ok finite_depth_reply) else sought_rules held request state) head (Passed found) → PassedRules head found
       by_depth true is end = none_passed head end
       by_depth false is end = passed_sought head found end
 
   -- a reply of the rules is that of 501
-  refused_rules : (records : List Logged) (reply : Reply) → LeadsTo (propfind_rules request state) records (Refuses (Ok reply)) → reply ≡ finite_depth_reply
+  refused_rules : (records : List Logged) (reply : Reply) → LeadsTo (propfind_rules held request state) records (Refuses (Ok reply)) → reply ≡ finite_depth_reply
   refused_rules records reply led = by_depth (is_too_deep request) led
     where
       finite : (rs : List Logged) → LeadsTo {A = Meta × Asking} (Refuses (Ok finite_depth_reply)) rs (Refuses (Ok reply)) → reply ≡ finite_depth_reply
       finite [] end = cc
       finite (r ∷ rs) end = absurd end
 
-      by_depth : (deep : Bool) → LeadsTo (if deep then Refuses (Ok finite_depth_reply) else sought_rules request state) records (Refuses (Ok reply)) → reply ≡ finite_depth_reply
+      by_depth : (deep : Bool) → LeadsTo (if deep then Refuses (Ok finite_depth_reply) else sought_rules held request state) records (Refuses (Ok reply)) → reply ≡ finite_depth_reply
       by_depth true end = finite records end
-      by_depth false end = let e = errs_led AnyError (sought_rules request state) records (Ok reply) errs_sought end in absurd (let no = e.1 in cc)
+      by_depth false end = let e = errs_led AnyError (sought_rules held request state) records (Ok reply) errs_sought end in absurd (let no = e.1 in cc)
 
 -- ---- each step
 
@@ -107,10 +107,10 @@ not_both status one other = omega (arith, one, other)
 module _ (settings : Settings) (request : DavRequest) (old new : Seen) (formed : IsWellFormed old.store.contents) where
   step_tells : (records : List Logged) (answer : Answer) → new.store.log ≡ old.store.log ++ records → StepBy propfind_method settings request (state_of old) records answer (state_of new) → TellsItsRange request old answer new
   step_tells records answer logged (Refused h) reply is told =
-      let finite : reply ≡ finite_depth_reply = refused_rules request (state_of old) records reply (subst (λ a. LeadsTo (propfind_rules request (state_of old)) records (Refuses a)) is h.head) in
+      let finite : reply ≡ finite_depth_reply = refused_rules settings.facts.bodies request (state_of old) records reply (subst (λ a. LeadsTo (propfind_rules settings.facts.bodies request (state_of old)) records (Refuses a)) is h.head) in
       absurd (not_both reply.status (ap (λ (r : Reply). r.status) finite) told)
   step_tells records answer logged (Done h) reply is told =
-      let passed = passed_rules request (state_of old) h.head h.found h.passed in
+      let passed = passed_rules settings.facts.bodies request (state_of old) h.head h.found h.passed in
       record {
         found = h.found;
         visits = h.work.visits;

@@ -41,9 +41,9 @@ locks_are seen (Some l) = refl
 -- a finder seeks as the request says
 pub view_is : {C L : Type 0} (seen : L → Locks) (finder : Finder C L) (settings : Settings) (request : DavRequest) (state : State)
     → locks_in seen (option_copied finder.ls) ≡ state.locks → option_copied finder.principal ≡ request.principal → option_copied finder.user_agent ≡ user_agent_of request.headers
-    → view_of seen finder settings.keeps_properties ≡ view_in settings request state finder.search.now.kind
+    → view_of seen finder settings.facts ≡ view_in settings request state finder.search.now.kind
 view_is seen finder settings request state locks principal agent =
-    λ i. record { kind = finder.search.now.kind; keeps = settings.keeps_properties; locks = locks i; principal = principal i; user_agent = agent i }
+    λ i. record { kind = finder.search.now.kind; keeps = settings.facts.keeps_properties; shows = settings.facts.shows; locks = locks i; principal = principal i; user_agent = agent i }
 
 module _ (settings : Settings) (request : DavRequest) (meta : Meta) (asking : Asking) (locks : Option Locks) where
   -- memory ran out before anything was asked

@@ -6,7 +6,7 @@ use Rattle.dav_resource.specs.declared.meta.Meta.{Meta}
 use Rattle.dav_resource.specs.declared.request.DavRequest.{DavRequest}
 use Rattle.dav_headers.specs.Client.{user_agent_of}
 use Rattle.dav_store.specs.Logged.{Logged}
-use Rattle.dav_store.specs.Store.{Store}
+use Rattle.dav_store.specs.Store.{Store, Bodies}
 use Rattle.dav_parts.specs.Dialogue.{Refuses, Judges, Reaches}
 use Rattle.dav_parts.specs.Dialogues.{judges_exit, judges_then, judges_pure, judges_memory}
 use Rattle.dav_parts.specs.Reply.{Answer}
@@ -24,27 +24,27 @@ use Rattle.dav_engine.proofs.Passing.{found_passed}
 
 -- ---- the rules, judged
 
-module _ (request : DavRequest) (state : State) where
+module _ (held : Bodies) (request : DavRequest) (state : State) where
   -- a Depth of infinity is refused
-  pub reaches_finite : (store : Store) → is_too_deep request ≡ true → Reaches (propfind_rules request state) store (Refuses (Ok finite_depth_reply)) store
+  pub reaches_finite : (store : Store) → is_too_deep request ≡ true → Reaches (propfind_rules held request state) store (Refuses (Ok finite_depth_reply)) store
   reaches_finite store deep = rw deep (record { records = []; told = sym (append-nil store.log); same = refl; fixed = refl; leads = refl })
 
-  pub judges_lacking : (store : Store) → Judges (propfind_rules request state) store (Err Memory) store
+  pub judges_lacking : (store : Store) → Judges (propfind_rules held request state) store (Err Memory) store
   judges_lacking store = judges_memory _ store (Err Memory) refl
 
   module _ (shallow : is_too_deep request ≡ false) (old mid : Store) where
     -- nothing is found
-    pub judges_missing : (e : DavError) → Judges (must_find state.contents request.path.key) old (Err e) mid → Judges (propfind_rules request state) old (Err e) mid
+    pub judges_missing : (e : DavError) → Judges (must_find state.contents request.path.key) old (Err e) mid → Judges (propfind_rules held request state) old (Err e) mid
     judges_missing e h = rw shallow (judges_exit _ _ old mid e (Err e) refl h)
 
     module _ (meta : Meta) (h : Judges (must_find state.contents request.path.key) old (Ok meta) mid) where
       -- the body can't be read, or memory ran out
-      pub judges_unread_body : (e : DavError) → (asking_of request.body (user_agent_of request.headers) ≡ Err e) ⊎ (e ≡ Memory) → Judges (propfind_rules request state) old (Err e) mid
+      pub judges_unread_body : (e : DavError) → (asking_of held request.body (user_agent_of request.headers) ≡ Err e) ⊎ (e ≡ Memory) → Judges (propfind_rules held request state) old (Err e) mid
       judges_unread_body e (inl wrong) = rw shallow (judges_then _ _ old mid mid meta (Err e) h (judges_exit _ _ mid mid e (Err e) refl (judges_known _ (Err e) mid wrong)))
       judges_unread_body e (inr memory) = rw shallow (judges_then _ _ old mid mid meta (Err e) h (judges_memory _ mid (Err e) memory))
 
       -- what is asked for of what was found
-      pub judges_sought : (asking : Asking) → asking_of request.body (user_agent_of request.headers) ≡ Ok asking → Judges (propfind_rules request state) old (Ok (meta, asking)) mid
+      pub judges_sought : (asking : Asking) → asking_of held request.body (user_agent_of request.headers) ≡ Ok asking → Judges (propfind_rules held request state) old (Ok (meta, asking)) mid
       judges_sought asking is = rw shallow (judges_then _ _ old mid mid meta (Ok (meta, asking)) h (judges_then _ _ mid mid mid asking (Ok (meta, asking)) (judges_known _ (Ok asking) mid is) (judges_pure _ _ _ refl)))
 
       -- what was found is what is there

@@ -13,8 +13,9 @@ use Rattle.dav_resource.specs.declared.error.FsError.TheVariants as fs_errors
 use Rattle.dav_resource.specs.declared.error.DavError.{DavError}
 use Rattle.dav_resource.specs.declared.error.DavError.TheVariants as dav_errors
 use Rattle.dav_resource.specs.declared.request.DavRequest.{DavRequest}
+use Rattle.dav_resource.specs.declared.request.ReqBody.{ReqBody}
 use Rattle.dav_store.specs.Logged.{Logged}
-use Rattle.dav_store.specs.Store.{Store, Contents, File}
+use Rattle.dav_store.specs.Store.{Store, Contents, Bodies, Facts, File}
 use Rattle.dav_store.specs.Calls.{Call, record_of, IsLawful, Grants, Declines, open_call, IsOpened, file_call, file_bar, written_at, bytes_at, Flushes, IsWritten}
 use Rattle.dav_resource.specs.declared.meta.OpenOptions.{OpenOptions}
 use Rattle.std.proofs.Math.Seq.{drop-nil, take-length, drop-append-add}
@@ -62,7 +63,11 @@ written_is true false start old body = refl
 written_is false true start old body = written_at-start body
 written_is false false start old body = written_at-start body
 
-module _ (request : DavRequest) (target : Target) where
+-- the bytes of a body are the same while the facts of the store are
+pub same_bytes : (body : ReqBody) (old now : Facts) → now ≡ old → new_bytes old.bodies body ≡ new_bytes now.bodies body
+same_bytes body old now fixed = ap (λ (f : Facts). new_bytes f.bodies body) (sym fixed)
+
+module _ (held : Bodies) (request : DavRequest) (target : Target) where
   abbrev place : Key
   place = request.path.key
 
@@ -74,22 +79,22 @@ module _ (request : DavRequest) (target : Target) where
   last_steps meta = needs (on_file Flush place) from_fs (look_by (on_file FileMetadata place) meta)
 
   abbrev write_steps : Option Meta → Dialogue (Option Meta)
-  write_steps meta = put_write (new_bytes request.body) place (last_steps meta)
+  write_steps meta = put_write (new_bytes held request.body) place (last_steps meta)
 
-  -- what the file held, and holds as it is opened
-  abbrev held : Contents → List ℕ
-  held old = bytes_at (get old.tree place)
+  -- what the file contained, and contains as it is opened
+  abbrev contained : Contents → List ℕ
+  contained old = bytes_at (get old.tree place)
 
   abbrev kept : Contents → List ℕ
-  kept old = opened_bytes target (held old)
+  kept old = opened_bytes target (contained old)
 
   -- the work so far: its records are the first calls, these are left, and the file is there
   pub record Reached (old now : Store) (left : Option Meta → Dialogue (Option Meta)) : Type 0 where
     pub records : List Logged
     pub told : now.log ≡ old.log ++ records
-    pub fixed : now.keeps_properties ≡ old.keeps_properties
-    pub calls : (meta : Option Meta) → LeadsTo (put_steps request target old.contents meta) records (left meta)
-    pub leaves : PutLeaves request target records old.contents now.contents
+    pub fixed : now.facts ≡ old.facts
+    pub calls : (meta : Option Meta) → LeadsTo (put_steps held request target old.contents meta) records (left meta)
+    pub leaves : PutLeaves held request target records old.contents now.contents
     pub bytes : List ℕ
     pub there : get now.contents.tree place ≡ Some (File bytes)
 
@@ -104,13 +109,13 @@ module _ (request : DavRequest) (target : Target) where
   pub record Looked (old now : Store) (meta : Option Meta) : Type 0 where
     pub records : List Logged
     pub told : now.log ≡ old.log ++ records
-    pub fixed : now.keeps_properties ≡ old.keeps_properties
-    pub calls : LeadsTo (put_steps request target old.contents (now.contents.metas place)) records (Passed meta)
-    pub leaves : PutLeaves request target records old.contents now.contents
+    pub fixed : now.facts ≡ old.facts
+    pub calls : LeadsTo (put_steps held request target old.contents (now.contents.metas place)) records (Passed meta)
+    pub leaves : PutLeaves held request target records old.contents now.contents
 
   -- a record of another op, or of a call that wasn't granted, leaves what was left
-  leaves_more : (records : List Logged) (r : Logged) (old mid new : Contents) → PutLeaves request target records old mid → new ≡ mid
-      → (WasGranted OpenFile place (r ∷ []) → ⊥) → (WasGranted WriteBytes place (r ∷ []) → ⊥) → PutLeaves request target (records ++ r ∷ []) old new
+  leaves_more : (records : List Logged) (r : Logged) (old mid new : Contents) → PutLeaves held request target records old mid → new ≡ mid
+      → (WasGranted OpenFile place (r ∷ []) → ⊥) → (WasGranted WriteBytes place (r ∷ []) → ⊥) → PutLeaves held request target (records ++ r ∷ []) old new
   leaves_more records r old mid new leaves same no_open no_write = rw same (record {
     untouched = λ none. leaves.untouched (λ g. none (WasGranted-first OpenFile place records (r ∷ []) g));
     opened = λ opened unwritten. leaves.opened (earlier OpenFile no_open opened) (λ g. unwritten (WasGranted-first WriteBytes place records (r ∷ []) g));
@@ -131,7 +136,7 @@ module _ (request : DavRequest) (target : Target) where
       → Waits old mid (λ meta. put_seek target place (write_steps meta))
   opened old mid file h =
       let is : IsFileAt place (kept old.contents) old.contents mid.contents =
-      (record { tree = h.effect.tree ∙ ap (λ bytes. insert old.contents.tree place (File bytes)) (emptied target.part (held old.contents)); properties = h.effect.properties; limit = h.effect.limit }) in
+      (record { tree = h.effect.tree ∙ ap (λ bytes. insert old.contents.tree place (File bytes)) (emptied target.part (contained old.contents)); properties = h.effect.properties; limit = h.effect.limit }) in
       record {
         reached = record {
           records = record_of (open_call old.contents place options) outcomes.Granted ∷ [];
@@ -196,21 +201,21 @@ module _ (request : DavRequest) (target : Target) where
   is_placed handle file opened at = at ∙ ap (λ (f : DavFile). record f { pos = if target.part then target.start else f.pos }) opened
 
   -- the bytes are written, or there are none
-  pub filled : (old mid now : Store) (file : DavFile) (bytes : List ℕ) → new_bytes request.body ≡ bytes → file ≡ placed → Waits old mid write_steps
+  pub filled : (old mid now : Store) (file : DavFile) (bytes : List ℕ) → new_bytes held request.body ≡ bytes → file ≡ placed → Waits old mid write_steps
       → WritesBody mid file bytes (Ok tt) now → Reached old now last_steps
   filled old mid now file [] is at h w = rw w.1 (subst (λ bytes. Reached old mid (λ meta. put_write bytes place (last_steps meta))) is h.reached)
   filled old mid now file (b ∷ bytes) is at h w =
       let g : Grants (file_call WriteBytes mid.contents place) (IsWritten placed (b ∷ bytes)) mid now = rw at at w.granted in
       let r = record_of (on_file WriteBytes place) outcomes.Granted in
       let here : get mid.contents.tree place ≡ Some (File (kept old.contents)) = rw h.file.tree (put_here old.contents.tree place (File (kept old.contents))) in
-      let tree : now.contents.tree ≡ insert old.contents.tree place (File (final_bytes target (b ∷ bytes) (held old.contents))) =
+      let tree : now.contents.tree ≡ insert old.contents.tree place (File (final_bytes target (b ∷ bytes) (contained old.contents))) =
       (g.effect.tree
       ∙ ap (λ node. insert mid.contents.tree place (File (written_at (bytes_at node) (if target.append then length (bytes_at node) else placed.pos) (b ∷ bytes)))) here
       ∙ ap (λ t. insert t place (File (written_at (kept old.contents) (if target.append then length (kept old.contents) else placed.pos) (b ∷ bytes)))) h.file.tree
       ∙ insert-inserted old.contents.tree place (File (kept old.contents)) (File (written_at (kept old.contents) (if target.append then length (kept old.contents) else placed.pos) (b ∷ bytes)))
-      ∙ ap (λ bytes. insert old.contents.tree place (File bytes)) (written_is target.part target.append target.start (held old.contents) (b ∷ bytes))) in
-      let asked : (meta : Option Meta) → LeadsTo (put_steps request target old.contents meta) h.reached.records (needs (on_file WriteBytes place) from_fs (last_steps meta)) =
-      (λ meta. subst (λ body. LeadsTo (put_steps request target old.contents meta) h.reached.records (put_write body place (last_steps meta))) is (h.reached.calls meta)) in
+      ∙ ap (λ bytes. insert old.contents.tree place (File bytes)) (written_is target.part target.append target.start (contained old.contents) (b ∷ bytes))) in
+      let asked : (meta : Option Meta) → LeadsTo (put_steps held request target old.contents meta) h.reached.records (needs (on_file WriteBytes place) from_fs (last_steps meta)) =
+      (λ meta. subst (λ body. LeadsTo (put_steps held request target old.contents meta) h.reached.records (put_write body place (last_steps meta))) is (h.reached.calls meta)) in
       record {
         records = h.reached.records ++ r ∷ [];
         told = rw (g.told, h.reached.told, append_assoc);
@@ -221,8 +226,8 @@ module _ (request : DavRequest) (target : Target) where
           opened = λ _ unwritten. absurd (unwritten (WasGranted-last WriteBytes place h.reached.records));
           written = λ _. record { tree = rw is tree; properties = rw (g.effect.properties, h.file.properties); limit = rw (g.effect.limit, h.file.limit) };
         };
-        bytes = final_bytes target (b ∷ bytes) (held old.contents);
-        there = rw tree (put_here old.contents.tree place (File (final_bytes target (b ∷ bytes) (held old.contents))));
+        bytes = final_bytes target (b ∷ bytes) (contained old.contents);
+        there = rw tree (put_here old.contents.tree place (File (final_bytes target (b ∷ bytes) (contained old.contents))));
       }
 
   -- the writing is ended
@@ -246,8 +251,8 @@ module _ (request : DavRequest) (target : Target) where
   as_steps mid bytes there = ap (λ call. look_by call (mid.metas place)) (at_file FileMetadata mid place bytes there)
 
   -- its one record is of no change
-  leaves_looked : (records more : List Logged) (old mid new : Contents) (left : Dialogue (Option Meta)) → PutLeaves request target records old mid → new ≡ mid
-      → LeadsTo (look_by (on_file FileMetadata place) (mid.metas place)) more left → PutLeaves request target (records ++ more) old new
+  leaves_looked : (records more : List Logged) (old mid new : Contents) (left : Dialogue (Option Meta)) → PutLeaves held request target records old mid → new ≡ mid
+      → LeadsTo (look_by (on_file FileMetadata place) (mid.metas place)) more left → PutLeaves held request target (records ++ more) old new
   leaves_looked records [] old mid new left leaves same h = rw (append-nil records, same) leaves
   leaves_looked records (r ∷ []) old mid new left leaves same h =
       let other : (op : Op) → FileMetadata ≢ op → r.op ≢ op = λ op apart e. apart (sym (ap (λ (l : Logged). l.op) h.0) ∙ e) in
@@ -277,12 +282,12 @@ goes call meta (r ∷ s ∷ records) left h = absurd h.2
 
 -- ---- want of memory, refusals and the reply
 
-module _ (partial : Bool) (request : DavRequest) (found : Option Meta) (target : Target) (aimed : target_of partial request.headers (as_looked found) ≡ Ok target) where
+module _ (held : Bodies) (partial : Bool) (request : DavRequest) (found : Option Meta) (target : Target) (aimed : target_of partial request.headers (as_looked found) ≡ Ok target) where
   abbrev at_key : Key
   at_key = request.path.key
 
   abbrev pub PutWorks : Store → Answer → Store → Type 0
-  PutWorks = WorksOnStore (PutWork partial request found) (PutCut partial request found)
+  PutWorks = WorksOnStore (PutWork held partial request found) (PutCut held partial request found)
 
   -- no call was made
   pub works_unopened : (store : Store) → PutWorks store (Err dav_errors.Memory) store
@@ -295,7 +300,7 @@ module _ (partial : Bool) (request : DavRequest) (found : Option Meta) (target :
       record {
         target = target;
         aimed = aimed;
-        left = put_steps request target store.contents (store.contents.metas at_key);
+        left = put_steps held request target store.contents (store.contents.metas at_key);
         calls = refl;
         goes_on = tt;
         leaves = record { untouched = λ _. refl; opened = λ g. absurd g; written = λ g. absurd g };
@@ -320,7 +325,7 @@ module _ (partial : Bool) (request : DavRequest) (found : Option Meta) (target :
   }
 
   -- memory ran out on the way
-  pub works_cut : (old now : Store) (left : Option Meta → Dialogue (Option Meta)) → ((meta : Option Meta) → GoesOn (left meta)) → Reached request target old now left → PutWorks old (Err dav_errors.Memory) now
+  pub works_cut : (old now : Store) (left : Option Meta → Dialogue (Option Meta)) → ((meta : Option Meta) → GoesOn (left meta)) → Reached held request target old now left → PutWorks old (Err dav_errors.Memory) now
   works_cut old now left goes_on h = record {
     records = h.records;
     told = h.told;
@@ -330,7 +335,7 @@ module _ (partial : Bool) (request : DavRequest) (found : Option Meta) (target :
 
   -- a call on the file isn't granted
   pub works_stopped : (op : Op) (error : FsError → DavError) (old mid now : Store) (next : Option Meta → Dialogue (Option Meta)) (e : FsError) → error fs_errors.Memory ≡ dav_errors.Memory
-      → Reached request target old mid (λ meta. needs (on_file op at_key) error (next meta)) → ((e ≡ fs_errors.Memory) × (now ≡ mid)) ⊎ Declines (file_call op mid.contents at_key) e mid now → PutWorks old (Err (error e)) now
+      → Reached held request target old mid (λ meta. needs (on_file op at_key) error (next meta)) → ((e ≡ fs_errors.Memory) × (now ≡ mid)) ⊎ Declines (file_call op mid.contents at_key) e mid now → PutWorks old (Err (error e)) now
   works_stopped op error old mid now next e memory h (inl m) = rw (m.0, m.1, memory) (works_cut old mid _ (λ _. tt) h)
   works_stopped op error old mid now next e memory h (inr d) =
       let there = at_file op mid.contents at_key h.bytes h.there in
@@ -343,12 +348,12 @@ module _ (partial : Bool) (request : DavRequest) (found : Option Meta) (target :
           target = target;
           aimed = aimed;
           answered = LeadsTo-more _ _ _ h.records _ (h.calls (now.contents.metas at_key)) (needs-declined (on_file op at_key) error _ e d.outcome d.cause lawful);
-          leaves = leaves_more request target h.records _ _ _ _ h.leaves d.same (λ g. not_granted OpenFile at_key _ g (unlike e d.outcome d.cause)) (λ g. not_granted WriteBytes at_key _ g (unlike e d.outcome d.cause));
+          leaves = leaves_more held request target h.records _ _ _ _ h.leaves d.same (λ g. not_granted OpenFile at_key _ g (unlike e d.outcome d.cause)) (λ g. not_granted WriteBytes at_key _ g (unlike e d.outcome d.cause));
         });
       }
 
   -- the place isn't sought
-  pub works_unsought : (old mid now : Store) (e : FsError) (left : Option Meta → Dialogue (Option Meta)) → Waits request target old mid (λ meta. put_seek target at_key (left meta)) → SeeksPlace target mid at_key (Err e) now
+  pub works_unsought : (old mid now : Store) (e : FsError) (left : Option Meta → Dialogue (Option Meta)) → Waits held request target old mid (λ meta. put_seek target at_key (left meta)) → SeeksPlace target mid at_key (Err e) now
       → PutWorks old (Err (put_seek_error e)) now
   works_unsought old mid now e left h w = by_part target.part refl w
     where
@@ -356,26 +361,26 @@ module _ (partial : Bool) (request : DavRequest) (found : Option Meta) (target :
       by_part false is seek = absurd (let no : Err e ≡ Ok tt = seek.0 in cc)
       by_part true is seek =
           works_stopped Seek put_seek_error old mid now left e refl
-          (subst (λ b. Reached request target old mid (λ meta. if b then needs (on_file Seek at_key) put_seek_error (left meta) else left meta)) is h.reached) seek.declined
+          (subst (λ b. Reached held request target old mid (λ meta. if b then needs (on_file Seek at_key) put_seek_error (left meta) else left meta)) is h.reached) seek.declined
 
   -- the bytes aren't written
-  pub works_unfilled : (old mid now : Store) (file : DavFile) (bytes : List ℕ) (e : FsError) → new_bytes request.body ≡ bytes → file ≡ placed request target
-      → Waits request target old mid (write_steps request target) → WritesBody mid file bytes (Err e) now → PutWorks old (Err (from_fs e)) now
+  pub works_unfilled : (old mid now : Store) (file : DavFile) (bytes : List ℕ) (e : FsError) → new_bytes held request.body ≡ bytes → file ≡ placed held request target
+      → Waits held request target old mid (write_steps held request target) → WritesBody mid file bytes (Err e) now → PutWorks old (Err (from_fs e)) now
   works_unfilled old mid now file [] e is at h w = absurd (let no : Err e ≡ Ok tt = w.0 in cc)
   works_unfilled old mid now file (b ∷ bytes) e is at h w =
-      works_stopped WriteBytes from_fs old mid now (last_steps request target) e refl
-      (subst (λ bytes. Reached request target old mid (λ meta. put_write bytes at_key (last_steps request target meta))) is h.reached)
+      works_stopped WriteBytes from_fs old mid now (last_steps held request target) e refl
+      (subst (λ bytes. Reached held request target old mid (λ meta. put_write bytes at_key (last_steps held request target meta))) is h.reached)
       (rw at at w.declined)
 
   -- the last look had no memory
-  pub works_unlooked : (old mid now : Store) (e : DavError) → Reached request target old mid (look_by (on_file FileMetadata at_key)) → Judges (look_at_file mid.contents at_key) mid (Err e) now
+  pub works_unlooked : (old mid now : Store) (e : DavError) → Reached held request target old mid (look_by (on_file FileMetadata at_key)) → Judges (look_at_file mid.contents at_key) mid (Err e) now
       → PutWorks old (Err e) now
   works_unlooked old mid now e h j = ends j.ends
     where
       ends : EndsIn (look_at_file mid.contents at_key) j.records (Err e) → PutWorks old (Err e) now
       ends (inl r) = absurd (never _ _ j.records e r)
       ends (inr m) =
-          let asked = subst (λ d. LeadsTo d j.records m.1.0) (as_steps request target mid.contents h.bytes h.there) m.1.1 in
+          let asked = subst (λ d. LeadsTo d j.records m.1.0) (as_steps held request target mid.contents h.bytes h.there) m.1.1 in
           rw m.0 (record {
             records = h.records ++ j.records;
             told = rw (j.told, h.told, append_assoc);
@@ -388,13 +393,13 @@ module _ (partial : Bool) (request : DavRequest) (found : Option Meta) (target :
                 left = m.1.0;
                 calls = rw j.same (LeadsTo-more _ _ _ h.records j.records (h.calls (mid.contents.metas at_key)) asked);
                 goes_on = goes _ _ j.records m.1.0 asked;
-                leaves = leaves_looked request target h.records j.records _ _ _ _ h.leaves j.same asked;
+                leaves = leaves_looked held request target h.records j.records _ _ _ _ h.leaves j.same asked;
               },
             );
           })
 
   -- the reply is made, or there was no memory for it
-  pub works_replied : (meta : Option Meta) (old now : Store) (result : Result (Response Body) DavError) → Looked request target old now meta → IfOk result (λ reply. reply_of reply ≡ put_reply found meta) → IfErr result (λ e. e ≡ dav_errors.Memory)
+  pub works_replied : (meta : Option Meta) (old now : Store) (result : Result (Response Body) DavError) → Looked held request target old now meta → IfOk result (λ reply. reply_of reply ≡ put_reply found meta) → IfErr result (λ e. e ≡ dav_errors.Memory)
       → PutWorks old (answer_of result) now
   works_replied meta old now (Ok reply) h is _ = record {
     records = h.records;

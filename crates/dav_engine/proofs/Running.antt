@@ -1,5 +1,5 @@
 -- Runs go on by one step.
-use Rattle.std.proofs.Common.{◌≡◌, ℕ, ◌+◌, ◌<◌, List, [], ◌∷◌, ◌++◌, length, take, get_or, map, refl, append-nil, append_assoc, Result, Option, Some, None, is_some, option_map, subst, Bool, true, sym, ap, ◌∙◌}
+use Rattle.std.proofs.Common.{◌≡◌, ℕ, ◌+◌, ◌<◌, List, [], ◌∷◌, ◌++◌, length, take, get_or, map, refl, append-nil, append_assoc, Result, Option, Some, None, is_some, option_map, subst, sym, ap, ◌∙◌}
 use Rattle.std.specs.Option.{ForSome, option_map_or}
 use Rattle.std.proofs.lemmas.List.{take_more, map-append}
 use Rattle.http.specs.declared.response.Response.{Response}
@@ -9,8 +9,8 @@ use Rattle.dav_resource.specs.declared.method.DavMethod.{DavMethod}
 use Rattle.dav_resource.specs.declared.request.Body.{Body}
 use Rattle.dav_resource.specs.declared.request.DavRequest.{DavRequest}
 use Rattle.dav_store.specs.Logged.{Logged}
-use Rattle.dav_store.specs.Store.{Store, IsWellFormed}
-use Rattle.dav_store.specs.Locks.{Locks}
+use Rattle.dav_store.specs.Store.{Store, Facts, IsWellFormed}
+use Rattle.dav_store.specs.Locks.{Locks, Reliable, all_reliable}
 use Rattle.dav_store.specs.LockCalls.{HasDistinctTokens}
 use Rattle.dav_parts.specs.Reply.{Answer, answer_of}
 use Rattle.dav_engine.specs.State.{State, Seen, state_of, facts_of, IsLawfulState, HasSameSystem}
@@ -25,21 +25,21 @@ use Rattle.dav_engine.specs.Step.{Serves, Run, Runs}
 system_there : (seen : Seen) → is_some (state_of seen).locks ≡ is_some (facts_of seen).1
 system_there seen = by_locks seen.locks
   where
-    by_locks : (locks : Option Locks) → is_some (option_map (λ (l : Locks). l.list) locks) ≡ is_some (option_map (λ (l : Locks). l.dependable) locks)
+    by_locks : (locks : Option Locks) → is_some (option_map (λ (l : Locks). l.list) locks) ≡ is_some (option_map (λ (l : Locks). l.reliable) locks)
     by_locks None = refl
     by_locks (Some l) = refl
 
-system_dependable : (seen : Seen) → (state_of seen).dependable ≡ option_map_or (λ (b : Bool). b) (facts_of seen).1 true
-system_dependable seen = by_locks seen.locks
+system_reliable : (seen : Seen) → (state_of seen).reliable ≡ option_map_or (λ (r : Reliable). r) (facts_of seen).1 all_reliable
+system_reliable seen = by_locks seen.locks
   where
-    by_locks : (locks : Option Locks) → option_map_or (λ (l : Locks). l.dependable) locks true ≡ option_map_or (λ (b : Bool). b) (option_map (λ (l : Locks). l.dependable) locks) true
+    by_locks : (locks : Option Locks) → option_map_or (λ (l : Locks). l.reliable) locks all_reliable ≡ option_map_or (λ (r : Reliable). r) (option_map (λ (l : Locks). l.reliable) locks) all_reliable
     by_locks None = refl
     by_locks (Some l) = refl
 
 pub same_system : (old new : Seen) → facts_of new ≡ facts_of old → HasSameSystem (state_of old) (state_of new)
 same_system old new fixed = record {
-  there = system_there new ∙ ap (λ (f : Bool × Option Bool). is_some f.1) fixed ∙ sym (system_there old);
-  dependable = system_dependable new ∙ ap (λ (f : Bool × Option Bool). option_map_or (λ (b : Bool). b) f.1 true) fixed ∙ sym (system_dependable old);
+  there = system_there new ∙ ap (λ (f : Facts × Option Reliable). is_some f.1) fixed ∙ sym (system_there old);
+  reliable = system_reliable new ∙ ap (λ (f : Facts × Option Reliable). option_map_or (λ (r : Reliable). r) f.1 all_reliable) fixed ∙ sym (system_reliable old);
 }
 
 module _ (settings : Settings) where
@@ -78,7 +78,7 @@ module _ (settings : Settings) where
 -- an engine keeps its settings
 pub same_settings : {C F L : Type 0} (see_store : F → Store) (see_locks : L → Locks) (old new : DavInner C F L) → frame new ≡ frame old → facts_of (seen_by see_store see_locks new) ≡ facts_of (seen_by see_store see_locks old)
     → settings_by see_store new ≡ settings_by see_store old
-same_settings see_store see_locks old new same fixed = λ i. record { prefix = (same i).1.0; allow = (same i).1.1; keeps_properties = (fixed i).0 }
+same_settings see_store see_locks old new same fixed = λ i. record { prefix = (same i).1.0; allow = (same i).1.1; facts = (fixed i).0 }
 
 pub served_under : (method : Option DavMethod) (now settings : Settings) (old : Seen) (request : DavRequest) (answer : Answer) (new : Seen) → now ≡ settings → Serves method now old request answer new → Serves method settings old request answer new
 served_under method now settings old request answer new same serves = subst (λ s. Serves method s old request answer new) same serves

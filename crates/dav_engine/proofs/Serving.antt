@@ -12,7 +12,7 @@ use Rattle.dav_resource.specs.declared.request.Body.{Body}
 use Rattle.dav_resource.specs.declared.request.DavRequest.{DavRequest}
 use Rattle.dav_store.specs.Logged.{Logged}
 use Rattle.dav_store.specs.Store.{Store, Contents}
-use Rattle.dav_store.specs.Locks.{Locks}
+use Rattle.dav_store.specs.Locks.{Locks, all_reliable}
 use Rattle.dav_parts.specs.Dialogue.{Refuses, EndsIn, Judges, Reaches}
 use Rattle.dav_parts.specs.Reply.{Reply, Answer, answer_of, reply_of}
 use Rattle.dav_engine.specs.State.{State, Seen, state_of, facts_of}
@@ -27,12 +27,12 @@ use Rattle.dav_engine.proofs.Guarding.{Guards, guarded_same, guards_mkcol, guard
 abbrev pub over : Store → Option Locks → Seen
 over store locks = record { store = store; locks = locks }
 
--- the facts stay where the store's one does
-pub same_facts : (locks : Option Locks) (old new : Store) → new.keeps_properties ≡ old.keeps_properties → facts_of (over new locks) ≡ facts_of (over old locks)
-same_facts locks old new fixed = λ i. (fixed i, option_map (λ (l : Locks). l.dependable) locks)
+-- the facts stay where the store's do
+pub same_facts : (locks : Option Locks) (old new : Store) → new.facts ≡ old.facts → facts_of (over new locks) ≡ facts_of (over old locks)
+same_facts locks old new fixed = λ i. (fixed i, option_map (λ (l : Locks). l.reliable) locks)
 
 pub same_state : (locks : Option Locks) (old new : Store) → new.contents ≡ old.contents → state_of (over new locks) ≡ state_of (over old locks)
-same_state locks old new same = λ i. record { contents = same i; locks = option_map (λ (l : Locks). l.list) locks; dependable = option_map_or (λ (l : Locks). l.dependable) locks true }
+same_state locks old new same = λ i. record { contents = same i; locks = option_map (λ (l : Locks). l.list) locks; reliable = option_map_or (λ (l : Locks). l.reliable) locks all_reliable }
 
 -- what is proved of a method: a request of this name is served by it, the locks guard it, and it keeps them compatible
 pub record IsSound (name : Option DavMethod) (method : Method) : Type 0 where

@@ -17,7 +17,7 @@ use Rattle.dav_resource.specs.declared.request.DavRequest.{DavRequest}
 use Rattle.dav_store.specs.Calls.{Call, open_call}
 use Rattle.dav_store.specs.LockCalls.{is_named, refreshed, with_refreshed}
 use Rattle.dav_store.specs.Logged.{Logged, logged}
-use Rattle.dav_store.specs.Store.{Contents, File}
+use Rattle.dav_store.specs.Store.{Contents, Bodies, File}
 use Rattle.dav_store.specs.declared.lock.DavLock.{DavLock}
 use Rattle.dav_parts.specs.Dialogue.{Dialogue, Asks, Refuses, Passed, needs, LeadsTo, WasGranted}
 use Rattle.dav_parts.specs.Reply.{Reply, Answer}
@@ -93,8 +93,8 @@ module _ (request : DavRequest) (old new : State) where
   alone_same : new ≡ old → ChangesPathAlone request old new
   alone_same same = record { elsewhere = λ key apart. ap (λ (s : State). get s.contents.tree key) same; properties = ap (λ (s : State). s.contents.properties) same }
 
-  alone_put : (target : Target) (records : List Logged) → PutLeaves request target records old.contents new.contents → ChangesPathAlone request old new
-  alone_put target records leaves = by_calls (granted_or_not OpenFile is_open request.path.key records) (granted_or_not WriteBytes is_write request.path.key records)
+  alone_put : (held : Bodies) (target : Target) (records : List Logged) → PutLeaves held request target records old.contents new.contents → ChangesPathAlone request old new
+  alone_put held target records leaves = by_calls (granted_or_not OpenFile is_open request.path.key records) (granted_or_not WriteBytes is_write request.path.key records)
     where
       at : (bytes : List ℕ) → IsFileAt request.path.key bytes old.contents new.contents → ChangesPathAlone request old new
       at bytes file = record { elsewhere = λ key apart. ap (λ t. get t key) file.tree ∙ put_elsewhere old.contents.tree request.path.key key (File bytes) apart; properties = file.properties }
@@ -108,9 +108,9 @@ module _ (request : DavRequest) (old new : State) where
 
   alone_step : (partial : Bool) (settings : Settings) (records : List Logged) (answer : Answer) → StepBy (write_method partial) settings request old records answer new → ChangesPathAlone request old new
   alone_step partial settings records answer (Refused h) = alone_same h.same
-  alone_step partial settings records answer (Done h) = alone_put h.work.0.target h.rest h.work.0.leaves
+  alone_step partial settings records answer (Done h) = alone_put settings.facts.bodies h.work.0.target h.rest h.work.0.leaves
   alone_step partial settings records answer (CutShort h) = alone_same h.same
-  alone_step partial settings records answer (CutInWork h) = alone_put h.work.0.target h.rest h.work.0.leaves
+  alone_step partial settings records answer (CutInWork h) = alone_put settings.facts.bodies h.work.0.target h.rest h.work.0.leaves
 
 pub serves_alone : (method : Option DavMethod) (settings : Settings) (old : Seen) (request : DavRequest) (answer : Answer) (new : Seen) → Serves (Some (put_method method)) settings old request answer new → ChangesPathAlone request (state_of old) (state_of new)
 serves_alone method settings old request answer new h = by_method (is_patch method) h.step
@@ -170,47 +170,47 @@ refreshed_alone request token old new is = ap (option_map (map untimed)) is ∙ 
     by_locks None = refl
     by_locks (Some list) = ap Some (untimed_refreshed request.path.key token (refresh_timeout request) request.now list)
 
-module _ (request : DavRequest) (old new : State) where
-  nothing_same : (answer : Answer) → new ≡ old → MakesNothing request answer old new
+module _ (settings : Settings) (request : DavRequest) (old new : State) where
+  nothing_same : (answer : Answer) → new ≡ old → MakesNothing settings request answer old new
   nothing_same answer same = record { contents = ap (λ (s : State). s.contents) same; locks = λ _. inl (ap (λ (s : State). s.locks) same) }
 
-  -- a dependable lock system takes it back
-  gone : (lock : DavLock) → TakesBack lock old new → old.dependable ≡ true → LocksStay old new
-  gone lock (inl same) dependable = same
-  gone lock (inr kept) dependable = absurd (let no : true ≡ false = sym dependable ∙ kept.0 in cc)
+  -- a lock system whose `unlock` is reliable takes it back
+  gone : (lock : DavLock) → TakesBack lock old new → old.reliable.unlock ≡ true → LocksStay old new
+  gone lock (inl same) reliable = same
+  gone lock (inr kept) reliable = absurd (let no : true ≡ false = sym reliable ∙ kept.0 in cc)
 
-  ungranted_new : (found : Option Meta) (lock : DavLock) (records : List Logged) (answer : Answer) → GrantsLock request found lock old records answer new → MakesNothingUnlessLocked request answer old new
+  ungranted_new : (found : Option Meta) (lock : DavLock) (records : List Logged) (answer : Answer) → GrantsLock request found lock old records answer new → MakesNothingUnlessLocked settings request answer old new
   ungranted_new found lock records (Ok reply) h otherwise = untold (Ok reply) (granted_reply request found lock) (ap Ok h.tells.answered.2) (granted_told request found lock) otherwise
-  ungranted_new found lock records (Err e) h otherwise = record { contents = no_file request found records old.contents new.contents e h.tells.answered h.tells.leaves; locks = λ dependable. inl (gone lock h.locks dependable) }
+  ungranted_new found lock records (Err e) h otherwise = record { contents = no_file request found records old.contents new.contents e h.tells.answered h.tells.leaves; locks = λ reliable. inl (gone lock h.locks reliable) }
 
-  ungranted_work : (found : Option Meta) (records : List Logged) (answer : Answer) (refresh : Bool) → LockWorkBy refresh request found old records answer new → MakesNothingUnlessLocked request answer old new
+  ungranted_work : (found : Option Meta) (records : List Logged) (answer : Answer) (refresh : Bool) → LockWorkBy refresh request found old records answer new → MakesNothingUnlessLocked settings request answer old new
   ungranted_work found records answer false work otherwise = by_end work.done
     where
       asked : DavLock
       asked = lock_asked request found work.info
 
-      by_end : GrantsLock request found asked old records answer new ⊎ DeniesLock asked old records answer new → MakesNothing request answer old new
+      by_end : GrantsLock request found asked old records answer new ⊎ DeniesLock asked old records answer new → MakesNothing settings request answer old new
       by_end (inl granted) = ungranted_new found asked records answer granted otherwise
       by_end (inr denied) = nothing_same answer denied.same
   ungranted_work found records answer true work otherwise = by_end work.done
     where
-      by_end : RefreshesTold request found work.token old answer new ⊎ FindsNoLock request work.token old answer new → MakesNothing request answer old new
+      by_end : RefreshesTold request found work.token old answer new ⊎ FindsNoLock request work.token old answer new → MakesNothing settings request answer old new
       by_end (inl told) = untold answer (refreshed_reply request.path found told.lock) told.told refl otherwise
       by_end (inr none) = record { contents = work.same; locks = λ _. inl none.locks }
 
-  ungranted_cut : (found : Option Meta) (records : List Logged) (answer : Answer) → answer ≡ Err Memory → (refresh : Bool) → is_refresh request.body ≡ refresh → LockCutBy refresh request found old records new → MakesNothing request answer old new
-  ungranted_cut found records answer memory false is cut = record { contents = cut.same; locks = λ dependable. inl (gone (lock_asked request found cut.info) cut.locks dependable) }
+  ungranted_cut : (found : Option Meta) (records : List Logged) (answer : Answer) → answer ≡ Err Memory → (refresh : Bool) → is_refresh settings.facts.bodies request.body ≡ refresh → LockCutBy refresh request found old records new → MakesNothing settings request answer old new
+  ungranted_cut found records answer memory false is cut = record { contents = cut.same; locks = λ reliable. inl (gone (lock_asked request found cut.info) cut.locks reliable) }
   ungranted_cut found records answer memory true is cut = record { contents = cut.same; locks = λ _. by_end cut.locks }
     where
-      by_end : LocksStay old new ⊎ RefreshesAlone request cut.token old new → LocksStay old new ⊎ MayHaveRefreshed request answer old new
+      by_end : LocksStay old new ⊎ RefreshesAlone request cut.token old new → LocksStay old new ⊎ MayHaveRefreshed settings request answer old new
       by_end (inl same) = inl same
       by_end (inr alone) = inr (record { refresh = is; told = memory; same = refreshed_alone request cut.token old new alone })
 
-  ungranted_step : (settings : Settings) (records : List Logged) (answer : Answer) → StepBy lock_method settings request old records answer new → MakesNothingUnlessLocked request answer old new
-  ungranted_step settings records answer (Refused h) otherwise = nothing_same answer h.same
-  ungranted_step settings records answer (Done h) otherwise = ungranted_work h.found h.rest answer (is_refresh request.body) h.work otherwise
-  ungranted_step settings records answer (CutShort h) otherwise = nothing_same answer h.same
-  ungranted_step settings records answer (CutInWork h) otherwise = ungranted_cut h.found h.rest answer h.told (is_refresh request.body) refl h.work
+  ungranted_step : (records : List Logged) (answer : Answer) → StepBy lock_method settings request old records answer new → MakesNothingUnlessLocked settings request answer old new
+  ungranted_step records answer (Refused h) otherwise = nothing_same answer h.same
+  ungranted_step records answer (Done h) otherwise = ungranted_work h.found h.rest answer (is_refresh settings.facts.bodies request.body) h.work otherwise
+  ungranted_step records answer (CutShort h) otherwise = nothing_same answer h.same
+  ungranted_step records answer (CutInWork h) otherwise = ungranted_cut h.found h.rest answer h.told (is_refresh settings.facts.bodies request.body) refl h.work
 
-pub serves_ungranted : (settings : Settings) (old : Seen) (request : DavRequest) (answer : Answer) (new : Seen) → Serves (Some Lock) settings old request answer new → MakesNothingUnlessLocked request answer (state_of old) (state_of new)
-serves_ungranted settings old request answer new h = ungranted_step request (state_of old) (state_of new) settings h.records answer h.step
+pub serves_ungranted : (settings : Settings) (old : Seen) (request : DavRequest) (answer : Answer) (new : Seen) → Serves (Some Lock) settings old request answer new → MakesNothingUnlessLocked settings request answer (state_of old) (state_of new)
+serves_ungranted settings old request answer new h = ungranted_step settings request (state_of old) (state_of new) h.records answer h.step

@@ -2,7 +2,7 @@
 use Rattle.std.specs.Prelude.{ℕ, List, Option, option_map, string_bytes}
 use Rattle.std.specs.Borrow.{GName}
 use Rattle.dav_resource.specs.declared.method.DavMethodSet.{DavMethodSet}
-use Rattle.dav_store.specs.Store.{Store}
+use Rattle.dav_store.specs.Store.{Store, Bodies}
 use Rattle.dav_store.specs.Locks.{Locks}
 use Rattle.dav_engine.specs.Settings.{Settings}
 use Rattle.dav_engine.specs.State.{State, Seen, state_of}
@@ -39,4 +39,8 @@ module _ {C F L : Type 0} where
 
   -- the settings, which no request changes
   abbrev pub settings_by : (F → Store) → DavInner C F L → Settings
-  settings_by see_store engine = record { prefix = string_bytes engine.prefix; allow = engine.allow; keeps_properties = (see_store (lent engine)).keeps_properties }
+  settings_by see_store engine = record { prefix = string_bytes engine.prefix; allow = engine.allow; facts = (see_store (lent engine)).facts }
+
+  -- the bodies that the store holds
+  abbrev pub bodies_by : (F → Store) → DavInner C F L → Bodies
+  bodies_by see_store engine = (see_store (lent engine)).facts.bodies

@@ -56,12 +56,12 @@ pub record IsEmptied (request : DavRequest) (new : State) : Type 0 where
 abbrev pub IsUnlocked : DavRequest → State → Type 0
 IsUnlocked request new = ForSome new.locks (λ locks. at_or_below locks request.path.key ≡ [])
 
--- after a 204 nothing is left at the path (`IsEmptied`) and, if the lock system is reliable, no lock (`IsUnlocked`)
+-- after a 204 nothing is left at the path (`IsEmptied`) and, if the lock system's `delete` is reliable, no lock (`IsUnlocked`)
 abbrev pub EmptiesPath : DavRequest → State → Answer → State → Type 0
-EmptiesPath request old answer new = IsNoContent answer → IsEmptied request new × (old.dependable ≡ true → IsUnlocked request new)
+EmptiesPath request old answer new = IsNoContent answer → IsEmptied request new × (old.reliable.delete ≡ true → IsUnlocked request new)
 
--- Nothing is left at the path (`IsEmptied`), and the locks at or below it are removed, and no others (an unreliable lock system may keep all locks).
--- The status is 204, or the result is `Memory`.
+-- Nothing is left at the path (`IsEmptied`), and the locks at or below it are removed, and no others (a lock system whose `delete` is not reliable
+-- may keep all locks). The status is 204, or the result is `Memory`.
 pub record IsGoneWithLocks (request : DavRequest) (old : State) (answer : Answer) (new : State) : Type 0 where
   pub told : IsNoContent answer ⊎ (answer ≡ Err Memory)
   pub emptied : IsEmptied request new
@@ -86,13 +86,13 @@ tells_transferred (Ok reply) = nat_eq reply.status 201 || nat_eq reply.status 20
 tells_transferred (Err e) = false
 
 -- Everything at the path and below it, with its dead properties, is now at the path in `Destination` and below that, in place of everything that was
--- there. Nothing is left at the path or below it. No other file, directory or dead property changes, nor does the quota's limit. If the lock system
--- is reliable, no lock is left whose own path is the request's path or below it.
+-- there. Nothing is left at the path or below it. No other file, directory or dead property changes, nor does the quota's limit. If the lock system's
+-- `delete` is reliable, no lock is left whose own path is the request's path or below it.
 pub record IsMovedWhole (settings : Settings) (request : DavRequest) (old new : State) : Type 0 where
   pub destination : PathValue
   pub named : destination_of request.headers settings.prefix ≡ Ok destination
   pub renamed : IsRenamedTo request.path.key destination.key old.contents new.contents
-  pub unlocked : old.dependable ≡ true → IsUnlocked request new
+  pub unlocked : old.reliable.delete ≡ true → IsUnlocked request new
 
 -- after a 201 or 204 everything has moved (`IsMovedWhole`)
 abbrev pub MovesWhole : Settings → DavRequest → State → Answer → State → Type 0
@@ -128,20 +128,20 @@ abbrev pub untimed_locks : State → Option (List DavLock)
 untimed_locks state = option_map (map untimed) state.locks
 
 -- the request is a refresh, the result is `Memory`, and the locks are the same except for their timeouts
-pub record MayHaveRefreshed (request : DavRequest) (answer : Answer) (old new : State) : Type 0 where
-  pub refresh : is_refresh request.body ≡ true
+pub record MayHaveRefreshed (settings : Settings) (request : DavRequest) (answer : Answer) (old new : State) : Type 0 where
+  pub refresh : is_refresh settings.facts.bodies request.body ≡ true
   pub told : answer ≡ Err Memory
   pub same : untimed_locks new ≡ untimed_locks old
 
--- The contents of the store are unchanged. If the lock system is reliable, the locks are unchanged too, except that after a refresh with the result
--- `Memory` timeouts may differ.
-pub record MakesNothing (request : DavRequest) (answer : Answer) (old new : State) : Type 0 where
+-- The contents of the store are unchanged. If the lock system's `unlock` is reliable, the locks are unchanged too, except that after a refresh with
+-- the result `Memory` timeouts may differ.
+pub record MakesNothing (settings : Settings) (request : DavRequest) (answer : Answer) (old new : State) : Type 0 where
   pub contents : new.contents ≡ old.contents
-  pub locks : old.dependable ≡ true → LocksStay old new ⊎ MayHaveRefreshed request answer old new
+  pub locks : old.reliable.unlock ≡ true → LocksStay old new ⊎ MayHaveRefreshed settings request answer old new
 
--- after any result other than a 200 or 201, no file and, if the lock system is reliable, no lock is created (`MakesNothing`)
-abbrev pub MakesNothingUnlessLocked : DavRequest → Answer → State → State → Type 0
-MakesNothingUnlessLocked request answer old new = tells_lock answer ≡ false → MakesNothing request answer old new
+-- after any result other than a 200 or 201, no file and, if the lock system's `unlock` is reliable, no lock is created (`MakesNothing`)
+abbrev pub MakesNothingUnlessLocked : Settings → DavRequest → Answer → State → State → Type 0
+MakesNothingUnlessLocked settings request answer old new = tells_lock answer ≡ false → MakesNothing settings request answer old new
 
 -- ---- COPY
 
@@ -186,7 +186,7 @@ property_of element = property_key element.tag.namespace element.tag.name
 -- stored (`AreStored`); otherwise nothing changes.
 pub record StoresAllOrNothing (settings : Settings) (request : DavRequest) (old : State) (reply : Reply) (new : State) : Type 0 where
   pub changes : List Change
-  pub asked : update_verdict settings.keeps_properties request.body ≡ Ok changes
+  pub asked : update_verdict settings.facts.keeps_properties request.body ≡ Ok changes
   pub told : List Told
   pub each : map (λ (t : Told). property_of t.1) told ≡ map (λ change. property_of change.element) (live_first changes)
   pub shown : reply ≡ proppatch_reply request.path (old.contents.metas request.path.key) (grouped told)
@@ -204,7 +204,7 @@ KeepsUnlessTold old answer new = (e : DavError) → answer ≡ Err e → e ≢ M
 -- a body in which some change is rejected before the store is asked (`some_refused`) changes nothing
 abbrev pub StoresNothingBesideRefused : Settings → DavRequest → State → State → Type 0
 StoresNothingBesideRefused settings request old new =
-    (changes : List Change) → update_verdict settings.keeps_properties request.body ≡ Ok changes → some_refused changes ≡ true → ChangesNothing old new
+    (changes : List Change) → update_verdict settings.facts.keeps_properties request.body ≡ Ok changes → some_refused changes ≡ true → ChangesNothing old new
 
 -- ---- PROPFIND
 

@@ -1,5 +1,5 @@
 -- LOCK (RFC 4918, section 9.10): locks a resource, and creates an empty file if nothing exists there. Without a body it refreshes a lock.
-use Rattle.std.specs.Prelude.{◌≡◌, ◌≢◌, ℕ, min, Bool, true, false, nat_eq, if◌then◌else◌, List, [], ◌∷◌, ◌++◌, length, Option, Some, None, is_some, option_map, Result, Ok, Err, ◌⊎◌}
+use Rattle.std.specs.Prelude.{◌≡◌, ◌≢◌, ℕ, min, Bool, true, false, if◌then◌else◌, List, [], ◌∷◌, ◌++◌, Option, Some, None, is_some, option_map, Result, Ok, Err, ◌⊎◌}
 use Rattle.std.specs.Option.{option_map_or}
 use Rattle.std.specs.List.{find}
 use Rattle.std.specs.FinMap.{get}
@@ -14,13 +14,12 @@ use Rattle.dav_resource.specs.declared.error.DavError.TheVariants as dav_errors
 use Rattle.dav_resource.specs.declared.request.Depth.{Depth}
 use Rattle.dav_resource.specs.declared.request.Depth.TheVariants.{Zero}
 use Rattle.dav_resource.specs.declared.request.ReqBody.{ReqBody}
-use Rattle.dav_resource.specs.declared.request.ReqBody.TheVariants as bodies
 use Rattle.dav_resource.specs.declared.request.DavRequest.{DavRequest}
 use Rattle.dav_headers.specs.Timeout.{timeout_of}
 use Rattle.dav_headers.specs.declared.timeout.DavTimeout.{DavTimeout}
 use Rattle.dav_headers.specs.declared.timeout.DavTimeout.TheVariants.{Infinite, Seconds}
 use Rattle.dav_store.specs.Logged.{Logged}
-use Rattle.dav_store.specs.Store.{Contents}
+use Rattle.dav_store.specs.Store.{Contents, Bodies}
 use Rattle.dav_store.specs.Calls.{open_call, limit_of}
 use Rattle.dav_store.specs.Locks.{Locks, grants}
 use Rattle.dav_store.specs.LockCalls.{asked_lock, is_named, has_named, refreshed, with_refreshed, RefreshesLock}
@@ -30,6 +29,7 @@ use Rattle.dav_store.specs.declared.lock.LockError.TheVariants as lock_errors
 use Rattle.dav_parts.specs.Conditions.{submitted_tokens}
 use Rattle.dav_parts.specs.Dialogue.{Dialogue, Passed, needs, look, ◌>>=◌, WasGranted}
 use Rattle.dav_parts.specs.Reply.{Answer}
+use Rattle.dav_parts.specs.RequestBody.{is_empty_body}
 use Rattle.dav_engine.specs.Answered.{IsAnswered}
 use Rattle.dav_engine.specs.LockInfo.{lock_info_of, lock_info_verdict}
 use Rattle.dav_engine.specs.LockReply.{granted_reply, refreshed_reply}
@@ -63,10 +63,8 @@ abbrev pub look_to_lock : DavRequest → State → Dialogue (Option Meta)
 look_to_lock request state = judged (locks_verdict state) >>= λ _. look state.contents request.path.key
 
 -- the request is a refresh: it has no body, or one of no bytes
-abbrev pub is_refresh : ReqBody → Bool
-is_refresh bodies.None = true
-is_refresh (bodies.Bytes bytes) = nat_eq (length bytes) 0
-is_refresh _ = false
+abbrev pub is_refresh : Bodies → ReqBody → Bool
+is_refresh = is_empty_body
 
 -- the only submitted token; if there is none, or more than one: 400
 abbrev pub one_token : List (List ℕ) → Result (List ℕ) DavError
@@ -91,8 +89,8 @@ new_lock_rules request state =
     judged (lock_info_verdict request.body) >>= λ _.
     Passed found
 
-abbrev pub lock_rules : DavRequest → State → Dialogue (Option Meta)
-lock_rules request state = if is_refresh request.body then refresh_rules request state else new_lock_rules request state
+abbrev pub lock_rules : Bodies → DavRequest → State → Dialogue (Option Meta)
+lock_rules held request state = if is_refresh held request.body then refresh_rules request state else new_lock_rules request state
 
 -- ---- a new lock
 
@@ -120,11 +118,11 @@ pub record AddsToLocks (lock : DavLock) (old new : State) : Type 0 where
   pub granted : is_granted old lock ≡ true
   pub added : new.locks ≡ option_map (λ list. list ++ lock ∷ []) old.locks
 
--- the locks are the same as before; or the lock was added, and a lock system that is not reliable keeps it
+-- the locks are the same as before; or the lock was added, and a lock system whose `unlock` is not reliable keeps it
 abbrev pub TakesBack : DavLock → State → State → Type 0
-TakesBack lock old new = LocksStay old new ⊎ ((old.dependable ≡ false) × AddsToLocks lock old new)
+TakesBack lock old new = LocksStay old new ⊎ ((old.reliable.unlock ≡ false) × AddsToLocks lock old new)
 
--- after a response the lock is added; after an error it is not, except that a lock system that is not reliable may keep it
+-- after a response the lock is added; after an error it is not, except that a lock system whose `unlock` is not reliable may keep it
 abbrev pub LeavesLock : DavLock → Answer → State → State → Type 0
 LeavesLock lock (Ok reply) old new = AddsToLocks lock old new
 LeavesLock lock (Err e) old new = TakesBack lock old new
@@ -175,8 +173,8 @@ pub record NewLockWork (request : DavRequest) (found : Option Meta) (old : State
   pub asked : lock_info_of request.body ≡ Some info
   pub done : GrantsLock request found (lock_asked request found info) old records answer new ⊎ DeniesLock (lock_asked request found info) old records answer new
 
--- memory ran out: no call was made, the contents are unchanged, and so are the locks, except that a lock system that is not reliable may keep the
--- lock
+-- memory ran out: no call was made, the contents are unchanged, and so are the locks, except that a lock system whose `unlock` is not reliable may
+-- keep the lock
 pub record NewLockCut (request : DavRequest) (found : Option Meta) (old : State) (records : List Logged) (new : State) : Type 0 where
   pub info : LockInfo
   pub asked : lock_info_of request.body ≡ Some info
@@ -241,12 +239,12 @@ abbrev pub LockWorkBy : Bool → DavRequest → Option Meta → State → List L
 LockWorkBy true request found old records answer new = RefreshWork request found old records answer new
 LockWorkBy false request found old records answer new = NewLockWork request found old records answer new
 
-abbrev pub LockWork : DavRequest → Option Meta → State → List Logged → Answer → State → Type 0
-LockWork request = LockWorkBy (is_refresh request.body) request
+abbrev pub LockWork : Bodies → DavRequest → Option Meta → State → List Logged → Answer → State → Type 0
+LockWork held request = LockWorkBy (is_refresh held request.body) request
 
 abbrev pub LockCutBy : Bool → DavRequest → Option Meta → State → List Logged → State → Type 0
 LockCutBy true request found old records new = RefreshCut request old records new
 LockCutBy false request found old records new = NewLockCut request found old records new
 
-abbrev pub LockCut : DavRequest → Option Meta → State → List Logged → State → Type 0
-LockCut request = LockCutBy (is_refresh request.body) request
+abbrev pub LockCut : Bodies → DavRequest → Option Meta → State → List Logged → State → Type 0
+LockCut held request = LockCutBy (is_refresh held request.body) request

@@ -40,9 +40,9 @@ abbrev pub write_method : Bool → Method
 write_method partial =
     record {
       Found = Option Meta;
-      rules = λ settings. put_rules partial;
-      Work = λ settings request found. OnStore (PutWork partial request found);
-      Cut = λ settings request found. CutOnStore (PutCut partial request found);
+      rules = λ settings. put_rules settings.facts.bodies partial;
+      Work = λ settings request found. OnStore (PutWork settings.facts.bodies partial request found);
+      Cut = λ settings request found. CutOnStore (PutCut settings.facts.bodies partial request found);
     }
 
 abbrev pub delete_method : Method
@@ -55,7 +55,13 @@ abbrev pub move_method : Method
 move_method = record { Found = Transfer; rules = transfer_rules true; Work = λ settings. MoveWork; Cut = λ settings. MoveCut }
 
 abbrev pub lock_method : Method
-lock_method = record { Found = Option Meta; rules = λ settings. lock_rules; Work = λ settings. LockWork; Cut = λ settings. LockCut }
+lock_method =
+    record {
+      Found = Option Meta;
+      rules = λ settings. lock_rules settings.facts.bodies;
+      Work = λ settings. LockWork settings.facts.bodies;
+      Cut = λ settings. LockCut settings.facts.bodies;
+    }
 
 abbrev pub unlock_method : Method
 unlock_method = record { Found = Option Meta; rules = λ settings. unlock_rules; Work = λ settings. UnlockWork; Cut = λ settings request found. Unbegun }
@@ -64,16 +70,16 @@ abbrev pub proppatch_method : Method
 proppatch_method =
     record {
       Found = Update;
-      rules = λ settings. proppatch_rules settings.keeps_properties;
-      Work = λ settings request found. OnStore (ProppatchWork settings.keeps_properties request found);
-      Cut = λ settings request found. CutOnStore (ProppatchCut settings.keeps_properties request found);
+      rules = λ settings. proppatch_rules settings.facts.keeps_properties;
+      Work = λ settings request found. OnStore (ProppatchWork settings.facts.keeps_properties request found);
+      Cut = λ settings request found. CutOnStore (ProppatchCut settings.facts.keeps_properties request found);
     }
 
 abbrev pub options_method : Method
 options_method = record { Found = Option Meta; rules = λ settings. options_rules; Work = λ settings. OptionsWork settings.allow; Cut = λ settings request found. Unbegun }
 
 abbrev pub propfind_method : Method
-propfind_method = record { Found = Meta × Asking; rules = λ settings. propfind_rules; Work = PropfindWork; Cut = PropfindCut }
+propfind_method = record { Found = Meta × Asking; rules = λ settings. propfind_rules settings.facts.bodies; Work = PropfindWork; Cut = PropfindCut }
 
 -- a method that is not served: the result is 501, no call is made, and nothing changes
 pub record IsUnserved (old : State) (records : List Logged) (answer : Answer) (new : State) : Type 0 where

@@ -50,7 +50,7 @@ RenamesOrStops source destination old new records had has answer =
 pub record Renaming (source destination : PathValue) (old new : Store) (had has : List Item) (answer : Result (Unit {0}) DavError) : Type 0 where
   pub records : List Logged
   pub told : new.log ≡ old.log ++ records
-  pub fixed : new.keeps_properties ≡ old.keeps_properties
+  pub fixed : new.facts ≡ old.facts
   pub done : RenamesOrStops source destination old.contents new.contents records had has answer
 
 -- ---- the work

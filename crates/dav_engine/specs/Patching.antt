@@ -18,8 +18,8 @@ use Rattle.dav_engine.specs.Step.{WorksOnStore}
 pub record StoresChanges (key : Key) (patches : List Patch) (old : Store) (told : Result (List ℕ) FsError) (new : Store) : Type 0 where
   pub records : List Logged
   pub logged : new.log ≡ old.log ++ records
-  pub fixed : new.keeps_properties ≡ old.keeps_properties
-  pub stored : MakesChanges old.keeps_properties key patches old.contents records told new.contents
+  pub fixed : new.facts ≡ old.facts
+  pub stored : MakesChanges old.facts.keeps_properties key patches old.contents records told new.contents
 
 -- the error: `Memory`, and nothing happened; or that of the store's call, which made none of the changes
 abbrev pub IsUnmade : Key → List Patch → Store → DavError → Store → Type 0
@@ -32,4 +32,5 @@ Storing key patches old (Err e) new = IsUnmade key patches old e new
 
 -- the whole work, or work that stopped because memory ran out
 abbrev pub Patching : DavRequest → Update → Store → Answer → Store → Type 0
-Patching request update old = WorksOnStore (ProppatchWork old.keeps_properties request update) (ProppatchCut old.keeps_properties request update) old
+Patching request update old =
+    WorksOnStore (ProppatchWork old.facts.keeps_properties request update) (ProppatchCut old.facts.keeps_properties request update) old

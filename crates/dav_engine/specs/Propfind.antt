@@ -12,6 +12,7 @@ use Rattle.dav_resource.specs.declared.request.Depth.TheVariants.{Default}
 use Rattle.dav_headers.specs.Depth.{depth_of}
 use Rattle.dav_headers.specs.Client.{user_agent_of, litmus_of}
 use Rattle.dav_store.specs.Logged.{Logged}
+use Rattle.dav_store.specs.Store.{Bodies}
 use Rattle.dav_parts.specs.DavElement.{declaring_element, with_elements}
 use Rattle.dav_parts.specs.Dialogue.{Dialogue, Passed, Refuses, ◌>>=◌}
 use Rattle.dav_parts.specs.Multistatus.{xml_type}
@@ -68,22 +69,30 @@ propfind_reply request found visits =
 -- ---- the rules
 
 -- in order: a lookup of the path that must succeed, and what the body requests
-abbrev pub sought_rules : DavRequest → State → Dialogue (Meta × Asking)
-sought_rules request state =
+abbrev pub sought_rules : Bodies → DavRequest → State → Dialogue (Meta × Asking)
+sought_rules held request state =
     must_find state.contents request.path.key >>= λ meta.
-    judged (asking_of request.body (user_agent_of request.headers)) >>= λ asking.
+    judged (asking_of held request.body (user_agent_of request.headers)) >>= λ asking.
     Passed (meta, asking)
 
 -- Depth infinity is rejected first, by a response (501), except for litmus; then `sought_rules` apply
-abbrev pub propfind_rules : DavRequest → State → Dialogue (Meta × Asking)
-propfind_rules request state = if is_too_deep request then Refuses (Ok finite_depth_reply) else sought_rules request state
+abbrev pub propfind_rules : Bodies → DavRequest → State → Dialogue (Meta × Asking)
+propfind_rules held request state = if is_too_deep request then Refuses (Ok finite_depth_reply) else sought_rules held request state
 
 -- ---- the work
 
--- how properties are read: the kind of the search, whether the store supports dead properties, the locks, the principal and the user agent
+-- how properties are read: the kind of the search, whether the store supports dead properties, which members a listing may show, the locks, the
+-- principal and the user agent
 abbrev pub view_in : Settings → DavRequest → State → FindKind → View
 view_in settings request state kind =
-    record { kind = kind; keeps = settings.keeps_properties; locks = state.locks; principal = request.principal; user_agent = user_agent_of request.headers }
+    record {
+      kind = kind;
+      keeps = settings.facts.keeps_properties;
+      shows = settings.facts.shows;
+      locks = state.locks;
+      principal = request.principal;
+      user_agent = user_agent_of request.headers;
+    }
 
 -- the resource at the path, whose path has a trailing slash if it is a directory
 abbrev pub target_at : DavRequest → Meta → Resource

@@ -1,5 +1,6 @@
 -- PROPPATCH (RFC 4918, section 9.2): sets and removes properties, all of them or none.
 use Rattle.std.specs.Prelude.{◌≡◌, ◌≢◌, ◌⊎◌, ℕ, Bool, if◌then◌else◌, List, [], ◌∷◌, codes, length, replicate, Option, Some, None, Result, Ok, Err}
+use Rattle.std.specs.FinMap.{get}
 use Rattle.http.specs.declared.version.TheConstants.Version.{HTTP_11}
 use Rattle.dav_resource.specs.Errors.{from_fs}
 use Rattle.dav_resource.specs.Key.{Key}
@@ -7,13 +8,14 @@ use Rattle.dav_resource.specs.PathText.{PathValue}
 use Rattle.dav_resource.specs.declared.error.FsError.{FsError}
 use Rattle.dav_resource.specs.declared.error.FsError.TheVariants.{GeneralFailure}
 use Rattle.dav_resource.specs.declared.meta.Meta.{Meta}
+use Rattle.dav_resource.specs.declared.record.Op.TheVariants.{PatchProps}
 use Rattle.dav_resource.specs.declared.record.Outcome.{Outcome}
 use Rattle.dav_resource.specs.declared.record.Outcome.TheVariants.{Granted, Refused}
 use Rattle.dav_resource.specs.declared.request.Body.{Body}
 use Rattle.dav_resource.specs.declared.request.DavRequest.{DavRequest}
 use Rattle.dav_store.specs.Calls.{Call, IsLawful, error_of, record_of}
 use Rattle.dav_store.specs.Logged.{Logged}
-use Rattle.dav_store.specs.PropertyCalls.{Patch, patch_props_call, patch_record, IsPatchedAt}
+use Rattle.dav_store.specs.PropertyCalls.{Patch, properties_bar, patch_record, IsPatchedAt}
 use Rattle.dav_store.specs.Store.{Contents}
 use Rattle.dav_parts.specs.Dialogue.{Dialogue, Passed, Refuses, ◌>>=◌}
 use Rattle.dav_parts.specs.Multistatus.{xml_type}
@@ -63,7 +65,7 @@ proppatch_rules keeps request state =
 
 -- the `patch_props` call on a key, for a store that supports dead properties or does not
 abbrev pub patch_call : Bool → Contents → Key → Call
-patch_call keeps contents key = patch_props_call (record { contents = contents; keeps_properties = keeps; log = [] }) key
+patch_call keeps contents key = record { op = PatchProps; keys = key ∷ []; bar = properties_bar keeps (get contents.tree key) }
 
 -- the statuses if all changes are made: 200 for each
 abbrev pub all_made : List Patch → List ℕ

@@ -20,13 +20,13 @@ use Rattle.dav_resource.specs.declared.error.DavError.{DavError}
 use Rattle.dav_resource.specs.declared.error.DavError.TheVariants.{StatusClose}
 use Rattle.dav_resource.specs.declared.error.DavError.TheVariants as dav_errors
 use Rattle.dav_resource.specs.declared.request.ReqBody.{ReqBody}
-use Rattle.dav_resource.specs.declared.request.ReqBody.TheVariants as bodies
 use Rattle.dav_resource.specs.declared.request.DavRequest.{DavRequest}
 use Rattle.dav_headers.specs.Body.{checksum_of}
 use Rattle.dav_store.specs.Logged.{Logged}
-use Rattle.dav_store.specs.Store.{Store, Contents}
+use Rattle.dav_store.specs.Store.{Store, Contents, Bodies}
 use Rattle.dav_store.specs.Calls.{Call, open_call, file_call, bytes_at, written_at, Seeks, Writes}
 use Rattle.dav_parts.specs.Reply.{Answer}
+use Rattle.dav_parts.specs.RequestBody.{body_bytes}
 use Rattle.dav_engine.specs.PutReply.{put_reply}
 use Rattle.dav_engine.specs.State.{State}
 use Rattle.dav_engine.specs.Rules.{look_closely, path_rules, judged, closing}
@@ -38,34 +38,27 @@ use Rattle.dav_engine.specs.Opening.{making_options, open_error, IsFileAt}
 
 -- ---- the rules
 
--- the bytes of a body, none for no body; a body that is a tree, or is malformed, has no bytes (`None`)
-abbrev pub body_bytes : ReqBody → Option (List ℕ)
-body_bytes bodies.None = Some []
-body_bytes (bodies.Bytes bytes) = Some bytes
-body_bytes (bodies.Tree tree) = None
-body_bytes bodies.Malformed = None
-
 -- the bytes to write: those of the body, or no bytes if it has none
-abbrev pub new_bytes : ReqBody → List ℕ
-new_bytes body = option_map_or (λ bytes. bytes) (body_bytes body) []
+abbrev pub new_bytes : Bodies → ReqBody → List ℕ
+new_bytes held body = option_map_or (λ (bytes : List ℕ). bytes) (body_bytes held body) []
 
 -- the bytes to write are as many as the target states, if it states a length
-abbrev pub has_length : Target → ReqBody → Bool
-has_length target body = option_map_or (nat_eq (length (new_bytes body))) target.length true
+abbrev pub has_length : Bodies → Target → ReqBody → Bool
+has_length held target body = option_map_or (nat_eq (length (new_bytes held body))) target.length true
 
 -- a body that is not bytes, or does not have the stated length, is rejected: 400, and the connection is closed
-abbrev pub body_verdict : Target → ReqBody → Option Meta → Result (Option Meta) DavError
-body_verdict target body found = if is_some (body_bytes body) && has_length target body then Ok found else Err (StatusClose 400)
+abbrev pub body_verdict : Bodies → Target → ReqBody → Option Meta → Result (Option Meta) DavError
+body_verdict held target body found = if is_some (body_bytes held body) && has_length held target body then Ok found else Err (StatusClose 400)
 
 -- In order: a lookup of the path, the target of the write, the conditions, the locks that cover the path, and then the body. The connection is closed
 -- after each rejection except one: if the range counts from the end of the file and the lookup failed with an error other than `NotFound`, that error
 -- is the result.
-abbrev pub put_rules : Bool → DavRequest → State → Dialogue (Option Meta)
-put_rules partial request state =
+abbrev pub put_rules : Bodies → Bool → DavRequest → State → Dialogue (Option Meta)
+put_rules held partial request state =
     look_closely state.contents request.path.key >>= λ looked.
     judged (target_of partial request.headers looked) >>= λ target.
     refusing closing (path_rules request state (result_ok looked)) >>= λ found.
-    judged (body_verdict target request.body found)
+    judged (body_verdict held target request.body found)
 
 -- the method is PATCH
 abbrev pub is_patch : Option DavMethod → Bool
@@ -116,12 +109,12 @@ look_by call meta = Asks call (λ outcome. Passed (if_granted outcome meta))
 
 -- The calls, in order: open the file, seek to the offset (if a part is written), write the bytes (if there are any), flush, and read the metadata,
 -- which is `meta`. A failure of the last call is ignored; any other failure ends the request with its error.
-abbrev pub put_steps : DavRequest → Target → Contents → Option Meta → Dialogue (Option Meta)
-put_steps request target old meta =
+abbrev pub put_steps : Bodies → DavRequest → Target → Contents → Option Meta → Dialogue (Option Meta)
+put_steps held request target old meta =
     let key = request.path.key in
     needs (open_call old key (put_options request target)) (put_open_error (put_options request target)) (
     put_seek target key (
-    put_write (new_bytes request.body) key (
+    put_write (new_bytes held request.body) key (
     needs (on_file Flush key) from_fs (
     look_by (on_file FileMetadata key) meta))))
 
@@ -137,10 +130,10 @@ final_bytes target body old = if not target.part then body else (if target.appen
 
 -- If the write was granted, the file has its final content. If only the open was granted, it has the content that it was opened with. In both cases
 -- no other file or directory and no property changes. If the open was not granted, nothing changes.
-pub record PutLeaves (request : DavRequest) (target : Target) (records : List Logged) (old new : Contents) : Type 0 where
+pub record PutLeaves (held : Bodies) (request : DavRequest) (target : Target) (records : List Logged) (old new : Contents) : Type 0 where
   pub untouched : ¬ (WasGranted OpenFile request.path.key records) → new ≡ old
   pub opened : WasGranted OpenFile request.path.key records → ¬ (WasGranted WriteBytes request.path.key records) → IsFileAt request.path.key (opened_bytes target (bytes_at (get old.tree request.path.key))) old new
-  pub written : WasGranted WriteBytes request.path.key records → IsFileAt request.path.key (final_bytes target (new_bytes request.body) (bytes_at (get old.tree request.path.key))) old new
+  pub written : WasGranted WriteBytes request.path.key records → IsFileAt request.path.key (final_bytes target (new_bytes held request.body) (bytes_at (get old.tree request.path.key))) old new
 
 -- What was found, as the result of a lookup: finding nothing counts as `NotFound`. No other error is needed: after a lookup that failed otherwise,
 -- the rules reject each target that depends on the lookup.
@@ -148,20 +141,20 @@ abbrev pub as_looked : Option Meta → Result Meta FsError
 as_looked (Some meta) = Ok meta
 as_looked None = Err NotFound
 
-pub record PutWork (partial : Bool) (request : DavRequest) (found : Option Meta) (old : Contents) (records : List Logged) (answer : Answer) (new : Contents) : Type 0 where
+pub record PutWork (held : Bodies) (partial : Bool) (request : DavRequest) (found : Option Meta) (old : Contents) (records : List Logged) (answer : Answer) (new : Contents) : Type 0 where
   pub target : Target
   pub aimed : target_of partial request.headers (as_looked found) ≡ Ok target
-  pub answered : IsAnswered (put_steps request target old (new.metas request.path.key)) (λ meta reply. reply ≡ put_reply found meta) records answer
-  pub leaves : PutLeaves request target records old new
+  pub answered : IsAnswered (put_steps held request target old (new.metas request.path.key)) (λ meta reply. reply ≡ put_reply found meta) records answer
+  pub leaves : PutLeaves held request target records old new
 
 -- Memory ran out: the records are the first calls of the work, none of which ended the request with an error, and their effect stays (`PutLeaves`).
-pub record PutCut (partial : Bool) (request : DavRequest) (found : Option Meta) (old : Contents) (records : List Logged) (new : Contents) : Type 0 where
+pub record PutCut (held : Bodies) (partial : Bool) (request : DavRequest) (found : Option Meta) (old : Contents) (records : List Logged) (new : Contents) : Type 0 where
   pub target : Target
   pub aimed : target_of partial request.headers (as_looked found) ≡ Ok target
   pub left : Dialogue (Option Meta)
-  pub calls : LeadsTo (put_steps request target old (new.metas request.path.key)) records left
+  pub calls : LeadsTo (put_steps held request target old (new.metas request.path.key)) records left
   pub goes_on : GoesOn left
-  pub leaves : PutLeaves request target records old new
+  pub leaves : PutLeaves held request target records old new
 
 -- ---- the calls on the open file
 

@@ -24,4 +24,4 @@ module _ {F L : Type 0} (see_store : F → Store) (see_locks : L → Locks) wher
   -- an engine has served these requests over this store and this lock system, with no prefix and all methods enabled (`Runs`)
   abbrev pub AreServedOver : F × L → List DavRequest → List Answer → F × L → Type 0
   AreServedOver old requests answers new =
-      Runs (plain_settings (see_store old.0).keeps_properties) (seen_with (see_store old.0) (see_locks old.1)) requests answers (seen_with (see_store new.0) (see_locks new.1))
+      Runs (plain_settings (see_store old.0).facts) (seen_with (see_store old.0) (see_locks old.1)) requests answers (seen_with (see_store new.0) (see_locks new.1))

@@ -1,13 +1,14 @@
 -- The settings of an engine and its store, which no request changes.
-use Rattle.std.specs.Prelude.{ℕ, Bool, List, [], Option, None}
+use Rattle.std.specs.Prelude.{ℕ, List, [], Option, None}
 use Rattle.dav_resource.specs.declared.method.DavMethodSet.{DavMethodSet}
+use Rattle.dav_store.specs.Store.{Facts}
 
--- the prefix of the paths of requests, the enabled methods (`None`: all; only OPTIONS reads them), and whether the store supports dead properties
+-- the prefix of the paths of requests, the enabled methods (`None`: all; only OPTIONS reads them), and the facts of the store
 pub record Settings : Type 0 where
   pub prefix : List ℕ
   pub allow : Option DavMethodSet
-  pub keeps_properties : Bool
+  pub facts : Facts
 
 -- no prefix, all methods enabled
-abbrev pub plain_settings : Bool → Settings
-plain_settings keeps_properties = record { prefix = []; allow = None; keeps_properties = keeps_properties }
+abbrev pub plain_settings : Facts → Settings
+plain_settings facts = record { prefix = []; allow = None; facts = facts }

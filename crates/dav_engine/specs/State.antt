@@ -1,20 +1,20 @@
 -- The state that requests act on: the contents of the store and, if there is a lock system, its locks (RFC 4918, sections 5 and 6).
-use Rattle.std.specs.Prelude.{◌≡◌, ◌⊎◌, ℕ, Bool, true, false, List, Option, Some, is_some, option_map}
+use Rattle.std.specs.Prelude.{◌≡◌, ◌⊎◌, ℕ, false, List, Option, Some, is_some, option_map}
 use Rattle.std.specs.Option.{ForSome, option_map_or}
 use Rattle.dav_resource.specs.Key.{Key}
 use Rattle.dav_resource.specs.declared.error.DavError.{DavError}
 use Rattle.dav_resource.specs.declared.error.DavError.TheVariants.{Memory, Status}
-use Rattle.dav_store.specs.Store.{Store, Contents, IsWellFormed}
-use Rattle.dav_store.specs.Locks.{Locks, elsewhere, AreCompatible}
+use Rattle.dav_store.specs.Store.{Store, Contents, Facts, IsWellFormed}
+use Rattle.dav_store.specs.Locks.{Locks, Reliable, all_reliable, elsewhere, AreCompatible}
 use Rattle.dav_store.specs.LockCalls.{HasDistinctTokens}
 use Rattle.dav_store.specs.declared.lock.DavLock.{DavLock}
 
--- The contents of the store, and the locks if there is a lock system. `dependable` says that the lock system is reliable: it never fails to remove a
--- lock that exists. Without a lock system `state_of` sets it to true.
+-- The contents of the store, and the locks if there is a lock system. `reliable` says which of the lock system's calls are reliable: whether `delete`
+-- never fails, and whether `unlock` of a lock that exists never fails. Without a lock system `state_of` sets both to true.
 pub record State : Type 0 where
   pub contents : Contents
   pub locks : Option (List DavLock)
-  pub dependable : Bool
+  pub reliable : Reliable
 
 -- a state that a store and a lock system may be in: the contents are well-formed, and no two locks have the same token
 pub record IsLawfulState (state : State) : Type 0 where
@@ -39,17 +39,17 @@ state_of seen =
     record {
       contents = seen.store.contents;
       locks = option_map (λ (l : Locks). l.list) seen.locks;
-      dependable = option_map_or (λ (l : Locks). l.dependable) seen.locks true;
+      reliable = option_map_or (λ (l : Locks). l.reliable) seen.locks all_reliable;
     }
 
--- the facts that no request changes: whether the store supports dead properties, whether there is a lock system, and whether that is reliable
-abbrev pub facts_of : Seen → Bool × Option Bool
-facts_of seen = (seen.store.keeps_properties, option_map (λ (l : Locks). l.dependable) seen.locks)
+-- the facts that no request changes: those of the store, whether there is a lock system, and which of its calls are reliable
+abbrev pub facts_of : Seen → Facts × Option Reliable
+facts_of seen = (seen.store.facts, option_map (λ (l : Locks). l.reliable) seen.locks)
 
--- both states have a lock system, or neither; and `dependable` is the same
+-- both states have a lock system, or neither; and the same calls are reliable
 pub record HasSameSystem (old new : State) : Type 0 where
   pub there : is_some new.locks ≡ is_some old.locks
-  pub dependable : new.dependable ≡ old.dependable
+  pub reliable : new.reliable ≡ old.reliable
 
 -- ---- changes of the locks
 
@@ -57,9 +57,9 @@ pub record HasSameSystem (old new : State) : Type 0 where
 abbrev pub LocksStay : State → State → Type 0
 LocksStay old new = new.locks ≡ old.locks
 
--- the locks at or below the key are removed, and no others; a lock system that is not reliable may keep all locks instead
+-- the locks at or below the key are removed, and no others; a lock system whose `delete` is not reliable may keep all locks instead
 abbrev pub DropsLocks : Key → State → State → Type 0
-DropsLocks key old new = (new.locks ≡ option_map (λ list. elsewhere list key) old.locks) ⊎ ((old.dependable ≡ false) × LocksStay old new)
+DropsLocks key old new = (new.locks ≡ option_map (λ list. elsewhere list key) old.locks) ⊎ ((old.reliable.delete ≡ false) × LocksStay old new)
 
 -- the same for a view of the engine, in which nothing else changes
 pub record DropsSeen (key : Key) (old new : Seen) : Type 0 where

@@ -32,11 +32,11 @@ pub record Performs (Done : State → List Logged → Answer → State → Type 
   pub done : Done (state_of old) records answer (state_of new) ⊎ ((answer ≡ Err Memory) × Cut (state_of old) records (state_of new))
 
 -- The same for work that uses only the store: the log gained `records`, over which the work is `Done` with this result, or the result is `Memory` and
--- `Cut` holds. The store supports dead properties exactly if it did before.
+-- `Cut` holds. The facts of the store are unchanged.
 pub record WorksOnStore (Done : Contents → List Logged → Answer → Contents → Type 0) (Cut : Contents → List Logged → Contents → Type 0) (old : Store) (answer : Answer) (new : Store) : Type 0 where
   pub records : List Logged
   pub told : new.log ≡ old.log ++ records
-  pub fixed : new.keeps_properties ≡ old.keeps_properties
+  pub fixed : new.facts ≡ old.facts
   pub done : Done old.contents records answer new.contents ⊎ ((answer ≡ Err Memory) × Cut old.contents records new.contents)
 
 -- A run under settings that stay the same: the requests in order, with one result for each. Each request is a `Step` as its own method, over its own

@@ -36,9 +36,9 @@ pub record Unlocks (request : DavRequest) (found : Option Meta) (token : List �
   pub told : answer ≡ Ok (unlocked_reply request.path found)
   pub locks : new.locks ≡ option_map (without_named request.path.key token) old.locks
 
--- there is no such lock, or the lock system is not reliable: 409, and the locks are unchanged
+-- there is no such lock, or the lock system's `unlock` is not reliable: 409, and the locks are unchanged
 pub record UnlocksNothing (request : DavRequest) (token : List ℕ) (old : State) (answer : Answer) (new : State) : Type 0 where
-  pub none : (old.dependable && has_lock request token old) ≡ false
+  pub none : (old.reliable.unlock && has_lock request token old) ≡ false
   pub told : answer ≡ Err (Status 409)
   pub locks : LocksStay old new
 

@@ -28,9 +28,9 @@ impl<'a, C: Drop, F: GuardedFileSystem<C>, L: DavLockSystem> DavInner<'a, C, F, 
     /// are created without. Executes any request as COPY, whatever its method.
     ///
     /// First the resource at the destination is removed, with everything below it and the locks there. (A
-    /// lock system that is not reliable may keep them.) With Depth 0 a directory at the destination stays
-    /// instead. If the store fails to remove something, a 207 lists the failures, nothing is copied, and no
-    /// lock is dropped. What then stays at the destination is as after a failed DELETE.
+    /// lock system whose `delete` is not reliable may keep them.) With Depth 0 a directory at the destination
+    /// stays instead. If the store fails to remove something, a 207 lists the failures, nothing is copied, and
+    /// no lock is dropped. What then stays at the destination is as after a failed DELETE.
     ///
     /// If the store fails to copy something, a 207 lists the failures. If there is only one, and it is
     /// reported for the source itself, the response has its status instead. If the destination is below the

@@ -21,8 +21,8 @@ use http::{Response, StatusCode};
 
 impl<'a, C: Drop, F: GuardedFileSystem<C>, L: DavLockSystem> DavInner<'a, C, F, L> {
     /// Deletes a resource, with everything below it unless Depth is 0, and the locks there. Returns 204. (A
-    /// lock system that is not reliable may keep the locks.) Executes any request as DELETE, whatever its
-    /// method.
+    /// lock system whose `delete` is not reliable may keep the locks.) Executes any request as DELETE,
+    /// whatever its method.
     ///
     /// If the store fails to remove something, a 207 lists the failures (RFC 4918, section 9.6.1). If there
     /// is only one, and it is reported for the resource itself, the response has its status instead. No lock

@@ -43,9 +43,10 @@ pub use dav_props::{
     tell_failed, tell_made,
 };
 pub use dav_resource::{
-    Body, ChildElements, DavError, DavFile, DavMethod, DavMethodSet, DavPath, DavProp, DavRequest,
-    DavResult, Depth, DirEntry, ETag, ETagList, Element, FsError, FsResult, IfRange, Items,
-    LockToken, Meta, Op, OpenOptions, Outcome, Record, ReqBody, SharedElement, Text, XMLNode,
+    Body, BodyNumber, ChildElements, DavError, DavFile, DavMethod, DavMethodSet, DavPath, DavProp,
+    DavRequest, DavResult, Depth, DirEntry, ETag, ETagList, Element, FsError, FsResult, IfRange,
+    Items, LockToken, Meta, Op, OpenOptions, Outcome, Paths, Record, ReqBody, SharedElement, Text,
+    XMLNode,
 };
 pub use dav_store::{DavLock, DavLockSystem, GuardedFileSystem, LockError};
 pub use dav_walks::{Resource, delete_items, do_copy};

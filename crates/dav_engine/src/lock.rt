@@ -7,7 +7,7 @@ ghost use Rattle.dav_store.specs.LockCalls.{AddsLock};
 ghost use Rattle.dav_parts.specs.Dialogue.{Judges};
 ghost use Rattle.dav_parts.specs.Reply.{answer_of};
 ghost use Rattle.dav_engine.specs.Answered.{Unbegun};
-ghost use Rattle.dav_engine.specs.DavInner.{lent, lent_locks, frame, seen_by, state_by};
+ghost use Rattle.dav_engine.specs.DavInner.{lent, lent_locks, frame, seen_by, state_by, settings_by, bodies_by};
 ghost use Rattle.dav_engine.specs.Served.{IsServed};
 ghost use Rattle.dav_engine.specs.Laws.{MakesNothingUnlessLocked};
 ghost use Rattle.dav_engine.specs.LockInfo.{lock_info_of};
@@ -24,8 +24,9 @@ use crate::lock_info::{LockInfo, read_lock_info};
 use crate::lock_reply::granted_reply;
 use crate::opening::{making_options, misplaced_status};
 use dav_headers::{DavTimeout, read_timeout};
+use dav_parts::is_empty_body;
 use dav_resource::{
-    Body, DavError, DavPath, DavRequest, DavResult, Depth, FsError, Meta, OpenOptions, ReqBody,
+    Body, DavError, DavPath, DavRequest, DavResult, Depth, FsError, Meta, OpenOptions,
 };
 use dav_store::{DavLock, DavLockSystem, GuardedFileSystem, LockError};
 use http::{Response, StatusCode};
@@ -37,12 +38,13 @@ impl<'a, C: Drop, F: GuardedFileSystem<C>, L: DavLockSystem> DavInner<'a, C, F, 
     /// If the lookup finds nothing, a new lock gets 201, and an empty file is created unless there is one
     /// (RFC 4918, section 7.3). The body says whether the lock is shared or exclusive. With Depth 0 it covers
     /// only the path, else also everything below it. It lasts as long as `get_timeout` says. A request
-    /// without a body, or with an empty one, refreshes the lock whose token is in its header `If`, and
-    /// returns 200. Its conditions are not checked. The new timeout is that of an exclusive lock, even if the
-    /// lock is shared.
+    /// without a body, or with an empty one (which the store may hold), refreshes the lock whose token is in
+    /// its header `If`, and returns 200. Its conditions are not checked. The new timeout is that of an
+    /// exclusive lock, even if the lock is shared.
     ///
     /// Errors of a new lock, checked in this order. After each of them, and after `Memory`, no file has been
-    /// created and no lock added, except that a lock system that is not reliable may keep the new lock.
+    /// created and no lock added, except that a lock system whose `unlock` is not reliable may keep the new
+    /// lock.
     /// - 405 without a lock system.
     /// - 400 for Depth 1.
     /// - The status of a condition that does not hold (RFC 7232; RFC 4918, section 10.4).
@@ -61,9 +63,9 @@ impl<'a, C: Drop, F: GuardedFileSystem<C>, L: DavLockSystem> DavInner<'a, C, F, 
     pub fn handle_lock(&mut self, request: &DavRequest) -> DavResult<Response<Body>>
         ensures same_engine { frame self.new ≡ frame self.old }
         ensures step { IsServed F.seen L.seen (Some Lock) self.old request.entry.now (answer_of result) self.new }
-        ensures ungranted { MakesNothingUnlessLocked request.entry.now (answer_of result) (state_by F.seen L.seen self.old) (state_by F.seen L.seen self.new) }
+        ensures ungranted { MakesNothingUnlessLocked (settings_by F.seen self.old) request.entry.now (answer_of result) (state_by F.seen L.seen self.old) (state_by F.seen L.seen self.new) }
     {
-        if is_refresh(&request.body) {
+        if is_empty_body::<C, F>(&*self.fs, &request.body) {
             self.refresh(request)
         } else {
             self.new_lock(request)
@@ -72,7 +74,7 @@ impl<'a, C: Drop, F: GuardedFileSystem<C>, L: DavLockSystem> DavInner<'a, C, F, 
 
     /// Executes a LOCK for a new lock: first the rules, and then the work.
     fn new_lock(&mut self, request: &DavRequest) -> DavResult<Response<Body>>
-        requires body { is_refresh_body request.now.body ≡ false }
+        requires body { is_refresh_body (bodies_by F.seen self.old) request.now.body ≡ false }
         ensures same_engine { frame self.new ≡ frame self.old }
         ensures step { IsServed F.seen L.seen (Some Lock) self.old request.entry.now (answer_of result) self.new }
     {
@@ -196,17 +198,6 @@ fn greatest_timeout(shared: bool) -> u64
     ensures { result ≡ greatest_timeout_of shared }
 {
     if shared { 86400 } else { 600 }
-}
-
-/// Returns whether there is no body, or an empty one.
-fn is_refresh(body: &ReqBody) -> bool
-    ensures { result ≡ is_refresh_body body.now }
-{
-    match body {
-        ReqBody::None => true,
-        ReqBody::Bytes(bytes) => bytes.as_slice().is_empty(),
-        ReqBody::Tree(_) | ReqBody::Malformed => false,
-    }
 }
 
 /// Returns whether everything below the resource is locked with it.

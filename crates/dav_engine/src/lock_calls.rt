@@ -35,7 +35,7 @@ impl<'a, C: Drop, F: GuardedFileSystem<C>, L: DavLockSystem> DavInner<'a, C, F, 
     }
 
     /// Removes the lock of this token, at the path or above it, and returns whether it did. If not, nothing
-    /// has changed: there is no such lock, or a lock system that is not reliable has kept it.
+    /// has changed: there is no such lock, or a lock system whose `unlock` is not reliable has kept it.
     pub(crate) fn remove_lock(&mut self, path: &DavPath, token: &str) -> bool
         requires locks { is_some (lent_locks self.old) ≡ true }
         ensures same_engine { frame self.new ≡ frame self.old }

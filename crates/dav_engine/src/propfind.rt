@@ -57,7 +57,7 @@ impl<'a, C: Drop, F: GuardedFileSystem<C>, L: DavLockSystem> DavInner<'a, C, F, 
             return finite_depth_reply(alloc);
         }
         let meta = self.find(request)?;
-        let search = read_search(alloc, &request.body, user_agent(request))?;
+        let search = read_search::<C, F>(&*self.fs, alloc, &request.body, user_agent(request))?;
         self.tell_found(request, meta, &search)
     }
 

@@ -1,16 +1,16 @@
 //! PUT (RFC 9110, section 9.3.4; RFC 4918, section 9.7) and PATCH (RFC 5789).
-ghost use Rattle.std.specs.Prelude.{◌≡◌, ◌<◌, ◌+◌, ◌^◌, true, false, length, if◌then◌else◌, IfOk, IfErr, OnErr, Some, Ok, option_map};
-ghost use Rattle.std.specs.Option.{ForSome};
+ghost use Rattle.std.specs.Prelude.{◌≡◌, ◌<◌, ◌+◌, ◌^◌, nat_eq, true, false, length, if◌then◌else◌, IfOk, IfErr, OnOk, OnErr, Some, Ok};
+ghost use Rattle.std.specs.Option.{ForSome, option_map_or};
 ghost use Rattle.dav_resource.specs.Methods.{method_of};
 ghost use Rattle.dav_store.specs.Store.{IsTagText};
-ghost use Rattle.dav_engine.specs.DavInner.{lent, lent_locks, frame, state_by};
+ghost use Rattle.dav_engine.specs.DavInner.{lent, lent_locks, frame, state_by, bodies_by};
 ghost use Rattle.dav_engine.specs.Served.{IsServed};
 ghost use Rattle.dav_engine.specs.Laws.{ChangesPathAlone};
 ghost use Rattle.dav_parts.specs.Reply.{answer_of};
 ghost use Rattle.dav_parts.specs.Dialogue.{Judges};
 ghost use Rattle.dav_headers.specs.Body.{checksum_of};
 ghost use Rattle.dav_engine.specs.Target.{target_of};
-ghost use Rattle.dav_engine.specs.Put.{body_bytes as bytes_of_body, new_bytes as bytes_of_request, has_length as has_stated_length, put_rules, put_method, is_patch as is_patch_method, as_looked, put_options as options_of_put, put_open_error as error_of_open, put_seek_error as seek_error_of, PutWork, PutCut, SeeksPlace, WritesBody, look_at_file as file_look, body_verdict};
+ghost use Rattle.dav_engine.specs.Put.{new_bytes as bytes_of_request, put_rules, put_method, is_patch as is_patch_method, as_looked, put_options as options_of_put, put_open_error as error_of_open, put_seek_error as seek_error_of, PutWork, PutCut, SeeksPlace, WritesBody, look_at_file as file_look, body_verdict};
 ghost use Rattle.dav_engine.specs.Rules.{found_in};
 ghost use Rattle.dav_engine.specs.Step.{WorksOnStore};
 
@@ -20,6 +20,7 @@ use crate::opening::{making_options, misplaced_status};
 use crate::put_reply::put_reply;
 use crate::target::{Target, find_target, stated_length};
 use dav_headers::read_checksum;
+use dav_parts::body_length;
 use dav_resource::{
     Body, DavError, DavFile, DavMethod, DavRequest, DavResult, FsError, FsResult, Meta,
     OpenOptions, ReqBody, Text,
@@ -36,7 +37,8 @@ impl<'a, C: Drop, F: GuardedFileSystem<C>, L: DavLockSystem> DavInner<'a, C, F, 
     /// A PUT replaces the whole file, unless its Content-Range names a part of it. A PATCH writes the body at
     /// the offset that X-Update-Range names, or at the end of the file. A Content-Range also applies to a
     /// PATCH: its offset replaces the one of X-Update-Range, but an append still appends. If the file ends
-    /// before the offset and the body is not empty, zeros fill the gap. No body counts as an empty one.
+    /// before the offset and the body is not empty, zeros fill the gap. No body counts as an empty one. A body
+    /// that the store holds (`ReqBody::Stored`) is written from there, and stays there.
     ///
     /// Errors before the file is opened. After each of them nothing has changed. Each status here and in the
     /// next paragraph is a `StatusClose`: the server closes the connection. The store's errors are not.
@@ -47,7 +49,8 @@ impl<'a, C: Drop, F: GuardedFileSystem<C>, L: DavLockSystem> DavInner<'a, C, F, 
     ///   is there.
     /// - The status of a condition that does not hold (RFC 7232; RFC 4918, section 10.4).
     /// - 423 if the locks do not permit the request.
-    /// - 400 for a body that is not bytes, or that does not have the stated length.
+    /// - 400 for a body that is not bytes, or that does not have the stated length. A number under which the
+    ///   store holds no body is not bytes.
     /// - If the file cannot be opened with `If-Match: *` or `If-None-Match: *`: 412 if its parent is not a
     ///   collection or if the condition does not hold after all. Without them: 409 if its parent is not a
     ///   collection. Else the store's error.
@@ -78,13 +81,29 @@ impl<'a, C: Drop, F: GuardedFileSystem<C>, L: DavLockSystem> DavInner<'a, C, F, 
         ensures same_engine { frame self.new ≡ frame self.old }
         ensures same_locks { lent_locks self.new ≡ lent_locks self.old }
         ensures aimed { IfOk result (λ passed. target_of partial request.entry.now.headers (as_looked passed.0) ≡ Ok passed.1) }
-        ensures reach { IfOk result (λ passed. passed.1.part ≡ true → passed.1.start + length (bytes_of_request request.entry.now.body) < 2 ^ 64) }
-        ensures rules { Judges (put_rules partial request.entry.now (state_by F.seen L.seen self.old)) (F.seen (lent self.old)) (found_in result) (F.seen (lent self.new)) }
+        ensures reach { IfOk result (λ passed. (if passed.1.part then passed.1.start else 0) + length (bytes_of_request (bodies_by F.seen self.old) request.entry.now.body) < 2 ^ 64) }
+        ensures rules { Judges (put_rules (bodies_by F.seen self.old) partial request.entry.now (state_by F.seen L.seen self.old)) (F.seen (lent self.old)) (found_in result) (F.seen (lent self.new)) }
     {
         let looked = self.look_closely(&request.path)?;
         let target = find_target(partial, &request.headers, &looked)?;
         let found = closed(self.judge_path(request, looked.ok()))?;
-        Ok((judge_body(&target, &request.body, found)?, target))
+        Ok((self.judge_body(&target, &request.body, found)?, target))
+    }
+
+    /// Returns `found` if the body is bytes and has the stated length; else rejects the request with 400.
+    fn judge_body(
+        &self,
+        target: &Target,
+        body: &ReqBody,
+        found: Option<Meta>,
+    ) -> DavResult<Option<Meta>>
+        ensures verdict { result ≡ body_verdict (bodies_by F.seen self.now) target.now body.now found }
+        ensures fits { OnOk result (length (bytes_of_request (bodies_by F.seen self.now) body.now) < 2 ^ 64) }
+    {
+        match body_length::<C, F>(&*self.fs, body) {
+            Some(length) if has_length(target, length) => Ok(found),
+            _ => Err(DavError::StatusClose(StatusCode::BAD_REQUEST)),
+        }
     }
 
     /// The work: writes the file and makes the response.
@@ -96,10 +115,10 @@ impl<'a, C: Drop, F: GuardedFileSystem<C>, L: DavLockSystem> DavInner<'a, C, F, 
         target: &Target,
     ) -> DavResult<Response<Body>>
         requires aimed { target_of partial request.now.headers (as_looked found) ≡ Ok target.now }
-        requires reach { target.now.part ≡ true → target.now.start + length (bytes_of_request request.now.body) < 2 ^ 64 }
+        requires reach { (if target.now.part then target.now.start else 0) + length (bytes_of_request (bodies_by F.seen self.old) request.now.body) < 2 ^ 64 }
         ensures same_engine { frame self.new ≡ frame self.old }
         ensures same_locks { lent_locks self.new ≡ lent_locks self.old }
-        ensures work { WorksOnStore (PutWork partial request.entry.now found) (PutCut partial request.entry.now found) (F.seen (lent self.old)) (answer_of result) (F.seen (lent self.new)) }
+        ensures work { WorksOnStore (PutWork (bodies_by F.seen self.old) partial request.entry.now found) (PutCut (bodies_by F.seen self.old) partial request.entry.now found) (F.seen (lent self.old)) (answer_of result) (F.seen (lent self.new)) }
     {
         let options = put_options(*self.prefix.allocator(), request, target)?;
         self.write_with(partial, request, found, target, &options)
@@ -115,11 +134,11 @@ impl<'a, C: Drop, F: GuardedFileSystem<C>, L: DavLockSystem> DavInner<'a, C, F, 
         options: &OpenOptions,
     ) -> DavResult<Response<Body>>
         requires aimed { target_of partial request.now.headers (as_looked found) ≡ Ok target.now }
-        requires reach { target.now.part ≡ true → target.now.start + length (bytes_of_request request.now.body) < 2 ^ 64 }
+        requires reach { (if target.now.part then target.now.start else 0) + length (bytes_of_request (bodies_by F.seen self.old) request.now.body) < 2 ^ 64 }
         requires options { options.now ≡ options_of_put request.now target.now }
         ensures same_engine { frame self.new ≡ frame self.old }
         ensures same_locks { lent_locks self.new ≡ lent_locks self.old }
-        ensures work { WorksOnStore (PutWork partial request.entry.now found) (PutCut partial request.entry.now found) (F.seen (lent self.old)) (answer_of result) (F.seen (lent self.new)) }
+        ensures work { WorksOnStore (PutWork (bodies_by F.seen self.old) partial request.entry.now found) (PutCut (bodies_by F.seen self.old) partial request.entry.now found) (F.seen (lent self.old)) (answer_of result) (F.seen (lent self.new)) }
     {
         let mut file = match self.fs.open(&request.path, options, &self.credentials) {
             Ok(file) => file,
@@ -128,7 +147,7 @@ impl<'a, C: Drop, F: GuardedFileSystem<C>, L: DavLockSystem> DavInner<'a, C, F, 
         if let Err(error) = self.seek_place(&mut file, target) {
             return Err(put_seek_error(error));
         }
-        self.write_body(&mut file, new_bytes(&request.body))?;
+        self.write_body(&mut file, &request.body)?;
         self.fs.flush(&file, &self.credentials)?;
         let meta = self.look_at_file(&file)?;
         put_reply(*self.prefix.allocator(), found, meta)
@@ -147,18 +166,24 @@ impl<'a, C: Drop, F: GuardedFileSystem<C>, L: DavLockSystem> DavInner<'a, C, F, 
         self.fs.seek(file, target.start, &self.credentials)
     }
 
-    /// Writes the bytes, if there are any.
-    fn write_body(&mut self, file: &mut DavFile, bytes: &[u8]) -> FsResult<()>
-        requires { file.old.append ≡ false → file.old.pos + length bytes.now < 2 ^ 64 }
+    /// Writes the body's bytes, if there are any.
+    fn write_body(&mut self, file: &mut DavFile, body: &ReqBody) -> FsResult<()>
+        requires { file.old.append ≡ false → file.old.pos + length (bytes_of_request (bodies_by F.seen self.old) body.now) < 2 ^ 64 }
         ensures same_engine { frame self.new ≡ frame self.old }
         ensures same_locks { lent_locks self.new ≡ lent_locks self.old }
         ensures same_file { file.new.path ≡ file.old.path }
-        ensures written { WritesBody (F.seen (lent self.old)) file.old bytes.now result (F.seen (lent self.new)) }
+        ensures written { WritesBody (F.seen (lent self.old)) file.old (bytes_of_request (bodies_by F.seen self.old) body.now) result (F.seen (lent self.new)) }
     {
-        if bytes.is_empty() {
+        if body_length::<C, F>(&*self.fs, body).unwrap_or(0) == 0 {
             return Ok(());
         }
-        self.fs.write_bytes(file, bytes, &self.credentials)
+        match body {
+            ReqBody::Bytes(bytes) => self
+                .fs
+                .write_bytes(file, bytes.as_slice(), &self.credentials),
+            ReqBody::Stored(number) => self.fs.write_body(file, *number, &self.credentials),
+            ReqBody::None | ReqBody::Tree(_) | ReqBody::Malformed => Ok(()),
+        }
     }
 
     /// Reads the metadata of an open file. If the store refuses, nothing is known of the file. The only error
@@ -178,24 +203,6 @@ impl<'a, C: Drop, F: GuardedFileSystem<C>, L: DavLockSystem> DavInner<'a, C, F, 
     }
 }
 
-/// Returns the body's bytes, or `None` for a body that is not bytes. No body is an empty one.
-fn body_bytes(body: &ReqBody) -> Option<&[u8]>
-    ensures { option_map (λ bytes. bytes.now) result ≡ bytes_of_body body.now }
-{
-    match body {
-        ReqBody::None => Some(&[]),
-        ReqBody::Bytes(bytes) => Some(bytes.as_slice()),
-        ReqBody::Tree(_) | ReqBody::Malformed => None,
-    }
-}
-
-/// Returns the bytes to write.
-fn new_bytes(body: &ReqBody) -> &[u8]
-    ensures { result.now ≡ bytes_of_request body.now }
-{
-    body_bytes(body).unwrap_or(&[])
-}
-
 /// Returns whether the method is PATCH.
 fn is_patch(method: Option<DavMethod>) -> bool
     ensures { result ≡ is_patch_method method }
@@ -203,24 +210,14 @@ fn is_patch(method: Option<DavMethod>) -> bool
     method == Some(DavMethod::Patch)
 }
 
-/// Returns whether the body has the stated length, if one is stated.
-fn has_length(target: &Target, body: &ReqBody) -> bool
-    ensures { result ≡ has_stated_length target.now body.now }
+/// Returns whether a body of this length has the stated one, if one is stated.
+fn has_length(target: &Target, length: u64) -> bool
+    ensures { result ≡ option_map_or (nat_eq length) target.now.length true }
 {
     match target.length {
-        Some(length) => new_bytes(body).len() as u64 == length,
+        Some(stated) => length == stated,
         None => true,
     }
-}
-
-/// Returns `found` if the body is bytes and has the stated length; else rejects the request with 400.
-fn judge_body(target: &Target, body: &ReqBody, found: Option<Meta>) -> DavResult<Option<Meta>>
-    ensures { result ≡ body_verdict target.now body.now found }
-{
-    if body_bytes(body).is_none() || !has_length(target, body) {
-        return Err(DavError::StatusClose(StatusCode::BAD_REQUEST));
-    }
-    Ok(found)
 }
 
 /// Returns the options to open the file for writing: it is created if the conditions allow that, and emptied

@@ -5,7 +5,7 @@ ghost use Rattle.dav_resource.specs.declared.method.DavMethod.TheVariants.{Lock}
 ghost use Rattle.dav_parts.specs.Conditions.{submitted_tokens};
 ghost use Rattle.dav_parts.specs.Dialogue.{Judges};
 ghost use Rattle.dav_parts.specs.Reply.{answer_of};
-ghost use Rattle.dav_engine.specs.DavInner.{lent, lent_locks, frame, seen_by, state_by};
+ghost use Rattle.dav_engine.specs.DavInner.{lent, lent_locks, frame, seen_by, state_by, bodies_by};
 ghost use Rattle.dav_engine.specs.Served.{IsServed};
 ghost use Rattle.dav_engine.specs.Locking.{is_refresh as is_refresh_body, one_token as one_token_of, refresh_rules, RefreshesAsked, LacksLock, RefreshWork, RefreshCut};
 ghost use Rattle.dav_engine.specs.Rules.{found_in};
@@ -24,7 +24,7 @@ use http::{Response, StatusCode};
 impl<'a, C: Drop, F: GuardedFileSystem<C>, L: DavLockSystem> DavInner<'a, C, F, L> {
     /// Executes a refresh: first the rules, and then the work.
     pub(crate) fn refresh(&mut self, request: &DavRequest) -> DavResult<Response<Body>>
-        requires body { is_refresh_body request.now.body ≡ true }
+        requires body { is_refresh_body (bodies_by F.seen self.old) request.now.body ≡ true }
         ensures same_engine { frame self.new ≡ frame self.old }
         ensures step { IsServed F.seen L.seen (Some Lock) self.old request.entry.now (answer_of result) self.new }
     {

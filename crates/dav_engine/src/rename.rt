@@ -21,8 +21,8 @@ use http::Response;
 impl<'a, C: Drop, F: GuardedFileSystem<C>, L: DavLockSystem> DavInner<'a, C, F, L> {
     /// Moves a resource, with everything below it and all properties, to the path in `Destination`. Returns
     /// 201, or 204 if something was at the destination. The locks at the source and below it are dropped (RFC
-    /// 4918, section 7.5). (A lock system that is not reliable may keep locks that are dropped.) Executes any
-    /// request as MOVE, whatever its method.
+    /// 4918, section 7.5). (A lock system whose `delete` is not reliable may keep locks that are dropped.)
+    /// Executes any request as MOVE, whatever its method.
     ///
     /// First the resource at the destination is removed, with everything below it and the locks there. If the
     /// store fails to remove something, a 207 lists the failures, nothing is moved, and no lock is dropped.

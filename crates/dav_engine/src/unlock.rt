@@ -25,8 +25,8 @@ impl<'a, C: Drop, F: GuardedFileSystem<C>, L: DavLockSystem> DavInner<'a, C, F, 
     /// principal and Depth are not checked. Executes any request as UNLOCK, whatever its method.
     ///
     /// Errors: 405 without a lock system, 400 without a `Lock-Token` that can be read, 409 if there is no
-    /// such lock or if a lock system that is not reliable fails to remove it, and `Memory`. After each of
-    /// them nothing has changed.
+    /// such lock or if a lock system whose `unlock` is not reliable fails to remove it, and `Memory`. After
+    /// each of them nothing has changed.
     pub fn handle_unlock(&mut self, request: &DavRequest) -> DavResult<Response<Body>>
         ensures same_engine { frame self.new ≡ frame self.old }
         ensures step { IsServed F.seen L.seen (Some Unlock) self.old request.entry.now (answer_of result) self.new }

@@ -1,6 +1,6 @@
 use Rattle.std.proofs.Common.{◌≡◌, ◌∙◌, true, false, sym, ap}
 use Rattle.dav_find.specs.Searching.{asking_for}
-use Rattle.dav_engine.specs.DavInner.{lent, settings_by, seen_by}
+use Rattle.dav_engine.specs.DavInner.{lent, settings_by, seen_by, bodies_by}
 use Rattle.dav_engine.specs.Methods.{propfind_method}
 use Rattle.dav_engine.specs.Propfind.{is_too_deep, finite_depth_reply}
 use Rattle.dav_engine.specs.State.{state_of}
@@ -11,42 +11,47 @@ use Rattle.dav_engine.proofs.inner.DavInner.handle_propfind.Goals as goal
 
 pub returns-then-is_too_deep-clause-step : goal.returns-then-is_too_deep-clause-step
 returns-then-is_too_deep-clause-step g c =
+    let held = bodies_by g.F.GuardedFileSystem.seen c.args.self.now in
     let state = state_of (seen_by g.F.GuardedFileSystem.seen g.L.DavLockSystem.seen c.args.self.now) in
     let deep : is_too_deep c.args.request.now ≡ true = sym c.is_too_deep.ensures ∙ c.if-is_too_deep.true in
     serves_told propfind_method propfind_sound (settings_by g.F.GuardedFileSystem.seen c.args.self.now) c.args.request.now _ _ _ finite_depth_reply c.finite_depth_reply.result c.finite_depth_reply.ensures.ok c.finite_depth_reply.ensures.err
-    (reaches_finite c.args.request.now state _ deep) (judges_lacking c.args.request.now state _)
+    (reaches_finite held c.args.request.now state _ deep) (judges_lacking held c.args.request.now state _)
 
 pub returns-in_err-meta-clause-step : goal.returns-in_err-meta-clause-step
 returns-in_err-meta-clause-step g c =
+    let held = bodies_by g.F.GuardedFileSystem.seen c.args.self.now in
     let state = state_of (seen_by g.F.GuardedFileSystem.seen g.L.DavLockSystem.seen c.args.self.now) in
     let shallow : is_too_deep c.args.request.now ≡ false = sym c.is_too_deep.ensures ∙ c.if-is_too_deep.false in
     let found = c.in_err-meta.ensures in
-    rw found.same_locks (serves_exit propfind_method propfind_sound (settings_by g.F.GuardedFileSystem.seen c.args.self.now) c.args.request.now _ _ _ _ _ c.from_residual.ensures.1 (judges_missing c.args.request.now state shallow _ _ _ found.rules))
+    rw found.same_locks (serves_exit propfind_method propfind_sound (settings_by g.F.GuardedFileSystem.seen c.args.self.now) c.args.request.now _ _ _ _ _ c.from_residual.ensures.1 (judges_missing held c.args.request.now state shallow _ _ _ found.rules))
 
 pub returns-in_err-search-clause-step : goal.returns-in_err-search-clause-step
 returns-in_err-search-clause-step g c =
+    let held = bodies_by g.F.GuardedFileSystem.seen c.args.self.now in
     let state = state_of (seen_by g.F.GuardedFileSystem.seen g.L.DavLockSystem.seen c.args.self.now) in
     let shallow : is_too_deep c.args.request.now ≡ false = sym c.is_too_deep.ensures ∙ c.if-is_too_deep.false in
     let found = c.in_ok-meta.ensures in
-    let read = rw c.user_agent.ensures at c.in_err-search.ensures in
-    rw found.same_locks (serves_exit propfind_method propfind_sound (settings_by g.F.GuardedFileSystem.seen c.args.self.now) c.args.request.now _ _ _ _ _ c.from_residual-in_err-search.ensures.1 (judges_unread_body c.args.request.now state shallow _ _ c.in_ok-meta.meta found.rules _ read))
+    let read = rw (c.user_agent.ensures, found.rules.fixed) at c.in_err-search.ensures in
+    rw found.same_locks (serves_exit propfind_method propfind_sound (settings_by g.F.GuardedFileSystem.seen c.args.self.now) c.args.request.now _ _ _ _ _ c.from_residual-in_err-search.ensures.1 (judges_unread_body held c.args.request.now state shallow _ _ c.in_ok-meta.meta found.rules _ read))
 
 pub returns-clause-step : goal.returns-clause-step
 returns-clause-step g c =
+    let held = bodies_by g.F.GuardedFileSystem.seen c.args.self.now in
     let state = state_of (seen_by g.F.GuardedFileSystem.seen g.L.DavLockSystem.seen c.args.self.now) in
     let shallow : is_too_deep c.args.request.now ≡ false = sym c.is_too_deep.ensures ∙ c.if-is_too_deep.false in
     let found = c.in_ok-meta.ensures in
-    let read = rw c.user_agent.ensures at c.in_ok-search.ensures in
+    let read = rw (c.user_agent.ensures, found.rules.fixed) at c.in_ok-search.ensures in
     let work = rw (ap (λ f. f.1.0) found.same_engine, ap (λ f. f.1.1) found.same_engine, found.rules.fixed, found.same_locks) at c.tell_found.ensures.work in
     serves_work propfind_method propfind_sound (settings_by g.F.GuardedFileSystem.seen c.args.self.now) c.args.request.now _ (c.in_ok-meta.meta, asking_for c.in_ok-search.search) _ _ _ _
-    (judges_sought c.args.request.now state shallow _ _ c.in_ok-meta.meta found.rules _ read) work
+    (judges_sought held c.args.request.now state shallow _ _ c.in_ok-meta.meta found.rules _ read) work
 
 pub tell_found-requires : goal.tell_found-requires
 tell_found-requires g c =
+    let held = bodies_by g.F.GuardedFileSystem.seen c.args.self.now in
     let state = state_of (seen_by g.F.GuardedFileSystem.seen g.L.DavLockSystem.seen c.args.self.now) in
     let shallow : is_too_deep c.args.request.now ≡ false = sym c.is_too_deep.ensures ∙ c.if-is_too_deep.false in
     let found = c.in_ok-meta.ensures in
-    rw found.rules.same (found_there c.args.request.now state shallow _ _ c.in_ok-meta.meta found.rules)
+    rw found.rules.same (found_there held c.args.request.now state shallow _ _ c.in_ok-meta.meta found.rules)
 
 pub returns-then-is_too_deep-clause-unchanged : goal.returns-then-is_too_deep-clause-unchanged
 returns-then-is_too_deep-clause-unchanged g c = propfind_unchanged _ _ _ _ _ _ (returns-then-is_too_deep-clause-step g c).step

@@ -13,14 +13,14 @@ use Rattle.dav_engine.proofs.inner.DavInner.handle_proppatch.Goals as goal
 
 pub returns-in_err-found-clause-step : goal.returns-in_err-found-clause-step
 returns-in_err-found-clause-step g c =
-    let keeps = (g.F.GuardedFileSystem.seen (lent c.args.self.now)).keeps_properties in
+    let keeps = (g.F.GuardedFileSystem.seen (lent c.args.self.now)).facts.keeps_properties in
     let state = state_of (seen_by g.F.GuardedFileSystem.seen g.L.DavLockSystem.seen c.args.self.now) in
     let judged = c.in_err-found.ensures in
     rw judged.same_locks (serves_exit proppatch_method proppatch_sound (settings_by g.F.GuardedFileSystem.seen c.args.self.now) c.args.request.now _ _ _ _ _ c.from_residual.ensures.1 (judges_unfound keeps c.args.request.now state _ _ _ judged.rules))
 
 pub returns-in_err-changes-clause-step : goal.returns-in_err-changes-clause-step
 returns-in_err-changes-clause-step g c =
-    let keeps = (g.F.GuardedFileSystem.seen (lent c.args.self.now)).keeps_properties in
+    let keeps = (g.F.GuardedFileSystem.seen (lent c.args.self.now)).facts.keeps_properties in
     let state = state_of (seen_by g.F.GuardedFileSystem.seen g.L.DavLockSystem.seen c.args.self.now) in
     let judged = c.in_ok-found.ensures in
     let read = rw (c.have_props.ensures, judged.rules.fixed) at c.in_err-changes.ensures.given in
@@ -28,7 +28,7 @@ returns-in_err-changes-clause-step g c =
 
 pub returns-in_err-groups-clause-step : goal.returns-in_err-groups-clause-step
 returns-in_err-groups-clause-step g c =
-    let keeps = (g.F.GuardedFileSystem.seen (lent c.args.self.now)).keeps_properties in
+    let keeps = (g.F.GuardedFileSystem.seen (lent c.args.self.now)).facts.keeps_properties in
     let state = state_of (seen_by g.F.GuardedFileSystem.seen g.L.DavLockSystem.seen c.args.self.now) in
     let judged = c.in_ok-found.ensures in
     let read = rw (c.have_props.ensures, judged.rules.fixed) at c.in_ok-changes.ensures.given in
@@ -36,7 +36,7 @@ returns-in_err-groups-clause-step g c =
 
 pub returns-then-some_refused-clause-step : goal.returns-then-some_refused-clause-step
 returns-then-some_refused-clause-step g c =
-    let keeps = (g.F.GuardedFileSystem.seen (lent c.args.self.now)).keeps_properties in
+    let keeps = (g.F.GuardedFileSystem.seen (lent c.args.self.now)).facts.keeps_properties in
     let state = state_of (seen_by g.F.GuardedFileSystem.seen g.L.DavLockSystem.seen c.args.self.now) in
     let judged = c.in_ok-found.ensures in
     let read = rw (c.have_props.ensures, judged.rules.fixed) at c.in_ok-changes.ensures.given in
@@ -57,7 +57,7 @@ returns-then-some_refused-clause-refused g c = patch_refused _ _ _ _ _ _ (return
 
 pub returns-clause-step : goal.returns-clause-step
 returns-clause-step g c =
-    let keeps = (g.F.GuardedFileSystem.seen (lent c.args.self.now)).keeps_properties in
+    let keeps = (g.F.GuardedFileSystem.seen (lent c.args.self.now)).facts.keeps_properties in
     let state = state_of (seen_by g.F.GuardedFileSystem.seen g.L.DavLockSystem.seen c.args.self.now) in
     let judged = c.in_ok-found.ensures in
     let read = rw (c.have_props.ensures, judged.rules.fixed) at c.in_ok-changes.ensures.given in

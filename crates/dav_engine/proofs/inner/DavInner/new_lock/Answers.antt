@@ -9,11 +9,11 @@ pub returns-in_err-found-clause-step : goal.returns-in_err-found-clause-step
 returns-in_err-found-clause-step g c =
     let state = state_of (seen_by g.F.GuardedFileSystem.seen g.L.DavLockSystem.seen c.args.self.now) in
     let judged = c.in_err-found.ensures in
-    rw judged.same_locks (serves_exit lock_method lock_sound (settings_by g.F.GuardedFileSystem.seen c.args.self.now) c.args.request.now _ _ _ _ _ c.from_residual.ensures.1 (judges_new c.args.request.now c.requires.body state judged.rules))
+    rw judged.same_locks (serves_exit lock_method lock_sound (settings_by g.F.GuardedFileSystem.seen c.args.self.now) c.args.request.now _ _ _ _ _ c.from_residual.ensures.1 (judges_new _ c.args.request.now c.requires.body state judged.rules))
 
 pub returns-clause-step : goal.returns-clause-step
 returns-clause-step g c =
     let state = state_of (seen_by g.F.GuardedFileSystem.seen g.L.DavLockSystem.seen c.args.self.now) in
     let judged = c.in_ok-found.ensures in
-    serves_work lock_method lock_sound (settings_by g.F.GuardedFileSystem.seen c.args.self.now) c.args.request.now _ c.in_ok-found.found _ _ _ _ (judges_new c.args.request.now c.requires.body state judged.rules)
-    (works_new c.args.request.now c.requires.body c.in_ok-found.found _ _ _ (rw judged.same_locks at c.grant_lock.ensures.work))
+    serves_work lock_method lock_sound (settings_by g.F.GuardedFileSystem.seen c.args.self.now) c.args.request.now _ c.in_ok-found.found _ _ _ _ (judges_new _ c.args.request.now c.requires.body state judged.rules)
+    (works_new _ c.args.request.now c.requires.body c.in_ok-found.found _ _ _ (rw judged.same_locks at c.grant_lock.ensures.work))
