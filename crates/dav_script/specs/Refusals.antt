@@ -9,7 +9,7 @@ use Rattle.dav_resource.specs.declared.record.Op.{Op}
 use Rattle.dav_resource.specs.declared.record.Op.TheVariants.{Metadata, ReadDir, CreateDir, OpenFile, RemoveFile, RemoveDir, Copy, Rename, Seek, WriteBytes, Flush, FileMetadata, GetProp, GetProps, PatchProps, GetQuota, Entry}
 use Rattle.dav_script.specs.declared.refusal.PlannedRefusal.{PlannedRefusal}
 
--- the call with this name; `entry` is the listing of one member
+-- the call with this name; `entry` is the listing of one member, and no name stands for `ReadBytes`, which no method calls
 abbrev pub op_named : List ℕ → Option Op
 op_named name =
     if bytes_eq name (codes "metadata") then Some Metadata

@@ -29,6 +29,7 @@ pub use outline_line::is_name;
 pub use outline_read::{OUTLINE_LEVELS, OutlineReader};
 pub use outline_write::outline;
 pub use print::lock_text;
+pub use quote::push_quoted_bytes;
 pub use refusal::PlannedRefusal;
 pub use refuse::{read_path, read_refusal};
 pub use running::{Script, run_script};

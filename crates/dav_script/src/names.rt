@@ -1,12 +1,12 @@
 //! The names of the store's calls and errors in scripts.
-ghost use Rattle.std.specs.Prelude.{◌≡◌, Some, IfSome};
+ghost use Rattle.std.specs.Prelude.{◌≡◌, ◌≢◌, Some, None, IfSome};
 ghost use Rattle.dav_store.specs.Calls.{IsOwn};
 ghost use Rattle.dav_script.specs.Refusals.{op_named, refusal_error};
 
 use dav_resource::{FsError, Op};
 
 /// Returns the call with this name, which is that of the method of the store's trait. `entry` is the listing
-/// of one member.
+/// of one member. `read_bytes` is not included, since no method makes that call.
 pub fn op_named(name: &str) -> Option<Op>
     ensures { result ≡ op_named name.now }
 {
@@ -51,13 +51,16 @@ pub fn refusal_error(name: &str) -> Option<FsError>
     }
 }
 
-/// Returns the name of a call. `op_named` reads it back.
+/// Returns the name of a call. `op_named` reads it back, except `read_bytes`: no method reads the bytes of a
+/// file, so no plan names that call.
 pub fn op_name(op: Op) -> &'static str
-    ensures { op_named result.now ≡ Some op }
+    ensures named { op ≢ Op.ReadBytes → op_named result.now ≡ Some op }
+    ensures unread { op ≡ Op.ReadBytes → op_named result.now ≡ None }
 {
     match op {
         Op::Metadata => "metadata",
         Op::ReadDir => "read_dir",
+        Op::ReadBytes => "read_bytes",
         Op::CreateDir => "create_dir",
         Op::OpenFile => "open",
         Op::RemoveFile => "remove_file",

@@ -1,7 +1,7 @@
 //! Prints the results of store calls.
 use crate::property::property_text;
-use dav_resource::{DavProp, DirEntry, Element, FsResult, Meta};
-use dav_script::{Stopped, error_name, outline};
+use dav_resource::{BodyNumber, DavProp, DirEntry, Element, FsResult, Meta};
+use dav_script::{Stopped, error_name, outline, push_quoted_bytes};
 use http::StatusCode;
 use std::alloc::{AllocError, Global};
 use std::io::Write;
@@ -98,6 +98,44 @@ fn push_moment(text: &mut String, name: &str, moment: Option<u64>) -> Result<(),
         write!(text, " {name} {moment}")?;
     }
     Ok(())
+}
+
+/// Prints bytes in quotes, with escapes, or the error's name.
+pub fn print_bytes<O: Write>(
+    alloc: Global,
+    output: &mut O,
+    answer: FsResult<Vec<u8>>,
+) -> Result<(), Stopped> {
+    match answer {
+        Ok(bytes) => {
+            let mut text = String::new(alloc);
+            push_quoted_bytes(&mut text, &bytes)?;
+            Ok(writeln!(output, "{text}")?)
+        }
+        Err(error) => print_done(output, Err(error)),
+    }
+}
+
+/// Prints `body` and the number of a body, or the error's name.
+pub fn print_body_number<O: Write>(
+    output: &mut O,
+    answer: FsResult<BodyNumber>,
+) -> Result<(), Stopped> {
+    match answer {
+        Ok(number) => {
+            let number = number.as_u64();
+            Ok(writeln!(output, "body {number}")?)
+        }
+        Err(error) => print_done(output, Err(error)),
+    }
+}
+
+/// Prints a length in bytes, or `none`.
+pub fn print_length<O: Write>(output: &mut O, length: Option<u64>) -> Result<(), Stopped> {
+    match length {
+        Some(length) => Ok(writeln!(output, "{length}")?),
+        None => Ok(writeln!(output, "none")?),
+    }
 }
 
 /// Prints the outline of a property's element, or the error's name.

@@ -1,12 +1,14 @@
 //! A line that calls the store or the lock system directly.
+use crate::body_call::{BodyCall, read_body_number};
 use crate::change::read_changes;
+use crate::file_call::FileCall;
 use crate::lock_call::LockCall;
 use crate::new_store::NewStore;
 use crate::numbered::NumberedRefusal;
 use crate::records::print_records;
 use crate::store_call::StoreCall;
 use dav_headers::read_number;
-use dav_resource::{DavFile, DavPath, Element};
+use dav_resource::{BodyNumber, DavFile, DavPath, Element};
 use dav_script::{
     Fault, LineError, PlannedRefusal, Session, Stopped, outline, read_path, read_refusal,
 };
@@ -56,6 +58,8 @@ impl Heading {
 #[derive(Drop)]
 enum Call {
     Store(StoreCall),
+    File(FileCall),
+    Bodies(BodyCall),
     Locks(LockCall),
     /// Sets the time, in seconds since 1970.
     Now(u64),
@@ -67,6 +71,8 @@ enum Call {
     Anew(NewStore),
     /// Prints the outline of this tree.
     Tree(Element),
+    /// Gives the body that the store holds under this number to a request that follows.
+    NextBody(BodyNumber),
     /// Serves the requests that follow in one run.
     AtOnce,
 }
@@ -97,6 +103,14 @@ impl CallLine {
         Ok(CallLine { text, call })
     }
 
+    /// Returns the number of the stored body that the line gives to a request that follows, if it gives one.
+    pub fn next_body(&self) -> Option<BodyNumber> {
+        match self.call {
+            Call::NextBody(number) => Some(number),
+            _ => None,
+        }
+    }
+
     /// Returns whether the requests that follow are served in one run.
     pub fn is_at_once(&self) -> bool {
         matches!(self.call, Call::AtOnce)
@@ -115,6 +129,8 @@ impl CallLine {
         writeln!(output, "! {text}")?;
         match call {
             Call::Store(call) => call.make(alloc, &mut session.store, file, output)?,
+            Call::File(call) => call.make(alloc, &mut session.store, file, output)?,
+            Call::Bodies(call) => call.make(&mut session.store, output)?,
             Call::Locks(call) => call.make(alloc, session, output)?,
             Call::Now(now) => session.set_now(now),
             Call::Refuse(refusal) => session.plan(refusal)?,
@@ -124,7 +140,7 @@ impl CallLine {
                 *file = None;
             }
             Call::Tree(tree) => output.write_all(outline(alloc, &tree)?.as_bytes())?,
-            Call::AtOnce => {}
+            Call::NextBody(_) | Call::AtOnce => {}
         }
         print_records(alloc, output, session)
     }
@@ -136,18 +152,25 @@ fn read_call(alloc: Global, name: &str, value: &str) -> Result<Call, LineError> 
         "now" => Ok(Call::Now(read_number(value).ok_or(Fault::BadValue)?)),
         "refuse" => Ok(Call::Refuse(read_refusal(alloc, value)?)),
         "at_once" if value.is_empty() => Ok(Call::AtOnce),
+        "body" => Ok(Call::NextBody(read_body_number(value)?)),
         "refuse_call" => Ok(Call::RefuseCall(NumberedRefusal::read(value)?)),
         _ => read_other(alloc, name, value),
     }
 }
 
-/// Reads the new store, the store call or the lock system call of this name.
+/// Reads the new store, the call of the store or the call of the lock system of this name.
 fn read_other(alloc: Global, name: &str, value: &str) -> Result<Call, LineError> {
     if let Some(store) = NewStore::read(name, value)? {
         return Ok(Call::Anew(store));
     }
     if let Some(call) = StoreCall::read(alloc, name, value)? {
         return Ok(Call::Store(call));
+    }
+    if let Some(call) = FileCall::read(alloc, name, value)? {
+        return Ok(Call::File(call));
+    }
+    if let Some(call) = BodyCall::read(alloc, name, value)? {
+        return Ok(Call::Bodies(call));
     }
     match LockCall::read(alloc, name, value)? {
         Some(call) => Ok(Call::Locks(call)),

@@ -1,6 +1,7 @@
 //! Changes of properties, as an outline gives them.
-ghost use Rattle.std.specs.Prelude.{All, IfOk};
-ghost use Rattle.dav_store.specs.PropertyCalls.{IsWhole};
+ghost use Rattle.std.specs.Prelude.{◌≡◌, All, IfOk, option_copied, option_map, string_bytes};
+ghost use Rattle.dav_store.specs.PropertyCalls.{IsWhole, name_of};
+ghost use Rattle.dav_store.specs.Store.{element_key};
 
 use crate::property::text_of;
 use dav_resource::{DavProp, Element, SharedElement, Text, XMLNode};
@@ -83,7 +84,9 @@ impl Change {
 }
 
 /// Returns a property of the element's name, without a value.
-fn property_of(alloc: Global, element: &Element) -> Result<DavProp, AllocError> {
+fn property_of(alloc: Global, element: &Element) -> Result<DavProp, AllocError>
+    ensures { IfOk result (λ property. name_of property ≡ element_key element.now) }
+{
     Ok(DavProp {
         name: text_of(alloc, element.name.as_str())?,
         prefix: copy_of(alloc, element.prefix.as_ref())?,
@@ -93,7 +96,9 @@ fn property_of(alloc: Global, element: &Element) -> Result<DavProp, AllocError> 
 }
 
 /// Copies the string, if there is one.
-fn copy_of(alloc: Global, text: Option<&String>) -> Result<Option<Text>, AllocError> {
+fn copy_of(alloc: Global, text: Option<&String>) -> Result<Option<Text>, AllocError>
+    ensures { IfOk result (λ copy. copy ≡ option_map string_bytes (option_copied text.entry)) }
+{
     match text {
         Some(text) => Ok(Some(text_of(alloc, text.as_str())?)),
         None => Ok(None),

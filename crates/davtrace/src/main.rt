@@ -4,8 +4,10 @@
 #![tactic(auto)]
 
 mod answers;
+mod body_call;
 mod call;
 mod change;
+mod file_call;
 mod lock_call;
 mod new_store;
 mod numbered;

@@ -1,4 +1,6 @@
 //! Names of properties: `{namespace}name`, or `name` without a namespace.
+ghost use Rattle.std.specs.Prelude.{◌≡◌, IfOk};
+
 use dav_resource::{DavProp, Text};
 use dav_script::{Fault, LineError, is_name};
 use std::alloc::{AllocError, Global};
@@ -24,7 +26,9 @@ pub fn read_property(alloc: Global, text: &str) -> Result<DavProp, LineError> {
 }
 
 /// Copies the string.
-pub fn text_of(alloc: Global, text: &str) -> Result<Text, AllocError> {
+pub fn text_of(alloc: Global, text: &str) -> Result<Text, AllocError>
+    ensures { IfOk result (λ copy. copy ≡ text.now) }
+{
     Ok(Text::from_string(String::from_str(alloc, text)?))
 }
 

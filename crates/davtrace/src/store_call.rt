@@ -1,36 +1,35 @@
-//! Calls of the store.
+//! Calls of the store on paths, and those without arguments.
 use crate::answers::{
-    print_done, print_element, print_listing, print_meta, print_properties, print_quota,
-    print_statuses, print_word,
+    print_bytes, print_done, print_element, print_listing, print_meta, print_properties,
+    print_quota, print_statuses, print_word,
 };
 use crate::change::{Change, patches_of};
 use crate::property::read_property;
 use dav_headers::read_number;
 use dav_memfs::MemFs;
 use dav_refusing::Refusing;
-use dav_resource::{DavFile, DavPath, DavProp, FsError, FsResult, OpenOptions};
-use dav_script::{Fault, LineError, Stopped, read_path, unescape};
+use dav_resource::{DavFile, DavPath, DavProp, FsResult, OpenOptions};
+use dav_script::{Fault, LineError, Stopped, read_path};
 use dav_store::GuardedFileSystem;
 use std::alloc::Global;
 use std::io::Write;
 
-type Store = Refusing<MemFs>;
+/// The store of a session.
+pub type Store = Refusing<MemFs>;
 
-/// A call of the store. Calls on an open file use the file that was opened last.
+/// A call of the store on a path or two, or one without arguments.
 #[derive(Drop)]
 pub enum StoreCall {
     Metadata(DavPath),
     ReadDir(DavPath),
+    /// A file's path, the offset of the first byte, and the number of bytes.
+    ReadBytes(DavPath, u64, usize),
     CreateDir(DavPath),
     RemoveFile(DavPath),
     RemoveDir(DavPath),
     Copy(DavPath, DavPath),
     Rename(DavPath, DavPath),
     Open(DavPath, OpenOptions),
-    Seek(u64),
-    WriteBytes(Vec<u8>),
-    Flush,
-    FileMetadata,
     GetProp(DavPath, DavProp),
     GetProps(DavPath),
     PatchProps(DavPath, Vec<Change>),
@@ -39,12 +38,13 @@ pub enum StoreCall {
 }
 
 impl StoreCall {
-    /// Reads the call of this name. Returns `None` if the store has no such call, or if an outline follows
-    /// the call.
+    /// Reads the call of this name. Returns `None` if there is no such call, or if an outline follows the
+    /// call.
     pub fn read(alloc: Global, name: &str, value: &str) -> Result<Option<StoreCall>, LineError> {
         let call = match name {
             "metadata" => StoreCall::Metadata(read_path(alloc, value)?),
             "read_dir" => StoreCall::ReadDir(read_path(alloc, value)?),
+            "read_bytes" => read_read_bytes(alloc, value)?,
             "create_dir" => StoreCall::CreateDir(read_path(alloc, value)?),
             "remove_file" => StoreCall::RemoveFile(read_path(alloc, value)?),
             "remove_dir" => StoreCall::RemoveDir(read_path(alloc, value)?),
@@ -57,10 +57,6 @@ impl StoreCall {
                 StoreCall::Rename(from, to)
             }
             "open" => read_open(alloc, value)?,
-            "seek" => StoreCall::Seek(read_number(value).ok_or(Fault::BadValue)?),
-            "write_bytes" => StoreCall::WriteBytes(unescape(alloc, value.as_bytes())?),
-            "flush" if value.is_empty() => StoreCall::Flush,
-            "file_metadata" if value.is_empty() => StoreCall::FileMetadata,
             "get_prop" => read_get_prop(alloc, value)?,
             "get_props" => StoreCall::GetProps(read_path(alloc, value)?),
             "get_quota" if value.is_empty() => StoreCall::GetQuota,
@@ -70,7 +66,7 @@ impl StoreCall {
         Ok(Some(call))
     }
 
-    /// Makes the call, and prints the result.
+    /// Makes the call, and prints the result. A file that the call opens becomes the open file.
     pub fn make<O: Write>(
         self,
         alloc: Global,
@@ -81,6 +77,9 @@ impl StoreCall {
         match self {
             StoreCall::Metadata(path) => print_meta(alloc, output, store.metadata(&path, &())),
             StoreCall::ReadDir(path) => print_listing(alloc, output, store.read_dir(&path, &())),
+            StoreCall::ReadBytes(path, place, count) => {
+                print_bytes(alloc, output, store.read_bytes(&path, place, count, &()))
+            }
             StoreCall::CreateDir(path) => print_done(output, store.create_dir(&path, &())),
             StoreCall::RemoveFile(path) => print_done(output, store.remove_file(&path, &())),
             StoreCall::RemoveDir(path) => print_done(output, store.remove_dir(&path, &())),
@@ -98,30 +97,7 @@ impl StoreCall {
             StoreCall::PatchProps(path, changes) => patch(alloc, store, &path, changes, output),
             StoreCall::GetQuota => print_quota(output, store.get_quota(&())),
             StoreCall::HaveProps => print_word(output, GuardedFileSystem::<()>::have_props(store)),
-            on_file => match file {
-                Some(file) => on_file.make_on(alloc, store, file, output),
-                None => Ok(output.write_all(b"no open file\n")?),
-            },
         }
-    }
-
-    /// Makes a call on an open file, and prints the result. After a seek or a write, also prints the file's
-    /// offset in bytes.
-    fn make_on<O: Write>(
-        self,
-        alloc: Global,
-        store: &mut Store,
-        file: &mut DavFile,
-        output: &mut O,
-    ) -> Result<(), Stopped> {
-        match self {
-            StoreCall::Seek(place) => print_done(output, store.seek(file, place, &()))?,
-            StoreCall::WriteBytes(bytes) => print_done(output, write(store, file, &bytes))?,
-            StoreCall::Flush => return print_done(output, store.flush(file, &())),
-            _ => return print_meta(alloc, output, store.file_metadata(file, &())),
-        }
-        let place = file.pos;
-        Ok(writeln!(output, "place {place}")?)
     }
 }
 
@@ -132,6 +108,17 @@ fn read_two_paths(alloc: Global, value: &str) -> Result<(DavPath, DavPath), Line
         return Err(Fault::BadValue.into());
     };
     Ok((read_path(alloc, from)?, read_path(alloc, to)?))
+}
+
+/// Reads `PATH PLACE COUNT`.
+fn read_read_bytes(alloc: Global, value: &str) -> Result<StoreCall, LineError> {
+    let words: Vec<&str> = value.split(' ').collect(alloc)?;
+    let [path, place, count] = words.as_slice() else {
+        return Err(Fault::BadValue.into());
+    };
+    let place = read_number(place).ok_or(Fault::BadValue)?;
+    let count = read_number(count).ok_or(Fault::BadValue)? as usize;
+    Ok(StoreCall::ReadBytes(read_path(alloc, path)?, place, count))
 }
 
 /// Reads `PATH NAME`.
@@ -174,15 +161,6 @@ fn open(
 ) -> FsResult<()> {
     *file = Some(store.open(path, options, &())?);
     Ok(())
-}
-
-/// Writes bytes to an open file. If the end of the bytes does not fit in 64 bits, the store is not called and
-/// the result is `TooLarge`, unless the file is open for appending.
-fn write(store: &mut Store, file: &mut DavFile, bytes: &[u8]) -> FsResult<()> {
-    if !file.append && file.pos.checked_add(bytes.len() as u64).is_none() {
-        return Err(FsError::TooLarge);
-    }
-    store.write_bytes(file, bytes, &())
 }
 
 /// Changes properties, and prints the result. Without a change the store is not called.

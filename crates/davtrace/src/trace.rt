@@ -1,6 +1,7 @@
 //! A script of requests and calls, in order.
 use crate::call::{CallLine, Heading};
 use crate::records::print_records;
+use dav_resource::{BodyNumber, ReqBody};
 use dav_script::{
     Block, BlockReader, Fault, LineError, OutlineReader, Script, ScriptError, Session, Stopped,
 };
@@ -30,6 +31,7 @@ impl Script for Trace {
             steps: Vec::new(alloc),
             blocks: BlockReader::new(alloc),
             calls: None,
+            bodies: Vec::new(alloc),
         };
         for (number, line) in (1..=u64::MAX).zip(text.split(|byte| *byte == b'\n')) {
             reader.read_line(number, line)?;
@@ -80,6 +82,8 @@ struct TraceReader {
     blocks: BlockReader,
     /// The open block of calls, to which further lines belong.
     calls: Option<OpenCalls>,
+    /// The stored bodies of the requests that follow, in order.
+    bodies: Vec<BodyNumber>,
 }
 
 impl TraceReader {
@@ -123,8 +127,11 @@ impl TraceReader {
     }
 
     /// Adds a block with a request: to the requests that are served in one run if it follows them, otherwise
-    /// on its own.
-    fn add_request(&mut self, block: Block) -> Result<(), AllocError> {
+    /// on its own. If a stored body is left for it, that is its body.
+    fn add_request(&mut self, mut block: Block) -> Result<(), AllocError> {
+        if !self.bodies.is_empty() {
+            block.body = ReqBody::Stored(self.bodies.remove(0));
+        }
         if let Some(Step::AtOnce(blocks)) = self.steps.last_mut() {
             blocks.push(block)?;
         } else {
@@ -133,9 +140,15 @@ impl TraceReader {
         Ok(())
     }
 
-    /// Adds a block of calls. If it says so, the requests that follow are collected for one run.
+    /// Adds a block of calls. If it says so, stored bodies are left for the requests that follow, and these
+    /// requests are collected for one run.
     fn add_calls(&mut self, calls: Vec<CallLine>) -> Result<(), AllocError> {
         let alloc = *calls.allocator();
+        for call in &calls {
+            if let Some(number) = call.next_body() {
+                self.bodies.push(number)?;
+            }
+        }
         let at_once = calls.iter().any(CallLine::is_at_once);
         self.steps.push(Step::Calls(calls))?;
         if at_once {
