@@ -1,8 +1,9 @@
 //! Tests what no script shows of the engine: handlers called directly without a lock system, the connections
-//! to be closed, several requests in one run, and blanks at the ends of a header's value.
+//! to be closed, also after a stored body that is gone, several requests in one run, and blanks at the ends of
+//! a header's value.
 use crate::fixture::{Field, request, share, status};
 use crate::serve_over;
-use dav_engine::{Body, DavInner, DavRequest, DavResult, GuardedFileSystem};
+use dav_engine::{Body, BodyNumber, DavInner, DavRequest, DavResult, GuardedFileSystem, ReqBody};
 use dav_memfs::MemFs;
 use dav_memls::MemLs;
 use http::Response;
@@ -203,4 +204,30 @@ fn a_run_hands_the_locks_on(rt: HostRuntime) -> Result<(), Fail> {
         ("PUT", "/l", &[], 201, false),
     ];
     expect_answers(&rt, rt.alloc(), rows)
+}
+
+// ---- stored bodies
+
+/// Returns the status of a request, and whether the connection is then to be closed.
+fn answered<'a>(alloc: Global, store: &'a mut MemFs, request: &DavRequest) -> (u16, bool) {
+    let mut engine = DavInner::new(store, None::<&mut MemLs>, String::new(alloc), None, ());
+    let reply = engine.serve(request);
+    (status(&reply), closes(&reply))
+}
+
+/// Returns the same of a PUT of the body that the store holds under this number.
+fn put_stored(alloc: Global, store: &mut MemFs, number: BodyNumber) -> Result<(u16, bool), Fail> {
+    let mut request = request(alloc, "PUT", "/f", &[], "")?;
+    request.body = ReqBody::Stored(number);
+    Ok(answered(alloc, store, &request))
+}
+
+#[test]
+fn a_put_of_a_body_that_is_gone_closes_the_connection(rt: HostRuntime) -> Result<(), Fail> {
+    let mut store = MemFs::new(rt.alloc())?;
+    let number = GuardedFileSystem::<()>::start_body(&mut store)?;
+    assert!(rt; put_stored(rt.alloc(), &mut store, number)? == (201, false));
+    GuardedFileSystem::<()>::drop_body(&mut store, number);
+    assert!(rt; put_stored(rt.alloc(), &mut store, number)? == (400, true));
+    Ok(())
 }

@@ -1,4 +1,6 @@
 //! What the tests share: paths, texts, locks and requests from strings, and the status of a result.
+ghost use Rattle.std.specs.Prelude.{◌≡◌, IfOk};
+
 use dav_engine::{
     Body, DavLock, DavLockSystem, DavPath, DavRequest, DavResult, Items, LockToken, ReqBody, Text,
 };
@@ -12,7 +14,9 @@ pub fn path_of(alloc: Global, text: &str) -> DavResult<DavPath> {
     DavPath::from_str_and_prefix(alloc, text, "")
 }
 
-pub fn text_of(alloc: Global, text: &str) -> Result<Text, AllocError> {
+pub fn text_of(alloc: Global, text: &str) -> Result<Text, AllocError>
+    ensures { IfOk result (λ copy. copy ≡ text.now) }
+{
     Ok(Text::from_string(String::from_str(alloc, text)?))
 }
 

@@ -1,14 +1,16 @@
 //! Tests what a refusing store passes on to the wrapped store, including what no contract says about a call,
 //! such as a path's prefix and trailing slash.
-ghost use Rattle.std.specs.Prelude.{◌≡◌, IfOk};
+ghost use Rattle.std.specs.Prelude.{◌≡◌, IfOk, Some, codes};
+ghost use Rattle.dav_store.specs.Store.{property_key};
+ghost use Rattle.dav_store.specs.PropertyCalls.{IsWhole, name_of};
 
 use crate::fixture::text_of;
 use crate::noting::{Noting, show_property};
 use dav_memfs::MemFs;
 use dav_refusing::Refusing;
 use dav_resource::{
-    DavFile, DavPath, DavProp, DavResult, DirEntry, Element, FsError, FsResult, Op, OpenOptions,
-    SharedElement,
+    BodyNumber, DavFile, DavPath, DavProp, DavResult, DirEntry, Element, FsError, FsResult, Op,
+    OpenOptions, SharedElement,
 };
 use dav_store::GuardedFileSystem;
 use std::alloc::{AllocError, Global};
@@ -109,6 +111,23 @@ fn two_paths_are_handed_on_in_order(rt: HostRuntime) -> Result<(), Fail> {
     expect_notes(&rt, &mut store, &want)
 }
 
+/// Reads from a file twice.
+fn call_read(store: &mut Store, path: &DavPath) {
+    let _ = store.read_bytes(path, 3, 5, &1);
+    let _ = store.read_bytes(path, 0, 7, &2);
+}
+
+#[test]
+fn a_read_is_handed_on_with_place_and_count(rt: HostRuntime) -> Result<(), Fail> {
+    let mut store = new_store(rt.alloc())?;
+    call_read(&mut store, &path_below(rt.alloc(), "/dav/f/")?);
+    let want = [
+        "read_bytes /dav/f/ (/f/) 5 from 3 by 1",
+        "read_bytes /dav/f/ (/f/) 7 from 0 by 2",
+    ];
+    expect_notes(&rt, &mut store, &want)
+}
+
 // ---- files
 
 /// Returns the options to write a new file whose size and checksum are known.
@@ -205,22 +224,73 @@ fn a_barred_call_leaves_a_file_at_its_place(rt: HostRuntime) -> Result<(), Fail>
     expect_notes(&rt, &mut store, &want)
 }
 
+// ---- bodies
+
+/// Starts two bodies, adds bytes to the second and drops the first. Returns the number of the second.
+fn call_on_bodies(store: &mut Store) -> FsResult<BodyNumber> {
+    let first = GuardedFileSystem::<u64>::start_body(store)?;
+    let second = GuardedFileSystem::<u64>::start_body(store)?;
+    GuardedFileSystem::<u64>::add_to_body(store, second, b"!?")?;
+    GuardedFileSystem::<u64>::drop_body(store, first);
+    Ok(second)
+}
+
+/// Writes a body at the end of a file.
+fn call_write_body(store: &mut Store, path: DavPath, number: BodyNumber) {
+    let mut file = DavFile {
+        path,
+        pos: 8,
+        append: true,
+    };
+    let _ = store.write_body(&mut file, number, &1);
+    let _ = store.flush(&file, &2);
+}
+
+/// The in-memory store numbers bodies from 0.
+#[test]
+fn a_body_is_handed_on_by_its_number(rt: HostRuntime) -> Result<(), Fail> {
+    let alloc = rt.alloc();
+    let mut store = new_store(alloc)?;
+    let path = path_below(alloc, "/dav/f")?;
+    store.open(&path, &writing(alloc)?, &0)?;
+    store.inner_mut().forget();
+    let number = call_on_bodies(&mut store)?;
+    call_write_body(&mut store, path, number);
+    let want = [
+        "start_body",
+        "start_body",
+        "add_to_body [33, 63] to 1",
+        "drop_body 0",
+        "write_body /dav/f (/f) at 8 or the end body 1 by 1",
+        "flush /dav/f (/f) at 2 or the end by 2",
+    ];
+    expect_notes(&rt, &mut store, &want)
+}
+
 // ---- properties
 
 /// Returns a property with this name, in the namespace `urn:n` with the prefix `N`.
-fn property(
-    alloc: Global,
-    name: &str,
-    element: Option<SharedElement>,
-) -> Result<DavProp, AllocError>
-    ensures { IfOk result (λ prop. prop.element ≡ element) }
+fn property(alloc: Global, name: &str) -> Result<DavProp, AllocError>
+    ensures { IfOk result (λ prop. name_of prop ≡ property_key (Some (codes "urn:n")) name.now) }
 {
     Ok(DavProp {
         name: text_of(alloc, name)?,
         prefix: Some(text_of(alloc, "N")?),
         namespace: Some(text_of(alloc, "urn:n")?),
-        element,
+        element: None,
     })
+}
+
+/// Returns the change that sets such a property to an empty element of its name.
+fn setting(alloc: Global, name: &str) -> Result<(bool, DavProp), AllocError>
+    ensures { IfOk result IsWhole }
+{
+    let mut element = Element::new(alloc, name)?;
+    element.prefix = Some(String::from_str(alloc, "N")?);
+    element.namespace = Some(String::from_str(alloc, "urn:n")?);
+    let mut prop = property(alloc, name)?;
+    prop.element = Some(SharedElement::new(alloc, element)?);
+    Ok((true, prop))
 }
 
 /// Returns a property without a prefix and a namespace.
@@ -235,13 +305,9 @@ fn bare_property(alloc: Global) -> Result<DavProp, AllocError> {
 
 /// Makes each call that has properties as arguments, and sets one of them.
 fn call_on_properties(alloc: Global, store: &mut Store, path: &DavPath) -> Result<(), AllocError> {
-    let _ = store.get_prop(path, &property(alloc, "p", None)?, &1);
+    let _ = store.get_prop(path, &property(alloc, "p")?, &1);
     let _ = store.get_prop(path, &bare_property(alloc)?, &2);
-    let element = Some(SharedElement::new(alloc, Element::new2(alloc, "N:p")?)?);
-    let patches = [
-        (true, property(alloc, "p", element)?),
-        (false, bare_property(alloc)?),
-    ];
+    let patches = [setting(alloc, "p")?, (false, bare_property(alloc)?)];
     let _ = store.patch_props(path, &patches, &3);
     Ok(())
 }
@@ -320,9 +386,7 @@ fn properties_keep_their_order(rt: HostRuntime) -> Result<(), Fail> {
     let mut store = new_store(alloc)?;
     let path = path_below(alloc, "/dav/")?;
     for name in ["q", "p"] {
-        let element = Some(SharedElement::new(alloc, Element::new2(alloc, "N:any")?)?);
-        let patches = [(true, property(alloc, name, element)?)];
-        store.patch_props(&path, &patches, &0)?;
+        store.patch_props(&path, &[setting(alloc, name)?], &0)?;
     }
     let behind = properties(alloc, store.inner_mut(), &path)?;
     assert_eq!(rt; behind.as_str(), "N:p of urn:n, N:q of urn:n, ");
@@ -334,9 +398,10 @@ fn properties_keep_their_order(rt: HostRuntime) -> Result<(), Fail> {
 // ---- refusals
 
 /// The kinds of calls, except the listing of one member.
-const CALLS: [Op; 16] = [
+const CALLS: [Op; 17] = [
     Op::Metadata,
     Op::ReadDir,
+    Op::ReadBytes,
     Op::CreateDir,
     Op::OpenFile,
     Op::RemoveFile,
@@ -367,8 +432,10 @@ fn refuse_all(store: &mut Store, path: &DavPath) -> FsResult<()> {
 fn call_all(alloc: Global, store: &mut Store, path: &DavPath) -> FsResult<()> {
     call_on_path(store, path);
     call_on_two(store, path, path);
+    call_read(store, path);
     call_open(alloc, store, path)?;
     call_on_file(store, path.clone()?, false);
+    call_write_body(store, path.clone()?, BodyNumber::from_u64(0));
     call_on_properties(alloc, store, path)?;
     Ok(())
 }

@@ -35,6 +35,8 @@ pub fn serve_over<'a, F: GuardedFileSystem<()>, L: DavLockSystem>(
 }
 
 #[cfg(test)]
+mod bodies;
+#[cfg(test)]
 mod conditions;
 #[cfg(test)]
 mod engine;

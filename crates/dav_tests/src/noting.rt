@@ -2,15 +2,16 @@
 ghost use Rattle.std.specs.Prelude.{◌≡◌};
 
 use dav_resource::{
-    DavFile, DavPath, DavProp, DirEntry, Element, FsResult, Meta, OpenOptions, Record, Text,
+    BodyNumber, DavFile, DavPath, DavProp, DirEntry, Element, FsResult, Meta, OpenOptions, Record,
+    Text,
 };
 use dav_store::GuardedFileSystem;
 use http::StatusCode;
 use std::alloc::{AllocError, Global};
 
 /// A store around another store. It notes each call with all arguments, and then passes it on unchanged. The
-/// credentials are a number. If memory runs out for the note, the call is not passed on. `have_props`,
-/// `records` and `clear_log` are passed on without a note.
+/// credentials are a number. If memory runs out for the note, the call is not passed on, except `drop_body`.
+/// `have_props`, `body_length`, `records` and `clear_log` are passed on without a note.
 ///
 /// A path is noted with its prefix and without it, a file by its path and its offset.
 #[derive(Debug, Drop)]
@@ -47,12 +48,26 @@ impl<F> Noting<F> {
         self.notes.push(note)?;
         Ok(())
     }
+
+    /// Notes a call that has a body as its argument.
+    fn note_body(&mut self, call: &str, number: BodyNumber) -> Result<(), AllocError>
+        ensures { self.new.inner ≡ self.old.inner }
+    {
+        let alloc = *self.notes.allocator();
+        let number = number.as_u64();
+        self.notes.push(format!(in alloc; "{call} {number}")?)?;
+        Ok(())
+    }
 }
 
 impl<F: GuardedFileSystem<u64>> GuardedFileSystem<u64> for Noting<F> {
     ghost seen = { λ store. F.seen store.inner };
 
+    ghost is_honest = { λ store. F.is_honest store.inner };
+
     ghost well_formed = { λ store. F.well_formed store.inner };
+
+    ghost allowed = { λ store. F.allowed store.inner };
 
     fn metadata(&mut self, path: &DavPath, credentials: &u64) -> FsResult<Meta> {
         self.note("metadata", show_path(path)?, *credentials)?;
@@ -99,6 +114,21 @@ impl<F: GuardedFileSystem<u64>> GuardedFileSystem<u64> for Noting<F> {
         self.inner.open(path, options, credentials)
     }
 
+    fn read_bytes(
+        &mut self,
+        path: &DavPath,
+        place: u64,
+        count: usize,
+        credentials: &u64,
+    ) -> FsResult<Vec<u8>> {
+        self.note(
+            "read_bytes",
+            show_reading(path, place, count)?,
+            *credentials,
+        )?;
+        self.inner.read_bytes(path, place, count, credentials)
+    }
+
     fn seek(&mut self, file: &mut DavFile, pos: u64, credentials: &u64) -> FsResult<()> {
         self.note("seek", show_seek(file, pos)?, *credentials)?;
         self.inner.seek(file, pos, credentials)
@@ -107,6 +137,16 @@ impl<F: GuardedFileSystem<u64>> GuardedFileSystem<u64> for Noting<F> {
     fn write_bytes(&mut self, file: &mut DavFile, bytes: &[u8], credentials: &u64) -> FsResult<()> {
         self.note("write_bytes", show_write(file, bytes)?, *credentials)?;
         self.inner.write_bytes(file, bytes, credentials)
+    }
+
+    fn write_body(
+        &mut self,
+        file: &mut DavFile,
+        number: BodyNumber,
+        credentials: &u64,
+    ) -> FsResult<()> {
+        self.note("write_body", show_body(file, number)?, *credentials)?;
+        self.inner.write_body(file, number, credentials)
     }
 
     fn flush(&mut self, file: &DavFile, credentials: &u64) -> FsResult<()> {
@@ -149,6 +189,28 @@ impl<F: GuardedFileSystem<u64>> GuardedFileSystem<u64> for Noting<F> {
         self.inner.have_props()
     }
 
+    fn start_body(&mut self) -> FsResult<BodyNumber> {
+        let note = String::from_str(*self.notes.allocator(), "start_body")?;
+        self.notes.push(note)?;
+        self.inner.start_body()
+    }
+
+    fn add_to_body(&mut self, number: BodyNumber, bytes: &[u8]) -> FsResult<()> {
+        let alloc = *self.notes.allocator();
+        let handed = format!(in alloc; "add_to_body {bytes:?} to")?;
+        self.note_body(&handed, number)?;
+        self.inner.add_to_body(number, bytes)
+    }
+
+    fn drop_body(&mut self, number: BodyNumber) {
+        let _ = self.note_body("drop_body", number);
+        self.inner.drop_body(number);
+    }
+
+    fn body_length(&self, number: BodyNumber) -> Option<u64> {
+        self.inner.body_length(number)
+    }
+
     fn records(&self) -> &[Record] {
         self.inner.records()
     }
@@ -181,6 +243,12 @@ fn show_opening(path: &DavPath, options: &OpenOptions) -> Result<String, AllocEr
     format!(in alloc; "{path} {options:?}")
 }
 
+fn show_reading(path: &DavPath, place: u64, count: usize) -> Result<String, AllocError> {
+    let path = show_path(path)?;
+    let alloc = *path.allocator();
+    format!(in alloc; "{path} {count} from {place}")
+}
+
 /// Shows a file by its path and its offset, and whether each write is at the end.
 fn show_file(file: &DavFile) -> Result<String, AllocError> {
     let path = show_path(&file.path)?;
@@ -200,6 +268,13 @@ fn show_write(file: &DavFile, bytes: &[u8]) -> Result<String, AllocError> {
     let file = show_file(file)?;
     let alloc = *file.allocator();
     format!(in alloc; "{file} {bytes:?}")
+}
+
+fn show_body(file: &DavFile, number: BodyNumber) -> Result<String, AllocError> {
+    let file = show_file(file)?;
+    let alloc = *file.allocator();
+    let number = number.as_u64();
+    format!(in alloc; "{file} body {number}")
 }
 
 /// Shows a property by its prefix, its name and its namespace.

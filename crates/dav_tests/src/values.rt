@@ -1,10 +1,10 @@
 //! Tests functions on elements, paths, methods, copies and errors that the engine does not call, and strings
 //! that no script shows.
-use crate::fixture::text_of;
+use crate::fixture::{path_of, text_of};
 use crate::outline::show;
 use dav_resource::{
-    DavError, DavMethod, DavMethodSet, DavPath, DavProp, Element, FsError, Items, Op, Outcome,
-    Record, SharedElement,
+    BodyNumber, DavError, DavMethod, DavMethodSet, DavPath, DavProp, Element, FsError, Items, Op,
+    Outcome, Paths, Record, SharedElement,
 };
 use dav_store::LockError;
 use http::{Method, StatusCode};
@@ -93,24 +93,40 @@ fn copy_of_a_property_has_its_name(rt: HostRuntime) -> Result<(), Fail> {
     Ok(())
 }
 
-/// Shows a record's copy.
-fn show_copied(alloc: Global) -> Result<String, AllocError> {
+/// Shows the copy of a record of these paths.
+fn show_copied(alloc: Global, paths: Paths) -> Result<String, AllocError> {
     let record = Record {
         op: Op::Rename,
-        paths: Items::from_vec(vec![in alloc; DavPath::root(alloc)?]?),
+        paths,
         outcome: Outcome::Refused(FsError::Forbidden),
         statuses: Items::from_vec(Vec::new(alloc)),
     };
     let copy = record.clone()?;
-    let paths = copy.paths.as_slice().len();
-    format!(in alloc; "{:?} {paths} {:?}", copy.op, copy.outcome)
+    let mut shown = format!(in alloc; "{:?} {:?}", copy.op, copy.outcome)?;
+    for path in copy.paths.as_slice() {
+        shown.push(' ')?;
+        shown.push_str(path.as_url_string()?.as_str())?;
+    }
+    Ok(shown)
 }
 
 #[test]
 fn copy_of_a_record_tells_its_call(rt: HostRuntime) -> Result<(), Fail> {
-    let shown = show_copied(rt.alloc())?;
-    assert_eq!(rt; shown.as_str(), "Rename 1 Refused(Forbidden)");
+    let alloc = rt.alloc();
+    let two = Paths::two(path_of(alloc, "/b/")?, path_of(alloc, "/a")?);
+    let one = Paths::one(path_of(alloc, "/c")?);
+    let shown = show_copied(alloc, two)?;
+    assert_eq!(rt; shown.as_str(), "Rename Refused(Forbidden) /b/ /a");
+    let shown = show_copied(alloc, one)?;
+    assert_eq!(rt; shown.as_str(), "Rename Refused(Forbidden) /c");
+    let shown = show_copied(alloc, Paths::none())?;
+    assert_eq!(rt; shown.as_str(), "Rename Refused(Forbidden)");
     Ok(())
+}
+
+#[test]
+fn number_of_a_body_is_what_it_was_made_from(rt: HostRuntime) {
+    assert!(rt; BodyNumber::from_u64(7).as_u64() == 7);
 }
 
 #[test]
