@@ -1,0 +1,6 @@
+pub mod ReadLemmas
+pub mod AttributeLemmas
+pub mod NodeLemmas
+pub mod WriteLemmas
+pub mod TreeWrites
+mod Examples

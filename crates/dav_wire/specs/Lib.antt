@@ -1,0 +1,12 @@
+pub mod Codec
+pub mod Parts
+pub mod PartLaws
+pub mod NumberLaws
+pub mod TerminatedLaws
+pub mod Combine
+pub mod Numbers
+pub mod Values
+pub mod Trees
+pub mod Reads
+pub mod Writes
+pub mod TreeLaws
