@@ -20,3 +20,6 @@ mod writer;
 pub use error::WireError;
 pub use reader::Reader;
 pub use writer::Writer;
+
+#[cfg(test)]
+mod tests;
