@@ -9,11 +9,14 @@ use dav_resource::{DavError, DavMethodSet, DavPath, DavResult, FsError, FsResult
 use dav_store::{DavLockSystem, GuardedFileSystem};
 use std::alloc::AllocError;
 
-/// Executes WebDAV requests against a store and, if there is one, a lock system, both borrowed.
+/// Executes WebDAV requests against a store and, if there is one, a lock system, both borrowed. Between requests
+/// the caller can use both.
 #[derive(Drop)]
 pub struct DavInner<'a, C, F, L> {
-    pub(crate) fs: &'a mut F,
-    pub(crate) ls: Option<&'a mut L>,
+    /// The store.
+    pub fs: &'a mut F,
+    /// The lock system, if there is one.
+    pub ls: Option<&'a mut L>,
     pub(crate) prefix: String,
     pub(crate) allow: Option<DavMethodSet>,
     pub(crate) credentials: C,
@@ -45,6 +48,13 @@ impl<'a, C: Drop, F: GuardedFileSystem<C>, L: DavLockSystem> DavInner<'a, C, F, 
             allow,
             credentials,
         }
+    }
+
+    /// Returns the path prefix of the server's URLs.
+    pub fn prefix(&self) -> &str
+        ensures { result.now ≡ (made_with self.now).0 }
+    {
+        self.prefix.as_str()
     }
 
     /// Returns the borrowed store and lock system, as the requests left them, and ends the engine.

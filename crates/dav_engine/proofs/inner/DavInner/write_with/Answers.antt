@@ -4,7 +4,6 @@ use Rattle.dav_resource.specs.Errors.{from_fs}
 use Rattle.dav_resource.specs.declared.record.Op.TheVariants.{Flush}
 use Rattle.dav_resource.specs.declared.meta.DavFile.{DavFile}
 use Rattle.dav_engine.specs.DavInner.{bodies_by}
-use Rattle.dav_engine.specs.Put.{new_bytes}
 use Rattle.dav_engine.proofs.Putting.{works_declined, works_unsought, works_unfilled, works_stopped, works_unlooked, works_replied, opened, sought, is_placed, same_bytes, filled, flushed, looked}
 use Rattle.dav_engine.proofs.inner.DavInner.write_with.Goals as goal
 
