@@ -1,5 +1,5 @@
 -- The index of locks: what a lock that is added, removed or refreshed leaves of it.
-use Rattle.std.proofs.Common.{◌≡◌, ◌∙◌, ◌==◌, ℕ, Bool, true, false, cond, List, [], ◌∷◌, ◌++◌, ◌&&◌, Option, Some, None, bytes_eq, refl, sym, ap, subst, nat_cmp}
+use Rattle.std.proofs.Common.{◌≡◌, ◌∙◌, ◌==◌, ℕ, Bool, true, false, cond, List, [], ◌∷◌, ◌++◌, ◌&&◌, ◌||◌, not, Option, Some, None, bytes_eq, refl, sym, ap, subst, nat_cmp}
 use Rattle.std.proofs.lemmas.List.{append-nil, map-append}
 use Rattle.std.proofs.lemmas.Slice.Eq.{bytes_eq-Decides}
 use Rattle.std.specs.BTreeMap.{is_at}
@@ -13,24 +13,28 @@ use Rattle.dav_memls.specs.declared.memory_locks.index.LockIndex.{LockIndex}
 use Rattle.dav_memls.specs.declared.memory_locks.index.Register.{Register}
 use Rattle.dav_memls.specs.declared.memory_locks.index.Register.TheVariants.{All, Deep, Exclusive}
 use Rattle.dav_store.specs.Locks.{has_token}
-use Rattle.dav_store.specs.LockCalls.{refreshed}
+use Rattle.dav_store.specs.LockCalls.{refreshed, timeout_end}
 use Rattle.dav_memls.specs.Numbers.{IsAbove}
 use Rattle.dav_memls.specs.ByKey.{only_if, without_if}
-use Rattle.dav_memls.specs.LockIndex.{Row, IsIndexed, EntersIndex, LeavesIndex, among, belongs, by_token, found_at, numbers_of, lock_of, is_of_key}
+use Rattle.dav_memls.specs.Expiries.{is_due, is_time, is_entry}
+use Rattle.dav_memls.specs.LockIndex.{Row, IsIndexed, EntersIndex, KeepsIndex, LeavesIndex, MovesInIndex, ends_at, among, belongs, by_token, found_at, numbers_of, lock_of, is_of_key}
 use Rattle.dav_memls.proofs.Ascending.{Rises, rises-push, without_below, without_push}
+use Rattle.dav_memls.proofs.Expiring.{ends, ends-push, ends-remove, ends-set, absent_above, read_same}
 use Rattle.dav_memls.proofs.Reached.{bytes_eq-sym}
 use Rattle.dav_memls.proofs.LockRows.{pushed_found, pushed_removed, numbers-push, numbers-remove, numbers-set, number_kept, only_number, none_numbers, all_numbers}
 
-pub indexed_push : (old new : LockIndex) (rows : List Row) (n : ℕ) (l : DavLock) → IsIndexed old rows → EntersIndex l n old new → IsIndexed new (rows ++ (n, l) ∷ [])
-indexed_push old new rows n l h enters = record {
+pub indexed_push : (old new : LockIndex) (rows : List Row) (n : ℕ) (l : DavLock) → IsAbove n (keys_of rows) → IsIndexed old rows → EntersIndex l n old new → IsIndexed new (rows ++ (n, l) ∷ [])
+indexed_push old new rows n l above h enters = record {
   tokens = λ token. enters.tokens token ∙ ap (λ xs. xs ++ only_if (has_token token l) n) (h.tokens token) ∙ sym (numbers-push (has_token token) rows n l);
   at = λ register key. enters.at register key ∙ ap (λ xs. xs ++ only_if (among register (is_of_key key) l) n) (h.at register key) ∙ sym (numbers-push (among register (is_of_key key)) rows n l);
+  expiries = λ time m. enters.expiries time m ∙ ap (λ b. b || is_entry l.timeout_at n time m) (h.expiries time m) ∙ sym (ends-push rows n l time m above);
 }
 
 pub indexed_remove : (old new : LockIndex) (rows : List Row) (n : ℕ) (l : DavLock) → Rises (keys_of rows) → lock_of n rows ≡ Some l → IsIndexed old rows → LeavesIndex l n old new → IsIndexed new (remove_entry (is_at (nat_cmp n)) rows)
 indexed_remove old new rows n l rises held h leaves = record {
   tokens = λ token. leaves.tokens token ∙ gone token (has_token token l) refl ∙ sym (numbers-remove (has_token token) rows n l rises held);
   at = λ register key. leaves.at register key ∙ ap (without_if (among register (is_of_key key) l) n) (h.at register key) ∙ sym (numbers-remove (among register (is_of_key key)) rows n l rises held);
+  expiries = λ time m. leaves.expiries time m ∙ ap (λ b. b && not (is_entry l.timeout_at n time m)) (h.expiries time m) ∙ sym (ends-remove rows n l time m rises held);
 }
   where
     gone : (token : List ℕ) (b : Bool) → has_token token l ≡ b → cond b [] (by_token old token) ≡ without_if b n (numbers_of (has_token token) rows)
@@ -43,12 +47,13 @@ indexed_remove old new rows n l rises held h leaves = record {
 pub indexed_undone : (old mid new : LockIndex) (rows : List Row) (n : ℕ) (l : DavLock) → Rises (keys_of rows) → IsAbove n (keys_of rows) → IsIndexed old rows → EntersIndex l n old mid → LeavesIndex l n mid new → IsIndexed new rows
 indexed_undone old mid new rows n l rises above h enters leaves =
     subst (IsIndexed new) (pushed_removed rows n l above)
-    (indexed_remove mid new (rows ++ (n, l) ∷ []) n l (subst Rises (sym (map-append (λ (row : Row). row.0) rows ((n, l) ∷ []))) (rises-push n (keys_of rows) rises above)) (pushed_found rows n l above) (indexed_push old mid rows n l h enters) leaves)
+    (indexed_remove mid new (rows ++ (n, l) ∷ []) n l (subst Rises (sym (map-append (λ (row : Row). row.0) rows ((n, l) ∷ []))) (rises-push n (keys_of rows) rises above)) (pushed_found rows n l above) (indexed_push old mid rows n l above h enters) leaves)
 
-pub indexed_refreshed : (index : LockIndex) (rows : List Row) (n : ℕ) (timeout : Option ℕ) (now : ℕ) (l : DavLock) → lock_of n rows ≡ Some l → IsIndexed index rows → IsIndexed index (set_value (is_at (nat_cmp n)) rows (refreshed timeout now l))
-indexed_refreshed index rows n timeout now l held h = record {
-  tokens = λ token. h.tokens token ∙ sym (numbers-set (has_token token) rows n l (refreshed timeout now l) held refl);
-  at = λ register key. h.at register key ∙ sym (numbers-set (among register (is_of_key key)) rows n l (refreshed timeout now l) held (ap (λ b. b && is_of_key key l) (same_register register)));
+pub indexed_refreshed : (old new : LockIndex) (rows : List Row) (n : ℕ) (timeout : Option ℕ) (now : ℕ) (l : DavLock) → lock_of n rows ≡ Some l → IsIndexed old rows → MovesInIndex (timeout_end now timeout) n old new → IsIndexed new (set_value (is_at (nat_cmp n)) rows (refreshed timeout now l))
+indexed_refreshed old new rows n timeout now l held h moves = record {
+  tokens = λ token. moves.tokens token ∙ h.tokens token ∙ sym (numbers-set (has_token token) rows n l (refreshed timeout now l) held refl);
+  at = λ register key. moves.at register key ∙ h.at register key ∙ sym (numbers-set (among register (is_of_key key)) rows n l (refreshed timeout now l) held (ap (λ b. b && is_of_key key l) (same_register register)));
+  expiries = λ time m. moved time m ∙ sym (ends-set rows n l (refreshed timeout now l) time m held);
 }
   where
     same_register : (register : Register) → belongs register (refreshed timeout now l) ≡ belongs register l
@@ -56,8 +61,26 @@ indexed_refreshed index rows n timeout now l held h = record {
     same_register Deep = refl
     same_register Exclusive = refl
 
+    moved : (time m : ℕ) → is_due new.expiries time m ≡ cond (m == n) (is_time (timeout_end now timeout) time) (ends_at rows time m)
+    moved time m = elim (m == n) as (λ b. (m == n) ≡ b → is_due new.expiries time m ≡ cond b (is_time (timeout_end now timeout) time) (ends_at rows time m)) [
+      | true ↦ λ e. ap (is_due new.expiries time) (read_same m n e) ∙ moves.expiries.own time
+      | false ↦ λ e. moves.expiries.others time m e ∙ h.expiries time m
+    ] refl
+
 pub free_token : (index : LockIndex) (rows : List Row) (token : List ℕ) → IsIndexed index rows → list_any (has_token token) (values_of rows) ≡ false → by_token index token ≡ []
 free_token index rows token h free = h.tokens token ∙ none_numbers (has_token token) rows free
+
+-- an index that finds the same finds the same locks
+pub indexed_kept : (old new : LockIndex) (rows : List Row) → IsIndexed old rows → KeepsIndex old new → IsIndexed new rows
+indexed_kept old new rows h keeps = record {
+  tokens = λ token. keeps.tokens token ∙ h.tokens token;
+  at = λ register key. keeps.at register key ∙ h.at register key;
+  expiries = λ time n. keeps.expiries time n ∙ h.expiries time n;
+}
+
+-- a number above all others is not in the set
+pub unused : (index : LockIndex) (rows : List Row) (n : ℕ) → IsIndexed index rows → IsAbove n (keys_of rows) → (time : ℕ) → is_due index.expiries time n ≡ false
+unused index rows n h above time = h.expiries time n ∙ ap (ends time) (absent_above rows n above)
 
 pub above_at : (index : LockIndex) (rows : List Row) (n : ℕ) → IsIndexed index rows → IsAbove n (keys_of rows) → (register : Register) (key : Key) → IsAbove n (found_at index register key)
 above_at index rows n h above register key = subst (IsAbove n) (sym (h.at register key)) (all_numbers _ (among register (is_of_key key)) rows above)

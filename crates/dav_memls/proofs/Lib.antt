@@ -1,13 +1,16 @@
 pub mod Ascending
+pub mod ExpirySets
 pub mod Reached
 pub mod ByKeys
 pub mod LockRows
 pub mod LockFound
+pub mod Expiring
 pub mod Indexing
 pub mod Entering
 pub mod CoveringNumbers
 pub mod LockLooks
 pub mod LockLists
+pub mod Expired
 pub mod TokenSets
 pub mod CoveringLocks
 pub mod Reach

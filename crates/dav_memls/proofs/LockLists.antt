@@ -179,15 +179,17 @@ compatible-without key token old new together is = subst AreCompatible (sym is) 
 
 -- ---- the locks at a key or below it
 
-elsewhere-removed : (key : Key) (rows : List Row) (n : ℕ) (lock : DavLock) → lock_of n rows ≡ Some lock → is_within key lock ≡ true → elsewhere (locks_without n rows) key ≡ elsewhere (values_of rows) key
-elsewhere-removed key [] n lock held below = absurd cc
-elsewhere-removed key (row ∷ rows) n lock held below =
-    elim (is_eq (nat_cmp n row.0)) as (λ b. cond b (Some row.1) (lock_of n rows) ≡ Some lock → elsewhere (values_of (cond b rows (row ∷ remove_entry (is_at (nat_cmp n)) rows))) key ≡ elsewhere (values_of (row ∷ rows)) key) [
-      | true ↦ λ e. sym (ap (λ b. cond (not b) (row.1 ∷ elsewhere (values_of rows) key) (elsewhere (values_of rows) key)) (ap (is_within key) (let one : row.1 ≡ lock = cc in one) ∙ below))
-      | false ↦ λ e. ap (λ more. cond (not (is_within key row.1)) (row.1 ∷ more) more) (elsewhere-removed key rows n lock e below)
+-- where the lock of a number does not pass the test, the locks that pass are those that pass without it
+pub filter-removed : (test : DavLock → Bool) (rows : List Row) (n : ℕ) (lock : DavLock) → lock_of n rows ≡ Some lock → test lock ≡ false → filter test (locks_without n rows) ≡ filter test (values_of rows)
+filter-removed test [] n lock held fails = absurd cc
+filter-removed test (row ∷ rows) n lock held fails =
+    elim (is_eq (nat_cmp n row.0)) as (λ b. cond b (Some row.1) (lock_of n rows) ≡ Some lock → filter test (values_of (cond b rows (row ∷ remove_entry (is_at (nat_cmp n)) rows))) ≡ filter test (values_of (row ∷ rows))) [
+      | true ↦ λ e. sym (ap (λ b. cond b (row.1 ∷ filter test (values_of rows)) (filter test (values_of rows))) (ap test (let one : row.1 ≡ lock = cc in one) ∙ fails))
+      | false ↦ λ e. ap (λ more. cond (test row.1) (row.1 ∷ more) more) (filter-removed test rows n lock e fails)
     ] held
 
-fewer : (rows : List Row) (n : ℕ) (lock : DavLock) → lock_of n rows ≡ Some lock → length (locks_without n rows) < length (values_of rows)
+-- there are fewer locks without that of a number
+pub fewer : (rows : List Row) (n : ℕ) (lock : DavLock) → lock_of n rows ≡ Some lock → length (locks_without n rows) < length (values_of rows)
 fewer [] n lock held = absurd cc
 fewer (row ∷ rows) n lock held =
     elim (is_eq (nat_cmp n row.0)) as (λ b. cond b (Some row.1) (lock_of n rows) ≡ Some lock → length (values_of (cond b rows (row ∷ remove_entry (is_at (nat_cmp n)) rows))) < length (values_of (row ∷ rows))) [
@@ -212,7 +214,7 @@ is_gone key rows n distinct together rises at = held (lock_of n rows) refl at
         let only = only_named lock.path.key lock.token rows n lock distinct rises e named in
         record {
           fewer = fewer rows n lock e;
-          elsewhere = elsewhere-removed key rows n lock e below;
+          elsewhere = filter-removed (λ l. not (is_within key l)) rows n lock e (ap not below);
           distinct = distinct-without lock.path.key lock.token (values_of rows) (locks_without n rows) distinct only.rest;
           compatible = compatible-without lock.path.key lock.token (values_of rows) (locks_without n rows) together only.rest;
         }
@@ -227,6 +229,6 @@ elsewhere-all key (lock ∷ locks) none =
 
 -- ---- a call that may lack memory
 
-pub either_way : {A E : Type 0} (r : Result A E) (P : List DavLock → Type 0) (old new : List DavLock) (lock : DavLock) → OnOk r (new ≡ old ++ lock ∷ []) → OnErr r (new ≡ old) → P (old ++ lock ∷ []) → P old → P new
-either_way (Ok a) P old new lock ok err more same = subst P (sym ok) more
-either_way (Err e) P old new lock ok err more same = subst P (sym err) same
+pub either_way : {A E : Type 0} (r : Result A E) (P : List DavLock → Type 0) (old new changed : List DavLock) → OnOk r (new ≡ changed) → OnErr r (new ≡ old) → P changed → P old → P new
+either_way (Ok a) P old new changed ok err more same = subst P (sym ok) more
+either_way (Err e) P old new changed ok err more same = subst P (sym err) same

@@ -1,8 +1,11 @@
 pub mod Numbers
 pub mod KeyEntries
 pub mod ByKey
+pub mod Expiries
 pub mod LockIndex
 pub mod IndexedLocks
 pub mod MemLs
+pub mod Expiry
+pub mod ExpiryLaws
 pub mod Tokens
 pub mod Submitted

@@ -1,12 +1,12 @@
 -- The index of the locks in memory. Each lock has a number, and later locks have greater numbers. The index finds the numbers by token and by key.
 -- This project's own choice.
-use Rattle.std.specs.Prelude.{◌≡◌, ◌==◌, ◌&&◌, ◌||◌, ◌++◌, ℕ, Bool, true, not, List, [], length, map, nat_lt, Option, Some, if◌then◌else◌}
+use Rattle.std.specs.Prelude.{◌≡◌, ◌==◌, ◌&&◌, ◌||◌, ◌++◌, ℕ, Bool, true, false, not, List, [], length, map, nat_lt, Option, Some, if◌then◌else◌}
 use Rattle.std.specs.BTreeMap.{is_at}
 use Rattle.std.specs.BTreeSet.{BTreeSet, contains}
 use Rattle.std.specs.List.{filter, filter_map, list_all, list_any}
 use Rattle.std.specs.Map.{lookup, remove_entry, values_of}
 use Rattle.std.specs.HashMap.{get_by_text}
-use Rattle.std.specs.Option.{IsSomeAnd, option_to_list}
+use Rattle.std.specs.Option.{IsSomeAnd, option_map_or, option_to_list}
 use Rattle.std.specs.Ordering.{nat_cmp}
 use denote.Ref.{Bor}
 use Rattle.dav_resource.specs.Key.{Key, is_same_key}
@@ -18,6 +18,8 @@ use Rattle.dav_memls.specs.declared.memory_locks.index.Register.TheVariants.{All
 use Rattle.dav_store.specs.Locks.{is_at_or_below, has_token}
 use Rattle.dav_store.specs.LockCalls.{is_named, refreshed}
 use Rattle.dav_memls.specs.ByKey.{numbers_at, only_if, without_if}
+use Rattle.dav_memls.specs.Expiry.{expires_at, has_expired}
+use Rattle.dav_memls.specs.Expiries.{is_due, is_entry, KeepsExpiries, AddsExpiry, RemovesExpiry, MovesExpiry}
 
 -- a lock and its number
 abbrev pub Row : Type 0
@@ -75,30 +77,45 @@ found_at index register key = numbers_at (register_of index register) key
 abbrev pub by_token : LockIndex → List ℕ → List ℕ
 by_token index token = option_to_list (get_by_text index.tokens token)
 
+-- whether the number is that of a lock that expires at this time
+abbrev pub ends_at : List Row → ℕ → ℕ → Bool
+ends_at rows time n = option_map_or (expires_at time) (lock_of n rows) false
+
 -- the index finds exactly the numbers of these locks
 pub record IsIndexed (index : LockIndex) (rows : List Row) : Type 0 where
   pub tokens : (token : List ℕ) → by_token index token ≡ numbers_of (has_token token) rows
   pub at : (register : Register) (key : Key) → found_at index register key ≡ numbers_of (among register (is_of_key key)) rows
+  pub expiries : (time n : ℕ) → is_due index.expiries time n ≡ ends_at rows time n
 
 -- the index finds the same numbers
 pub record KeepsIndex (old new : LockIndex) : Type 0 where
   pub tokens : (token : List ℕ) → by_token new token ≡ by_token old token
   pub at : (register : Register) (key : Key) → found_at new register key ≡ found_at old register key
+  pub expiries : KeepsExpiries old.expiries new.expiries
 
 -- the index finds the number of a lock as well
 pub record EntersIndex (lock : DavLock) (n : ℕ) (old new : LockIndex) : Type 0 where
   pub tokens : (token : List ℕ) → by_token new token ≡ by_token old token ++ only_if (has_token token lock) n
   pub at : (register : Register) (key : Key) → found_at new register key ≡ found_at old register key ++ only_if (among register (is_of_key key) lock) n
+  pub expiries : AddsExpiry lock.timeout_at n old.expiries new.expiries
 
--- by the lock's key, the index may also find the lock's number; otherwise it finds the same numbers
+-- by the lock's key and its time, the index may also find the lock's number; otherwise it finds the same numbers
 pub record IsPartlyEntered (lock : DavLock) (n : ℕ) (old new : LockIndex) : Type 0 where
   pub tokens : (token : List ℕ) → by_token new token ≡ by_token old token
   pub at : (register : Register) (key : Key) → without_if (among register (is_of_key key) lock) n (found_at new register key) ≡ found_at old register key
+  pub expiries : (time m : ℕ) → (is_due new.expiries time m && not (is_entry lock.timeout_at n time m)) ≡ is_due old.expiries time m
 
 -- the index does not find the number of the lock any more
 pub record LeavesIndex (lock : DavLock) (n : ℕ) (old new : LockIndex) : Type 0 where
   pub tokens : (token : List ℕ) → by_token new token ≡ (if has_token token lock then [] else by_token old token)
   pub at : (register : Register) (key : Key) → found_at new register key ≡ without_if (among register (is_of_key key) lock) n (found_at old register key)
+  pub expiries : RemovesExpiry lock.timeout_at n old.expiries new.expiries
+
+-- by the time when a lock expires, the index finds the number at another time or at none; otherwise it finds the same numbers
+pub record MovesInIndex (due : Option ℕ) (n : ℕ) (old new : LockIndex) : Type 0 where
+  pub tokens : (token : List ℕ) → by_token new token ≡ by_token old token
+  pub at : (register : Register) (key : Key) → found_at new register key ≡ found_at old register key
+  pub expiries : MovesExpiry due n old.expiries new.expiries
 
 -- the lock of this number, which has the token and whose key is this key or above it
 pub record IsNamedLock (key : Key) (token : List ℕ) (rows : List Row) (n : ℕ) (lock : DavLock) : Type 0 where
@@ -108,6 +125,10 @@ pub record IsNamedLock (key : Key) (token : List ℕ) (rows : List Row) (n : ℕ
 -- the number is that of a lock whose key is at or below the key
 abbrev pub StandsBelow : Key → List Row → ℕ → Type 0
 StandsBelow key rows n = IsSomeAnd (lock_of n rows) (λ lock. is_within key lock ≡ true)
+
+-- the number is that of a lock that has expired at this time
+abbrev pub HasExpired : ℕ → List Row → ℕ → Type 0
+HasExpired now rows n = IsSomeAnd (lock_of n rows) (λ lock. has_expired now lock ≡ true)
 
 -- each call returns what the test gives for the lock
 abbrev pub Computes : (Bor DavLock → Bool → Type 0) → (DavLock → Bool) → Type 0

@@ -1,13 +1,16 @@
 //! A lock system in memory.
-ghost use Rattle.std.specs.Prelude.{◌≡◌, false, [], IfOk, IfErr, OnOk, OnErr};
+ghost use Rattle.std.specs.Prelude.{◌≡◌, ◌↔◌, false, [], length, IsTrue, IfOk, IfErr, OnOk, OnErr};
+ghost use Rattle.std.specs.List.{find};
 ghost use Rattle.std.specs.Option.{option_copied};
 ghost use Rattle.dav_memls.specs.IndexedLocks.{locks_in};
-ghost use Rattle.dav_store.specs.Locks.{AreCompatible};
+ghost use Rattle.dav_memls.specs.Expiry.{unexpired, earliest_expiry};
+ghost use Rattle.dav_store.specs.Locks.{AreCompatible, has_token};
 ghost use Rattle.dav_store.specs.LockCalls.{HasDistinctTokens, RemovesLock, has_named, RemovesLocks};
 ghost use Rattle.std.proofs.Props.{props};
 ghost use Rattle.std.specs.List.{IsDistinct-prop};
 
 mod by_key;
+mod expiries;
 mod index;
 mod indexed;
 mod list;
@@ -21,18 +24,19 @@ use std::alloc::{AllocError, Global};
 use std::collections::btree_map::Values;
 use submitted::Submitted;
 
-/// A lock system in memory. Its `unlock` and `delete` are reliable: neither fails when memory runs out, and
-/// nor does `check`.
+/// A lock system in memory. Its `unlock` and `delete` are reliable: neither fails when memory runs out. Nor
+/// do `check` and `expire`.
 ///
 /// The locks are stored in these maps:
 ///
 /// - A hash map finds the number of a lock by its token.
 /// - Three maps find the numbers of the locks at a path: one of all locks, one of the deep and one of the
 ///   exclusive locks. They are ordered by path, segment by segment.
+/// - A set, ordered by time, has the number of each lock that has a timeout, beside the time when it expires.
 /// - A map, ordered by the numbers, finds a lock by its number.
 ///
 /// A lookup of a path takes as many comparisons of paths as the logarithm of the number of locked paths. A
-/// lookup of a number takes as many comparisons of numbers as the logarithm of the number of locks. Except
+/// lookup of a number or of a time takes as many comparisons as the logarithm of the number of locks. Except
 /// for these logarithms, the cost of a call does not depend on how many locks exist elsewhere, unless memory
 /// runs out.
 ///
@@ -44,16 +48,21 @@ use submitted::Submitted;
 ///   locked paths, which is only slower.
 /// - `check` sorts the tokens if there are many. Without memory for that it is only slower.
 /// - `discover` looks up the path and each path above it, and copies the locks that cover the path.
-/// - `unlock` and `refresh` look up the token.
+/// - `unlock`, `refresh` and `with_token` look up the token.
 /// - `delete` makes one lookup below the path for each lock that it removes, in no promised order. It copies
 ///   the path as a deep `check` does.
+/// - `next_expiry` reads the first entry of the set of times, without a comparison. `expire` reads it once,
+///   and once more for each lock that it removes.
 ///
-/// Lookups above a path go no deeper than the deepest path ever locked. `unlock` and `delete` do not change
-/// the numbers of other locks.
+/// Lookups above a path go no deeper than the deepest path ever locked. `unlock`, `delete` and `expire` do
+/// not change the numbers of other locks.
 ///
-/// `lock` allocates memory for the lock, for a second copy of its token, for its number in each map that has
-/// it, and for a copy of its path in each of these maps that does not have the path yet. Each new lock gets
-/// the number after that of the newest lock. If that number does not fit in 64 bits, `lock` returns `Memory`.
+/// `lock`, `refresh` and `discover` return `Memory` if memory runs out, and then nothing changes. `lock`
+/// allocates memory for the lock, for a second copy of its token, for its number in each map that has it and
+/// in the set of times, and for a copy of its path in each map of paths that does not have the path yet. Each
+/// new lock gets the number after that of the newest lock. If that number does not fit in 64 bits, `lock`
+/// returns `Memory`. `refresh` allocates memory for the copy that it returns, and for the lock's new entry in
+/// the set of times, if the time changes.
 #[derive(Debug, Drop)]
 pub struct MemLs {
     locks: IndexedLocks,
@@ -80,6 +89,44 @@ impl MemLs {
         ensures compatible { AreCompatible (list_of self.now) }
     {
         self.locks.values()
+    }
+
+    /// Returns the number of locks.
+    pub fn len(&self) -> usize
+        ensures { result ≡ length (list_of self.now) }
+    {
+        self.locks.len()
+    }
+
+    /// Whether there are no locks.
+    pub fn is_empty(&self) -> bool
+        ensures { IsTrue result ↔ (list_of self.now ≡ []) }
+    {
+        self.locks.is_empty()
+    }
+
+    /// Returns the lock with this token, if there is one. It looks up the token once.
+    pub fn with_token(&self, token: &str) -> Option<&DavLock>
+        ensures { option_copied result ≡ find (has_token token.now) (list_of self.now) }
+    {
+        self.locks.with_token(token)
+    }
+
+    /// Returns the earliest time at which a lock expires, in whole seconds since 1970: the least `timeout_at`
+    /// of all locks. Returns `None` if no lock has a timeout. It reads the first entry of the set of times.
+    pub fn next_expiry(&self) -> Option<u64>
+        ensures { result ≡ earliest_expiry (list_of self.now) }
+    {
+        self.locks.next_expiry()
+    }
+
+    /// Removes each lock that has expired: whose `timeout_at` is `now` or earlier. `now` is in whole seconds
+    /// since 1970. The other locks stay, in the same order. It allocates no memory. If no lock has expired,
+    /// it only reads the first entry of the set of times.
+    pub fn expire(&mut self, now: u64)
+        ensures { list_of self.new ≡ unexpired now (list_of self.old) }
+    {
+        self.locks.expire(now);
     }
 }
 
@@ -157,7 +204,7 @@ impl DavLockSystem for MemLs {
         };
         let mut copy = lock.clone()?;
         copy.refresh(timeout, now);
-        self.locks.refresh(number, timeout, now);
+        self.locks.refresh(number, timeout, now)?;
         Ok(copy)
     }
 

@@ -1,7 +1,7 @@
 //! A server's state, and how it serves one request after another.
 use dav_engine::{
-    Body, DavError, DavInner, DavLockSystem, DavMethod, DavPath, DavRequest, DavResult, FsResult,
-    GuardedFileSystem, UpdateRange, read_content_range, read_update_range,
+    Body, DavError, DavInner, DavMethod, DavRequest, DavResult, FsResult, GuardedFileSystem,
+    UpdateRange, read_content_range, read_update_range,
 };
 use dav_memfs::MemFs;
 use dav_memls::MemLs;
@@ -35,29 +35,13 @@ impl Server {
     /// A partial update past `MAX_OFFSET` fails with 507. Every other error is the engine's.
     pub fn serve(&mut self, request: &DavRequest) -> DavResult<Response<Body>> {
         self.store.set_now(request.now);
-        self.remove_expired(request.now)?;
+        self.locks.expire(request.now);
         if writes_too_far(request) {
             return Err(DavError::StatusClose(StatusCode::INSUFFICIENT_STORAGE));
         }
         let result = answer(self.alloc, &mut self.store, &mut self.locks, request);
         GuardedFileSystem::<()>::clear_log(&mut self.store);
         result
-    }
-
-    /// Removes each lock whose timeout has passed. Fails only if memory runs out.
-    fn remove_expired(&mut self, now: u64) -> DavResult<()> {
-        let mut expired: Vec<(DavPath, String)> = Vec::new(self.alloc);
-        for lock in self.locks.locks() {
-            if lock.timeout_at.is_some_and(|end| end <= now) {
-                let token = String::from_str(self.alloc, lock.token.as_str())?;
-                expired.push((lock.path.clone()?, token))?;
-            }
-        }
-        for (path, token) in &expired {
-            // `MemLs` never fails to remove a lock that exists.
-            let _ = self.locks.unlock(path, token.as_str());
-        }
-        Ok(())
     }
 }
 

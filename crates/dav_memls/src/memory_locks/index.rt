@@ -1,5 +1,5 @@
 //! An index of locks, by their tokens and by their keys.
-ghost use Rattle.std.specs.Prelude.{◌≡◌, [], OnOk, OnErr};
+ghost use Rattle.std.specs.Prelude.{◌≡◌, ℕ, [], false, MatchOption, OnOk, OnErr};
 ghost use Rattle.std.specs.HashMap.{get_by_text};
 ghost use Rattle.std.specs.Option.{option_copied};
 ghost use Rattle.dav_resource.specs.Key.{Key};
@@ -7,9 +7,11 @@ ghost use Rattle.dav_resource.specs.Texts.{texts};
 ghost use Rattle.dav_memls.specs.Numbers.{IsAbove};
 ghost use Rattle.dav_memls.specs.KeyEntries.{listed};
 ghost use Rattle.dav_memls.specs.ByKey.{HasRun};
-ghost use Rattle.dav_memls.specs.LockIndex.{IsIndexed, by_token, register_of, found_at, KeepsIndex, EntersIndex, IsPartlyEntered, LeavesIndex};
+ghost use Rattle.dav_memls.specs.Expiries.{is_due, is_time, IsFirst};
+ghost use Rattle.dav_memls.specs.LockIndex.{IsIndexed, by_token, register_of, found_at, KeepsIndex, EntersIndex, IsPartlyEntered, LeavesIndex, MovesInIndex};
 
 use super::by_key::ByKey;
+use super::expiries::Expiries;
 use super::numbers::Numbers;
 use dav_store::DavLock;
 use std::alloc::{AllocError, Global};
@@ -27,14 +29,15 @@ pub enum Register {
     Exclusive,
 }
 
-/// An index that finds the numbers of locks: by token, and by a lock's own key in a register of all locks, of
-/// the deep ones or of the exclusive ones.
+/// An index that finds the numbers of locks: by token, by a lock's own key in a register of all locks, of the
+/// deep ones or of the exclusive ones, and by the time when a lock expires.
 #[derive(Debug, Drop)]
 pub struct LockIndex {
     tokens: HashMap<String, u64>,
     all: ByKey,
     deep: ByKey,
     exclusive: ByKey,
+    expiries: Expiries,
 }
 
 impl LockIndex {
@@ -47,6 +50,7 @@ impl LockIndex {
             all: ByKey::new(alloc),
             deep: ByKey::new(alloc),
             exclusive: ByKey::new(alloc),
+            expiries: Expiries::new(alloc),
         }
     }
 
@@ -78,6 +82,13 @@ impl LockIndex {
         self.register(register).run(alloc, key)
     }
 
+    /// Returns the earliest time at which a lock expires, and the number of such a lock.
+    pub fn first_expiry(&self) -> Option<(u64, u64)>
+        ensures { MatchOption result ((time n : ℕ) → is_due self.now.expiries time n ≡ false) (IsFirst self.now.expiries) }
+    {
+        self.expiries.first()
+    }
+
     fn register(&self, register: Register) -> &ByKey
         ensures { result.now ≡ register_of self.now register }
     {
@@ -93,6 +104,7 @@ impl LockIndex {
     pub fn enter(&mut self, alloc: Global, lock: &DavLock, number: u64) -> Result<(), AllocError>
         requires token { by_token self.old lock.now.token ≡ [] }
         requires above { (register : Register) (key : Key) → IsAbove number (found_at self.old register key) }
+        requires unused { (time : ℕ) → is_due self.old.expiries time number ≡ false }
         ensures ok { OnOk result (EntersIndex lock.now number self.old self.new) }
         ensures err { OnErr result (KeepsIndex self.old self.new) }
     {
@@ -107,6 +119,7 @@ impl LockIndex {
     fn try_enter(&mut self, alloc: Global, lock: &DavLock, number: u64) -> Result<(), AllocError>
         requires token { by_token self.old lock.now.token ≡ [] }
         requires above { (register : Register) (key : Key) → IsAbove number (found_at self.old register key) }
+        requires unused { (time : ℕ) → is_due self.old.expiries time number ≡ false }
         ensures ok { OnOk result (EntersIndex lock.now number self.old self.new) }
         ensures err { OnErr result (IsPartlyEntered lock.now number self.old self.new) }
     {
@@ -115,6 +128,7 @@ impl LockIndex {
         self.all.join(alloc, key, number)?;
         self.deep.join_if(lock.deep, alloc, key, number)?;
         self.exclusive.join_if(!lock.shared, alloc, key, number)?;
+        self.expiries.insert(lock.timeout_at, number)?;
         self.tokens.insert(token, number)?;
         Ok(())
     }
@@ -128,5 +142,21 @@ impl LockIndex {
         self.all.leave(key, number);
         self.deep.leave_if(lock.deep, key, number);
         self.exclusive.leave_if(!lock.shared, key, number);
+        self.expiries.remove(lock.timeout_at, number);
+    }
+
+    /// Enters another time, or none, at which the lock of a number expires. Its time so far must be `old`.
+    /// Fails only if memory runs out, and then nothing changes.
+    pub fn refresh(
+        &mut self,
+        number: u64,
+        old: Option<u64>,
+        new: Option<u64>,
+    ) -> Result<(), AllocError>
+        requires { (time : ℕ) → is_due self.old.expiries time number ≡ is_time old time }
+        ensures ok { OnOk result (MovesInIndex new number self.old self.new) }
+        ensures err { OnErr result (KeepsIndex self.old self.new) }
+    {
+        self.expiries.change(number, old, new)
     }
 }

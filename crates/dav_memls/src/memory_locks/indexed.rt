@@ -1,5 +1,5 @@
 //! Locks by number, with an index.
-ghost use Rattle.std.specs.Prelude.{◌≡◌, ◌≤◌, ◌^◌, ℕ, true, false, [], ◌∷◌, ◌++◌, None, IfOk, IfSome, MatchOption, OnOk, OnErr, Bool};
+ghost use Rattle.std.specs.Prelude.{◌≡◌, ◌≤◌, ◌^◌, ℕ, true, false, [], ◌∷◌, ◌++◌, ◌↔◌, length, None, IfOk, IfSome, IsTrue, MatchOption, OnOk, OnErr, Bool};
 ghost use Rattle.std.specs.BTreeMap.{IsOrdered};
 ghost use Rattle.std.specs.List.{filter, find, list_any};
 ghost use Rattle.std.specs.List.Sorted.{IsStrictlySortedBy-prop};
@@ -14,20 +14,22 @@ ghost use Rattle.dav_store.specs.LockCalls.{has_named};
 ghost use Rattle.dav_store.specs.Members.{IsIn};
 ghost use Rattle.dav_memls.specs.Numbers.{IsAbove};
 ghost use Rattle.dav_memls.specs.KeyEntries.{listed};
-ghost use Rattle.dav_memls.specs.LockIndex.{IsIndexed, among, are_within, is_of_key, lock_of, locks_of_numbers, numbers_of, locks_without, locks_refreshed, Computes, IsNamedLock, StandsBelow, HasNumbers, AddsNumbers};
+ghost use Rattle.dav_memls.specs.Expiry.{unexpired, earliest_expiry};
+ghost use Rattle.dav_memls.specs.LockIndex.{IsIndexed, among, are_within, is_of_key, lock_of, locks_of_numbers, numbers_of, locks_without, locks_refreshed, Computes, IsNamedLock, StandsBelow, HasExpired, HasNumbers, AddsNumbers};
 
 use super::index::{LockIndex, Register};
 use super::numbers::Numbers;
 use dav_resource::DavPath;
-use dav_store::DavLock;
+use dav_store::{DavLock, timeout_end};
 use std::alloc::{AllocError, Global};
 use std::collections::btree_map::Values;
 use std::collections::{BTreeMap, BTreeSet};
 
-/// Locks by number, with an index that finds the numbers by token and by key. A newer lock has a greater
-/// number, and a lock keeps its number while it exists. To find, change or remove the lock of a number takes
-/// as many comparisons of numbers as the logarithm of the number of locks. Lookups above a path go no deeper
-/// than the deepest path ever locked: the own key of each lock has fewer segments than `reach`.
+/// Locks by number, with an index that finds the numbers by token, by key and by the time when a lock
+/// expires. A newer lock has a greater number, and a lock keeps its number while it exists. To find, change
+/// or remove the lock of a number takes as many comparisons of numbers as the logarithm of the number of
+/// locks. Lookups above a path go no deeper than the deepest path ever locked: the own key of each lock has
+/// fewer segments than `reach`.
 #[derive(Debug, Drop)]
 pub struct IndexedLocks {
     locks: BTreeMap<u64, DavLock>,
@@ -59,6 +61,20 @@ impl IndexedLocks {
         ensures { result ≡ locks_in self.now }
     {
         self.locks.values()
+    }
+
+    /// Returns the number of locks.
+    pub fn len(&self) -> usize
+        ensures { result ≡ length (locks_in self.now) }
+    {
+        self.locks.len()
+    }
+
+    /// Whether there are no locks.
+    pub fn is_empty(&self) -> bool
+        ensures { IsTrue result ↔ (locks_in self.now ≡ []) }
+    {
+        self.locks.is_empty()
     }
 
     /// Returns the allocator of the locks.
@@ -95,6 +111,22 @@ impl IndexedLocks {
     {
         let number = self.index.number(token)?;
         self.of_number(number)
+    }
+
+    /// Returns the earliest time at which a lock expires, if one does. It reads the index once.
+    pub fn next_expiry(&self) -> Option<u64>
+        ensures { result ≡ earliest_expiry (locks_in self.now) }
+    {
+        let (at, _) = self.index.first_expiry()?;
+        Some(at)
+    }
+
+    /// Returns the number of a lock that has expired at this time, if there is one. It reads the index once.
+    fn expired(&self, now: u64) -> Option<u64>
+        ensures { MatchOption result (unexpired now (locks_in self.now) ≡ locks_in self.now) (HasExpired now self.now.locks.entries) }
+    {
+        let (at, number) = self.index.first_expiry()?;
+        if at <= now { Some(number) } else { None }
     }
 
     /// Returns a lock that covers the path, if there is one: the oldest at the path, or else the oldest deep
@@ -262,13 +294,27 @@ impl IndexedLocks {
         }
     }
 
-    /// Gives the lock of a number, if there is one, a timeout that begins at `now`.
-    pub fn refresh(&mut self, number: u64, timeout: Option<u64>, now: u64)
-        ensures { locks_in self.new ≡ locks_refreshed number timeout now self.old.locks.entries }
+    /// Removes each lock that has expired at this time. The other locks stay, in the same order.
+    pub fn expire(&mut self, now: u64)
+        ensures { locks_in self.new ≡ unexpired now (locks_in self.old) }
+    {
+        while let Some(number) = self.expired(now) {
+            self.remove(number);
+        }
+    }
+
+    /// Gives the lock of a number, if there is one, a timeout that begins at `now`. Fails only if memory runs
+    /// out, and then nothing changes.
+    pub fn refresh(&mut self, number: u64, timeout: Option<u64>, now: u64) -> Result<(), AllocError>
+        ensures ok { OnOk result (locks_in self.new ≡ locks_refreshed number timeout now self.old.locks.entries) }
+        ensures err { OnErr result (locks_in self.new ≡ locks_in self.old) }
     {
         if let Some(lock) = self.locks.get_mut(&number) {
+            self.index
+                .refresh(number, lock.timeout_at, timeout_end(now, timeout))?;
             lock.refresh(timeout, now);
         }
+        Ok(())
     }
 }
 

@@ -3,7 +3,7 @@ use Rattle.std.proofs.lemmas.List.{length-map}
 use Rattle.std.specs.Map.{values_of}
 use Rattle.dav_memls.specs.LockIndex.{Row, IsIndexed, LeavesIndex, are_within}
 use Rattle.dav_memls.proofs.LockRows.{entries-push, values-push}
-use Rattle.dav_memls.proofs.Indexing.{free_token, above_at, indexed_push, indexed_undone}
+use Rattle.dav_memls.proofs.Indexing.{free_token, above_at, unused, indexed_push, indexed_undone}
 use Rattle.dav_memls.proofs.Reach.{within_more, within_push}
 use Rattle.dav_memls.proofs.memory_locks.indexed.IndexedLocks.push.Goals as goal
 
@@ -12,6 +12,9 @@ enter-requires-clause-token c = let self = c.args.self.now in free_token self.in
 
 pub enter-requires-clause-above : goal.enter-requires-clause-above
 enter-requires-clause-above c = let self = c.args.self.now in above_at self.index self.locks.entries c.in-Some.number self.indexed c.in-Some.ensures.above
+
+pub enter-requires-clause-unused : goal.enter-requires-clause-unused
+enter-requires-clause-unused c = let self = c.args.self.now in unused self.index self.locks.entries c.in-Some.number self.indexed c.in-Some.ensures.above
 
 pub invariant_of-self-in-Err : goal.invariant_of-self-in-Err
 invariant_of-self-in-Err c =
@@ -29,7 +32,7 @@ invariant_of-self-in_default-insert c =
     let grown = c.in_default-insert.ensures.entries ∙ entries-push self.locks.entries c.in-Some.number c.args.lock c.in-Some.ensures.above in
     record {
       ordered = c.insert.ensures.ordered;
-      indexed = subst (IsIndexed c.enter.new.self) (sym grown) (indexed_push self.index c.enter.new.self self.locks.entries c.in-Some.number c.args.lock self.indexed c.in_ok-enter.ensures.ok);
+      indexed = subst (IsIndexed c.enter.new.self) (sym grown) (indexed_push self.index c.enter.new.self self.locks.entries c.in-Some.number c.args.lock c.in-Some.ensures.above self.indexed c.in_ok-enter.ensures.ok);
       reached =
           ap (are_within c.max-self.result) grown
           ∙ within_push c.max-self.result self.locks.entries c.in-Some.number c.args.lock
