@@ -1,5 +1,5 @@
 -- Attributes, read one after the other.
-use Rattle.std.proofs.Common.{◌≡◌, ◌∙◌, ℕ, zero, suc, ◌-◌, ◌<◌, true, false, refl, ap, sym, subst, List, [], ◌∷◌, ◌++◌, Some, None, Option, arith, append-nil, append_assoc}
+use Rattle.std.proofs.Common.{◌≡◌, ◌∙◌, ℕ, ◌-◌, ◌<◌, true, false, refl, ap, sym, subst, List, [], ◌∷◌, ◌++◌, Some, None, Option, append-nil, append_assoc}
 use Rattle.std.specs.Ordering.{nat_cmp, is_lt, ordering_reverse}
 use Rattle.std.specs.declared.cmp.Ordering.{Ordering}
 use Rattle.std.specs.declared.cmp.Ordering.TheVariants.{Less, Equal, Greater}
@@ -7,10 +7,11 @@ use Rattle.std.specs.Cmp.Lexicographic.{slice_cmp}
 use Rattle.std.proofs.lemmas.Cmp.{nat_list_cmp_total}
 use Rattle.std.proofs.lemmas.Bool.{and_parts, and_from, and_left, and_right}
 use Rattle.dav_resource.specs.Tree.{put_attribute}
-use Rattle.dav_wire.specs.Codec.{Codec, and_then}
+use Rattle.dav_wire.specs.Codec.{and_then}
 use Rattle.dav_wire.specs.Parts.{if_passes, parse_times}
 use Rattle.dav_wire.specs.Numbers.{number}
 use Rattle.dav_wire.specs.Values.{list}
+use Rattle.dav_wire.proofs.ListLemmas.{put_front, put_front-more, put_front-none, times_step}
 use Rattle.dav_wire.specs.Trees.{attribute, attributes, is_ascending, is_key_before, may_follow}
 
 abbrev Pair : Type 0
@@ -69,22 +70,6 @@ not_ascending (e ∷ f ∷ es) k v ys next =
     and_right (is_key_before e.0 f.0) (is_ascending (f ∷ es ++ (k, v) ∷ ys)) (not_ascending (f ∷ es) k v ys next)
 
 -- ---- parses
-
--- these values in front of those parsed
-abbrev pub put_front : {A : Type 0} → List A → Option (List A × List ℕ) → Option (List A × List ℕ)
-put_front xs o = and_then o (λ ys left. Some (xs ++ ys, left))
-
-pub put_front-more : {A : Type 0} (xs : List A) (x : A) (o : Option (List A × List ℕ)) → put_front xs (and_then o (λ ys left. Some (x ∷ ys, left))) ≡ put_front (xs ++ x ∷ []) o
-put_front-more xs x None = refl
-put_front-more xs x (Some p) = ap (λ ys. Some (ys, p.1)) (sym (append_assoc xs (x ∷ []) p.0))
-
-pub put_front-none : {A : Type 0} (o : Option (List A × List ℕ)) → put_front [] o ≡ o
-put_front-none None = refl
-put_front-none (Some p) = refl
-
-times_step : {A : Type 0} (a : Codec A) (n : ℕ) (bytes : List ℕ) → 0 < n → parse_times a n bytes ≡ and_then (a.parse bytes) (λ x rest. and_then (parse_times a (n - 1) rest) (λ xs left. Some (x ∷ xs, left)))
-times_step a zero bytes h = absurd (omega arith)
-times_step a (suc n) bytes h = let e : suc n - 1 ≡ n = omega arith in rw e refl
 
 -- what is read so far: `left` attributes are still in `bytes`
 pub record AttributesSoFar (old : List ℕ) (done : List (List ℕ × List ℕ)) (last : Option (List ℕ)) (left : ℕ) (bytes : List ℕ) : Type 0 where

@@ -1,11 +1,19 @@
 -- Encodings and refusals, written out.
-use Rattle.std.proofs.Common.{◌≡◌, ℕ, List, [], ◌∷◌, ◌++◌, Some, None, refl, codes}
+use Rattle.std.proofs.Common.{◌≡◌, ℕ, true, List, [], ◌∷◌, ◌++◌, Some, None, refl, codes}
 use Rattle.dav_resource.specs.Tree.{Tree, no_nodes, text_then, element_then}
 use Rattle.std.specs.Str.{is_utf8, chars}
 use lib.Utf8.{encode}
 use Rattle.dav_wire.specs.Codec.{decode}
 use Rattle.dav_wire.specs.Numbers.{number}
-use Rattle.dav_wire.specs.Values.{text, utf8_text, optional}
+use Rattle.dav_wire.specs.Values.{text, utf8_text, flag, optional}
+use Rattle.dav_resource.specs.declared.request.ReqBody.TheVariants as body
+use Rattle.dav_wire.specs.Fields.{field, fields}
+use Rattle.dav_wire.specs.Bodies.{request_body}
+use Rattle.dav_wire.specs.Frames.{frame, request, read, add}
+use Rattle.dav_wire.specs.Frames as frames
+use Rattle.dav_wire.specs.Replies.{reply, response, held, quota}
+use Rattle.dav_wire.specs.Replies as replies
+use Rattle.dav_wire.specs.Batches.{batch, reply_header, batch_header}
 use Rattle.dav_wire.specs.Trees.{attribute, attributes, tag, one_node, nodes, element_over, tree}
 
 -- a number of one byte
@@ -61,3 +69,62 @@ option_2 = refl
 not_utf8 : decode utf8_text (small 1 ++ 255 ∷ []) ≡ None
 unfolding utf8_text text number is_utf8 chars encode
 not_utf8 = refl
+
+-- ---- frames
+
+-- PUT / with the field A: b and the body x
+put : frame.encode
+    (frames.Request
+    (record { method = codes "PUT"; path = codes "/"; principal = None; token = codes "t"; fields = (codes "A", codes "b") ∷ []; body = body.Bytes (codes "x") }))
+    ≡ 0 ∷ small 3 ++ codes "PUT" ++ small 1 ++ codes "/" ++ 0 ∷ small 1 ++ codes "t"
+    ++ small 1 ++ small 1 ++ codes "A" ++ small 1 ++ codes "b" ++ 1 ∷ small 1 ++ codes "x"
+unfolding frame request request_body fields field utf8_text text number
+put = refl
+
+read_a : frame.encode (frames.Read (record { principal = None; path = codes "/a"; place = 3; length = 4; version = Some (codes "v") }))
+    ≡ 4 ∷ 0 ∷ small 2 ++ codes "/a" ++ small 3 ++ small 4 ++ 1 ∷ small 1 ++ codes "v"
+unfolding frame read utf8_text text number
+read_a = refl
+
+add_7 : decode frame (2 ∷ small 9 ++ small 1 ++ 7 ∷ []) ≡ Some (frames.AddToBody 9 (7 ∷ []))
+unfolding frame add text number
+add_7 = refl
+
+-- a byte of no variant, and a byte after a frame
+unknown : decode frame (7 ∷ []) ≡ None
+unfolding frame
+unknown = refl
+
+longer : decode frame (1 ∷ 0 ∷ []) ≡ None
+unfolding frame
+longer = refl
+
+-- ---- replies
+
+multi_status : reply.encode
+    (replies.Response (record { status = 207; close = true; fields = []; tree = Some (record { tag = record { name = codes "b"; prefix = None; namespace = None; attributes = [] }; children = no_nodes }) }))
+    ≡ 0 ∷ small 207 ++ 1 ∷ small 0 ++ 1 ∷ small 1 ++ codes "b" ++ 0 ∷ 0 ∷ small 0 ++ 0 ∷ []
+unfolding reply response fields flag tree element_over nodes tag attributes utf8_text text number
+multi_status = refl
+
+held_2 : reply.encode (replies.Held (record { locks = 2; quota = Some (3, None) })) ≡ 6 ∷ small 2 ++ 1 ∷ small 3 ++ 0 ∷ []
+unfolding reply held quota number
+held_2 = refl
+
+-- ---- batches
+
+two_frames : decode batch (small 2 ++ small 1 ++ 5 ∷ small 0) ≡ Some ((5 ∷ []) ∷ [] ∷ [])
+unfolding batch text number
+two_frames = refl
+
+too_few : decode batch (small 2 ++ small 1 ++ 5 ∷ []) ≡ None
+unfolding batch text number
+too_few = refl
+
+header : decode batch_header (small 1 ++ small 2 ++ small 3) ≡ Some (record { number = 1; now = 2; length = 3 })
+unfolding batch_header number
+header = refl
+
+large_status : decode reply_header (small 1 ++ (0 ∷ 0 ∷ 0 ∷ 0 ∷ 0 ∷ 1 ∷ 0 ∷ 0 ∷ []) ++ small 3) ≡ None
+unfolding reply_header number
+large_status = refl

@@ -12,7 +12,7 @@ use Rattle.dav_wire.specs.Values.{utf8_text}
 use Rattle.dav_wire.specs.Parts.{NeverZero, put_first, parse_until, parse_terminated}
 use Rattle.dav_wire.specs.TerminatedLaws.{Begins, begins}
 use Rattle.dav_wire.specs.Trees.{one_node, node_never_zero, nodes, tag, tree, element_over}
-use Rattle.dav_wire.proofs.AttributeLemmas.{put_front, put_front-more, put_front-none}
+use Rattle.dav_wire.proofs.ListLemmas.{put_front, put_front-more, put_front-none}
 
 -- ---- lengths
 

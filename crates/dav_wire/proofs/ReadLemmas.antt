@@ -40,6 +40,17 @@ pub exit_allocating : {A B : Type 0} (a : Codec A) (value : B → A) (old new : 
 exit_allocating a value old new (Ok x) e gives h = absurd gives
 exit_allocating a value old new (Err y) e gives h = subst (λ z. FailsAllocating a old z) (sym gives) h
 
+-- a failed read of a part fails the whole, if the whole cannot be parsed without the part
+pub stops : {A B C : Type 0} (a : Codec A) (b : Codec C) (value : B → C) (old mid new : List ℕ) (r : Result B WireError) (e : WireError) → IsErrAnd r (λ y. y ≡ e) → (a.parse mid ≡ None → b.parse old ≡ None) → Fails a mid e → Reads b value old r new
+stops a b value old mid new r e gives then_none h = exit b value old new r e gives (fails_because a b mid old e then_none h)
+
+pub stops_allocating : {A B C : Type 0} (a : Codec A) (b : Codec C) (value : B → C) (old mid new : List ℕ) (r : Result B WireError) (e : WireError) → IsErrAnd r (λ y. y ≡ e) → (a.parse mid ≡ None → b.parse old ≡ None) → FailsAllocating a mid e → ReadsAllocating b value old r new
+stops_allocating a b value old mid new r e gives then_none h =
+    exit_allocating b value old new r e gives (fails_allocating_because a b mid old e then_none h)
+
+pub may_allocate : {A : Type 0} (a : Codec A) (old : List ℕ) (e : WireError) → Fails a old e → FailsAllocating a old e
+may_allocate a old e h = fails_allocating a a old old e (λ none. none) h
+
 -- ---- strings
 
 neither : (bs : List ℕ) (b : Bool) → is_utf8 bs ≡ b → (IsUtf8 bs → ⊥) → b ≡ false

@@ -1,6 +1,6 @@
 -- Writes of the parts of a tree.
-use Rattle.std.proofs.Common.{◌≡◌, ◌∙◌, ℕ, zero, suc, ◌≤◌, arith, ◌-◌, true, ◌&&◌, refl, ap, sym, List, [], ◌∷◌, ◌++◌, map, length, string_bytes, String, Global, get_or, ◌<◌, ◌==◌, Result}
-use Rattle.std.proofs.lemmas.Bool.{and_from, eq-eqb}
+use Rattle.std.proofs.Common.{◌≡◌, ◌∙◌, ℕ, zero, suc, ◌≤◌, arith, ◌-◌, true, ◌&&◌, refl, ap, sym, List, [], ◌∷◌, ◌++◌, map, length, string_bytes, String, Global, get_or, ◌<◌, Result}
+use Rattle.std.proofs.lemmas.Bool.{and_from}
 use Rattle.dav_resource.specs.Tree.{Tag, Tree}
 use Rattle.dav_resource.specs.Element.{nodes_of}
 use Rattle.dav_resource.specs.declared.element.XMLNode.{XMLNode}
@@ -16,8 +16,8 @@ use Rattle.dav_resource.specs.Element.{text_pair}
 use Rattle.dav_wire.specs.Codec.{Codec}
 use Rattle.dav_wire.specs.Numbers.{byte, number}
 use Rattle.dav_wire.specs.Writes.{Writes, Appends}
-use Rattle.dav_wire.proofs.WriteLemmas.{Run, writes_after}
-use Rattle.dav_wire.specs.Values.{utf8_text, optional}
+use Rattle.dav_wire.proofs.WriteLemmas.{Run, writes_after, list_written}
+use Rattle.dav_wire.specs.Values.{utf8_text, list, optional}
 use Rattle.dav_wire.specs.Trees.{attribute, attributes, is_ascending, is_key_before, one_node, node_list-of, nodes, tag, tree, element_over}
 use Rattle.dav_wire.specs.TreeLaws.{levels_of}
 use Rattle.dav_wire.proofs.NodeLemmas.{tree_at}
@@ -89,19 +89,8 @@ pub attributes_written : (es : List (String Global × String Global)) (n : ℕ) 
 unfolding attributes
 attributes_written es n old mid new count sorted h g =
     let pairs : List (List ℕ × List ℕ) = map text_pair es in
-    let same : n ≡ length pairs = count ∙ sym (length-map es text_pair) in
-    let count_ok : number.is_valid (length pairs) ≡ true = ap number.is_valid (sym same) ∙ h.valid in
-    record {
-      valid =
-          and_from (number.is_valid (length pairs) && ((length pairs == length pairs) && list_all attribute.is_valid pairs)) (is_ascending pairs)
-          (and_from (number.is_valid (length pairs)) ((length pairs == length pairs) && list_all attribute.is_valid pairs) count_ok
-          (and_from (length pairs == length pairs) (list_all attribute.is_valid pairs) (eq-eqb (length pairs) (length pairs) refl) g.valid))
-          (string_pairs_ascend es sorted);
-      is =
-          g.is ∙ ap (λ (bs : List ℕ). bs ++ flat_map attribute.encode pairs) h.is
-          ∙ append_assoc old (number.encode n) (flat_map attribute.encode pairs)
-          ∙ ap (λ (m : ℕ). old ++ (number.encode m ++ flat_map attribute.encode pairs)) same;
-    }
+    let all = list_written attribute pairs n old mid new (count ∙ sym (length-map es text_pair)) h g in
+    record { valid = and_from ((list attribute).is_valid pairs) (is_ascending pairs) all.valid (string_pairs_ascend es sorted); is = all.is }
 
 -- ---- what was written part by part
 

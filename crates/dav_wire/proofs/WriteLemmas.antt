@@ -1,9 +1,10 @@
 -- How writes of parts make a write of the whole.
-use Rattle.std.proofs.Common.{◌≡◌, ◌∙◌, ℕ, true, refl, ap, sym, subst, List, [], ◌∷◌, ◌++◌, length, ◌==◌, Result, Ok, Err, IsErrAnd, OnOk, OnErr, append-nil, append_assoc}
+use Rattle.std.proofs.Common.{◌≡◌, ◌∙◌, ℕ, true, refl, ap, sym, subst, List, [], ◌∷◌, ◌++◌, length, ◌==◌, ◌&&◌, Result, Ok, Err, IsErrAnd, OnOk, OnErr, append-nil, append_assoc}
 use Rattle.std.proofs.lemmas.Bool.{and_from, eq-eqb}
 use Rattle.dav_wire.specs.Codec.{Codec}
+use Rattle.dav_wire.specs.Combine.{pair}
 use Rattle.dav_wire.specs.Numbers.{number}
-use Rattle.dav_wire.specs.Values.{text}
+use Rattle.dav_wire.specs.Values.{text, list}
 use Rattle.std.specs.List.{list_all, flat_map}
 use Rattle.std.proofs.lemmas.List.{flat_map_more}
 use Rattle.std.proofs.lemmas.List.Folds.{list_all-append}
@@ -54,6 +55,15 @@ writes_after a b x y old mid new added (Err e) first ok same h = extends_from ol
 pub writes_as : {A B U E : Type 0} (a : Codec A) (b : Codec B) (x : A) (y : B) (old new : List ℕ) (r : Result U E) → (a.is_valid x ≡ true → b.is_valid y ≡ true) → b.encode y ≡ a.encode x → Writes a x old r new → Writes b y old r new
 writes_as a b x y old new r ok same h = writes_after a b x y old old new [] r (sym (append-nil old)) ok same h
 
+-- two values, one after the other
+pub writes_pair : {A B U E : Type 0} (a : Codec A) (b : Codec B) (x : A) (y : B) (old mid new : List ℕ) (r : Result U E) → Appends a x old mid → Writes b y mid r new → Writes (pair a b) (x, y) old r new
+writes_pair a b x y old mid new r h g =
+    writes_after b (pair a b) y (x, y) old mid new (a.encode x) r h.is (λ ok. and_from (a.is_valid x) (b.is_valid y) h.valid ok) refl g
+
+-- a value that was written, as one of another codec
+pub appends_as : {A B : Type 0} (a : Codec A) (b : Codec B) (x : A) (y : B) (old new : List ℕ) → (a.is_valid x ≡ true → b.is_valid y ≡ true) → b.encode y ≡ a.encode x → Appends a x old new → Appends b y old new
+appends_as a b x y old new ok same h = appends_after a b x y old old new [] (sym (append-nil old)) ok same h
+
 -- ---- strings
 
 pub text_valid : (bytes : List ℕ) → number.is_valid (length bytes) ≡ true → text.is_valid bytes ≡ true
@@ -82,6 +92,21 @@ writes_unless_after reason other a b x y old mid new added (Ok u) first ok becau
 writes_unless_after reason other a b x y old mid new added (Err e) first ok because same h =
     (refuses_because reason other e because h.0, extends_from old mid new added first h.1)
 
+-- a value as one of another codec, where it may be refused
+pub writes_unless_as :
+    {A B U : Type 0} (reason : Type 0) (a : Codec A) (b : Codec B) (x : A) (y : B) (old new : List ℕ) (r : Result U WireError)
+    → (a.is_valid x ≡ true → b.is_valid y ≡ true) → b.encode y ≡ a.encode x → WritesUnless reason a x old r new → WritesUnless reason b y old r new
+writes_unless_as reason a b x y old new r ok same h =
+    writes_unless_after reason reason a b x y old old new [] r (sym (append-nil old)) ok (λ why. why) same h
+
+-- two values, one after the other, where the second may be refused
+pub writes_pair_unless :
+    {A B U : Type 0} (reason : Type 0) (a : Codec A) (b : Codec B) (x : A) (y : B) (old mid new : List ℕ) (r : Result U WireError)
+    → Appends a x old mid → WritesUnless reason b y mid r new → WritesUnless reason (pair a b) (x, y) old r new
+writes_pair_unless reason a b x y old mid new r h g =
+    writes_unless_after reason reason b (pair a b) y (x, y) old mid new (a.encode x) r h.is
+    (λ ok. and_from (a.is_valid x) (b.is_valid y) h.valid ok) (λ why. why) refl g
+
 pub extends_trans : (old mid new : List ℕ) → Extends old mid → Extends mid new → Extends old new
 extends_trans old mid new h g = extends_from old mid new h.added h.is g
 
@@ -101,6 +126,20 @@ run_more a xs x old mid new h g =
       is =
           g.is ∙ ap (λ (bs : List ℕ). bs ++ a.encode x) h.is ∙ append_assoc old (flat_map a.encode xs) (a.encode x)
           ∙ ap (λ (bs : List ℕ). old ++ bs) (flat_map_more a.encode [] xs x);
+    }
+
+-- how many, and then the values
+pub list_written : {A : Type 0} (a : Codec A) (xs : List A) (n : ℕ) (old mid new : List ℕ) → n ≡ length xs → Appends number n old mid → Run a xs mid new → Appends (list a) xs old new
+list_written a xs n old mid new count h g =
+    let count_ok : number.is_valid (length xs) ≡ true = ap number.is_valid (sym count) ∙ h.valid in
+    record {
+      valid =
+          and_from (number.is_valid (length xs)) ((length xs == length xs) && list_all a.is_valid xs) count_ok
+          (and_from (length xs == length xs) (list_all a.is_valid xs) (eq-eqb (length xs) (length xs) refl) g.valid);
+      is =
+          g.is ∙ ap (λ (bs : List ℕ). bs ++ flat_map a.encode xs) h.is
+          ∙ append_assoc old (number.encode n) (flat_map a.encode xs)
+          ∙ ap (λ (m : ℕ). old ++ (number.encode m ++ flat_map a.encode xs)) count;
     }
 
 pub extends_run : {A : Type 0} (a : Codec A) (xs : List A) (old new : List ℕ) → Run a xs old new → Extends old new

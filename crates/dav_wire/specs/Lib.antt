@@ -10,3 +10,10 @@ pub mod Trees
 pub mod Reads
 pub mod Writes
 pub mod TreeLaws
+pub mod Fields
+pub mod Bodies
+pub mod Frames
+pub mod Replies
+pub mod Batches
+pub mod Views
+pub mod Levels

@@ -1,5 +1,5 @@
 -- Byte strings, strings, options, lists and tagged values.
-use Rattle.std.specs.Prelude.{◌≡◌, ℕ, zero, suc, true, ◌==◌, List, length, Option, Some, None, refl}
+use Rattle.std.specs.Prelude.{◌≡◌, ℕ, zero, suc, Bool, true, false, ◌==◌, List, [], ◌∷◌, length, Option, Some, None, refl}
 use Rattle.std.specs.Str.{is_utf8}
 use Rattle.std.proofs.Common.{sym}
 use Rattle.std.proofs.lemmas.Bool.{and_parts, eqb-true}
@@ -52,6 +52,48 @@ has_tag tag n a x ok = eqb-true (tag x) n (and_parts (a.is_valid x) (tag x == n)
 abbrev pub tagged : {A : Type 0} → (tag : A → ℕ) (variant_of : ℕ → Codec A) → Codec A
 tagged tag variant_of =
     prefixed byte tag (λ n. with_tag tag n (variant_of n)) (λ n x ok. has_tag tag n (variant_of n) x ok)
+
+-- the codec at this position
+abbrev pub variant_at : {A : Type 0} → List (Codec A) → ℕ → Codec A
+variant_at [] n = never
+variant_at (a ∷ others) zero = a
+variant_at (a ∷ others) (suc n) = variant_at others n
+
+-- a byte says which of these variants follows, by its position
+abbrev pub one_of : {A : Type 0} → (position : A → ℕ) (variants : List (Codec A)) → Codec A
+one_of position variants = tagged position (variant_at variants)
+
+-- ---- flags
+
+abbrev pub flag_byte : Bool → ℕ
+flag_byte false = 0
+flag_byte true = 1
+
+abbrev pub from_no : Bool → Option (Unit {0})
+from_no false = Some tt
+from_no true = None
+
+abbrev pub from_yes : Bool → Option (Unit {0})
+from_yes false = None
+from_yes true = Some tt
+
+pub no_exact : (b : Bool) (u : Unit {0}) → from_no b ≡ Some u → false ≡ b
+no_exact false u e = refl
+no_exact true u e = cc
+
+pub yes_exact : (b : Bool) (u : Unit {0}) → from_yes b ≡ Some u → true ≡ b
+yes_exact false u e = cc
+yes_exact true u e = refl
+
+abbrev pub no : Codec Bool
+no = variant nothing (λ u. false) from_no (λ u. refl) (λ b u e. no_exact b u e)
+
+abbrev pub yes : Codec Bool
+yes = variant nothing (λ u. true) from_yes (λ u. refl) (λ b u e. yes_exact b u e)
+
+-- byte 0 for no, and byte 1 for yes
+unfoldable pub flag : Codec Bool
+flag = one_of flag_byte (no ∷ yes ∷ [])
 
 -- ---- options
 

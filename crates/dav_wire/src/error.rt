@@ -7,7 +7,8 @@ use thiserror::Error;
 /// Why a value was not read or written.
 #[derive(Clone, Copy, Debug, PartialEq, Eq, Error)]
 pub enum WireError {
-    /// The bytes do not begin with an encoding of such a value, or a value to write is deeper than allowed.
+    /// The bytes do not begin with an encoding of such a value, other bytes follow one that must be the whole
+    /// input, or a value to write is deeper than allowed.
     #[error("malformed")]
     Malformed,
     /// Memory ran out.

@@ -1,24 +1,76 @@
-//! Values as bytes of frames, and back.
+//! Frames and replies as bytes, and back.
 //!
-//! A host and a program exchange frames over pipes. This crate writes and reads the values in a frame. Each
-//! value has exactly one encoding: a `Reader` accepts the bytes that a `Writer` writes, and no others.
+//! A host sends frames to a program that serves WebDAV, and the program sends a reply to each. This crate
+//! reads and writes frames, replies, and the values in them. All is over byte strings in memory. Each value
+//! has exactly one encoding: a read accepts the bytes that a write makes, and no others.
 //!
-//! - A number is 8 bytes, the highest first.
+//! # Values
+//!
+//! - A number is 8 bytes, the highest first. A flag is the byte 0 for no, or the byte 1 for yes.
 //! - A byte string is its length as a number, then its bytes. A string is a byte string that is UTF-8.
-//! - An optional string is the byte 0, or the byte 1 and the string.
+//! - An optional value is the byte 0, or the byte 1 and the value.
 //! - An element is its tag, its content, and the byte 0. Its content is its nodes in order: the byte 1 and an
 //!   element, or the byte 2 and a string.
 //! - A tag is a name, an optional prefix, an optional namespace, and attributes.
 //! - Attributes are their count as a number, then for each a key and a value, which are strings. Each key is
 //!   less than the next, byte by byte.
+//! - Header fields are their count as a number, then for each a name and a value, which are byte strings.
+//!
+//! # Frames
+//!
+//! A frame is a byte that says which it is, and then its content.
+//!
+//! - 0, a request: the method, a byte string; the path, a string; the principal, an optional string; the lock
+//!   token, a string; the header fields; and the body.
+//! - 1, begin a body that the store holds: nothing.
+//! - 2, add to a body: its number, and the bytes as a byte string.
+//! - 3, drop a body: its number.
+//! - 4, read a part of a file: the principal, an optional string; the path, a string; where the part begins
+//!   and how many bytes it has at most, two numbers; and the entity tag at an earlier part, an optional
+//!   string.
+//! - 5, when the next lock expires: nothing.
+//! - 6, how much is held: nothing.
+//!
+//! The body of a request is the byte 0 for none, the byte 1 and a byte string, the byte 2 and the number of a
+//! body that the store holds, the byte 3 and an element of at most `REQUEST_LEVELS` levels, or the byte 4 for
+//! a body that could not be parsed.
+//!
+//! # Replies
+//!
+//! A reply is a byte that says which it is, and then its content.
+//!
+//! - 0, the response to a request: the status, a number; whether the connection must be closed, a flag; the
+//!   header fields; and an optional element of at most `REPLY_LEVELS` levels.
+//! - 1, a body was begun: its number.
+//! - 2, done: nothing.
+//! - 3, a part of a file: the file's length, a number; when it was modified, an optional number; its entity
+//!   tag, an optional string; its media type, a string; and the bytes, a byte string.
+//! - 4, the path of a read is that of a collection: nothing.
+//! - 5, when the next lock expires: an optional number.
+//! - 6, how much is held: how many locks, a number; and an optional quota, which is the bytes used, a number,
+//!   and the bytes that there may be, an optional number.
+//! - 7, the frame failed: the status, a number.
+//!
+//! # Batches
+//!
+//! A batch of frames is a header and its content. The header is 24 bytes: the number of the batch, the time,
+//! and how many bytes the content has. The content is the count of frames as a number, then each frame as a
+//! byte string. A batch of replies is 24 bytes, the number of the batch, its status, and the count of replies,
+//! and then each reply as a byte string.
 #![tactic(auto)]
 
+mod batch;
 mod error;
+mod frame;
 mod reader;
+mod reply;
 mod writer;
 
+pub use batch::{BatchHeader, ReplyHeader, read_batch};
 pub use error::WireError;
+pub use frame::{Frame, REQUEST_LEVELS, ReadFrame, RequestFrame};
 pub use reader::Reader;
+pub use reply::{FilePart, HeldFrame, REPLY_LEVELS, Reply, ResponseFrame};
 pub use writer::Writer;
 
 #[cfg(test)]

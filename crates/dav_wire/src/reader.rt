@@ -9,6 +9,8 @@ use dav_resource::Text;
 use std::alloc::Global;
 use std::marker::Model;
 
+mod batch;
+mod frame;
 mod tree;
 
 /// The bytes of a frame that are not read yet. In contracts its value is the list of those bytes.

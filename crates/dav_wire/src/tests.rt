@@ -4,6 +4,10 @@ use dav_resource::Element;
 use std::alloc::Global;
 use std::test::Fail;
 
+mod batch;
+mod frame;
+mod reply;
+
 /// Writes a value of each kind.
 fn written(alloc: Global) -> Result<Vec<u8>, WireError> {
     let mut writer = Writer::new(alloc);

@@ -7,6 +7,9 @@ ghost use Rattle.dav_wire.specs.Writes.{Writes};
 use std::alloc::{AllocError, Global};
 use std::marker::Model;
 
+mod frame;
+mod parts;
+mod reply;
 mod tree;
 
 /// The bytes of a frame that are written so far. In contracts its value is the list of those bytes.

@@ -1,0 +1,56 @@
+use Rattle.std.proofs.Common.{refl, true, [], ◌∷◌}
+use Rattle.std.proofs.lemmas.Bool.{and_from}
+use Rattle.dav_wire.specs.Numbers.{byte, number}
+use Rattle.dav_wire.specs.Frames.{frame, request, read, add}
+use Rattle.dav_wire.specs.Frames as frames
+use Rattle.dav_wire.specs.Levels.{IsBodyTooDeep}
+use Rattle.dav_wire.specs.Views.{request_frame_of, read_frame_of}
+use Rattle.dav_wire.proofs.WriteLemmas.{appends_as, appends_after, writes_unless_after}
+use Rattle.dav_wire.proofs.writer.Writer.write_frame.Goals as goal
+
+pub returns-in-Request : goal.returns-in-Request
+unfolding frame
+returns-in-Request c =
+    let x = request_frame_of c.in-Request.request in
+    rw c.in-Request.is
+    (writes_unless_after (IsBodyTooDeep x.body) (IsBodyTooDeep x.body) request frame x (frames.Request x) c.args.self.now c.write_u8.new.self c.write_request.new.self (0 ∷ []) c.write_request.result
+    c.in_ok-write_u8-in-Request.ensures.is (λ ok. and_from (request.is_valid x) true ok refl) (λ why. why) refl c.write_request.ensures)
+
+pub returns-in_ok-write_u8-in-StartBody : goal.returns-in_ok-write_u8-in-StartBody
+unfolding frame
+returns-in_ok-write_u8-in-StartBody c =
+    rw c.in-StartBody.is
+    (appends_as byte frame 1 frames.StartBody c.args.self.now c.write_u8-in-StartBody.new.self (λ ok. refl) refl c.in_ok-write_u8-in-StartBody.ensures)
+
+pub returns-in_ok-write_addition-in-AddToBody : goal.returns-in_ok-write_addition-in-AddToBody
+unfolding frame
+returns-in_ok-write_addition-in-AddToBody c =
+    rw c.in-AddToBody.is
+    (appends_after add frame (c.in-AddToBody.number, c.in-AddToBody.bytes.now) (frames.AddToBody c.in-AddToBody.number c.in-AddToBody.bytes.now) c.args.self.now c.write_u8-in-AddToBody.new.self c.write_addition.new.self (2 ∷ [])
+    c.in_ok-write_u8-in-AddToBody.ensures.is (λ ok. and_from (add.is_valid (c.in-AddToBody.number, c.in-AddToBody.bytes.now)) true ok refl) refl (rw c.as_u64.ensures at c.in_ok-write_addition-in-AddToBody.ensures))
+
+pub returns-in_ok-write_number-in-DropBody : goal.returns-in_ok-write_number-in-DropBody
+unfolding frame
+returns-in_ok-write_number-in-DropBody c =
+    rw c.in-DropBody.is
+    (appends_after number frame c.in-DropBody.number (frames.DropBody c.in-DropBody.number) c.args.self.now c.write_u8-in-DropBody.new.self c.write_number.new.self (3 ∷ [])
+    c.in_ok-write_u8-in-DropBody.ensures.is (λ ok. and_from (number.is_valid c.in-DropBody.number) true ok refl) refl (rw c.as_u64-in-DropBody.ensures at c.in_ok-write_number-in-DropBody.ensures))
+
+pub returns-in_ok-write_read-in-Read : goal.returns-in_ok-write_read-in-Read
+unfolding frame
+returns-in_ok-write_read-in-Read c =
+    rw c.in-Read.is
+    (appends_after read frame (read_frame_of c.in-Read.part) (frames.Read (read_frame_of c.in-Read.part)) c.args.self.now c.write_u8-in-Read.new.self c.write_read.new.self (4 ∷ [])
+    c.in_ok-write_u8-in-Read.ensures.is (λ ok. and_from (read.is_valid (read_frame_of c.in-Read.part)) true ok refl) refl c.in_ok-write_read-in-Read.ensures)
+
+pub returns-in_ok-write_u8-in-NextExpiry : goal.returns-in_ok-write_u8-in-NextExpiry
+unfolding frame
+returns-in_ok-write_u8-in-NextExpiry c =
+    rw c.in-NextExpiry.is
+    (appends_as byte frame 5 frames.NextExpiry c.args.self.now c.write_u8-in-NextExpiry.new.self (λ ok. refl) refl c.in_ok-write_u8-in-NextExpiry.ensures)
+
+pub returns-in_ok-write_u8-in-Held : goal.returns-in_ok-write_u8-in-Held
+unfolding frame
+returns-in_ok-write_u8-in-Held c =
+    rw c.in-Held.is
+    (appends_as byte frame 6 frames.Held c.args.self.now c.write_u8-in-Held.new.self (λ ok. refl) refl c.in_ok-write_u8-in-Held.ensures)

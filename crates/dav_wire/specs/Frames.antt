@@ -1,0 +1,183 @@
+-- Frames: what a host asks for.
+use Rattle.std.specs.Prelude.{◌≡◌, ℕ, List, [], ◌∷◌, Option, Some, None, refl}
+use Rattle.dav_resource.specs.declared.request.ReqBody.{ReqBody}
+use Rattle.dav_wire.specs.Codec.{Codec}
+use Rattle.dav_wire.specs.Combine.{nothing, pair, as_type, variant}
+use Rattle.dav_wire.specs.Numbers.{number}
+use Rattle.dav_wire.specs.Values.{text, utf8_text, optional, one_of}
+use Rattle.dav_wire.specs.Fields.{fields}
+use Rattle.dav_wire.specs.Bodies.{request_body}
+
+-- ---- values
+
+-- a request: the fields are names and values, in order
+pub record RequestValue : Type 0 where
+  pub method : List ℕ
+  pub path : List ℕ
+  pub principal : Option (List ℕ)
+  pub token : List ℕ
+  pub fields : List (List ℕ × List ℕ)
+  pub body : ReqBody
+
+-- a read of at most `length` bytes of a file, from the byte at `place` on; an earlier part had the entity tag `version`
+pub record ReadValue : Type 0 where
+  pub principal : Option (List ℕ)
+  pub path : List ℕ
+  pub place : ℕ
+  pub length : ℕ
+  pub version : Option (List ℕ)
+
+pub data FrameValue : Type 0 where
+  Request : RequestValue → FrameValue
+  -- begin a body that the store holds
+  StartBody : FrameValue
+  -- add bytes to the body of this number
+  AddToBody : ℕ → List ℕ → FrameValue
+  -- drop the body of this number
+  DropBody : ℕ → FrameValue
+  Read : ReadValue → FrameValue
+  -- when the next lock expires
+  NextExpiry : FrameValue
+  -- how much is held
+  Held : FrameValue
+
+-- ---- requests
+
+abbrev pub RequestParts : Type 0
+RequestParts = List ℕ × (List ℕ × (Option (List ℕ) × (List ℕ × (List (List ℕ × List ℕ) × ReqBody))))
+
+abbrev pub request_of : RequestParts → RequestValue
+request_of p =
+    record { method = p.0; path = p.1.0; principal = p.1.1.0; token = p.1.1.1.0; fields = p.1.1.1.1.0; body = p.1.1.1.1.1 }
+
+abbrev pub parts_of_request : RequestValue → RequestParts
+parts_of_request r = (r.method, (r.path, (r.principal, (r.token, (r.fields, r.body)))))
+
+-- the parts in this order
+unfoldable pub request : Codec RequestValue
+request =
+    as_type (pair text (pair utf8_text (pair (optional utf8_text) (pair utf8_text (pair fields request_body)))))
+    request_of parts_of_request (λ p. refl) (λ r. refl)
+
+-- ---- reads
+
+abbrev pub ReadParts : Type 0
+ReadParts = Option (List ℕ) × (List ℕ × (ℕ × (ℕ × Option (List ℕ))))
+
+abbrev pub read_of : ReadParts → ReadValue
+read_of p = record { principal = p.0; path = p.1.0; place = p.1.1.0; length = p.1.1.1.0; version = p.1.1.1.1 }
+
+abbrev pub parts_of_read : ReadValue → ReadParts
+parts_of_read r = (r.principal, (r.path, (r.place, (r.length, r.version))))
+
+-- the parts in this order
+unfoldable pub read : Codec ReadValue
+read =
+    as_type (pair (optional utf8_text) (pair utf8_text (pair number (pair number (optional utf8_text)))))
+    read_of parts_of_read (λ p. refl) (λ r. refl)
+
+-- ---- additions to bodies
+
+-- the number of the body and the bytes to add
+unfoldable pub add : Codec (ℕ × List ℕ)
+add = pair number text
+
+-- ---- variants
+
+abbrev pub frame_position : FrameValue → ℕ
+frame_position (Request r) = 0
+frame_position StartBody = 1
+frame_position (AddToBody n bytes) = 2
+frame_position (DropBody n) = 3
+frame_position (Read r) = 4
+frame_position NextExpiry = 5
+frame_position Held = 6
+
+abbrev pub from_request : FrameValue → Option RequestValue
+from_request (Request r) = Some r
+from_request x = None
+
+abbrev pub from_start : FrameValue → Option (Unit {0})
+from_start StartBody = Some tt
+from_start x = None
+
+abbrev pub from_add : FrameValue → Option (ℕ × List ℕ)
+from_add (AddToBody n bytes) = Some (n, bytes)
+from_add x = None
+
+abbrev pub from_drop : FrameValue → Option ℕ
+from_drop (DropBody n) = Some n
+from_drop x = None
+
+abbrev pub from_read : FrameValue → Option ReadValue
+from_read (Read r) = Some r
+from_read x = None
+
+abbrev pub from_expiry : FrameValue → Option (Unit {0})
+from_expiry NextExpiry = Some tt
+from_expiry x = None
+
+abbrev pub from_held : FrameValue → Option (Unit {0})
+from_held Held = Some tt
+from_held x = None
+
+abbrev pub add_of : ℕ × List ℕ → FrameValue
+add_of p = AddToBody p.0 p.1
+
+pub request_exact : (x : FrameValue) (r : RequestValue) → from_request x ≡ Some r → Request r ≡ x
+request_exact (Request s) r e = cc
+request_exact x r e = cc
+
+pub start_exact : (x : FrameValue) (u : Unit {0}) → from_start x ≡ Some u → StartBody ≡ x
+start_exact StartBody u e = refl
+start_exact x u e = cc
+
+pub add_exact : (x : FrameValue) (p : ℕ × List ℕ) → from_add x ≡ Some p → add_of p ≡ x
+add_exact (AddToBody n bytes) p e = cc
+add_exact x p e = cc
+
+pub drop_exact : (x : FrameValue) (n : ℕ) → from_drop x ≡ Some n → DropBody n ≡ x
+drop_exact (DropBody m) n e = cc
+drop_exact x n e = cc
+
+pub read_exact : (x : FrameValue) (r : ReadValue) → from_read x ≡ Some r → Read r ≡ x
+read_exact (Read s) r e = cc
+read_exact x r e = cc
+
+pub expiry_exact : (x : FrameValue) (u : Unit {0}) → from_expiry x ≡ Some u → NextExpiry ≡ x
+expiry_exact NextExpiry u e = refl
+expiry_exact x u e = cc
+
+pub held_exact : (x : FrameValue) (u : Unit {0}) → from_held x ≡ Some u → Held ≡ x
+held_exact Held u e = refl
+held_exact x u e = cc
+
+abbrev pub request_frame : Codec FrameValue
+request_frame = variant request Request from_request (λ r. refl) (λ x r e. request_exact x r e)
+
+abbrev pub start_frame : Codec FrameValue
+start_frame = variant nothing (λ u. StartBody) from_start (λ u. refl) (λ x u e. start_exact x u e)
+
+abbrev pub add_frame : Codec FrameValue
+add_frame = variant add add_of from_add (λ p. refl) (λ x p e. add_exact x p e)
+
+abbrev pub drop_frame : Codec FrameValue
+drop_frame = variant number DropBody from_drop (λ n. refl) (λ x n e. drop_exact x n e)
+
+abbrev pub part_frame : Codec FrameValue
+part_frame = variant read Read from_read (λ r. refl) (λ x r e. read_exact x r e)
+
+abbrev pub expiry_frame : Codec FrameValue
+expiry_frame = variant nothing (λ u. NextExpiry) from_expiry (λ u. refl) (λ x u e. expiry_exact x u e)
+
+abbrev pub held_frame : Codec FrameValue
+held_frame = variant nothing (λ u. Held) from_held (λ u. refl) (λ x u e. held_exact x u e)
+
+-- ---- frames
+
+abbrev pub frame_variants : List (Codec FrameValue)
+frame_variants = request_frame ∷ start_frame ∷ add_frame ∷ drop_frame ∷ part_frame ∷ expiry_frame ∷ held_frame ∷ []
+
+-- the byte of the variant, then its content
+unfoldable pub frame : Codec FrameValue
+frame = one_of frame_position frame_variants
