@@ -102,7 +102,7 @@ def deep_tree(chance: random.Random) -> frames.Request:
 
 
 def wide_tree(chance: random.Random) -> frames.Request:
-    nodes = tuple(Element(f"p{it}", None, "urn:x") for it in range(chance.choice((10, 1000, 5000))))
+    nodes = tuple(Element(f"p{it}", None, "urn:x") for it in range(chance.choice((10, 300, 1500))))
     prop = Element("prop", "D", "DAV:", (), nodes)
     find = Element("propfind", "D", "DAV:", (), (prop,))
     update = Element("propertyupdate", "D", "DAV:", (), (Element("set", "D", "DAV:", (), (prop,)),))

@@ -1,6 +1,7 @@
 """Random batches for davd, and a model of what it must answer: the third kind of test of tools/replay."""
 import dataclasses
 import random
+import re
 import typing
 import urllib.parse
 
@@ -292,15 +293,17 @@ class Model:
                 raise Wrong("a request for a path that names no resource succeeds")
             return
         self.check_owner(request, key, reply)
+        if request.method == b"DELETE" and key == () and reply.status == 403:
+            return self.clear()
         change = getattr(self, f"change_{request.method.decode().lower()}", None)
         if change and request.method.isupper() and reply.status < 300:
             change(request, asked, key, reply)
 
     def check_owner(self, request: frames.Request, key: Key, reply: frames.Response):
         """A lock of another principal is neither removed nor refreshed, and one's own is removed."""
-        named = self.locks.get(token_in(request, b"lock-token", "<", ">") if request.method == b"UNLOCK" else None)
+        named = self.locks.get(unlocked_token(request)) if request.method == b"UNLOCK" else None
         if request.method == b"LOCK" and self.body_of(request) in (None, b""):
-            named = self.locks.get(token_in(request, b"if", "(<", ">)"))
+            named = self.locks.get(submitted_token(request))
         if named is None or not self.are_locks_sure:
             return
         is_allowed = self.is_anyone_unlocking or named.principal == request.principal
@@ -325,6 +328,10 @@ class Model:
         self.unsure = {it for it in self.unsure if not is_below(it, key)}
         self.locks = {it: lock for it, lock in self.locks.items() if not is_below(lock.key, key)}
 
+    def clear(self):
+        """Removes all but the root, which no request can remove."""
+        self.files, self.unsure, self.are_locks_sure = {(): None}, set(), False
+
     def doubt(self, key: Key):
         self.unsure.add(key)
         self.are_locks_sure = False
@@ -347,7 +354,6 @@ class Model:
         if reply.status == 207:
             return self.doubt(key)
         self.remove(key)
-        self.files.setdefault((), None)
 
     def change_copy(self, request, asked, key, reply):
         is_flat = dict(request.fields).get(b"Depth") == b"0"
@@ -380,7 +386,7 @@ class Model:
             self.locks[token] = lock._replace(end=end)
 
     def change_unlock(self, request, asked, key, reply):
-        token = token_in(request, b"lock-token", "<", ">")
+        token = unlocked_token(request)
         if self.locks.pop(token, None) is None and self.are_locks_sure:
             raise Wrong(f"an UNLOCK of {token} succeeds, and there is no such lock")
 
@@ -425,12 +431,17 @@ def is_below(key: Key, top: Key) -> bool:
     return key[: len(top)] == top
 
 
-def token_in(request: frames.Request, field: bytes, start: str, end: str) -> str | None:
-    """The token that is the whole of a header field, between a start and an end."""
-    values = [value.decode() for name, value in request.fields if name.lower() == field]
-    if len(values) != 1 or not values[0].startswith(start) or not values[0].endswith(end):
-        return None
-    return values[0][len(start) : -len(end)]
+def unlocked_token(request: frames.Request) -> str | None:
+    """The token of the header Lock-Token. Angle brackets around it may be left out."""
+    values = [value.decode() for name, value in request.fields if name.lower() == b"lock-token"]
+    return values[0].strip("<>") if values else None
+
+
+def submitted_token(request: frames.Request) -> str | None:
+    """The token that is all that the header If submits."""
+    values = [value.decode() for name, value in request.fields if name.lower() == b"if"]
+    found = re.fullmatch(r"\(<([^<> ]*)>\)", values[0]) if len(values) == 1 else None
+    return found[1] if found else None
 
 
 def elements(root: Element | None, name: str) -> typing.Iterator[Element]:
