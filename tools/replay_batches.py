@@ -205,6 +205,8 @@ class Model:
         self.unsure: set[Key] = set()
         self.locks: dict[str, Lock] = {}
         self.are_locks_sure = True
+        # Whether there may be locks where there is no resource. No PROPFIND lists them.
+        self.may_locks_be_astray = False
         self.bodies: dict[int, bytes] = {}
         self.started = 0
         self.now = 0
@@ -293,7 +295,7 @@ class Model:
                 raise Wrong("a request for a path that names no resource succeeds")
             return
         self.check_owner(request, key, reply)
-        if request.method == b"DELETE" and key == () and reply.status == 403:
+        if request.method == b"DELETE" and key == () and reply.status == 403 and depth_of(request) != b"0":
             return self.clear()
         change = getattr(self, f"change_{request.method.decode().lower()}", None)
         if change and request.method.isupper() and reply.status < 300:
@@ -329,8 +331,9 @@ class Model:
         self.locks = {it: lock for it, lock in self.locks.items() if not is_below(lock.key, key)}
 
     def clear(self):
-        """Removes all but the root, which no request can remove."""
-        self.files, self.unsure, self.are_locks_sure = {(): None}, set(), False
+        """Removes all but the root, which no request can remove. So the request fails, and the locks may stay."""
+        self.files, self.unsure = {(): None}, set()
+        self.are_locks_sure, self.may_locks_be_astray = False, True
 
     def doubt(self, key: Key):
         self.unsure.add(key)
@@ -356,10 +359,12 @@ class Model:
         self.remove(key)
 
     def change_copy(self, request, asked, key, reply):
-        is_flat = dict(request.fields).get(b"Depth") == b"0"
+        is_flat = depth_of(request) == b"0" and self.files.get(key, 0) is None
         to = asked.destination.key if asked.destination else None
         if to is None or reply.status == 207 or is_below(to, key) or is_below(key, to):
             return self.doubt(to or ())
+        if is_flat and to in self.files:
+            return self.doubt(to)
         copied = {(*to, *it[len(key) :]): file for it, file in self.files.items() if is_below(it, key)}
         doubted = {(*to, *it[len(key) :]) for it in self.unsure if is_below(it, key)}
         is_sure = self.is_sure(key)
@@ -409,7 +414,7 @@ class Model:
         if self.are_locks_sure and tokens != set(self.locks):
             raise Wrong(f"davd lists the locks {sorted(tokens)}, and the model has {self.locks}")
         self.locks = {it: lock for it, lock in self.locks.items() if it in tokens}
-        self.unsure, self.are_locks_sure = set(), True
+        self.unsure, self.are_locks_sure = set(), not self.may_locks_be_astray
 
     def key_of(self, href: str) -> Key:
         path = urllib.parse.unquote(href.removeprefix(self.prefix), errors="strict")
@@ -429,6 +434,10 @@ def want_kind(reply: frames.Reply, kind):
 def is_below(key: Key, top: Key) -> bool:
     """Whether a key is at or below another."""
     return key[: len(top)] == top
+
+
+def depth_of(request: frames.Request) -> bytes | None:
+    return dict(request.fields).get(b"Depth")
 
 
 def unlocked_token(request: frames.Request) -> str | None:
