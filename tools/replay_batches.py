@@ -331,9 +331,8 @@ class Model:
         self.locks = {it: lock for it, lock in self.locks.items() if not is_below(lock.key, key)}
 
     def clear(self):
-        """Removes all but the root, which no request can remove. So the request fails, and the locks may stay."""
-        self.files, self.unsure = {(): None}, set()
-        self.are_locks_sure, self.may_locks_be_astray = False, True
+        """Removes all but the root, which no request can remove. So the request fails, and no lock changes."""
+        self.files, self.unsure, self.may_locks_be_astray = {(): None}, set(), True
 
     def doubt(self, key: Key):
         self.unsure.add(key)
@@ -359,21 +358,18 @@ class Model:
         self.remove(key)
 
     def change_copy(self, request, asked, key, reply):
-        is_flat = depth_of(request) == b"0" and self.files.get(key, 0) is None
         to = asked.destination.key if asked.destination else None
-        if to is None or reply.status == 207 or is_below(to, key) or is_below(key, to):
+        is_flat = depth_of(request) == b"0"
+        is_known = self.is_sure(key) and not any(is_below(it, key) for it in self.unsure)
+        if to is None or reply.status == 207 or not is_known or not self.is_sure(to):
             return self.doubt(to or ())
-        if is_flat and to in self.files:
-            return self.doubt(to)
-        copied = {(*to, *it[len(key) :]): file for it, file in self.files.items() if is_below(it, key)}
-        doubted = {(*to, *it[len(key) :]) for it in self.unsure if is_below(it, key)}
-        is_sure = self.is_sure(key)
+        if is_flat and self.files.get(to, 0) is None:
+            return
+        copied = [it for it in self.files if it == key or not is_flat and is_below(it, key) and not is_below(it, to)]
+        found = {(*to, *it[len(key) :]): self.files[it] for it in copied}
         self.remove(to)
-        if not is_sure or not self.is_sure(to):
-            return self.doubt(to)
-        for it in [to] if is_flat else sorted(copied, key=len):
-            self.add(it, None if copied[it] is None else File(copied[it].bytes))
-        self.unsure |= set() if is_flat else doubted
+        for it in sorted(found, key=len):
+            self.add(it, None if found[it] is None else File(found[it].bytes))
 
     def change_move(self, request, asked, key, reply):
         to = asked.destination.key if asked.destination else None
@@ -410,11 +406,14 @@ class Model:
             if not self.is_sure(key):
                 self.files[key] = None if href.endswith("/") else File(UNKNOWN)
         self.files = {it: file for it, file in self.files.items() if it in listed}
+        self.unsure = set()
         tokens = {token for token, _ in active_locks(reply.tree)}
-        if self.are_locks_sure and tokens != set(self.locks):
+        astray = {it for it, lock in self.locks.items() if lock.key not in self.files}
+        if self.are_locks_sure and tokens | astray != set(self.locks):
             raise Wrong(f"davd lists the locks {sorted(tokens)}, and the model has {self.locks}")
-        self.locks = {it: lock for it, lock in self.locks.items() if it in tokens}
-        self.unsure, self.are_locks_sure = set(), not self.may_locks_be_astray
+        if not self.are_locks_sure and not self.may_locks_be_astray:
+            self.locks = {it: lock for it, lock in self.locks.items() if it in tokens}
+            self.are_locks_sure = True
 
     def key_of(self, href: str) -> Key:
         path = urllib.parse.unquote(href.removeprefix(self.prefix), errors="strict")
