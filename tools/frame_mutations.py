@@ -1,4 +1,4 @@
-"""Frames that are not as a host sends them: cut, spliced, out of bounds, deep, long and many. tools/fuzz-frames uses it."""
+"""Frames that are not as a host sends them: cut, spliced, mixed, deep, long and many. tools/fuzz-frames sends them."""
 import dataclasses
 import random
 
@@ -7,6 +7,11 @@ from frames import Element
 
 NUMBERS = (0, 1, 2, 7, 8, 24, 255, 256, 257, 272, 273, 2**16, 2**31, 2**32 - 1, 2**32, 2**48, 2**63 - 1, 2**63)
 BYTES = (0, 1, 2, 3, 4, 5, 6, 7, 8, 0x20, 0x2F, 0x7F, 0x80, 0xC0, 0xED, 0xF4, 0xFF)
+
+FIELDS = (
+    b"if", b"destination", b"lock-token", b"timeout", b"depth", b"if-match", b"if-none-match", b"overwrite",
+    b"x-update-range", b"content-type", b"content-length", b"content-range", b"expect",
+)  # fmt: skip
 
 
 def some_number(chance: random.Random) -> int:
@@ -151,7 +156,7 @@ def deep_tree(chance: random.Random) -> frames.Request:
 
 
 def wide_tree(chance: random.Random) -> frames.Request:
-    nodes = tuple(Element(f"p{it}", None, "urn:x") for it in range(chance.choice((10, 300, 1500))))
+    nodes = tuple(Element(f"p{it}", None, "urn:x") for it in range(chance.choice((10, 1000, 5000))))
     prop = Element("prop", "D", "DAV:", (), nodes)
     find = Element("propfind", "D", "DAV:", (), (prop,))
     update = Element("propertyupdate", "D", "DAV:", (), (Element("set", "D", "DAV:", (), (prop,)),))
@@ -177,8 +182,7 @@ def long_texts(chance: random.Random) -> frames.Request:
         case "field":
             return request(chance, fields=((long.encode(), b"x"),))
         case "value":
-            names = (b"if", b"destination", b"lock-token", b"timeout", b"depth", b"if-match", b"overwrite", b"x-update-range")
-            return request(chance, fields=((chance.choice(names), long.encode()),))
+            return request(chance, fields=((chance.choice(FIELDS), long.encode()),))
         case "name":
             return request(chance, body=Element(long, long, "DAV:"))
         case "text":
@@ -188,18 +192,17 @@ def long_texts(chance: random.Random) -> frames.Request:
 
 
 def many_fields(chance: random.Random) -> frames.Request:
-    count = chance.choice((100, 100, 1000, 1000, 24_576, 24_577))
+    count = chance.choice((100, 3000, 24_576, 24_577, 30_000))
     is_one = chance.random() < 0.3
     return request(chance, fields=tuple((b"if" if is_one else b"x%d" % it, b"(<urn:x>)") for it in range(count)))
 
 
 def odd_fields(chance: random.Random) -> frames.Request:
-    names = (b"if", b"destination", b"lock-token", b"timeout", b"depth", b"if-match", b"if-none-match", b"overwrite")
     letters = b'()<>[]"/*:; ,\t%TFW-0123456789abcNnot\\\xff\x00'
     fields = []
     for _ in range(chance.randint(1, 4)):
         value = bytes(chance.choice(letters) for _ in range(chance.choice((0, 1, 5, 20, 100))))
-        fields.append((chance.choice(names), value))
+        fields.append((chance.choice(FIELDS), value))
     path = "/" + "".join(chance.choice(("a", "/", ".", "%", "2", "f", "?", "#", "*", "\u00e9")) for _ in range(8))
     return request(chance, path=path, fields=tuple(fields), body=chance.choice((None, b"x", frames.Unreadable())))
 
@@ -218,8 +221,8 @@ def large_put(chance: random.Random) -> frames.Request:
 
 
 LARGE = (
-    deep_tree, wide_tree, many_attributes, long_texts, long_texts, many_fields, odd_fields, odd_fields, odd_read, odd_body,
-    large_put,
+    deep_tree, wide_tree, many_attributes, long_texts, long_texts, many_fields, odd_fields, odd_fields, odd_read,
+    odd_body, large_put,
 )  # fmt: skip
 
 
