@@ -4,6 +4,7 @@ import random
 
 import frames
 from frames import Element
+from random_requests import dav
 
 NUMBERS = (0, 1, 2, 7, 8, 24, 255, 256, 257, 272, 273, 2**16, 2**31, 2**32 - 1, 2**32, 2**48, 2**63 - 1, 2**63)
 BYTES = (0, 1, 2, 3, 4, 5, 6, 7, 8, 0x20, 0x2F, 0x7F, 0x80, 0xC0, 0xED, 0xF4, 0xFF)
@@ -146,21 +147,26 @@ def request(chance: random.Random, **parts) -> frames.Request:
     return frames.Request(**{"method": method, "path": "/a", "token": f"urn:f:{chance.getrandbits(30)}", **parts})
 
 
+def update(*properties: Element) -> Element:
+    return dav("propertyupdate", dav("set", dav("prop", *properties)))
+
+
+def lock_info(owner: Element) -> Element:
+    return dav("lockinfo", dav("lockscope", dav("exclusive")), dav("locktype", dav("write")), dav("owner", owner))
+
+
 def deep_tree(chance: random.Random) -> frames.Request:
-    levels = chance.choice((2, 100, 250, 255, 256, 257, 272, 273, 5000, 50_000))
-    root = nested(levels)
-    if chance.random() < 0.5:
-        prop = Element("prop", "D", "DAV:", (), (nested(min(levels, 253)),))
-        root = Element("propertyupdate", "D", "DAV:", (), (Element("set", "D", "DAV:", (), (prop,)),))
-    return request(chance, method=chance.choice((b"LOCK", b"PROPPATCH", b"PROPFIND")), body=root)
+    levels = chance.choice((4, 100, 250, 255, 256, 257, 272, 273, 5000, 50_000))
+    properties, lock = update(nested(levels - 3)), lock_info(nested(levels - 2))
+    method, root = chance.choice(((b"PROPFIND", nested(levels)), (b"PROPPATCH", properties), (b"LOCK", lock)))
+    return request(chance, method=method, body=root)
 
 
 def wide_tree(chance: random.Random) -> frames.Request:
     nodes = tuple(Element(f"p{it}", None, "urn:x") for it in range(chance.choice((10, 1000, 5000))))
-    prop = Element("prop", "D", "DAV:", (), nodes)
-    find = Element("propfind", "D", "DAV:", (), (prop,))
-    update = Element("propertyupdate", "D", "DAV:", (), (Element("set", "D", "DAV:", (), (prop,)),))
-    return request(chance, method=chance.choice((b"PROPPATCH", b"PROPFIND")), body=chance.choice((find, update)))
+    find = dav("propfind", dav("prop", *nodes))
+    method, root = chance.choice(((b"PROPFIND", find), (b"PROPPATCH", update(*nodes)), (b"PROPPATCH", find)))
+    return request(chance, method=method, body=root)
 
 
 def many_attributes(chance: random.Random) -> frames.Request:
