@@ -1,4 +1,4 @@
--- Batches: the content is frames, or replies, and a header stands before it.
+-- Batches: the content is frames, or replies, after a header.
 use Rattle.std.specs.Prelude.{ℕ, Bool, nat_lt, List, refl}
 use Rattle.dav_wire.specs.Codec.{Codec}
 use Rattle.dav_wire.specs.Combine.{pair, as_type, only}
@@ -20,7 +20,7 @@ batch_header_of p = record { number = p.0; now = p.1.0; length = p.1.1 }
 abbrev pub parts_of_batch_header : BatchHeader → ℕ × (ℕ × ℕ)
 parts_of_batch_header h = (h.number, (h.now, h.length))
 
--- what stands before frames: the number of the batch, its time, and how many bytes its content has
+-- the header of a batch of frames: the number of the batch, its time, and how many bytes its content has
 unfoldable pub batch_header : Codec BatchHeader
 batch_header = as_type three_numbers batch_header_of parts_of_batch_header (λ p. refl) (λ h. refl)
 
@@ -34,7 +34,7 @@ parts_of_reply_header h = (h.number, (h.status, h.count))
 abbrev pub has_status : ReplyHeader → Bool
 has_status h = nat_lt h.status 65536
 
--- what stands before replies: the number of the batch, its status, and how many replies follow
+-- the header of a batch of replies: the number of the batch, its status, and how many replies follow
 unfoldable pub reply_header : Codec ReplyHeader
 reply_header = only has_status (as_type three_numbers reply_header_of parts_of_reply_header (λ p. refl) (λ h. refl))
 

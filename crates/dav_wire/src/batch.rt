@@ -9,7 +9,7 @@ use crate::{Reader, WireError};
 use byteorder::{BigEndian, ByteOrder};
 use std::alloc::Global;
 
-/// What stands before the content of a batch of frames.
+/// The header of a batch of frames.
 #[derive(Clone, Copy, Debug, PartialEq, Eq)]
 pub struct BatchHeader {
     /// The number of the batch, which the batch of replies repeats.
@@ -41,7 +41,7 @@ impl BatchHeader {
     }
 }
 
-/// What stands before a batch of replies. Each reply follows as a byte string.
+/// The header of a batch of replies. Each reply follows as a byte string.
 #[derive(Clone, Copy, Debug, PartialEq, Eq)]
 pub struct ReplyHeader {
     /// The number of the batch of frames.

@@ -1,0 +1,30 @@
+use Rattle.std.proofs.Common.{◌∙◌, inl, refl}
+use Rattle.dav_server.specs.State.{rules_of}
+use Rattle.dav_server.proofs.StreamRuns.{runs_more, runs_end, runs_stopped}
+use Rattle.dav_server.proofs.server.Server.serve.Goals as goal
+
+pub returns-in_err-exchange-clause-stopped : goal.returns-in_err-exchange-clause-stopped
+returns-in_err-exchange-clause-stopped g c =
+    let (same, run) = c.loop.invariant in
+    runs_stopped g.F.GuardedFileSystem.seen g.F.GuardedFileSystem.is_honest (rules_of c.args.self.now) c.from_residual.result _ _ _ _ _ _ _
+    run (rw same at c.in_err-exchange.ensures.stopped)
+
+pub loop-preserved : goal.loop-preserved
+loop-preserved g c =
+    let (same, run) = c.loop.invariant in
+    let more = c.in_ok-exchange.ensures.served c.if-not-branch.false in (
+      c.in_ok-exchange.ensures.rules ∙ same,
+      runs_more g.F.GuardedFileSystem.seen g.F.GuardedFileSystem.is_honest (rules_of c.args.self.now) _ _ _ _ _ _ _ _ _
+          run (rw same at more),
+    )
+
+pub returns-clause-stopped : goal.returns-clause-stopped
+returns-clause-stopped g c =
+    let run = c.loop.invariant.1 in
+    record { exchanges = run.exchanges; mid = _; answered = run.answered; stopped = inl refl }
+
+pub returns-then-not-branch-clause-ran : goal.returns-then-not-branch-clause-ran
+returns-then-not-branch-clause-ran g c =
+    let (same, run) = c.loop.invariant in
+    runs_end g.F.GuardedFileSystem.seen g.F.GuardedFileSystem.is_honest (rules_of c.args.self.now) _ _ _ _ _ _ _ _ _
+    run (c.in_ok-exchange.ensures.ended c.if-not-branch.true)

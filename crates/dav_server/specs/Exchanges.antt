@@ -1,0 +1,105 @@
+-- Batches read from an input and their answers written to an output.
+use Rattle.std.specs.Prelude.{◌≡◌, ◌⊎◌, ℕ, Bool, List, [], ◌∷◌, ◌++◌, length, flat_map, Option, Result, IfOk, IfSome, MatchOption, ⊤}
+use Rattle.std.specs.Io.KnownBytes.{Appends, Consumes, IsAtEnd, Keeps}
+use Rattle.dav_store.specs.Store.{Store}
+use Rattle.dav_wire.specs.Batches.{batch, batch_header}
+use Rattle.dav_wire.specs.Codec.{Codec}
+use Rattle.dav_wire.specs.Combine.{pair}
+use Rattle.dav_wire.specs.Numbers.{number}
+use Rattle.dav_wire.specs.declared.batch.BatchHeader.{BatchHeader}
+use Rattle.dav_server.specs.Batches.{BatchAnswer, AnswersBatch}
+use Rattle.dav_server.specs.State.{Rules, ServerState}
+
+-- a batch of replies: the number of the batch, its status, and the replies
+abbrev pub reply_batch : Codec (ℕ × (ℕ × List (List ℕ)))
+reply_batch = pair number (pair number batch)
+
+-- the bytes of the answer to the batch of this number
+abbrev pub answer_bytes : ℕ → BatchAnswer → List ℕ
+answer_bytes n answer = reply_batch.encode (n, (answer.status, answer.replies))
+
+-- ---- reads of parts of a batch
+
+-- P of the value that was read, if there is one
+abbrev pub IfRead : {A E : Type 0} → Result (Option A) E → (A → Type 0) → Type 0
+IfRead r P = IfOk r (λ o. IfSome o P)
+
+-- P, if there is no value and no stream failed
+abbrev pub OnNone : {A E : Type 0} → Result (Option A) E → Type 0 → Type 0
+OnNone r P = IfOk r (λ o. MatchOption o P (λ _. ⊤))
+
+-- this many bytes were read
+pub record Skips (input input' : Option (List ℕ)) (count : ℕ) : Type 0 where
+  pub bytes : List ℕ
+  pub read : Consumes input input' bytes
+  pub all : length bytes ≡ count
+
+-- this many bytes were read and appended
+pub record ReadsMore (input input' : Option (List ℕ)) (count : ℕ) (old new : List ℕ) : Type 0 where
+  pub bytes : List ℕ
+  pub read : Consumes input input' bytes
+  pub all : length bytes ≡ count
+  pub appended : new ≡ old ++ bytes
+
+-- ---- exchanges
+
+-- a batch and its answer
+pub record Exchange : Type 0 where
+  pub header : BatchHeader
+  pub content : List ℕ
+  pub answer : BatchAnswer
+
+-- the bytes of the batch, and those of its answer
+abbrev pub bytes_in : Exchange → List ℕ
+bytes_in exchange = batch_header.encode exchange.header ++ exchange.content
+
+abbrev pub bytes_out : Exchange → List ℕ
+bytes_out exchange = answer_bytes exchange.header.number exchange.answer
+
+-- the content has the length that the header says
+abbrev pub HasLength : Exchange → Type 0
+HasLength exchange = length exchange.content ≡ exchange.header.length
+
+-- the input has ended, and nothing has changed
+pub record Ends (old new : ServerState) (input input' output output' : Option (List ℕ)) : Type 0 where
+  pub end : IsAtEnd input'
+  pub same : new ≡ old
+  pub none_read : Keeps input input'
+  pub none_written : Keeps output output'
+
+module _ {F : Type 0} (see_store : F → Store) (is_honest : F → Bool) where
+  -- the batch of this exchange is answered
+  pub record IsAnswered (rules : Rules) (exchange : Exchange) (old new : ServerState) : Type 0 where
+    pub length : HasLength exchange
+    pub answers : AnswersBatch see_store is_honest rules exchange.header exchange.content exchange.answer old new
+
+  -- exchanges in order
+  abbrev pub AreAnswered : Rules → List Exchange → ServerState → ServerState → Type 0
+  AreAnswered rules [] old new = new ≡ old
+  AreAnswered rules (exchange ∷ exchanges) old new =
+      (mid : ServerState) × IsAnswered rules exchange old mid × AreAnswered rules exchanges mid new
+
+  -- one exchange: its bytes are read, and those of its answer are written
+  pub record Exchanges (rules : Rules) (old new : ServerState) (input input' output output' : Option (List ℕ)) : Type 0 where
+    pub exchange : Exchange
+    pub answered : IsAnswered rules exchange old new
+    pub read : Consumes input input' (bytes_in exchange)
+    pub written : Appends output output' (bytes_out exchange)
+
+  -- a stream failed: before a batch was read whole, and nothing changed; or after it was answered, before the answer was written whole
+  abbrev pub StopsInside : Rules → ServerState → ServerState → Type 0
+  StopsInside rules old new = (new ≡ old) ⊎ ((exchange : Exchange) × IsAnswered rules exchange old new)
+
+  -- the exchanges of a run: their bytes are read, and those of their answers are written
+  pub record Runs (rules : Rules) (old new : ServerState) (input input' output output' : Option (List ℕ)) : Type 0 where
+    pub exchanges : List Exchange
+    pub answered : AreAnswered rules exchanges old new
+    pub read : Consumes input input' (flat_map bytes_in exchanges)
+    pub written : Appends output output' (flat_map bytes_out exchanges)
+
+  -- a run that a failed stream stops: all exchanges before were answered
+  pub record StopsAfter (rules : Rules) (old new : ServerState) : Type 0 where
+    pub exchanges : List Exchange
+    pub mid : ServerState
+    pub answered : AreAnswered rules exchanges old mid
+    pub stopped : StopsInside rules mid new

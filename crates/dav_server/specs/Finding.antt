@@ -1,0 +1,22 @@
+-- What exists at the path of a read.
+use Rattle.std.specs.Prelude.{◌≡◌, ℕ, Bool, Some, Result, Ok, Err}
+use Rattle.std.specs.FinMap.{get}
+use Rattle.dav_resource.specs.Key.{Key}
+use Rattle.dav_store.specs.Store.{Contents, Directory}
+use Rattle.dav_wire.specs.Frames.{ReadValue}
+use Rattle.dav_wire.specs.Replies.{ReplyValue}
+use Rattle.dav_wire.specs.Replies as replies
+use Rattle.dav_server.specs.Parts.{ReturnsPart, part_with}
+use Rattle.dav_server.specs.declared.parts.Found.{Found}
+use Rattle.dav_server.specs.declared.parts.Found.TheVariants.{Collection, Part}
+
+-- a collection, or a file of the requested version and the requested part of it
+abbrev pub Finds : Bool → Contents → Key → ReadValue → Found → Type 0
+Finds honest contents key asked Collection = get contents.tree key ≡ Some Directory
+Finds honest contents key asked (Part meta bytes) = ReturnsPart honest contents key asked (part_with key meta bytes.items)
+
+-- the reply to a read at this key that found this, or that failed with this status
+abbrev pub found_reply : Key → Result Found ℕ → ReplyValue
+found_reply key (Ok Collection) = replies.Collection
+found_reply key (Ok (Part meta bytes)) = replies.Part (part_with key meta bytes.items)
+found_reply key (Err status) = replies.Failed status

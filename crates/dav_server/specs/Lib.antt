@@ -1,0 +1,11 @@
+pub mod State
+pub mod Requests
+pub mod Owners
+pub mod Parts
+pub mod Finding
+pub mod Replies
+pub mod Events
+pub mod Frames
+pub mod Batches
+pub mod Answers
+pub mod Exchanges

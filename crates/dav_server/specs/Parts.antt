@@ -1,0 +1,84 @@
+-- Reads of parts of files.
+use Rattle.std.specs.Prelude.{◌≡◌, ◌⊎◌, ℕ, Bool, true, false, bytes_eq, List, length, Option, Some, None, Result, Ok, Err}
+use Rattle.std.specs.FinMap.{get}
+use Rattle.std.specs.Option.{option_eq}
+use Rattle.dav_resource.specs.Errors.{dav_status, fs_status}
+use Rattle.dav_resource.specs.Key.{Key}
+use Rattle.dav_resource.specs.Mime.{mime_type_of}
+use Rattle.dav_resource.specs.PathForms.{file_name}
+use Rattle.dav_resource.specs.PathText.{PathValue, read_path}
+use Rattle.dav_resource.specs.declared.error.DavError.{DavError}
+use Rattle.dav_resource.specs.declared.error.FsError.{FsError}
+use Rattle.dav_resource.specs.declared.meta.Meta.{Meta}
+use Rattle.dav_store.specs.Calls.{IsOwn, bytes_from}
+use Rattle.dav_store.specs.Store.{Store, Contents, File, Directory}
+use Rattle.dav_wire.specs.Frames.{ReadValue}
+use Rattle.dav_wire.specs.Replies.{PartValue, ReplyValue, Part, Collection, Failed}
+use Rattle.dav_server.specs.State.{Rules, ServerState, unlogged}
+
+-- an earlier part of the file had this entity tag, or none was read
+abbrev pub is_same_version : Option (List ℕ) → Option (List ℕ) → Bool
+is_same_version None tag = true
+is_same_version (Some version) tag = option_eq bytes_eq tag (Some version)
+
+-- these bytes as a part of a file with this metadata
+abbrev pub part_with : Key → Meta → List ℕ → PartValue
+part_with key meta bytes =
+    record { length = meta.len; modified = meta.modified; version = meta.etag; media_type = mime_type_of (file_name key); bytes = bytes }
+
+-- the file at the key has the requested version, and this is the requested part of it; on an honest medium, its bytes are those of the file
+pub record ReturnsPart (honest : Bool) (contents : Contents) (key : Key) (asked : ReadValue) (part : PartValue) : Type 0 where
+  pub bytes : List ℕ
+  pub meta : Meta
+  pub read : List ℕ
+  pub file : get contents.tree key ≡ Some (File bytes)
+  pub known : contents.metas key ≡ Some meta
+  pub whole : meta.len ≡ length bytes
+  pub same : is_same_version asked.version meta.etag ≡ true
+  pub is : part ≡ part_with key meta read
+  pub count : length read ≡ length (bytes_from asked.place asked.length bytes)
+  pub answer : honest ≡ true → read ≡ bytes_from asked.place asked.length bytes
+
+-- something exists at the key, and not in the requested version
+pub record HasOtherVersion (contents : Contents) (key : Key) (asked : ReadValue) : Type 0 where
+  pub meta : Meta
+  pub known : contents.metas key ≡ Some meta
+  pub other : is_same_version asked.version meta.etag ≡ false
+
+-- a store's call failed for the store's own reasons, or memory ran out
+abbrev pub IsStoresStatus : ℕ → Type 0
+IsStoresStatus status = ((e : FsError) × IsOwn e × (status ≡ fs_status e)) ⊎ (status ≡ 507)
+
+-- nothing exists at the key (404), or the store fails
+abbrev pub IsMissing : Contents → Key → ℕ → Type 0
+IsMissing contents key status = ((status ≡ 404) × (get contents.tree key ≡ None)) ⊎ IsStoresStatus status
+
+-- these bytes were read of the file at the key
+pub record IsRead (honest : Bool) (contents : Contents) (key : Key) (place count : ℕ) (read : List ℕ) : Type 0 where
+  pub bytes : List ℕ
+  pub file : get contents.tree key ≡ Some (File bytes)
+  pub number : length read ≡ length (bytes_from place count bytes)
+  pub answer : honest ≡ true → read ≡ bytes_from place count bytes
+
+-- why no part is returned: nothing exists at the path (404), the file has another version (412), or the store fails
+abbrev pub IsUnread : Contents → Key → ReadValue → ℕ → Type 0
+IsUnread contents key asked status =
+    ((status ≡ 404) × (get contents.tree key ≡ None)) ⊎ ((status ≡ 412) × HasOtherVersion contents key asked) ⊎ IsStoresStatus status
+
+-- the reply to a read at this key
+abbrev pub ReturnsAt : Bool → Contents → Key → ReadValue → ReplyValue → Type 0
+ReturnsAt honest contents key asked (Part part) = ReturnsPart honest contents key asked part
+ReturnsAt honest contents key asked Collection = get contents.tree key ≡ Some Directory
+ReturnsAt honest contents key asked (Failed status) = IsUnread contents key asked status
+ReturnsAt honest contents key asked _ = ⊥
+
+-- the reply to a read by the path of its frame, which may be no path of this server: then its status is that of the error; or memory runs out (507)
+abbrev pub ReadsBy : Result PathValue DavError → Bool → Contents → ReadValue → ReplyValue → Type 0
+ReadsBy (Ok path) honest contents asked reply = ReturnsAt honest contents path.key asked reply ⊎ (reply ≡ Failed 507)
+ReadsBy (Err e) honest contents asked reply = (reply ≡ Failed (dav_status e)) ⊎ (reply ≡ Failed 507)
+
+-- the reply to a read, from a store in this state; `store` is the store after its calls, whose medium may be honest
+pub record ReadsFile {F : Type 0} (see_store : F → Store) (is_honest : F → Bool) (rules : Rules) (state : ServerState) (asked : ReadValue) (reply : ReplyValue) : Type 0 where
+  pub store : F
+  pub seen : unlogged (see_store store) ≡ state.seen.store
+  pub reads : ReadsBy (read_path asked.path rules.prefix) (is_honest store) state.seen.store.contents asked reply

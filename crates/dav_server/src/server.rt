@@ -1,0 +1,169 @@
+//! The state of a server, and how it serves one frame after another.
+ghost use Rattle.std.specs.Prelude.{◌≡◌, IfOk, IfErr, [], None, Some, option_map, string_bytes};
+ghost use Rattle.dav_resource.specs.declared.error.DavError.TheVariants.{Memory, Status};
+ghost use Rattle.dav_parts.specs.Reply.{answer_of};
+ghost use Rattle.dav_wire.specs.Views.{frame_of as frame_value, request_frame_of};
+ghost use Rattle.dav_wire.specs.Frames as frames;
+
+use crate::owners::meddles;
+use crate::replies::{encode, encode_answer, failed};
+use crate::requests::request_of;
+use crate::{ExpiringLocks, TimedStore};
+use dav_engine::DavInner;
+use dav_resource::{Body, DavError, DavRequest, DavResult};
+use dav_wire::{Frame, RequestFrame, WireError};
+use http::{Response, StatusCode};
+use std::alloc::Global;
+
+/// How a server serves.
+#[derive(Drop, Debug)]
+pub struct Options {
+    /// The path prefix of the server's URLs, which may be empty.
+    pub prefix: String,
+    /// Whether any principal may remove and refresh the locks of others. If not, such a request is rejected with 403.
+    pub anyone_unlocks: bool,
+    /// How many bytes the content of a batch may have. A batch of more bytes is answered 507.
+    pub max_batch: u64,
+}
+
+/// A server: an engine over a store and a lock system, the time, and the number of the last batch.
+#[derive(Drop)]
+pub struct Server<'a, F, L> {
+    pub(crate) alloc: Global,
+    pub(crate) engine: DavInner<'a, (), F, L>,
+    /// The time of the last batch, in whole seconds since 1970.
+    pub(crate) now: u64,
+    /// The number of the last batch.
+    pub(crate) last: u64,
+    /// Whether any principal may remove and refresh the locks of others.
+    pub(crate) anyone_unlocks: bool,
+    /// How many bytes the content of a batch may have.
+    pub(crate) max_batch: u64,
+}
+
+impl<'a, F: TimedStore, L: ExpiringLocks> Server<'a, F, L> {
+    ghost use Rattle.dav_server.specs.State.{HasEmptyLog, state_of, rules_of, first_state, first_rules, after_expiry};
+    ghost use Rattle.dav_server.specs.Frames.{Reacts, ServesFrame};
+    ghost use Rattle.dav_server.specs.Events.{AnswersRequest, Executes};
+    ghost use Rattle.dav_server.specs.Owners.{is_forbidden};
+
+    /// Creates a server over this store and this lock system, at time 0, before batch 1.
+    pub fn new(
+        alloc: Global,
+        store: &'a mut F,
+        locks: &'a mut L,
+        options: Options,
+    ) -> Server<'a, F, L>
+        ensures state { state_of F.seen L.seen result ≡ first_state (F.seen store.old) (L.seen locks.old) }
+        ensures rules { rules_of result ≡ first_rules (string_bytes options.prefix) options.anyone_unlocks }
+    {
+        Server {
+            alloc,
+            engine: DavInner::new(store, Some(locks), options.prefix, None, ()),
+            now: 0,
+            last: 0,
+            anyone_unlocks: options.anyone_unlocks,
+            max_batch: options.max_batch,
+        }
+    }
+
+    /// Serves a frame and returns the encoded reply: removes the locks that have expired, and then does what the
+    /// frame asks for. The log of the store is empty afterwards.
+    ///
+    /// Returns `None` if the reply cannot be encoded, because memory runs out or its tree has too many levels. What
+    /// the frame asks for may then be done.
+    pub fn serve_frame(&mut self, bytes: &[u8]) -> Option<Vec<u8>>
+        ensures rules { rules_of self.new ≡ rules_of self.old }
+        ensures served { ServesFrame F.seen F.is_honest (rules_of self.old) bytes.now (state_of F.seen L.seen self.old) (option_map (λ v. v.items) result) (state_of F.seen L.seen self.new) }
+        ensures log { HasEmptyLog F.seen self.old → HasEmptyLog F.seen self.new }
+    {
+        self.remove_expired();
+        match Frame::decode(self.alloc, bytes) {
+            Ok(frame) => self.react(frame),
+            Err(WireError::Malformed) => encode(self.alloc, &failed(StatusCode::BAD_REQUEST)),
+            Err(WireError::Memory) => None,
+        }
+    }
+
+    /// Removes the locks that have expired.
+    fn remove_expired(&mut self)
+        ensures rules { rules_of self.new ≡ rules_of self.old }
+        ensures expired { state_of F.seen L.seen self.new ≡ after_expiry (state_of F.seen L.seen self.old) }
+        ensures log { HasEmptyLog F.seen self.old → HasEmptyLog F.seen self.new }
+    {
+        if let Some(locks) = &mut self.engine.ls {
+            locks.expire(self.now);
+        }
+    }
+
+    /// Does what a frame asks for, and returns the encoded reply, or `None` as `serve_frame` does.
+    fn react(&mut self, frame: Frame<'_>) -> Option<Vec<u8>>
+        ensures rules { rules_of self.new ≡ rules_of self.old }
+        ensures reacts { Reacts F.seen F.is_honest (rules_of self.old) (Some (frame_value frame.entry)) (state_of F.seen L.seen self.old) (option_map (λ v. v.items) result) (state_of F.seen L.seen self.new) }
+        ensures log { HasEmptyLog F.seen self.old → HasEmptyLog F.seen self.new }
+    {
+        match frame {
+            Frame::Request(request) => self.serve_request(request),
+            Frame::StartBody => self.start_body(),
+            Frame::AddToBody(number, bytes) => self.add_to_body(number, bytes),
+            Frame::DropBody(number) => self.drop_body(number),
+            Frame::Read(asked) => self.read_part(asked),
+            Frame::NextExpiry => self.next_expiry(),
+            Frame::Held => self.held(),
+        }
+    }
+
+    /// Serves the request of a frame with the engine, or rejects it before: with the error of `request_of`, or with
+    /// 403 if it would remove or refresh a lock of another principal.
+    fn serve_request(&mut self, frame: RequestFrame<'_>) -> Option<Vec<u8>>
+        ensures rules { rules_of self.new ≡ rules_of self.old }
+        ensures reacts { Reacts F.seen F.is_honest (rules_of self.old) (Some (frames.Request (request_frame_of frame.entry))) (state_of F.seen L.seen self.old) (option_map (λ v. v.items) result) (state_of F.seen L.seen self.new) }
+        ensures log { HasEmptyLog F.seen self.old → HasEmptyLog F.seen self.new }
+    {
+        let answer = self.answer(frame);
+        encode_answer(self.alloc, &answer)
+    }
+
+    /// Returns the result of a request, of which `serve_request` sends the encoding.
+    fn answer(&mut self, frame: RequestFrame<'_>) -> DavResult<Response<Body>>
+        ensures rules { rules_of self.new ≡ rules_of self.old }
+        ensures answers { AnswersRequest (rules_of self.old) (request_frame_of frame.entry) (state_of F.seen L.seen self.old) (answer_of result) (state_of F.seen L.seen self.new) }
+        ensures log { HasEmptyLog F.seen self.old → HasEmptyLog F.seen self.new }
+    {
+        let request = match request_of(self.alloc, self.engine.prefix(), self.now, frame) {
+            Ok(request) => request,
+            Err(error) => return Err(error),
+        };
+        match self.forbids(&request) {
+            Ok(false) => self.execute(&request),
+            Ok(true) => Err(DavError::Status(StatusCode::FORBIDDEN)),
+            Err(error) => Err(error),
+        }
+    }
+
+    /// Has the engine serve the request, and empties the log.
+    fn execute(&mut self, request: &DavRequest) -> DavResult<Response<Body>>
+        ensures rules { rules_of self.new ≡ rules_of self.old }
+        ensures executes { Executes (rules_of self.old) request.entry.now (answer_of result) (state_of F.seen L.seen self.old) (state_of F.seen L.seen self.new) }
+        ensures log { HasEmptyLog F.seen self.new }
+    {
+        let answer = self.engine.serve(request);
+        self.engine.fs.clear_log();
+        answer
+    }
+
+    /// Whether the request would remove or refresh a lock of another principal, which the server does not allow.
+    /// Fails only if memory runs out.
+    fn forbids(&self, request: &DavRequest) -> DavResult<bool>
+        ensures ok { IfOk result (λ forbidden. forbidden ≡ is_forbidden (rules_of self.entry.now) (state_of F.seen L.seen self.entry.now) request.entry.now) }
+        ensures err { IfErr result (λ e. e ≡ Memory) }
+    {
+        if self.anyone_unlocks {
+            return Ok(false);
+        }
+        match &self.engine.ls {
+            Some(locks) => meddles(self.alloc, &*self.engine.fs, &**locks, request),
+            None => Ok(false),
+        }
+    }
+}
