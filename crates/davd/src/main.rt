@@ -1,0 +1,44 @@
+//! `davd [-prefix PREFIX] [-anyone-unlocks] [-max-batch BYTES]`: serves WebDAV requests over a store and a lock
+//! system in memory. The requests come as frames on standard input, and the replies go to standard output.
+//!
+//! - `-prefix` is the path prefix of the server's URLs. Without it the prefix is empty.
+//! - With `-anyone-unlocks` any principal may remove and refresh the locks of others.
+//! - `-max-batch` is the number of bytes that the content of a batch may have, 1 GiB without it.
+//!
+//! Exit statuses: 0 at the end of the input, 2 for wrong arguments, 3 if a stream fails, if the input ends inside a
+//! batch, or if memory runs out at the start. One line on standard error says why.
+#![tactic(auto)]
+
+mod options;
+mod program;
+
+use program::{Stopped, report, run_program};
+use std::env;
+use std::io::{self, BufReader, BufWriter, ErrorKind};
+use std::process::ExitCode;
+
+/// How many bytes of the input and of the output are buffered.
+const BUFFERED: usize = 1 << 16;
+
+fn main(rt: HostRuntime) -> ExitCode {
+    let ended = run(&rt);
+    ExitCode::from(report(&mut rt.stderr(), ended))
+}
+
+/// Runs the program on its arguments and its standard streams.
+fn run(rt: &HostRuntime) -> Result<(), Stopped> {
+    let alloc = rt.alloc();
+    let arguments = arguments_of(rt)?;
+    let mut input = BufReader::with_capacity(alloc, BUFFERED, rt.stdin())?;
+    let mut output = BufWriter::with_capacity(alloc, BUFFERED, rt.stdout())?;
+    run_program(alloc, &arguments, &mut input, &mut output)
+}
+
+/// Returns the arguments without the program's name. One that is not UTF-8 is wrong.
+fn arguments_of(rt: &HostRuntime) -> Result<Vec<String>, Stopped> {
+    match env::args(rt) {
+        Ok(arguments) => Ok(arguments.skip(1).collect(rt.alloc())?),
+        Err(error) if error.kind() == ErrorKind::InvalidData => Err(Stopped::Usage),
+        Err(error) => Err(error.into()),
+    }
+}
