@@ -249,6 +249,8 @@ class Model:
         want_kind(reply, frames.Holdings)
         if self.are_locks_sure and reply.locks != len(self.locks):
             raise Wrong(f"{reply.locks} locks are held, and not {len(self.locks)}: {self.locks}")
+        if reply.quota is not None:
+            raise Wrong(f"the quota is {reply.quota}, and the store of davd has none")
 
     def is_sure(self, key: Key) -> bool:
         return not any(key[:length] in self.unsure for length in range(len(key) + 1))
