@@ -1,9 +1,14 @@
-//! `davd [-prefix PREFIX] [-anyone-unlocks] [-max-batch BYTES]`: serves WebDAV requests over a store and a lock
-//! system in memory. The requests come as frames on standard input, and the replies go to standard output.
+//! `davd [-prefix PREFIX] [-anyone-unlocks] [-max-batch BYTES] [-quota BYTES]`: serves WebDAV requests over a store and
+//! a lock system in memory. The requests come as frames on standard input, and the replies go to standard output.
 //!
 //! - `-prefix` is the path prefix of the server's URLs. Without it the prefix is empty.
 //! - With `-anyone-unlocks` any principal may remove and refresh the locks of others.
 //! - `-max-batch` is the number of bytes that the content of a batch may have, 1 GiB without it.
+//! - `-quota` is the number of bytes that all files may have together. It is reported and not enforced. Without it
+//!   there is no quota.
+//!
+//! A number of bytes is one or more decimal digits, and fits in 64 bits. It may begin with zeros. If an option is given
+//! twice, the last one counts.
 //!
 //! Exit statuses: 0 at the end of the input, 2 for wrong arguments, 3 if a stream fails, if the input ends inside a
 //! batch, or if memory runs out at the start. One line on standard error says why.
@@ -42,3 +47,6 @@ fn arguments_of(rt: &HostRuntime) -> Result<Vec<String>, Stopped> {
         Err(error) => Err(error.into()),
     }
 }
+
+#[cfg(test)]
+mod tests;

@@ -1,5 +1,11 @@
 //! The options of the program.
+ghost use Rattle.std.specs.Prelude.{◌≡◌, Some, None, IfOk, IfErr, OnOk, IsOk, IsErr};
+ghost use Rattle.dav_resource.specs.PathText.{read_prefix};
+ghost use Rattle.dav_resource.specs.Texts.{texts};
+ghost use Rattle.davd.specs.Options.{IsFault, first_options, options_of, value_of, with_value};
+
 use crate::program::Stopped;
+use dav_headers::read_number;
 use dav_resource::{DavError, DavPath};
 use dav_server::Options;
 use std::alloc::Global;
@@ -7,48 +13,84 @@ use std::alloc::Global;
 /// How many bytes the content of a batch may have without `-max-batch`.
 const MAX_BATCH: u64 = 1 << 30;
 
-/// Reads the options from the arguments. Errors: `Usage` if they are wrong, and `Memory`.
-pub fn read_options(alloc: Global, arguments: &[String]) -> Result<Options, Stopped> {
-    let mut options = Options {
-        prefix: String::new(alloc),
-        anyone_unlocks: false,
-        max_batch: MAX_BATCH,
-    };
-    let mut rest = arguments;
-    while let [first, others @ ..] = rest {
-        rest = match (first.as_str(), others) {
-            ("-anyone-unlocks", _) => {
-                options.anyone_unlocks = true;
-                others
+/// What the arguments say.
+#[derive(Drop, Debug)]
+pub struct ProgramOptions {
+    /// How the server serves.
+    pub server: Options,
+    /// How many bytes all files may have together: a quota that the store reports and does not enforce. `None` is no
+    /// quota.
+    pub quota: Option<u64>,
+}
+
+impl ProgramOptions {
+    /// Returns the options of a program without arguments.
+    fn new(alloc: Global) -> ProgramOptions
+        ensures { value_of result ≡ first_options }
+    {
+        ProgramOptions {
+            server: Options {
+                prefix: String::new(alloc),
+                anyone_unlocks: false,
+                max_batch: MAX_BATCH,
+            },
+            quota: None,
+        }
+    }
+
+    /// Sets an option that has a value. A number of bytes is one or more decimal digits without a sign. It may begin
+    /// with zeros.
+    ///
+    /// Errors: `Usage` if there is no such option, or if the value is wrong; `Memory`.
+    fn set(&mut self, alloc: Global, name: &str, value: &str) -> Result<(), Stopped>
+        ensures ok { OnOk result (with_value name.now value.now (value_of self.old) ≡ Some (value_of self.new)) }
+        ensures err { IfErr result (IsFault (with_value name.now value.now (value_of self.old) ≡ None)) }
+    {
+        match name {
+            "-prefix" => {
+                check_prefix(alloc, value)?;
+                self.server.prefix = String::from_str(alloc, value)?;
             }
-            ("-prefix", [prefix, others @ ..]) => {
-                options.prefix = read_prefix(alloc, prefix.as_str())?;
-                others
-            }
-            ("-max-batch", [bytes, others @ ..]) => {
-                options.max_batch = read_bytes(bytes.as_str())?;
-                others
-            }
+            "-max-batch" => self.server.max_batch = read_number(value).ok_or(Stopped::Usage)?,
+            "-quota" => self.quota = Some(read_number(value).ok_or(Stopped::Usage)?),
             _ => return Err(Stopped::Usage),
+        }
+        Ok(())
+    }
+}
+
+/// Reads the options from the arguments. Errors: `Usage` if they are wrong, and `Memory`.
+pub fn read_options(alloc: Global, arguments: &[String]) -> Result<ProgramOptions, Stopped>
+    ensures ok { IfOk result (λ options. options_of (texts arguments.now) ≡ Some (value_of options)) }
+    ensures err { IfErr result (IsFault (options_of (texts arguments.now) ≡ None)) }
+{
+    let mut options = ProgramOptions::new(alloc);
+    let mut rest = arguments;
+    while let [name, others @ ..] = rest {
+        rest = match (name.as_str(), others) {
+            ("-anyone-unlocks", _) => {
+                options.server.anyone_unlocks = true;
+                others
+            }
+            (name, [value, others @ ..]) => {
+                options.set(alloc, name, value.as_str())?;
+                others
+            }
+            (_, []) => return Err(Stopped::Usage),
         };
     }
     Ok(options)
 }
 
-/// Returns a copy of the prefix. Errors: `Usage` if no path is below it, and `Memory`.
-fn read_prefix(alloc: Global, prefix: &str) -> Result<String, Stopped> {
+/// Checks that a prefix can be parsed. Errors: `Usage` if it cannot, and `Memory`.
+fn check_prefix(alloc: Global, prefix: &str) -> Result<(), Stopped>
+    ensures ok { OnOk result (IsOk (read_prefix prefix.now)) }
+    ensures err { IfErr result (IsFault (IsErr (read_prefix prefix.now))) }
+{
     match DavPath::from_str_and_prefix(alloc, "/", prefix) {
         // The prefix was parsed in both cases. `IllegalPath` means only that the root is not below it.
-        Ok(_) | Err(DavError::IllegalPath) => Ok(String::from_str(alloc, prefix)?),
+        Ok(_) | Err(DavError::IllegalPath) => Ok(()),
         Err(DavError::Memory) => Err(Stopped::Memory),
-        Err(_) => Err(Stopped::Usage),
-    }
-}
-
-/// Returns the number of bytes. Error: `Usage` if it is not a number.
-fn read_bytes(digits: &str) -> Result<u64, Stopped> {
-    match digits.parse::<u64>() {
-        Ok(bytes) => Ok(bytes),
         Err(_) => Err(Stopped::Usage),
     }
 }

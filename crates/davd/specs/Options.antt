@@ -1,0 +1,54 @@
+-- What the arguments of the program mean: this project's own choice.
+use Rattle.std.specs.Prelude.{◌≡◌, ◌⊎◌, ℕ, ◌^◌, Bool, true, false, List, [], ◌∷◌, codes, bytes_eq, if◌then◌else◌, is_ok, string_bytes, Option, Some, None}
+use Rattle.std.specs.Option.{option_map, option_and_then}
+use Rattle.dav_resource.specs.PathText.{read_prefix}
+use Rattle.dav_headers.specs.Number.{number_in}
+use Rattle.davd.specs.declared.options.ProgramOptions.{ProgramOptions}
+use Rattle.davd.specs.declared.program.Stopped.{Stopped}
+use Rattle.davd.specs.declared.program.Stopped.TheVariants.{Memory, Usage}
+
+-- the options of a run: the path prefix, whether anyone may remove and refresh a lock, how many bytes the content of a batch may have, and the quota
+pub record OptionsValue : Type 0 where
+  pub prefix : List ℕ
+  pub anyone_unlocks : Bool
+  pub max_batch : ℕ
+  pub quota : Option ℕ
+
+-- the options without arguments
+abbrev pub first_options : OptionsValue
+first_options = record { prefix = []; anyone_unlocks = false; max_batch = 2 ^ 30; quota = None }
+
+abbrev pub is_unlocks : List ℕ → Bool
+is_unlocks name = bytes_eq name (codes "-anyone-unlocks")
+
+-- the options after `-anyone-unlocks`
+abbrev pub unlocking : OptionsValue → OptionsValue
+unlocking options = record options { anyone_unlocks = true }
+
+-- the options after an option with a value: a prefix is one that can be parsed, and bytes are a decimal number below 2 ^ 64
+abbrev pub with_value : List ℕ → List ℕ → OptionsValue → Option OptionsValue
+with_value name value options =
+    if bytes_eq name (codes "-prefix") then (if is_ok (read_prefix value) then Some (record options { prefix = value }) else None)
+    else (if bytes_eq name (codes "-max-batch") then option_map (λ bytes. record options { max_batch = bytes }) (number_in value)
+    else (if bytes_eq name (codes "-quota") then option_map (λ bytes. record options { quota = Some bytes }) (number_in value) else None))
+
+-- the options after all these arguments, from left to right, unless one of them is wrong: of an option that is given twice the last one counts
+abbrev pub with_arguments : List (List ℕ) → OptionsValue → Option OptionsValue
+with_arguments [] options = Some options
+with_arguments (name ∷ []) options = if is_unlocks name then Some (unlocking options) else None
+with_arguments (name ∷ value ∷ rest) options =
+    if is_unlocks name then with_arguments (value ∷ rest) (unlocking options)
+    else option_and_then (with_arguments rest) (with_value name value options)
+
+-- the options that the arguments say, unless they are wrong
+abbrev pub options_of : List (List ℕ) → Option OptionsValue
+options_of arguments = with_arguments arguments first_options
+
+-- the options that the program has read
+abbrev pub value_of : ProgramOptions → OptionsValue
+value_of options =
+    record { prefix = string_bytes options.server.prefix; anyone_unlocks = options.server.anyone_unlocks; max_batch = options.server.max_batch; quota = options.quota }
+
+-- why arguments are not read: memory runs out, or they are wrong as `Wrong` says
+abbrev pub IsFault : Type 0 → Stopped → Type 0
+IsFault Wrong e = (e ≡ Memory) ⊎ ((e ≡ Usage) × Wrong)
