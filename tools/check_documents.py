@@ -9,7 +9,8 @@
   documents only citations with clauses are checked.
 - Laws: docs/GUARANTEES.md cites each clause of a handler that uses a law of dav_engine (specs/Laws.antt), and the law.
 - The picture docs/crates.svg is that of crates.txt (tools/picture).
-- Words: the documents and the comments of the sources use no word of WORDS. tools/words-allowed lists exceptions.
+- Words: the documents and the comments of the sources, those in Go too, use no word of WORDS. tools/words-allowed lists
+  exceptions.
 """
 import re
 import subprocess
@@ -176,8 +177,8 @@ def texts():
     """What is checked for words: each document, and the comments of each source."""
     for document in documents():
         yield document, text_of(document)
-    for folder, suffix, mark in (("src", "rt", "//"), ("specs", "antt", "--")):
-        for file in sorted(TOP.glob(f"crates/*/{folder}/**/*.{suffix}")):
+    for pattern, mark in (("crates/*/src/**/*.rt", "//"), ("crates/*/specs/**/*.antt", "--"), ("server/**/*.go", "//")):
+        for file in sorted(TOP.glob(pattern)):
             yield file, comments_of(text_of(file), mark)
 
 

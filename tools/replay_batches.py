@@ -198,9 +198,10 @@ class Lock(typing.NamedTuple):
 class Model:
     """What davd must hold after the frames so far. A collection is `None`. Nothing is known at and below `unsure`."""
 
-    def __init__(self, prefix: str, is_anyone_unlocking: bool):
+    def __init__(self, prefix: str, is_anyone_unlocking: bool, quota: int | None):
         self.prefix = prefix
         self.is_anyone_unlocking = is_anyone_unlocking
+        self.quota = quota
         self.files: dict[Key, File | None] = {(): None}
         self.unsure: set[Key] = set()
         self.locks: dict[str, Lock] = {}
@@ -249,8 +250,17 @@ class Model:
         want_kind(reply, frames.Holdings)
         if self.are_locks_sure and reply.locks != len(self.locks):
             raise Wrong(f"{reply.locks} locks are held, and not {len(self.locks)}: {self.locks}")
-        if reply.quota is not None:
-            raise Wrong(f"the quota is {reply.quota}, and the store of davd has none")
+        used = self.bytes_used()
+        if used == UNKNOWN and reply.quota is not None:
+            used = reply.quota[0]
+        wanted = None if self.quota is None else (used, self.quota)
+        if reply.quota != wanted:
+            raise Wrong(f"the quota is {reply.quota}, and not {wanted}")
+
+    def bytes_used(self) -> int | str:
+        """The bytes of all files."""
+        contents = [it.bytes for it in self.files.values() if it is not None]
+        return UNKNOWN if self.unsure or UNKNOWN in contents else sum(map(len, contents))
 
     def is_sure(self, key: Key) -> bool:
         return not any(key[:length] in self.unsure for length in range(len(key) + 1))
@@ -490,7 +500,9 @@ def try_run(seed: str, count: int, program):
     is_anyone_unlocking = chance.random() < 0.5
     source = Batches(chance, prefix)
     plan = [source.batch() for _ in range(count)] + [source.dump()]
+    quota = chance.choice((None, 0, 1000, frames.GREATEST))
     arguments = [*davd.arguments_of(prefix, is_anyone_unlocking), "-max-batch", str(MOST_BYTES)]
+    arguments += [] if quota is None else ["-quota", str(quota)]
     batches = [it.sent.encode() for it in plan]
     once = davd.run(program, arguments, b"".join(batches))
     answered = davd.answers(once, len(plan))
@@ -498,7 +510,7 @@ def try_run(seed: str, count: int, program):
     if again != once:
         at = next((it for it, (one, two) in enumerate(zip(once.wrote, again.wrote)) if one != two), "its end")
         raise Wrong(f"the second run ends with {again.status}, {again.said}, and another output from byte {at}")
-    model = Model(prefix, is_anyone_unlocking)
+    model = Model(prefix, is_anyone_unlocking, quota)
     for planned, got in zip(plan, answered):
         check_batch(model, planned, got)
 
