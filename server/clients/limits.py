@@ -1,0 +1,185 @@
+"""The limits on connections, requests and memory."""
+import threading
+import time
+
+from connection import Wrong, chunked, head
+from harness import Group, Starter
+from server import expect, expected, memory_of
+
+MB = 1 << 20
+CONNECTIONS = Group("max-connections", "-max-connections", "4")
+REQUESTS = Group("max-requests", "-max-requests", "2", "-stall-timeout", "20s")
+MEMORY = Group("memory", is_shared=False, is_measured=True)
+GROUPS = [CONNECTIONS, REQUESTS, MEMORY]
+
+
+@CONNECTIONS.check("connections beyond -max-connections wait, and are served when others end")
+def wait(server):
+    held = [server.connect() for _ in range(4)]
+    for it in held:
+        it.request("GET", "/none")
+        expected(it.answer(), 404, "GET /none")
+    late = [server.connect() for _ in range(3)]
+    for it in late:
+        it.request("GET", "/none")
+    time.sleep(0.5)
+    for it in late:
+        it.socket.settimeout(0.2)
+        try:
+            it.answer()
+        except Wrong:
+            it.socket.settimeout(10)
+        else:
+            raise Wrong("expected that a connection beyond the limit waits, got a response")
+    for it in held:
+        it.close()
+    for it in late:
+        expected(it.answer(), 404, "GET /none")
+        it.close()
+
+
+@CONNECTIONS.check("40 clients at once are all served")
+def many(server):
+    statuses = []
+
+    def ask():
+        statuses.append(server.ask("GET", "/none", None, {"Connection": "close"}, seconds=20).status)
+
+    threads = [threading.Thread(target=ask) for _ in range(40)]
+    for it in threads:
+        it.start()
+    for it in threads:
+        it.join()
+    expect("the statuses", statuses, [404] * 40)
+
+
+@REQUESTS.check("requests beyond -max-requests are 503 after a second, or served")
+def too_many(server):
+    held = [server.connect() for _ in range(2)]
+    for number, it in enumerate(held):
+        it.send(head("PUT", f"/held-{number}", server.port, None, {"Content-Length": "10"}) + b"x")
+    time.sleep(0.3)
+    began = time.monotonic()
+    answer = server.ask("GET", "/none", status=503)
+    if not 0.5 < time.monotonic() - began < 5:
+        raise Wrong(f"expected 503 after a second, got it after {time.monotonic() - began:.1f} s")
+    expect("Retry-After", (answer.field("Retry-After") or "").isdigit(), True)
+    server.ask("GET", "/-/health", status=200)
+    for it in held:
+        it.send(b"x" * 9)
+        expected(it.answer("PUT"), 201, "PUT")
+        it.close()
+    server.ask("GET", "/none", status=404)
+
+
+# ---- memory
+
+UPLOADS, UPLOAD = 16, 16 * MB
+HOST_BOUND = 160 * MB
+READERS, READER_BOUND = 100, 3 * MB
+
+
+def upload_all(server, is_chunked: bool):
+    """Many uploads at once, each in pieces that wait for the others."""
+    statuses = []
+    barrier = threading.Barrier(UPLOADS)
+    piece = b"x" * MB
+
+    def upload(number):
+        fields = {"Transfer-Encoding": "chunked"} if is_chunked else {"Content-Length": str(UPLOAD)}
+        with server.connect(seconds=40) as connection:
+            connection.send(head("PUT", f"/upload-{number}", server.port, None, fields))
+            for _ in range(UPLOAD // MB):
+                connection.send(chunked(piece)[:-5] if is_chunked else piece)
+            barrier.wait(40)
+            if is_chunked:
+                connection.send(b"0\r\n\r\n")
+            statuses.append(connection.answer("PUT").status)
+
+    threads = [threading.Thread(target=upload, args=(number,)) for number in range(UPLOADS)]
+    for it in threads:
+        it.start()
+    for it in threads:
+        it.join()
+    return statuses
+
+
+@MEMORY.check(f"{UPLOADS} uploads of {UPLOAD // MB} MB at once: the host stays below {HOST_BOUND // MB} MB")
+def uploads(starter: Starter):
+    server = starter.start("-memory", "3G")
+    expect("the statuses by length", upload_all(server, False), [201] * UPLOADS)
+    expect("the statuses in chunks", upload_all(server, True), [204] * UPLOADS)
+    used = server.resident()
+    if used > HOST_BOUND:
+        raise Wrong(f"expected at most {HOST_BOUND // MB} MB, got {used // MB} MB")
+    return f"the host used {used // MB} MB, davd {memory_of(server.davd()) // MB} MB"
+
+
+@MEMORY.check(f"{READERS} readers that are slow: the host stays below {READER_BOUND // MB} MB for each")
+def readers(starter: Starter):
+    server = starter.start()
+    server.ask("PUT", "/large", b"x" * 64 * MB, status=201, seconds=30)
+    connections = [server.connect(window=4096) for _ in range(READERS)]
+    for it in connections:
+        it.request("GET", "/large")
+    time.sleep(2)
+    used = server.resident()
+    for it in connections:
+        it.close()
+    if used > READERS * READER_BOUND:
+        raise Wrong(f"expected at most {READERS * READER_BOUND // MB} MB, got {used // MB} MB")
+    return f"the host used {used // MB} MB"
+
+
+@MEMORY.check("uploads that are abandoned are dropped from davd")
+def abandoned(starter: Starter):
+    """With 512 MB for davd, twelve abandoned uploads of 60 MB leave enough for another one."""
+    server = starter.start("-memory", "512M")
+    for number in range(12):
+        connection = server.connect(seconds=30)
+        connection.send(head("PUT", f"/gone-{number}", server.port, None, {"Content-Length": str(61 * MB)}))
+        connection.send(b"x" * (60 * MB))
+        connection.reset() if number % 2 else connection.close()
+    time.sleep(1)
+    server.ask("PUT", "/kept", b"y" * (60 * MB), status=201, seconds=30)
+    expect("the length", server.ask("HEAD", "/kept").field("Content-Length"), str(60 * MB))
+
+
+@MEMORY.check("davd at the end of its memory: 507, and reads go on")
+def full(starter: Starter):
+    server = starter.start("-memory", "200M")
+    server.ask("PUT", "/kept", b"kept", status=201)
+    statuses = []
+    for number in range(12):
+        statuses.append(server.ask("PUT", f"/fill-{number}", b"x" * (24 * MB), seconds=30).status)
+        if statuses[-1] != 201:
+            break
+    expect("the last status", statuses[-1], 507)
+    expect("the file", server.ask("GET", "/kept", status=200).body, b"kept")
+    # The engine opens the file before it writes: docs/GUARANTEES.md, PUT, "Out of memory".
+    left = server.ask("GET", f"/fill-{len(statuses) - 1}", status=(200, 404))
+    expect("what is left of the file", left.body if left.status == 200 else b"", b"")
+    server.ask("DELETE", "/fill-0", status=204)
+    server.ask("PUT", "/again", b"x" * MB, status=201)
+
+
+@MEMORY.check("a PROPFIND of 2000 members of 1 KB properties is bounded")
+def properties(starter: Starter):
+    server = starter.start()
+    with server.connect() as connection:
+        connection.request("MKCOL", "/many/")
+        expected(connection.answer(), 201, "MKCOL")
+        value = b'<v xmlns="urn:v">' + b"v" * 1000 + b"</v>"
+        body = b'<propertyupdate xmlns="DAV:"><set><prop>' + value + b"</prop></set></propertyupdate>"
+        for number in range(2000):
+            connection.request("PUT", f"/many/{number}", b"")
+            expected(connection.answer("PUT"), 201, "PUT")
+            connection.request("PROPPATCH", f"/many/{number}", body)
+            expected(connection.answer(), 207, "PROPPATCH")
+    answer = server.ask("PROPFIND", "/many/", None, {"Depth": "1"}, 207, seconds=30)
+    if len(answer.body) < 2_000_000:
+        raise Wrong(f"expected all properties, got {len(answer.body)} bytes")
+    used = server.resident()
+    if used > HOST_BOUND:
+        raise Wrong(f"expected at most {HOST_BOUND // MB} MB, got {used // MB} MB")
+    return f"the host used {used // MB} MB for a response of {len(answer.body) // 1000} KB"

@@ -1,0 +1,181 @@
+package main
+
+import (
+	"errors"
+	"flag"
+	"fmt"
+	"io"
+	"net"
+	"net/netip"
+	"os"
+	"path/filepath"
+	"strings"
+	"time"
+
+	"davserve"
+	"davserve/internal/size"
+)
+
+// A config is what the command line says.
+type config struct {
+	options davserve.Options
+
+	listen         string
+	users          string
+	realm          string
+	userHeader     string
+	trustedProxies prefixes
+	plainPasswords bool
+	anonymous      bool
+	cert, key      string
+	corsOrigins    texts
+	maxConnections int
+	maxRequests    int
+
+	headerTimeout   time.Duration
+	idleTimeout     time.Duration
+	shutdownTimeout time.Duration
+	version         bool
+}
+
+// texts is a flag that may be given more than once.
+type texts []string
+
+// String implements flag.Value.
+func (t *texts) String() string { return strings.Join(*t, " ") }
+
+// Set implements flag.Value.
+func (t *texts) Set(text string) error {
+	*t = append(*t, text)
+	return nil
+}
+
+// prefixes is a flag of networks that may be given more than once.
+type prefixes []netip.Prefix
+
+// String implements flag.Value.
+func (p *prefixes) String() string { return fmt.Sprint([]netip.Prefix(*p)) }
+
+// Set implements flag.Value.
+func (p *prefixes) Set(text string) error {
+	prefix, err := netip.ParsePrefix(text)
+	if err != nil {
+		return err
+	}
+	*p = append(*p, prefix)
+	return nil
+}
+
+// parse reads the command line. What is wrong with it, or the help that it asks for, is written to the output.
+func parse(arguments []string, output io.Writer) (config, error) {
+	c := config{options: davserve.Options{MaxBody: 1 << 30, MaxXML: 1 << 20, Memory: 1 << 30}}
+	flags := flag.NewFlagSet("davserve", flag.ContinueOnError)
+	flags.SetOutput(output)
+	c.addServing(flags)
+	c.addUsers(flags)
+	c.addLimits(flags)
+	if err := flags.Parse(arguments); err != nil {
+		return c, err
+	}
+	err := c.check(flags.Args())
+	if err != nil {
+		fmt.Fprintf(output, "davserve: %v\n", err)
+	}
+	return c, err
+}
+
+func (c *config) addServing(flags *flag.FlagSet) {
+	flags.StringVar(&c.listen, "listen", "127.0.0.1:8080", "`address` to listen on")
+	flags.StringVar(&c.options.Davd, "davd", "", "the `program` davd (default: beside this program, or in PATH)")
+	flags.StringVar(&c.options.Prefix, "prefix", "", "what the path of each URL begins with, such as /dav")
+	flags.StringVar(&c.options.PublicURL, "public-url", "", "the `URL` by which clients reach a server behind a proxy")
+	flags.StringVar(&c.cert, "cert", "", "`file` with the certificates for TLS, in PEM")
+	flags.StringVar(&c.key, "key", "", "`file` with the key for TLS, in PEM")
+	flags.Var(&c.corsOrigins, "cors-origin", "`origin` whose pages may use the server (repeatable)")
+	flags.BoolVar(&c.version, "version", false, "print the version and end")
+}
+
+func (c *config) addUsers(flags *flag.FlagSet) {
+	flags.StringVar(&c.users, "users", "", "htpasswd `file` with the users; its passwords are hashed by bcrypt")
+	flags.StringVar(&c.realm, "realm", "davserve", "what clients show when they ask for a password")
+	flags.StringVar(&c.userHeader, "user-header", "", "`name` of the header field in which a proxy passes the user")
+	flags.Var(&c.trustedProxies, "trusted-proxy", "`network` of proxies, such as 10.0.0.0/8 (repeatable)")
+	flags.BoolVar(&c.plainPasswords, "plain-passwords", false, "allow -users without TLS on a network")
+	flags.BoolVar(&c.anonymous, "anonymous", false, "allow to serve everyone on a network")
+}
+
+func (c *config) addLimits(flags *flag.FlagSet) {
+	o := &c.options
+	flags.Var((*size.Size)(&o.MaxBody), "max-body", "greatest `size` of the body of a PUT or PATCH")
+	flags.Var((*size.Size)(&o.MaxXML), "max-xml", "greatest `size` of an XML body")
+	flags.Var((*size.Size)(&o.Quota), "quota", "greatest `size` of all files together; 0: no limit")
+	flags.Var((*size.Size)(&o.Memory), "memory", "greatest `size` of the memory of davd; 0: no limit")
+	flags.DurationVar(&o.MaxLock, "max-lock", 10*time.Minute, "longest time until a lock expires")
+	flags.IntVar(&o.MaxInfinity, "max-infinity", 0, "greatest `number` of resources in a PROPFIND of Depth infinity")
+	flags.IntVar(&c.maxConnections, "max-connections", 1024, "greatest `number` of open connections")
+	flags.IntVar(&c.maxRequests, "max-requests", 256, "greatest `number` of requests at once")
+	flags.DurationVar(&c.headerTimeout, "header-timeout", 20*time.Second, "time for the header of a request")
+	flags.DurationVar(&c.idleTimeout, "idle-timeout", 2*time.Minute, "time until an idle connection is closed")
+	flags.DurationVar(&o.StallTimeout, "stall-timeout", time.Minute, "time for the next part of a body")
+	flags.DurationVar(&c.shutdownTimeout, "shutdown-timeout", 10*time.Second, "time for requests under way at the end")
+}
+
+// check refuses what cannot be meant, and what is not safe.
+func (c *config) check(rest []string) error {
+	switch {
+	case len(rest) > 0:
+		return fmt.Errorf("unknown argument %q", rest[0])
+	case (c.cert == "") != (c.key == ""):
+		return errors.New("-cert and -key need each other")
+	case c.users != "" && c.userHeader != "":
+		return errors.New("-users and -user-header exclude each other")
+	case (c.userHeader != "") != (len(c.trustedProxies) > 0):
+		return errors.New("-user-header and -trusted-proxy need each other")
+	case c.maxConnections < 1 || c.maxRequests < 1:
+		return errors.New("-max-connections and -max-requests are at least 1")
+	case c.headerTimeout <= 0 || c.idleTimeout <= 0 || c.shutdownTimeout <= 0 || c.options.StallTimeout <= 0:
+		return errors.New("a timeout is more than 0")
+	case c.options.MaxLock < time.Second:
+		return errors.New("-max-lock is at least one second")
+	}
+	return c.checkNetwork()
+}
+
+// checkNetwork refuses to show passwords, or the files, to a network by mistake.
+func (c *config) checkNetwork() error {
+	isLocal, err := isLoopback(c.listen)
+	if err != nil || isLocal {
+		return err
+	}
+	if c.users == "" && c.userHeader == "" && !c.anonymous {
+		return fmt.Errorf("%s can be reached by others: it needs -users, -user-header or -anonymous", c.listen)
+	}
+	if c.users != "" && c.cert == "" && !c.plainPasswords {
+		return fmt.Errorf("%s can be reached by others: passwords need -cert and -key, or -plain-passwords", c.listen)
+	}
+	return nil
+}
+
+// isLoopback reports whether only this machine can reach an address.
+func isLoopback(address string) (bool, error) {
+	host, _, err := net.SplitHostPort(address)
+	if err != nil {
+		return false, fmt.Errorf("the address %q: %w", address, err)
+	}
+	if host == "localhost" {
+		return true, nil
+	}
+	ip, err := netip.ParseAddr(host)
+	return err == nil && ip.IsLoopback(), nil
+}
+
+// defaultDavd returns the program davd beside this one, if there is one, or its name.
+func defaultDavd() string {
+	if self, err := os.Executable(); err == nil {
+		beside := filepath.Join(filepath.Dir(self), "davd")
+		if _, err := os.Stat(beside); err == nil {
+			return beside
+		}
+	}
+	return "davd"
+}

@@ -1,0 +1,96 @@
+package main
+
+import (
+	"bytes"
+	"context"
+	"io"
+	"strings"
+	"testing"
+	"time"
+)
+
+func TestParseRefuses(t *testing.T) {
+	tests := []struct{ arguments, says string }{
+		{"-cert c", "-cert and -key need each other"},
+		{"-users u -user-header X -trusted-proxy 10.0.0.0/8", "exclude each other"},
+		{"-user-header X", "need each other"},
+		{"-trusted-proxy 10.0.0.0/8", "need each other"},
+		{"-trusted-proxy 10.0.0.1", "invalid value"},
+		{"-max-connections 0", "at least 1"},
+		{"-max-requests 0", "at least 1"},
+		{"-idle-timeout 0s", "more than 0"},
+		{"-stall-timeout -1s", "more than 0"},
+		{"-max-lock 10ms", "at least one second"},
+		{"-max-body 1X", "invalid value"},
+		{"-listen 8080", "the address"},
+		{"-listen :8080", "can be reached by others"},
+		{"-listen 0.0.0.0:8080", "can be reached by others"},
+		{"-listen [::]:8080", "can be reached by others"},
+		{"-listen 192.0.2.1:8080", "can be reached by others"},
+		{"-listen dav.example:8080", "can be reached by others"},
+		{"-listen :8080 -users u", "passwords need"},
+		{"-listen :8080 -users u -anonymous", "passwords need"},
+		{"extra", "unknown argument"},
+		{"-unknown", "not defined"},
+	}
+	for _, test := range tests {
+		var said bytes.Buffer
+		if _, err := parse(strings.Fields(test.arguments), &said); err == nil {
+			t.Errorf("%s is accepted", test.arguments)
+		}
+		if !strings.Contains(said.String(), test.says) {
+			t.Errorf("%s: it says %q, without %q", test.arguments, said.String(), test.says)
+		}
+	}
+}
+
+func TestParseAccepts(t *testing.T) {
+	for _, arguments := range []string{
+		"",
+		"-listen 127.0.0.1:0",
+		"-listen [::1]:8080",
+		"-listen localhost:8080 -users u",
+		"-listen :8080 -anonymous",
+		"-listen :443 -users u -cert c -key k",
+		"-listen :8080 -users u -plain-passwords",
+		"-listen :8080 -user-header X-User -trusted-proxy 10.0.0.0/8 -trusted-proxy ::1/128",
+		"-cors-origin https://a.example -cors-origin https://b.example",
+	} {
+		if _, err := parse(strings.Fields(arguments), io.Discard); err != nil {
+			t.Errorf("%s: %v", arguments, err)
+		}
+	}
+}
+
+func TestParseReadsLimits(t *testing.T) {
+	c, err := parse(strings.Fields("-max-body 2M -max-xml 3K -quota 5G -memory 0 -max-lock 90s -max-infinity 7"), io.Discard)
+	if err != nil {
+		t.Fatal(err)
+	}
+	o := c.options
+	if o.MaxBody != 2<<20 || o.MaxXML != 3<<10 || o.Quota != 5<<30 || o.Memory != 0 {
+		t.Errorf("sizes %d, %d, %d, %d", o.MaxBody, o.MaxXML, o.Quota, o.Memory)
+	}
+	if o.MaxLock != 90*time.Second || o.MaxInfinity != 7 {
+		t.Errorf("%v and %d", o.MaxLock, o.MaxInfinity)
+	}
+}
+
+func TestExitStatus(t *testing.T) {
+	tests := []struct {
+		arguments string
+		want      int
+	}{
+		{"-version", 0},
+		{"-help", 0},
+		{"-unknown", 2},
+		{"-davd /no/such/davd", 1},
+		{"-davd /bin/true", 1},
+		{"-users /no/such/file", 1},
+	}
+	for _, test := range tests {
+		if got := run(context.Background(), strings.Fields(test.arguments), io.Discard, io.Discard); got != test.want {
+			t.Errorf("%s: status %d, want %d", test.arguments, got, test.want)
+		}
+	}
+}

@@ -1,0 +1,53 @@
+// Davserve serves WebDAV over HTTP. It keeps files and locks in memory: they are lost when it ends.
+//
+// Exit statuses: 0 after SIGTERM, SIGINT, -help and -version, 1 if the server cannot start or fails, 2 for a wrong
+// command line.
+package main
+
+import (
+	"context"
+	"errors"
+	"flag"
+	"fmt"
+	"io"
+	"log"
+	"os"
+	"os/signal"
+	"runtime/debug"
+	"syscall"
+)
+
+const version = "0.2.0-dev"
+
+// garbagePercent is how much the heap may grow until the garbage collector runs. What the server keeps is small and what
+// a request allocates is soon garbage, so that the collector would run all the time.
+const garbagePercent = 400
+
+func main() {
+	if os.Getenv("GOGC") == "" {
+		debug.SetGCPercent(garbagePercent)
+	}
+	ctx, stop := signal.NotifyContext(context.Background(), syscall.SIGTERM, syscall.SIGINT)
+	defer stop()
+	os.Exit(run(ctx, os.Args[1:], os.Stdout, os.Stderr))
+}
+
+// run is the program, which ends when ctx is done. It returns the exit status.
+func run(ctx context.Context, arguments []string, output, errorOutput io.Writer) int {
+	c, err := parse(arguments, errorOutput)
+	switch {
+	case errors.Is(err, flag.ErrHelp):
+		return 0
+	case err != nil:
+		return 2
+	case c.version:
+		fmt.Fprintln(output, "davserve "+version)
+		return 0
+	}
+	logger := log.New(errorOutput, "", log.LstdFlags|log.LUTC)
+	if err := serve(ctx, c, logger); err != nil {
+		logger.Printf("davserve: %v", err)
+		return 1
+	}
+	return 0
+}

@@ -1,0 +1,190 @@
+// Package davserve serves WebDAV (RFC 4918) over HTTP.
+//
+// A Handler speaks HTTP and XML. What it reads it passes on to a process of its own, davd, whose engine is proved: each
+// method changes and returns exactly what its definition says. davd holds files and locks in memory, and they are lost
+// when it ends.
+package davserve
+
+import (
+	"context"
+	"errors"
+	"fmt"
+	"net"
+	"net/http"
+	"path"
+	"strconv"
+	"strings"
+	"time"
+
+	"davserve/internal/davd"
+	"davserve/internal/frame"
+	"davserve/internal/limit"
+)
+
+// A Handler is a WebDAV server. New makes one.
+type Handler struct {
+	options Options
+	host    string // of the public URL; empty: none
+	engine  *davd.Engine
+	quota   *quota // nil: no limit
+	trees   trees
+}
+
+// New starts davd and returns a handler over it. The caller must close the handler.
+func New(options Options) (*Handler, error) {
+	options, err := options.complete()
+	if err != nil {
+		return nil, err
+	}
+	host, err := publicHost(options.PublicURL, options.Prefix)
+	if err != nil {
+		return nil, err
+	}
+	engine, err := davd.Start(davd.Config{
+		Program: options.Davd,
+		Args:    arguments(options),
+		Memory:  options.Memory,
+		Log:     options.Log,
+	})
+	if err != nil {
+		return nil, err
+	}
+	h := &Handler{options: options, host: host, engine: engine}
+	if options.Quota > 0 {
+		h.quota = newQuota(options.Quota, h.used)
+	}
+	if err := h.greet(); err != nil {
+		return nil, err
+	}
+	return h, nil
+}
+
+// arguments returns the arguments of davd.
+func arguments(options Options) []string {
+	var arguments []string
+	if options.Prefix != "" {
+		arguments = append(arguments, "-prefix", options.Prefix)
+	}
+	if options.Quota > 0 {
+		arguments = append(arguments, "-quota", strconv.FormatInt(options.Quota, 10))
+	}
+	return arguments
+}
+
+// greet makes sure that the program that was started is davd.
+func (h *Handler) greet() error {
+	ctx, cancel := context.WithTimeout(context.Background(), 10*time.Second)
+	defer cancel()
+	if err := h.Check(ctx); err != nil {
+		cancel()
+		h.Close(ctx)
+		return fmt.Errorf("the program %s does not answer as davd does: %w", h.options.Davd, err)
+	}
+	return nil
+}
+
+// Close ends davd. No request may be under way. When ctx is done before davd has ended, davd is killed.
+func (h *Handler) Close(ctx context.Context) error {
+	return h.engine.Close(ctx)
+}
+
+// Check reports whether davd answers.
+func (h *Handler) Check(ctx context.Context) error {
+	_, err := h.engine.Do(ctx, frame.Held{})
+	return err
+}
+
+// ConnContext is for the field of that name of an http.Server. With it a connection is closed whose client stops
+// sending or receiving in the middle of a body.
+func ConnContext(ctx context.Context, c net.Conn) context.Context {
+	return limit.ConnContext(ctx, c)
+}
+
+// A statusError is an error that is answered with an HTTP status.
+type statusError int
+
+// Error implements error.
+func (e statusError) Error() string {
+	return fmt.Sprintf("%d %s", int(e), http.StatusText(int(e)))
+}
+
+// ServeHTTP implements http.Handler.
+func (h *Handler) ServeHTTP(w http.ResponseWriter, r *http.Request) {
+	w.Header().Set("X-Content-Type-Options", "nosniff")
+	if err := h.serve(w, r); err != nil {
+		h.fail(w, r, err)
+	}
+}
+
+// serve answers a request, or returns an error for which nothing was written yet.
+func (h *Handler) serve(w http.ResponseWriter, r *http.Request) error {
+	if !h.isBelowPrefix(r.URL.Path) {
+		return statusError(http.StatusNotFound)
+	}
+	if err := checkDepth(r.Header); err != nil {
+		return err
+	}
+	if err := h.checkDestination(r); err != nil {
+		return err
+	}
+	switch r.Method {
+	case http.MethodGet, http.MethodHead:
+		return h.get(w, r)
+	case "PROPFIND":
+		return h.propfind(w, r)
+	case "PROPPATCH", "LOCK":
+		return h.withXML(w, r)
+	case http.MethodPut, http.MethodPatch:
+		return h.upload(w, r)
+	case "COPY":
+		return h.copy(w, r)
+	case http.MethodOptions, http.MethodDelete, "MKCOL", "MOVE", "UNLOCK":
+		return h.withoutBody(w, r)
+	case http.MethodPost, http.MethodTrace, http.MethodConnect:
+		return statusError(http.StatusMethodNotAllowed)
+	}
+	return statusError(http.StatusNotImplemented) // whatever the body is (RFC 9110, section 9.1)
+}
+
+// isBelowPrefix reports whether a path is that of the prefix or below it. It may leave the prefix by .. and return.
+func (h *Handler) isBelowPrefix(asked string) bool {
+	asked = path.Clean("/" + asked)
+	return h.options.Prefix == "" || asked == h.options.Prefix || strings.HasPrefix(asked, h.options.Prefix+"/")
+}
+
+// fail answers a request that failed. Each error has one status.
+func (h *Handler) fail(w http.ResponseWriter, r *http.Request, err error) {
+	var own statusError
+	var failed *davd.StatusError
+	switch {
+	case errors.As(err, &own):
+		h.failWith(w, r, int(own))
+	case errors.As(err, &failed) && failed.Status >= 400 && failed.Status < 600:
+		h.failWith(w, r, failed.Status)
+	case errors.Is(err, davd.ErrLost), errors.Is(err, davd.ErrDown), errors.Is(err, davd.ErrClosed):
+		w.Header().Set("Retry-After", "1")
+		h.failWith(w, r, http.StatusServiceUnavailable)
+	case r.Context().Err() != nil:
+		panic(http.ErrAbortHandler) // The client has left.
+	case errors.Is(err, errVanished):
+		w.Header().Set("Connection", "close")
+		h.failWith(w, r, http.StatusBadRequest)
+	default:
+		h.options.Log.Printf("%s %q failed: %v", r.Method, r.URL.EscapedPath(), err)
+		h.failWith(w, r, http.StatusInternalServerError)
+	}
+}
+
+// failWith answers with a status, and with a line that people can read.
+func (h *Handler) failWith(w http.ResponseWriter, r *http.Request, status int) {
+	if status == http.StatusMethodNotAllowed {
+		w.Header().Set("Allow", h.allowed(r))
+	}
+	text := strconv.Itoa(status) + " " + http.StatusText(status) + "\n"
+	w.Header().Set("Content-Type", "text/plain; charset=utf-8")
+	w.Header().Set("Content-Length", strconv.Itoa(len(text)))
+	w.WriteHeader(status)
+	if r.Method != http.MethodHead {
+		w.Write([]byte(text))
+	}
+}

@@ -1,0 +1,86 @@
+package davd
+
+import (
+	"sync"
+
+	"davserve/internal/frame"
+)
+
+const (
+	batchFrames = 256     // how many frames a batch has at most
+	batchBytes  = 4 << 20 // a batch of more than one frame has no more bytes
+)
+
+// A call is a frame that was or will be sent, and what came back.
+type call struct {
+	frame  []byte
+	only   *process // the davd that may get it; nil: any
+	sentTo *process // the davd that got it last
+	reads  bool     // it changes nothing, so that it may be sent again
+	again  bool     // it was sent before
+	reply  []byte
+	err    error
+	done   chan struct{} // gets one value when reply or err is set
+	what   string        // for the log
+}
+
+func newCall(f frame.Frame) *call {
+	return &call{
+		frame: frame.Append(nil, f),
+		reads: reads(f),
+		done:  make(chan struct{}, 1),
+		what:  describe(f),
+	}
+}
+
+// finish sets what came back, and wakes who waits for it.
+func (c *call) finish(reply []byte, err error) {
+	c.reply, c.err = reply, err
+	c.done <- struct{}{}
+}
+
+// reads reports whether a frame changes nothing.
+func reads(f frame.Frame) bool {
+	switch f := f.(type) {
+	case frame.Read, frame.NextExpiry, frame.Held:
+		return true
+	case *frame.Request:
+		return f.Method == "PROPFIND" || f.Method == "OPTIONS"
+	}
+	return false
+}
+
+// describe names a frame in the log.
+func describe(f frame.Frame) string {
+	switch f := f.(type) {
+	case *frame.Request:
+		return f.Method + " " + f.Path
+	case frame.Read:
+		return "read " + f.Path
+	case frame.StartBody, frame.AddToBody, frame.DropBody:
+		return "upload"
+	}
+	return "query"
+}
+
+// A batch is what is written to davd at once.
+type batch struct {
+	process  *process
+	number   uint64
+	now      uint64
+	calls    []*call
+	written  sync.WaitGroup // until the batch is written
+	answered int            // how many calls are finished; only who reads the replies uses it
+}
+
+// cut splits the calls of the next batch from the others. The batch has at least one call.
+func cut(calls []*call) (batch, rest []*call) {
+	size := 0
+	for i, c := range calls {
+		size += len(c.frame)
+		if i > 0 && size > batchBytes || i == batchFrames {
+			return calls[:i:i], calls[i:]
+		}
+	}
+	return calls, nil
+}

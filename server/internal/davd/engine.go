@@ -1,0 +1,246 @@
+// Package davd runs the program davd and exchanges batches of frames with it.
+//
+// davd is started again when it ends. What it held in memory is then lost: the files, the locks and the bodies that
+// were arriving.
+package davd
+
+import (
+	"context"
+	"errors"
+	"fmt"
+	"log"
+	"sync"
+	"time"
+
+	"davserve/internal/frame"
+)
+
+var (
+	// ErrLost says that davd ended before it replied. What the frame asked for may have been done, but davd holds
+	// nothing of it any more.
+	ErrLost = errors.New("davd ended before it replied")
+	// ErrDown says that davd does not run at present. The frame was not sent.
+	ErrDown = errors.New("davd does not run")
+	// ErrClosed says that the engine is closed.
+	ErrClosed = errors.New("the engine is closed")
+)
+
+// A StatusError is the reply of davd to a frame that failed.
+type StatusError struct {
+	Status int // an HTTP status
+}
+
+// Error implements error.
+func (e *StatusError) Error() string {
+	return fmt.Sprintf("davd failed a frame with status %d", e.Status)
+}
+
+// Config says how davd is run.
+type Config struct {
+	Program string   // a path, or a name to look up in PATH
+	Args    []string // as docs/FRAMES.md lists them
+	Memory  int64    // limit of its address space in bytes; 0: none
+	Log     *log.Logger
+
+	pauses pauses // zero: the defaults
+}
+
+// An Engine is a davd that is started again whenever it ends. Its methods may be called at the same time.
+type Engine struct {
+	config Config
+	closed chan struct{} // closed by Close
+	ended  chan struct{} // closed when davd has ended for good
+
+	mu      sync.Mutex
+	process *process // nil: not running
+	pausing bool     // davd does not run, and calls fail until it does
+	closing bool
+	writing bool // somebody writes a batch
+	waiting []*call
+	now     uint64 // the time of the last batch
+	started uint64 // how many times davd was started again
+}
+
+// Start starts davd. An error says why it could not be started.
+func Start(config Config) (*Engine, error) {
+	if config.pauses == (pauses{}) {
+		config.pauses = defaultPauses
+	}
+	process, err := start(config)
+	if err != nil {
+		return nil, err
+	}
+	e := &Engine{config: config, process: process, closed: make(chan struct{}), ended: make(chan struct{})}
+	go e.supervise(process)
+	return e, nil
+}
+
+// Started returns how many times davd was started again. If the number is the same before one call and after another,
+// the same davd answered both.
+func (e *Engine) Started() uint64 {
+	e.mu.Lock()
+	defer e.mu.Unlock()
+	return e.started
+}
+
+// Close ends davd, once it has answered what it was sent. When ctx is done before that, davd is killed.
+func (e *Engine) Close(ctx context.Context) error {
+	e.mu.Lock()
+	process := e.process
+	if !e.closing {
+		e.closing = true
+		close(e.closed)
+		e.failWaiting(ErrClosed)
+		if process != nil && !e.writing {
+			process.input.Close()
+		}
+	}
+	e.mu.Unlock()
+	select {
+	case <-e.ended:
+		return nil
+	case <-ctx.Done():
+		if process != nil {
+			process.kill()
+		}
+		<-e.ended
+		return fmt.Errorf("davd was killed: %w", ctx.Err())
+	}
+}
+
+// Do sends a frame and returns the reply to it. A frame that failed is a *StatusError.
+//
+// If davd ends meanwhile, a frame that only reads is sent once more, to the next davd. When ctx is done, Do returns its
+// error, but it waits for the reply to a frame that was sent and changes something.
+func (e *Engine) Do(ctx context.Context, f frame.Frame) (frame.Reply, error) {
+	return e.do(ctx, newCall(f))
+}
+
+func (e *Engine) do(ctx context.Context, c *call) (frame.Reply, error) {
+	e.submit(c)
+	select {
+	case <-c.done:
+	case <-ctx.Done():
+		if e.withdraw(c) || c.reads {
+			return nil, ctx.Err()
+		}
+		<-c.done
+	}
+	if c.err != nil {
+		return nil, c.err
+	}
+	reply, err := frame.Decode(c.reply)
+	if err != nil {
+		return nil, fmt.Errorf("a reply of davd: %w", err)
+	}
+	if failed, ok := reply.(frame.Failed); ok {
+		return nil, &StatusError{Status: failed.Status}
+	}
+	return reply, nil
+}
+
+// submit queues a call, and writes a batch if nobody else does.
+func (e *Engine) submit(c *call) {
+	e.mu.Lock()
+	if err := e.refusal(c); err != nil {
+		e.mu.Unlock()
+		c.finish(nil, err)
+		return
+	}
+	e.waiting = append(e.waiting, c)
+	batch := e.next()
+	e.mu.Unlock()
+	if batch != nil {
+		e.write(batch)
+	}
+}
+
+// refusal returns why a call cannot be queued at present.
+func (e *Engine) refusal(c *call) error {
+	switch {
+	case e.closing:
+		return ErrClosed
+	case c.only != nil && c.only != e.process:
+		return ErrLost
+	case e.pausing:
+		return ErrDown
+	}
+	return nil
+}
+
+// withdraw removes a call that was not sent yet from the queue.
+func (e *Engine) withdraw(c *call) bool {
+	e.mu.Lock()
+	defer e.mu.Unlock()
+	for i, other := range e.waiting {
+		if other == c {
+			e.waiting = append(e.waiting[:i], e.waiting[i+1:]...)
+			return true
+		}
+	}
+	return false
+}
+
+// next takes a batch from the queue for the caller to write, or returns nil: if nothing waits, if somebody writes
+// already, or if enough batches are under way. It is called with e.mu held.
+func (e *Engine) next() *batch {
+	p := e.process
+	if p == nil || e.writing || len(e.waiting) == 0 || len(p.sent) == cap(p.sent) {
+		return nil
+	}
+	e.writing = true
+	e.now = later(e.now, time.Now())
+	p.number++
+	b := &batch{process: p, number: p.number, now: e.now}
+	b.written.Add(1)
+	b.calls, e.waiting = cut(e.waiting)
+	for _, c := range b.calls {
+		c.sentTo = p
+	}
+	p.sent <- b
+	return b
+}
+
+// write writes a batch, and starts a goroutine for what was queued meanwhile.
+func (e *Engine) write(b *batch) {
+	if err := b.process.write(b); err != nil {
+		b.process.kill() // The reader of its output finds the end, and fails what is under way.
+	}
+	b.written.Done()
+	e.mu.Lock()
+	e.writing = false
+	if e.closing {
+		b.process.input.Close()
+	}
+	more := e.next()
+	e.mu.Unlock()
+	if more != nil {
+		go e.write(more)
+	}
+}
+
+// wake writes what waits, after a batch was answered.
+func (e *Engine) wake() {
+	e.mu.Lock()
+	b := e.next()
+	e.mu.Unlock()
+	if b != nil {
+		go e.write(b)
+	}
+}
+
+// failWaiting fails each call that waits. It is called with e.mu held.
+func (e *Engine) failWaiting(err error) {
+	for _, c := range e.waiting {
+		c.finish(nil, err)
+	}
+	e.waiting = nil
+}
+
+// later returns the time in seconds since 1970, or an earlier result if the clock went back.
+func later(last uint64, now time.Time) uint64 {
+	if seconds := now.Unix(); seconds > 0 && uint64(seconds) > last {
+		return uint64(seconds)
+	}
+	return last
+}

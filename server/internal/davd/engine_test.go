@@ -1,0 +1,346 @@
+package davd
+
+import (
+	"bytes"
+	"context"
+	"errors"
+	"log"
+	"os"
+	"path/filepath"
+	"strings"
+	"sync"
+	"testing"
+	"time"
+
+	"davserve/internal/frame"
+)
+
+// logged keeps what is logged.
+type logged struct {
+	mu   sync.Mutex
+	text bytes.Buffer
+}
+
+func (l *logged) Write(p []byte) (int, error) {
+	l.mu.Lock()
+	defer l.mu.Unlock()
+	return l.text.Write(p)
+}
+
+func (l *logged) String() string {
+	l.mu.Lock()
+	defer l.mu.Unlock()
+	return l.text.String()
+}
+
+func (l *logged) logger() *log.Logger { return log.New(l, "", 0) }
+
+func closeSoon(t *testing.T, engine *Engine) {
+	t.Helper()
+	ctx, cancel := context.WithTimeout(context.Background(), 5*time.Second)
+	defer cancel()
+	if err := engine.Close(ctx); err != nil {
+		t.Errorf("Close: %v", err)
+	}
+}
+
+// soon returns a context that bounds a test.
+func soon(t *testing.T) context.Context {
+	t.Helper()
+	ctx, cancel := context.WithTimeout(context.Background(), 10*time.Second)
+	t.Cleanup(cancel)
+	return ctx
+}
+
+var change = &frame.Request{Method: "MKCOL", Path: "/d/", Token: "urn:t"}
+
+// processOf returns the number of the process that answers.
+func processOf(t *testing.T, engine *Engine) uint64 {
+	t.Helper()
+	reply, err := engine.Do(soon(t), frame.Held{})
+	if err != nil {
+		t.Fatalf("Held: %v", err)
+	}
+	return reply.(frame.Holdings).Quota.Used
+}
+
+func TestEachFrameGetsItsReply(t *testing.T) {
+	engine, _ := startFake(t, "sound")
+	var group sync.WaitGroup
+	for i := 0; i < 64; i++ {
+		group.Add(1)
+		go func(i int) {
+			defer group.Done()
+			for k := 0; k < 50; k++ {
+				checkReply(t, engine, i+k)
+			}
+		}(i)
+	}
+	group.Wait()
+}
+
+// checkReply sends one of three frames, which have different replies.
+func checkReply(t *testing.T, engine *Engine, i int) {
+	ctx := context.Background()
+	switch i % 3 {
+	case 0:
+		if reply, err := engine.Do(ctx, change); err != nil || reply.(frame.Response).Status != 201 {
+			t.Errorf("a request: %v, %v", reply, err)
+		}
+	case 1:
+		if reply, err := engine.Do(ctx, frame.DropBody{}); err != nil || reply != (frame.Done{}) {
+			t.Errorf("DropBody: %v, %v", reply, err)
+		}
+	case 2:
+		var failed *StatusError
+		if _, err := engine.Do(ctx, frame.Read{Path: "/"}); !errors.As(err, &failed) || failed.Status != 404 {
+			t.Errorf("Read: %v", err)
+		}
+	}
+}
+
+func TestFramesThatWaitShareABatch(t *testing.T) {
+	engine, _ := startFake(t, "slow")
+	var group sync.WaitGroup
+	var mu sync.Mutex
+	most := uint64(0)
+	for i := 0; i < 40; i++ {
+		group.Add(1)
+		go func() {
+			defer group.Done()
+			reply, err := engine.Do(context.Background(), frame.Held{})
+			if err != nil {
+				t.Error(err)
+				return
+			}
+			mu.Lock()
+			defer mu.Unlock()
+			if n := reply.(frame.Holdings).Locks; n > most {
+				most = n
+			}
+		}()
+	}
+	group.Wait()
+	if most < 10 {
+		t.Errorf("the greatest batch has %d of 40 frames", most)
+	}
+}
+
+func TestAReadIsSentAgainAndAChangeIsNot(t *testing.T) {
+	engine, said := startFake(t, "ends after one")
+	before := processOf(t, engine)
+	if _, err := engine.Do(soon(t), change); !errors.Is(err, ErrLost) {
+		t.Errorf("a change while davd ends: %v", err)
+	}
+	if after := processOf(t, engine); after == before {
+		t.Error("davd was not started again")
+	}
+	before = processOf(t, engine) // davd ends before it answers, and the next one does.
+	if processOf(t, engine) == before {
+		t.Error("davd was not started again")
+	}
+	for _, want := range []string{"exit status 3", "are lost", "MKCOL /d/"} {
+		if !strings.Contains(said.String(), want) {
+			t.Errorf("the log lacks %q:\n%s", want, said)
+		}
+	}
+}
+
+func TestABodyBelongsToOneProcess(t *testing.T) {
+	engine, _ := startFake(t, "sound")
+	body, err := engine.StartBody(soon(t))
+	if err != nil {
+		t.Fatal(err)
+	}
+	if err := body.Add(soon(t), []byte("one")); err != nil {
+		t.Fatal(err)
+	}
+	before := processOf(t, engine)
+	body.process.kill()
+	for processOf(t, engine) == before {
+		time.Sleep(time.Millisecond)
+	}
+	if err := body.Add(soon(t), []byte("two")); !errors.Is(err, ErrLost) {
+		t.Errorf("a piece for the next davd: %v", err)
+	}
+	if _, err := body.Do(soon(t), &frame.Request{Method: "PUT", Path: "/a"}); !errors.Is(err, ErrLost) {
+		t.Errorf("a request for the next davd: %v", err)
+	}
+	body.Drop()
+}
+
+func TestAnAnsweredPieceIsNotRead(t *testing.T) {
+	engine, _ := startFake(t, "sound")
+	var group sync.WaitGroup
+	for i := 0; i < 8; i++ { // The race detector sees whether a frame is still read when the next one is made.
+		group.Add(1)
+		go func() {
+			defer group.Done()
+			body, err := engine.StartBody(context.Background())
+			if err != nil {
+				t.Error(err)
+				return
+			}
+			defer body.Drop()
+			for k := 0; k < 100; k++ {
+				if err := body.Add(context.Background(), make([]byte, 200<<10)); err != nil {
+					t.Error(err)
+				}
+			}
+		}()
+	}
+	group.Wait()
+}
+
+func TestAWrongReplyEndsDavd(t *testing.T) {
+	for _, how := range []string{"garbage", "wrong number", "lost count", "too few", "ends"} {
+		t.Run(how, func(t *testing.T) {
+			engine, said := startFake(t, how)
+			for i := 0; i < 3; i++ {
+				_, err := engine.Do(soon(t), change)
+				if !errors.Is(err, ErrLost) && !errors.Is(err, ErrDown) {
+					t.Fatalf("a change: %v", err)
+				}
+			}
+			if !strings.Contains(said.String(), "davd ended") {
+				t.Errorf("the log does not say that davd ended:\n%s", said)
+			}
+		})
+	}
+}
+
+func TestABatchWithoutMemoryFailsItsFrames(t *testing.T) {
+	engine, _ := startFake(t, "no memory")
+	var failed *StatusError
+	if _, err := engine.Do(soon(t), change); !errors.As(err, &failed) || failed.Status != 507 {
+		t.Errorf("a change: %v", err)
+	}
+}
+
+func TestAContextEndsTheWaitForARead(t *testing.T) {
+	engine, _ := startFake(t, "mute")
+	ctx, cancel := context.WithTimeout(context.Background(), 20*time.Millisecond)
+	defer cancel()
+	if _, err := engine.Do(ctx, frame.Held{}); !errors.Is(err, context.DeadlineExceeded) {
+		t.Errorf("a read: %v", err)
+	}
+}
+
+// isFull reports whether as many batches are under way as may be.
+func isFull(engine *Engine) bool {
+	engine.mu.Lock()
+	defer engine.mu.Unlock()
+	return !engine.writing && len(engine.process.sent) == underWay
+}
+
+func TestWithdraw(t *testing.T) {
+	engine, _ := startFake(t, "mute")
+	for !isFull(engine) {
+		go engine.Do(context.Background(), frame.NextExpiry{}) // It is sent, and never answered.
+		time.Sleep(time.Millisecond)
+	}
+	ctx, cancel := context.WithTimeout(context.Background(), 20*time.Millisecond)
+	defer cancel()
+	if _, err := engine.Do(ctx, change); !errors.Is(err, context.DeadlineExceeded) {
+		t.Errorf("a change that was not sent: %v", err)
+	}
+}
+
+func TestCloseKillsADavdThatDoesNotEnd(t *testing.T) {
+	t.Setenv(behavior, "sound")
+	engine, err := Start(Config{Program: "/bin/sleep", Args: []string{"60"}, Log: (&logged{}).logger()})
+	if err != nil {
+		t.Fatal(err)
+	}
+	ctx, cancel := context.WithTimeout(context.Background(), 50*time.Millisecond)
+	defer cancel()
+	if err := engine.Close(ctx); !errors.Is(err, context.DeadlineExceeded) {
+		t.Errorf("Close: %v", err)
+	}
+	if _, err := engine.Do(context.Background(), change); !errors.Is(err, ErrClosed) {
+		t.Errorf("after Close: %v", err)
+	}
+}
+
+func TestStartNamesAMissingProgram(t *testing.T) {
+	_, err := Start(Config{Program: "/no/such/davd"})
+	if !errors.Is(err, os.ErrNotExist) {
+		t.Errorf("Start: %v", err)
+	}
+}
+
+func TestCallsFailWhileDavdCannotBeStarted(t *testing.T) {
+	program := filepath.Join(t.TempDir(), "davd")
+	if err := os.Symlink(os.Args[0], program); err != nil {
+		t.Fatal(err)
+	}
+	engine, said := startProgram(t, program, "ends after one")
+	processOf(t, engine)
+	if err := os.Remove(program); err != nil {
+		t.Fatal(err)
+	}
+	if _, err := engine.Do(soon(t), frame.Held{}); !errors.Is(err, ErrDown) {
+		t.Errorf("a read: %v", err)
+	}
+	if err := os.Symlink(os.Args[0], program); err != nil {
+		t.Fatal(err)
+	}
+	for {
+		if _, err := engine.Do(soon(t), frame.Held{}); err == nil {
+			break
+		} else if !errors.Is(err, ErrDown) {
+			t.Fatalf("a read: %v\n%s", err, said)
+		}
+		time.Sleep(time.Millisecond)
+	}
+}
+
+func TestPauses(t *testing.T) {
+	p := pauses{first: 1, greatest: 6, long: 100}
+	tests := []struct{ ran, last, want time.Duration }{
+		{ran: 0, last: 0, want: 1},
+		{ran: 0, last: 1, want: 2},
+		{ran: 99, last: 2, want: 4},
+		{ran: 0, last: 4, want: 6},
+		{ran: 0, last: 6, want: 6},
+		{ran: 100, last: 6, want: 0},
+	}
+	for _, test := range tests {
+		if got := p.after(test.ran, test.last); got != test.want {
+			t.Errorf("after(%d, %d) = %d, want %d", test.ran, test.last, got, test.want)
+		}
+	}
+}
+
+func TestTimeNeverGoesBack(t *testing.T) {
+	if got := later(10, time.Unix(12, 0)); got != 12 {
+		t.Errorf("later(10, 12) = %d", got)
+	}
+	if got := later(10, time.Unix(7, 0)); got != 10 {
+		t.Errorf("later(10, 7) = %d", got)
+	}
+}
+
+func TestCut(t *testing.T) {
+	small, large := &call{frame: make([]byte, 10)}, &call{frame: make([]byte, batchBytes)}
+	many := make([]*call, batchFrames+5)
+	for i := range many {
+		many[i] = small
+	}
+	tests := []struct {
+		name        string
+		calls       []*call
+		batch, rest int
+	}{
+		{"one", []*call{small}, 1, 0},
+		{"a large one alone", []*call{large, small}, 1, 1},
+		{"small ones before a large one", []*call{small, small, large, small}, 2, 2},
+		{"many", many, batchFrames, 5},
+	}
+	for _, test := range tests {
+		batch, rest := cut(test.calls)
+		if len(batch) != test.batch || len(rest) != test.rest {
+			t.Errorf("%s: %d and %d, want %d and %d", test.name, len(batch), len(rest), test.batch, test.rest)
+		}
+	}
+}

@@ -1,0 +1,147 @@
+package davd
+
+import (
+	"encoding/binary"
+	"io"
+	"os"
+	"testing"
+	"time"
+)
+
+// The test program is also a davd that the tests start: it behaves as the variable says.
+const behavior = "FAKE_DAVD"
+
+func TestMain(m *testing.M) {
+	if how := os.Getenv(behavior); how != "" {
+		fake(how)
+		return
+	}
+	os.Exit(m.Run())
+}
+
+// fake reads batches and writes replies, until its input ends or its behavior says otherwise.
+func fake(how string) {
+	for count := 1; ; count++ {
+		number, frames := readBatch()
+		switch {
+		case how == "mute":
+			continue
+		case how == "ends after one" && count == 2, how == "ends":
+			os.Exit(3)
+		case how == "garbage":
+			os.Stdout.WriteString("this is not a batch of replies")
+		case how == "wrong number":
+			writeReplies(number+1, 200, nil)
+		case how == "lost count":
+			writeReplies(number, 409, nil)
+		case how == "no memory for a drop" && frames[0][0] == 3 && count < 5:
+			writeReplies(number, 507, nil)
+		case how == "no memory for a drop" && frames[0][0] == 3:
+			os.Stderr.WriteString("a body is dropped\n")
+			writeReplies(number, 200, replies(frames))
+		case how == "no memory":
+			writeReplies(number, 507, nil)
+		case how == "too few":
+			writeReplies(number, 200, replies(frames[1:]))
+		case how == "mute after one" && count > 1:
+			continue
+		case how == "half" && len(frames) > 1:
+			writeReplies(number, 200, replies(frames), 1)
+			os.Exit(3)
+		case how == "too many":
+			writeReplies(number, 200, append(replies(frames), replies(frames)...))
+		case how == "shows drops":
+			for _, f := range frames {
+				if f[0] == 3 {
+					os.Stderr.WriteString("a body is dropped\n")
+				}
+			}
+			writeReplies(number, 200, replies(frames))
+		case how == "slow":
+			time.Sleep(20 * time.Millisecond)
+			writeReplies(number, 200, replies(frames))
+		default:
+			writeReplies(number, 200, replies(frames))
+		}
+	}
+}
+
+// readBatch reads a batch of frames. It ends the program at the end of the input.
+func readBatch() (number uint64, frames [][]byte) {
+	var header [24]byte
+	if _, err := io.ReadFull(os.Stdin, header[:]); err != nil {
+		os.Exit(0)
+	}
+	content := make([]byte, binary.BigEndian.Uint64(header[16:]))
+	if _, err := io.ReadFull(os.Stdin, content); err != nil {
+		os.Exit(3)
+	}
+	count := binary.BigEndian.Uint64(content)
+	for content = content[8:]; count > 0; count-- {
+		end := 8 + binary.BigEndian.Uint64(content)
+		frames = append(frames, content[8:end])
+		content = content[end:]
+	}
+	return binary.BigEndian.Uint64(header[:]), frames
+}
+
+// replies answers frames. A quota's used bytes are the number of this process, the greatest how many frames came with
+// this one.
+func replies(frames [][]byte) [][]byte {
+	var all [][]byte
+	for _, f := range frames {
+		var reply []byte
+		switch f[0] {
+		case 0: // a request: a response without fields, with the status 201
+			reply = append(numbered(0, 201), make([]byte, 1+8+1)...)
+		case 1:
+			reply = numbered(1, uint64(os.Getpid()))
+		case 2, 3:
+			reply = []byte{2}
+		case 6:
+			reply = append(numbered(6, uint64(len(frames))), 1)
+			reply = append(binary.BigEndian.AppendUint64(reply, uint64(os.Getpid())), 0)
+		default:
+			reply = numbered(7, 404)
+		}
+		all = append(all, reply)
+	}
+	return all
+}
+
+func numbered(kind byte, n uint64) []byte {
+	return binary.BigEndian.AppendUint64([]byte{kind}, n)
+}
+
+// writeReplies writes a batch of replies, or breaks off after the first ones.
+func writeReplies(number, status uint64, replies [][]byte, first ...int) {
+	b := binary.BigEndian.AppendUint64(nil, number)
+	b = binary.BigEndian.AppendUint64(b, status)
+	b = binary.BigEndian.AppendUint64(b, uint64(len(replies)))
+	if len(first) == 1 {
+		replies = replies[:first[0]]
+	}
+	for _, reply := range replies {
+		b = append(binary.BigEndian.AppendUint64(b, uint64(len(reply))), reply...)
+	}
+	os.Stdout.Write(b)
+}
+
+// startFake starts an engine over a fake davd, which is started again at once.
+func startFake(t *testing.T, how string) (*Engine, *logged) {
+	t.Helper()
+	return startProgram(t, os.Args[0], how)
+}
+
+func startProgram(t *testing.T, program, how string) (*Engine, *logged) {
+	t.Helper()
+	t.Setenv(behavior, how)
+	said := &logged{}
+	quick := pauses{first: time.Millisecond, greatest: 10 * time.Millisecond}
+	engine, err := Start(Config{Program: program, Log: said.logger(), pauses: quick})
+	if err != nil {
+		t.Fatal(err)
+	}
+	t.Cleanup(func() { closeSoon(t, engine) })
+	return engine, said
+}

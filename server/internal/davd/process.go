@@ -1,0 +1,136 @@
+package davd
+
+import (
+	"bufio"
+	"encoding/binary"
+	"fmt"
+	"io"
+	"log"
+	"os/exec"
+	"strconv"
+	"syscall"
+
+	"davserve/internal/frame"
+)
+
+const (
+	underWay   = 4        // how many batches are sent before the replies to the first have arrived
+	bufferSize = 64 << 10 // of the input and of the output of davd, in bytes
+	replyLimit = 4 << 30  // bytes of the longest reply that is read
+)
+
+// A process is a running davd.
+type process struct {
+	command *exec.Cmd
+	input   io.WriteCloser
+	writer  *bufio.Writer
+	reader  *bufio.Reader
+	number  uint64      // of the last batch
+	sent    chan *batch // the batches whose replies were not begun to be read
+	reading *batch      // the batch whose replies are read, or could not be read whole
+}
+
+// start starts davd. In a process group of its own it does not get the interrupts of a terminal.
+func start(config Config) (*process, error) {
+	program, err := exec.LookPath(config.Program)
+	if err != nil {
+		return nil, fmt.Errorf("davd cannot be started: %w", err)
+	}
+	command := exec.Command(program, config.Args...)
+	if config.Memory > 0 {
+		kib := strconv.FormatInt((config.Memory+1023)/1024, 10)
+		limited := append([]string{"-c", `ulimit -v "$1" && shift && exec "$@"`, "sh", kib, program}, config.Args...)
+		command = exec.Command("/bin/sh", limited...)
+	}
+	command.SysProcAttr = &syscall.SysProcAttr{Setpgid: true}
+	command.Stderr = &lineWriter{log: config.Log}
+	input, err := command.StdinPipe()
+	if err != nil {
+		return nil, fmt.Errorf("davd cannot be started: %w", err)
+	}
+	output, err := command.StdoutPipe()
+	if err != nil {
+		return nil, fmt.Errorf("davd cannot be started: %w", err)
+	}
+	if err := command.Start(); err != nil {
+		return nil, fmt.Errorf("davd cannot be started: %w", err)
+	}
+	return &process{
+		command: command,
+		input:   input,
+		writer:  bufio.NewWriterSize(input, bufferSize),
+		reader:  bufio.NewReaderSize(output, bufferSize),
+		sent:    make(chan *batch, underWay),
+	}, nil
+}
+
+// kill ends davd at once. Whoever reads its output finds the end.
+func (p *process) kill() {
+	p.command.Process.Kill()
+}
+
+// wait waits until davd has ended, and says how. Nobody may read its output any more.
+func (p *process) wait() error {
+	p.input.Close()
+	return p.command.Wait()
+}
+
+// write writes a batch.
+func (p *process) write(b *batch) error {
+	length := uint64(8)
+	for _, c := range b.calls {
+		length += 8 + uint64(len(c.frame))
+	}
+	var head [40]byte
+	header := frame.BatchHeader{Number: b.number, Time: b.now, Length: length}
+	p.writer.Write(binary.BigEndian.AppendUint64(frame.AppendBatchHeader(head[:0], header), uint64(len(b.calls))))
+	for _, c := range b.calls {
+		p.writer.Write(binary.BigEndian.AppendUint64(head[:0], uint64(len(c.frame))))
+		p.writer.Write(c.frame)
+	}
+	return p.writer.Flush() // It returns the first error of all these writes.
+}
+
+// read reads the replies to a batch and finishes its calls. After an error, the calls from b.answered on are not
+// finished.
+func (p *process) read(b *batch) error {
+	header, err := frame.ReadReplyHeader(p.reader)
+	if err != nil {
+		return err
+	}
+	if header.Number != b.number {
+		return fmt.Errorf("replies to batch %d, where those to batch %d were expected", header.Number, b.number)
+	}
+	switch {
+	case header.Status == 507 && header.Count == 0:
+		for _, c := range b.calls {
+			c.finish(nil, &StatusError{Status: 507})
+		}
+		return nil
+	case header.Status != 200:
+		return fmt.Errorf("batch %d has the status %d", b.number, header.Status)
+	case header.Count != uint64(len(b.calls)):
+		return fmt.Errorf("batch %d of %d frames has %d replies", b.number, len(b.calls), header.Count)
+	}
+	b.written.Wait() // Whoever gets a reply may use the memory of the frame again.
+	for _, c := range b.calls {
+		reply, err := frame.ReadReply(p.reader, replyLimit)
+		if err != nil {
+			return err
+		}
+		b.answered++
+		c.finish(reply, nil)
+	}
+	return nil
+}
+
+// A lineWriter logs what davd writes to its standard error.
+type lineWriter struct {
+	log *log.Logger
+}
+
+// Write implements io.Writer.
+func (w *lineWriter) Write(p []byte) (int, error) {
+	w.log.Printf("davd says: %q", p)
+	return len(p), nil
+}

@@ -1,0 +1,193 @@
+package davd
+
+import (
+	"errors"
+	"io"
+	"strings"
+	"time"
+)
+
+// pauses are the times between the end of a davd and the start of the next. A davd that ran for long is followed at
+// once. Each further one is waited for twice as long.
+type pauses struct {
+	first, greatest time.Duration
+	long            time.Duration // a davd that ran for so long counts as sound
+}
+
+var defaultPauses = pauses{first: 100 * time.Millisecond, greatest: 30 * time.Second, long: time.Minute}
+
+// after returns the pause after a davd that ran for so long and was started after the pause last.
+func (p pauses) after(ran, last time.Duration) time.Duration {
+	if ran >= p.long {
+		return 0
+	}
+	return p.longer(last)
+}
+
+// longer returns the pause that follows another one.
+func (p pauses) longer(last time.Duration) time.Duration {
+	switch {
+	case last == 0:
+		return p.first
+	case last > p.greatest/2:
+		return p.greatest
+	}
+	return 2 * last
+}
+
+// supervise reads the replies of davd, and starts it again when it ends, until the engine is closed.
+func (e *Engine) supervise(p *process) {
+	defer close(e.ended)
+	pause := time.Duration(0)
+	for p != nil {
+		began := time.Now()
+		err := e.read(p)
+		if !e.isClosing() {
+			p.kill()
+		}
+		end := p.wait()
+		lost := e.detach(p)
+		if e.isClosing() {
+			return
+		}
+		e.report(err, end, lost)
+		pause = e.config.pauses.after(time.Since(began), pause)
+		p = e.restart(&pause)
+	}
+}
+
+// read finishes the calls of each batch, until davd ends or writes what it may not.
+func (e *Engine) read(p *process) error {
+	for {
+		if _, err := p.reader.Peek(1); err != nil {
+			return err
+		}
+		select {
+		case p.reading = <-p.sent:
+		default:
+			return errors.New("davd wrote replies that nobody waits for")
+		}
+		if err := p.read(p.reading); err != nil {
+			return err
+		}
+		p.reading = nil
+		e.wake()
+	}
+}
+
+// detach takes a davd that has ended out of service. The calls that only read are queued once more, the others fail.
+// It returns what was lost.
+func (e *Engine) detach(p *process) []string {
+	e.mu.Lock()
+	defer e.mu.Unlock()
+	e.process = nil
+	var lost []string
+	var again []*call
+	for _, c := range append(p.unanswered(), e.waiting...) {
+		switch {
+		case c.sentTo == nil && c.only == nil: // It was not sent yet.
+			again = append(again, c)
+		case c.reads && !c.again && !e.closing:
+			c.again, c.sentTo = true, nil
+			again = append(again, c)
+		default:
+			lost = append(lost, c.what)
+			c.finish(nil, ErrLost)
+		}
+	}
+	e.waiting = again
+	return lost
+}
+
+// unanswered returns the calls that were sent to a davd that has ended, without those that it answered.
+func (p *process) unanswered() []*call {
+	var calls []*call
+	if p.reading != nil {
+		calls = append(calls, p.reading.calls[p.reading.answered:]...)
+	}
+	for {
+		select {
+		case b := <-p.sent:
+			calls = append(calls, b.calls...)
+		default:
+			return calls
+		}
+	}
+}
+
+// report logs how davd ended and what was lost.
+func (e *Engine) report(err, end error, lost []string) {
+	how := "status 0"
+	if end != nil {
+		how = end.Error()
+	}
+	if err != nil && !errors.Is(err, io.EOF) {
+		how += ", " + err.Error()
+	}
+	e.config.Log.Printf("davd ended (%s). All files, locks and uploads that it held in memory are lost.", how)
+	if len(lost) > 0 {
+		e.config.Log.Printf("davd had not answered %d frames that change something: %q", len(lost), strings.Join(lost, ", "))
+	}
+}
+
+// restart starts davd after the pause, and again after longer pauses as long as that fails. It returns nil if the
+// engine is closed.
+func (e *Engine) restart(pause *time.Duration) *process {
+	for {
+		if !e.sleep(*pause) {
+			return nil
+		}
+		p, err := start(e.config)
+		if err == nil {
+			return e.attach(p)
+		}
+		e.config.Log.Print(err)
+		*pause = e.config.pauses.longer(*pause)
+	}
+}
+
+// sleep waits, and reports whether the engine is still open. Calls wait too if the pause is short, and fail otherwise.
+func (e *Engine) sleep(pause time.Duration) bool {
+	if pause > e.config.pauses.first {
+		e.mu.Lock()
+		e.pausing = true
+		e.failWaiting(ErrDown)
+		e.mu.Unlock()
+	}
+	return e.sleepOpen(pause)
+}
+
+// sleepOpen waits, and reports whether the engine is still open.
+func (e *Engine) sleepOpen(pause time.Duration) bool {
+	timer := time.NewTimer(pause)
+	defer timer.Stop()
+	select {
+	case <-timer.C:
+		return !e.isClosing()
+	case <-e.closed:
+		return false
+	}
+}
+
+// attach puts a new davd into service, or ends it if the engine was closed meanwhile.
+func (e *Engine) attach(p *process) *process {
+	e.mu.Lock()
+	defer e.mu.Unlock()
+	if e.closing {
+		p.kill()
+		p.wait()
+		return nil
+	}
+	e.process, e.pausing = p, false
+	e.started++
+	if b := e.next(); b != nil {
+		go e.write(b)
+	}
+	return p
+}
+
+func (e *Engine) isClosing() bool {
+	e.mu.Lock()
+	defer e.mu.Unlock()
+	return e.closing
+}

@@ -1,0 +1,123 @@
+package davserve
+
+import (
+	"errors"
+	"fmt"
+	"log"
+	"net/http"
+	"net/url"
+	"strings"
+	"time"
+)
+
+// Options say how a Handler serves. The zero value of each field but Davd is a usable default.
+type Options struct {
+	// Davd is the path of the program davd, or its name, which is then looked up in PATH.
+	Davd string
+	// Prefix is what the path of each URL begins with, such as "/dav". The handler gets requests with the prefix.
+	Prefix string
+	// PublicURL is the URL by which clients reach the server, if a proxy changes the header field Host. A Destination
+	// on its host is on this server.
+	PublicURL string
+	// Principal returns the authenticated user of a request, and false if there is none. Nil: there is never one.
+	// Requests without a user can use each other's locks.
+	Principal func(*http.Request) (string, bool)
+	// MaxBody is how many bytes the body of a PUT or PATCH may have, and how far from the start of a file a PATCH may
+	// begin. 0: 1 GiB.
+	MaxBody int64
+	// MaxXML is how many bytes an XML body may have. 0: 1 MiB.
+	MaxXML int64
+	// MaxLock is the longest time until a lock expires. 0: ten minutes, which is also the longest time that davd
+	// gives to an exclusive lock.
+	MaxLock time.Duration
+	// MaxInfinity is how many resources a PROPFIND of Depth infinity may concern. 0: none, and the response to one for
+	// a collection is 403.
+	MaxInfinity int
+	// Quota is how many bytes all files may have together. 0: no limit.
+	Quota int64
+	// Memory is how many bytes the address space of davd may have. When they are used up, requests fail with 507. 0: no
+	// limit.
+	Memory int64
+	// StallTimeout is how long a client may take to send or to receive a part of a body. 0: one minute. It needs
+	// ConnContext in the http.Server.
+	StallTimeout time.Duration
+	// Log gets a line when davd ends or a response breaks off. Nil: the standard logger.
+	Log *log.Logger
+}
+
+const (
+	defaultMaxBody      = 1 << 30
+	defaultMaxXML       = 1 << 20
+	defaultMaxLock      = 10 * time.Minute
+	defaultStallTimeout = time.Minute
+)
+
+// complete returns the options with their defaults, or says which one is wrong.
+func (o Options) complete() (Options, error) {
+	if o.Davd == "" {
+		return o, errors.New("the program davd is not named")
+	}
+	if err := checkPrefix(o.Prefix); err != nil {
+		return o, err
+	}
+	for _, n := range []int64{o.MaxBody, o.MaxXML, int64(o.MaxInfinity), o.Quota, o.Memory} {
+		if n < 0 {
+			return o, fmt.Errorf("a limit is negative: %d", n)
+		}
+	}
+	if o.MaxLock < 0 || o.StallTimeout < 0 {
+		return o, errors.New("a time is negative")
+	}
+	setDefault(&o.MaxBody, defaultMaxBody)
+	setDefault(&o.MaxXML, defaultMaxXML)
+	setDefault(&o.MaxLock, defaultMaxLock)
+	setDefault(&o.StallTimeout, defaultStallTimeout)
+	if o.Log == nil {
+		o.Log = log.Default()
+	}
+	if o.Principal == nil {
+		o.Principal = func(*http.Request) (string, bool) { return "", false }
+	}
+	return o, nil
+}
+
+func setDefault[T comparable](value *T, standard T) {
+	var zero T
+	if *value == zero {
+		*value = standard
+	}
+}
+
+// checkPrefix refuses a prefix that no path of a URL can have as davd compares them.
+func checkPrefix(prefix string) error {
+	if prefix == "" {
+		return nil
+	}
+	if !strings.HasPrefix(prefix, "/") || strings.HasSuffix(prefix, "/") {
+		return fmt.Errorf("the prefix %q does not begin with a slash, or ends with one", prefix)
+	}
+	for _, segment := range strings.Split(prefix[1:], "/") {
+		if segment == "" || segment == "." || segment == ".." || url.PathEscape(segment) != segment {
+			return fmt.Errorf("the prefix %q has an empty segment, or one that a URL escapes", prefix)
+		}
+	}
+	return nil
+}
+
+// publicHost returns the host of the public URL, or "" if there is none.
+func publicHost(text, prefix string) (string, error) {
+	if text == "" {
+		return "", nil
+	}
+	public, err := url.Parse(text)
+	if err != nil {
+		return "", fmt.Errorf("the public URL: %w", err)
+	}
+	if public.Scheme != "http" && public.Scheme != "https" || public.Host == "" {
+		return "", fmt.Errorf("the public URL %q is not one of http or https", text)
+	}
+	if path := strings.TrimSuffix(public.Path, "/"); path != "" && path != prefix {
+		return "", fmt.Errorf("the path of the public URL %q is not the prefix %q", text, prefix)
+	}
+	return plainHost(public.Host), nil
+}

@@ -1,0 +1,147 @@
+package davserve
+
+import (
+	"context"
+	"fmt"
+	"io"
+	"net/http"
+	"strconv"
+	"strings"
+
+	"davserve/internal/davd"
+	"davserve/internal/frame"
+)
+
+// piece is how many bytes of a file or of a body are in one frame. A longer body goes to davd in pieces, as they
+// arrive.
+const piece = 256 << 10
+
+// upload answers a PUT or a PATCH.
+func (h *Handler) upload(w http.ResponseWriter, r *http.Request) error {
+	if r.Method == http.MethodPut && strings.HasSuffix(r.URL.Path, "/") {
+		return statusError(http.StatusMethodNotAllowed) // The engine would create the file without the slash.
+	}
+	if r.ContentLength > h.options.MaxBody || h.beginsTooFar(r) {
+		return statusError(http.StatusRequestEntityTooLarge)
+	}
+	request, err := h.request(r)
+	if err != nil {
+		return err
+	}
+	body := h.bodyOf(r)
+	first, err := readFirst(body, r.ContentLength)
+	switch {
+	case err == io.EOF:
+		request.Body = frame.Bytes(first)
+		return h.finish(w, r, request, int64(len(first)), h.engine.Do)
+	case err != nil:
+		return fmt.Errorf("%w: %v", errVanished, err)
+	}
+	return h.store(w, r, request, first, body)
+}
+
+// beginsTooFar reports whether a partial update names a place that no body could reach. The store would fill the gap
+// before it.
+func (h *Handler) beginsTooFar(r *http.Request) bool {
+	for _, name := range []string{"X-Update-Range", "Content-Range"} {
+		for _, text := range r.Header[name] {
+			for _, digits := range strings.FieldsFunc(text, isNotDigit) {
+				if n, err := strconv.ParseInt(digits, 10, 64); err != nil || n > h.options.MaxBody {
+					return true
+				}
+			}
+		}
+	}
+	return false
+}
+
+func isNotDigit(c rune) bool { return c < '0' || c > '9' }
+
+// readFirst reads a body up to the length of a piece. The error is io.EOF if that is the whole of it. A negative length
+// is not known.
+func readFirst(body io.Reader, length int64) ([]byte, error) {
+	size := int64(piece)
+	if 0 <= length && length < size {
+		size = length + 1 // So that the end is read, too.
+	}
+	first := make([]byte, size)
+	n, err := fill(body, first)
+	return first[:n], err
+}
+
+// fill reads until the buffer is full. If the body ends before that, the error is io.EOF. A body that breaks off is
+// another error.
+func fill(body io.Reader, buffer []byte) (int, error) {
+	n := 0
+	for n < len(buffer) {
+		m, err := body.Read(buffer[n:])
+		n += m
+		if err != nil {
+			return n, err
+		}
+	}
+	return n, nil
+}
+
+// store has davd store a body in pieces, and then sends the request.
+func (h *Handler) store(w http.ResponseWriter, r *http.Request, request *frame.Request, first []byte, rest io.Reader) error {
+	stored, err := h.engine.StartBody(r.Context())
+	if err != nil {
+		return err
+	}
+	defer stored.Drop()
+	length, err := h.sendPieces(r.Context(), stored, first, rest)
+	if err != nil {
+		return err
+	}
+	return h.finish(w, r, request, length, func(ctx context.Context, _ frame.Frame) (frame.Reply, error) {
+		return stored.Do(ctx, request)
+	})
+}
+
+// sendPieces sends a body to davd, of which the buffer has the first piece, and returns its length.
+func (h *Handler) sendPieces(ctx context.Context, to *davd.Body, buffer []byte, rest io.Reader) (int64, error) {
+	length := int64(0)
+	n, end := len(buffer), error(nil)
+	for {
+		if length += int64(n); length > h.options.MaxBody {
+			return length, statusError(http.StatusRequestEntityTooLarge)
+		}
+		if n > 0 {
+			if err := to.Add(ctx, buffer[:n]); err != nil {
+				return length, err
+			}
+		}
+		if end == io.EOF {
+			return length, nil
+		}
+		if n, end = fill(rest, buffer); end != nil && end != io.EOF {
+			return length, fmt.Errorf("%w: %v", errVanished, end)
+		}
+	}
+}
+
+// A sender sends the frame of a request.
+type sender func(context.Context, frame.Frame) (frame.Reply, error)
+
+// finish sends the request of an upload whose body is complete, if its length is as the client said and the quota has
+// room for it.
+func (h *Handler) finish(w http.ResponseWriter, r *http.Request, request *frame.Request, length int64, send sender) error {
+	if length > h.options.MaxBody {
+		return statusError(http.StatusRequestEntityTooLarge)
+	}
+	if expected := r.Header.Get("X-Expected-Entity-Length"); expected != "" && expected != strconv.FormatInt(length, 10) {
+		return statusError(http.StatusBadRequest) // The client of macOS announces the length of a chunked body so.
+	}
+	setLength(request, length)
+	release, err := h.reserveUpload(r, length)
+	if err != nil {
+		return err
+	}
+	defer release()
+	response, err := responseOf(send(r.Context(), request))
+	if err != nil {
+		return err
+	}
+	return h.write(w, r, response)
+}
