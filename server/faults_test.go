@@ -104,24 +104,36 @@ func TestAFileThatIsRemovedBeforeItIsReplacedCounts(t *testing.T) {
 	c := startServer(t, Options{Quota: 1000})
 	h := c.server.Config.Handler.(*Handler)
 	c.want(201, "PUT", "/f", strings.Repeat("x", 900))
-	r := httptest.NewRequest("PUT", "/f", nil)
-	release, err := h.reserveUpload(r, 950) // 50 bytes more than /f has
+	release, err := h.reserveUpload(httptest.NewRequest("PUT", "/f", nil), 950) // 50 bytes more than /f has
 	if err != nil {
 		t.Fatal(err)
 	}
 	c.want(204, "DELETE", "/f", "")
-	c.want(507, "PUT", "/g", strings.Repeat("x", 600)) // The other 950 bytes are still to be written.
-	release()
-	c.want(201, "PUT", "/g", strings.Repeat("x", 600))
+	other := make(chan int)
+	go func() { // It waits until the other 950 bytes are written.
+		response, _ := c.do("PUT", "/g", strings.NewReader(strings.Repeat("x", 600)))
+		other <- response.StatusCode
+	}()
+	select {
+	case status := <-other:
+		t.Errorf("the status is %d before it is known whether 950 bytes of 1000 are written", status)
+	case <-time.After(50 * time.Millisecond):
+	}
+	release() // They were not.
+	if status := <-other; status != http.StatusCreated {
+		t.Errorf("the status is %d", status)
+	}
 }
 
 func TestAShrinkingFileNeedsNoRoom(t *testing.T) {
-	q := newQuota(100, func(context.Context) (int64, error) { return 150, nil })
-	if err := q.refresh(context.Background()); err != nil {
-		t.Fatal(err)
+	q := newQuota(100, usedBytes(150))
+	release, err := q.reserve(context.Background(), 200, exactly(0))
+	if err != nil {
+		t.Fatalf("beyond the quota, no bytes more: %v", err)
 	}
-	if !q.reserve(0) || q.reserve(1) {
-		t.Error("beyond the quota, no bytes more have no room, or one has")
+	release()
+	if _, err := q.reserve(context.Background(), 200, exactly(1)); err == nil {
+		t.Error("beyond the quota, one byte more has room")
 	}
 }
 

@@ -14,39 +14,23 @@ import (
 // A quota limits how many bytes all files have together.
 //
 // davd says how many bytes are used, and asking costs it time. So a quota keeps an upper bound of that: what davd said
-// last, and all that was reserved since. davd is asked again only when the bound leaves no room.
+// last, and all that was reserved since. Requests that have room under the bound write at the same time. One that has
+// none waits until these are done, has davd asked, and writes alone. So nothing is counted twice.
 type quota struct {
 	total int64
 	used  func(context.Context) (int64, error)
 
-	asking sync.Mutex // held while davd is asked
-	mu     sync.Mutex
-	bound  int64
-	open   int64 // what requests under way may write at most
-	begun  int64 // what all requests that ever began might write at most
+	writing sync.RWMutex // locked by a request that writes alone, read-locked by each other that writes
+	mu      sync.Mutex
+	bound   int64
 }
 
 func newQuota(total int64, used func(context.Context) (int64, error)) *quota {
 	return &quota{total: total, used: used}
 }
 
-// begin says that a request is under way that writes at most so many bytes. The caller must end it.
-func (q *quota) begin(most int64) {
-	q.mu.Lock()
-	defer q.mu.Unlock()
-	q.open += most
-	q.begun += most
-}
-
-// end says that a request is done. What it reserved stays in the bound until davd is asked again.
-func (q *quota) end(most int64) {
-	q.mu.Lock()
-	defer q.mu.Unlock()
-	q.open -= most
-}
-
-// reserve reports whether there is room for n bytes more, and counts them. No more bytes have always room.
-func (q *quota) reserve(n int64) bool {
+// take reports whether there is room for n bytes more, and counts them. No more bytes have always room.
+func (q *quota) take(n int64) bool {
 	q.mu.Lock()
 	defer q.mu.Unlock()
 	if n > 0 && n > q.total-q.bound {
@@ -56,21 +40,39 @@ func (q *quota) reserve(n int64) bool {
 	return true
 }
 
-// refresh asks davd how many bytes are used. What requests under way write, or those that begin while davd answers, may
-// or may not be among them. It is counted whole, because the file that such a request replaces may no longer exist.
-func (q *quota) refresh(ctx context.Context) error {
-	q.asking.Lock()
-	defer q.asking.Unlock()
-	q.mu.Lock()
-	before, open := q.begun, q.open
-	q.mu.Unlock()
+// reserve makes room for a number of bytes of which an upper bound is known. If there is no room for that many, it asks
+// how many they are exactly. If there is no room for these either, the error has the status 507. The caller must call
+// release when the bytes are written, or are not going to be.
+func (q *quota) reserve(ctx context.Context, most int64, exact func() (int64, error)) (release func(), err error) {
+	q.writing.RLock()
+	if q.take(most) {
+		return q.writing.RUnlock, nil
+	}
+	q.writing.RUnlock()
+	q.writing.Lock()
+	if err := q.takeAlone(ctx, exact); err != nil {
+		q.writing.Unlock()
+		return nil, err
+	}
+	return q.writing.Unlock, nil
+}
+
+// takeAlone asks davd how many bytes are used, and counts those that the only request under way writes.
+func (q *quota) takeAlone(ctx context.Context, exact func() (int64, error)) error {
 	used, err := q.used(ctx)
 	if err != nil {
 		return err
 	}
 	q.mu.Lock()
-	defer q.mu.Unlock()
-	q.bound = used + open + (q.begun - before)
+	q.bound = used
+	q.mu.Unlock()
+	n, err := exact()
+	if err != nil {
+		return err
+	}
+	if !q.take(n) {
+		return statusError(http.StatusInsufficientStorage)
+	}
 	return nil
 }
 
@@ -87,32 +89,12 @@ func (h *Handler) used(ctx context.Context) (int64, error) {
 	return int64(holdings.Quota.Used), nil
 }
 
-// reserve makes room for a number of bytes of which an upper bound is known. If there is no room for that many, it asks
-// how many they are exactly. If there is no room for these either, the error has the status 507. The caller must call
-// release when the bytes are written, or are not going to be.
+// reserve makes room under the quota, if there is one, as [quota.reserve] does.
 func (h *Handler) reserve(ctx context.Context, most int64, exact func() (int64, error)) (release func(), err error) {
 	if h.quota == nil {
 		return func() {}, nil
 	}
-	release = func() { h.quota.end(most) }
-	h.quota.begin(most)
-	if h.quota.reserve(most) {
-		return release, nil
-	}
-	release()
-	if err := h.quota.refresh(ctx); err != nil {
-		return nil, err
-	}
-	h.quota.begin(most) // before the file is read, which may no longer exist when davd is asked next
-	n, err := exact()
-	if err == nil && !h.quota.reserve(n) {
-		err = statusError(http.StatusInsufficientStorage)
-	}
-	if err != nil {
-		release()
-		return nil, err
-	}
-	return release, nil
+	return h.quota.reserve(ctx, most, exact)
 }
 
 // reserveUpload makes room for a PUT or a PATCH whose body has this length.

@@ -31,7 +31,7 @@ func TestACopyCountsEachFile(t *testing.T) {
 	c.want(201, "COPY", "/d/", "", "Destination: /g/")
 }
 
-func TestAShrunkFileMakesNoRoomBeforeItIsWritten(t *testing.T) {
+func TestAShrinkingFileMakesNoRoomBeforeItIsWritten(t *testing.T) {
 	c := startServer(t, Options{Quota: 1000})
 	h := c.server.Config.Handler.(*Handler)
 	c.want(201, "PUT", "/f", strings.Repeat("x", 900))
@@ -40,7 +40,7 @@ func TestAShrunkFileMakesNoRoomBeforeItIsWritten(t *testing.T) {
 		t.Fatal(err)
 	}
 	defer release()
-	if h.quota.reserve(101) {
+	if h.quota.take(101) {
 		t.Error("101 bytes are free beside 900 of 1000")
 	}
 }
