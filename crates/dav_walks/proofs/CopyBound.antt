@@ -150,4 +150,5 @@ lawful_all {s} {top} {d} {old} {new} {steps} sound = record {
   made = sound.made;
   others = sound.others;
   limit = sound.limit;
+  untouched = sound.untouched;
 }

@@ -13,7 +13,7 @@ use Rattle.dav_store.specs.Calls.{IsLawful, IsOwn, limit_of}
 use Rattle.dav_store.specs.Members.{IsIn, AreDistinct, member, Child, names_of}
 use Rattle.dav_walks.specs.KeyCall.{standing}
 use Rattle.dav_walks.specs.Deletion.{Look}
-use Rattle.dav_walks.specs.Copying.{CopyStep, IsGranted, IsMade, IsListed, IsCalledFor, copied, snapshot}
+use Rattle.dav_walks.specs.Copying.{CopyStep, IsGranted, IsMade, NothingMade, IsListed, IsCalledFor, copied, snapshot}
 use Rattle.dav_walks.proofs.Keys.{below_cancel, IsIn-left, IsIn-right, IsIn-append}
 
 abbrev pub Steps : Type 0
@@ -103,6 +103,7 @@ pub record Sound (s top d : Key) (old new : Contents) (steps : Steps) : Type 0 w
   pub made : (x : Key) → IsMade x steps → standing new (d ++ x) ≡ copied (standing old (s ++ x))
   pub others : (key : Key) → ((x : Key) → IsMade x steps → key ≢ d ++ x) → standing new key ≡ standing old key
   pub limit : limit_of new ≡ limit_of old
+  pub untouched : NothingMade steps → new ≡ old
 
 pub none_sound : (s top d : Key) (old : Contents) → Sound s top d old old []
 none_sound s top d old = record {
@@ -113,6 +114,7 @@ none_sound s top d old = record {
   made = λ x m. elim m [ inl i ↦ absurd i | inr i ↦ absurd i ];
   others = λ key apart. refl;
   limit = refl;
+  untouched = λ none. refl;
 }
 
 made_at : (step : CopyStep) (x : Key) → IsMade x (step ∷ []) → step.at ≡ x
@@ -123,9 +125,9 @@ made_at step x (inr i) = ap (λ (t : CopyStep). t.at) (only_one step _ i)
 module _ {s top d : Key} {old mid : Contents} {steps : Steps} (sound : Sound s top d old mid steps) where
   pub grow : (new : Contents) (step : CopyStep) → IsCalledFor (snapshot old.tree s top) step.op step.at steps → IsLawful None step.outcome → (IsGranted Entry step.at (step ∷ []) → ⊥)
       → (IsIn (call_of step) (map call_of steps) → ⊥) → (IsMade step.at (step ∷ []) → (IsMade step.at steps → ⊥) × (standing new (d ++ step.at) ≡ copied (standing old (s ++ step.at))))
-      → ((key : Key) → (IsMade step.at (step ∷ []) → key ≢ d ++ step.at) → standing new key ≡ standing mid key) → limit_of new ≡ limit_of mid
+      → ((key : Key) → (IsMade step.at (step ∷ []) → key ≢ d ++ step.at) → standing new key ≡ standing mid key) → limit_of new ≡ limit_of mid → ((IsMade step.at (step ∷ []) → ⊥) → new ≡ mid)
       → Sound s top d old new (steps ++ step ∷ [])
-  grow new step called lawful seen fresh makes keeps limit = record {
+  grow new step called lawful seen fresh makes keeps limit quiet = record {
     called_for = λ t i. elim (IsIn-append t steps (step ∷ []) i) [
       | inl j ↦ called_later steps (step ∷ []) (snapshot old.tree s top) t.op t.at (sound.called_for t j)
       | inr j ↦ subst (λ (u : CopyStep). IsCalledFor (snapshot old.tree s top) u.op u.at (steps ++ step ∷ [])) (only_one step t j) (called_later steps (step ∷ []) (snapshot old.tree s top) step.op step.at called)
@@ -142,6 +144,7 @@ module _ {s top d : Key} {old mid : Contents} {steps : Steps} (sound : Sound s t
     made = λ x m. elim (made_apart steps (step ∷ []) x m) [ inl n ↦ earlier x n | inr n ↦ here x n ];
     others = λ key apart. keeps key (λ m. apart step.at (made_further steps (step ∷ []) step.at m)) ∙ sound.others key (λ x m. apart x (made_later steps (step ∷ []) x m));
     limit = limit ∙ sound.limit;
+    untouched = λ none. quiet (λ m. none step.at (made_further steps (step ∷ []) step.at m)) ∙ sound.untouched (λ x m. none x (made_later steps (step ∷ []) x m));
   }
     where
       earlier : (x : Key) → IsMade x steps → standing new (d ++ x) ≡ copied (standing old (s ++ x))
@@ -156,7 +159,7 @@ module _ {s top d : Key} {old mid : Contents} {steps : Steps} (sound : Sound s t
   pub grow_quiet : (new : Contents) (step : CopyStep) → new ≡ mid → IsCalledFor (snapshot old.tree s top) step.op step.at steps → IsLawful None step.outcome → (IsGranted Entry step.at (step ∷ []) → ⊥)
       → (IsIn (call_of step) (map call_of steps) → ⊥) → (IsMade step.at (step ∷ []) → ⊥) → Sound s top d old new (steps ++ step ∷ [])
   grow_quiet new step same called lawful seen fresh quiet =
-      grow new step called lawful seen fresh (λ m. absurd (quiet m)) (λ key apart. ap (λ (c : Contents). standing c key) same) (ap (λ (c : Contents). limit_of c) same)
+      grow new step called lawful seen fresh (λ m. absurd (quiet m)) (λ key apart. ap (λ (c : Contents). standing c key) same) (ap (λ (c : Contents). limit_of c) same) (λ none. same)
 
 -- ---- the members that a listing doesn't show
 

@@ -103,7 +103,7 @@ module _ {s top d : Key} {old : Store} (room : HasRoom s top d old.contents) (fo
     pub copied_file : Grants (copy_call mid.contents k q) (IsCopiedTo k q) mid new → Reached s top d old new (steps ++ step_on p Copy Granted ∷ [])
     copied_file g = record {
       log = log_grows s d old.log mid.log new.log steps (step_on p Copy Granted ∷ []) _ reached.log g.told (λ i. logged Copy (key i ∷ place i ∷ []) Granted ∷ []);
-      sound = grow reached.sound new.contents (step_on p Copy Granted) (file, seen) refl (λ i. absurd (no_entry (op_of_seen p p Copy Granted i))) fresh (λ m. (unmade, made)) others g.effect.limit;
+      sound = grow reached.sound new.contents (step_on p Copy Granted) (file, seen) refl (λ i. absurd (no_entry (op_of_seen p p Copy Granted i))) fresh (λ m. (unmade, made)) others g.effect.limit (λ none. absurd (none (inl (inl refl))));
     }
       where
         no_entry : Copy ≡ Entry → ⊥
@@ -136,7 +136,7 @@ module _ {s top d : Key} {old : Store} (room : HasRoom s top d old.contents) (fo
     pub placed : Grants (create_dir_call mid.contents q) (IsMadeAt q) mid new → Reached s top d old new (steps ++ step_on p CreateDir Granted ∷ [])
     placed g = record {
       log = log_grows s d old.log mid.log new.log steps (step_on p CreateDir Granted ∷ []) _ reached.log g.told (ap (λ j. logged CreateDir (j ∷ []) Granted ∷ []) place);
-      sound = grow reached.sound new.contents (step_on p CreateDir Granted) (directory, seen) refl (λ i. absurd (no_entry (op_of_seen p p CreateDir Granted i))) fresh (λ m. (unmade, made)) others g.effect.limit;
+      sound = grow reached.sound new.contents (step_on p CreateDir Granted) (directory, seen) refl (λ i. absurd (no_entry (op_of_seen p p CreateDir Granted i))) fresh (λ m. (unmade, made)) others g.effect.limit (λ none. absurd (none (inr (inl refl))));
     }
       where
         no_entry : CreateDir ≡ Entry → ⊥

@@ -69,6 +69,10 @@ HasUnseen x steps = (name : List ℕ) × IsDenied Entry (member x name) steps
 abbrev pub IsMade : Key → List CopyStep → Type 0
 IsMade x steps = IsGranted Copy x steps ⊎ IsGranted CreateDir x steps
 
+-- no copy was made
+abbrev pub NothingMade : List CopyStep → Type 0
+NothingMade steps = (x : Key) → IsMade x steps → ⊥
+
 -- the key is directly below a directory whose listing was granted
 abbrev pub IsListed : Key → List CopyStep → Type 0
 IsListed x steps = (above : Key) × (name : List ℕ) × (x ≡ member above name) × IsGranted ReadDir above steps
@@ -103,6 +107,8 @@ pub record IsLawfulCopy (s top d : Key) (old new : Contents) (steps : List CopyS
   pub made : (x : Key) → IsMade x steps → standing new (d ++ x) ≡ copied (standing old (s ++ x))
   pub others : (key : Key) → ((x : Key) → IsMade x steps → key ≢ d ++ x) → standing new key ≡ standing old key
   pub limit : limit_of new ≡ limit_of old
+  -- if no copy was made, nothing at all changes
+  pub untouched : NothingMade steps → new ≡ old
 
 -- ---- what is reported
 
