@@ -12,3 +12,10 @@ pub mod Range
 pub mod RangeKeys
 pub mod RangeSteps
 pub mod RangeLaws
+pub mod Reported
+pub mod AskedOnce
+pub mod ReportedLaws
+pub mod AskedOnceLaws
+pub mod Ordered
+pub mod OrderedLaws
+pub mod NamedLaws

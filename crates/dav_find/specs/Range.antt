@@ -1,6 +1,6 @@
 -- Which resources a PROPFIND reports, and which directories it lists for that, whatever the store refuses (RFC 4918, sections 9.1 and 10.2). A key at
 -- or below the target `top` is given by the path x that leads from `top` down to it.
-use Rattle.std.specs.Prelude.{◌≡◌, ◌≢◌, ◌⊎◌, Bool, true, List, [], ◌∷◌, ◌++◌, filter_map, Option, None, Some}
+use Rattle.std.specs.Prelude.{◌≡◌, ◌≢◌, ◌⊎◌, Bool, true, false, List, [], ◌∷◌, ◌++◌, filter_map, Option, None, Some}
 use Rattle.std.specs.FinMap.{get}
 use Rattle.dav_resource.specs.Key.{Key}
 use Rattle.dav_resource.specs.declared.record.Op.{Op}
@@ -34,9 +34,15 @@ pub record WasDeclined (records : List Logged) (op : Op) (key : Key) : Type 0 wh
   pub called : IsIn (logged op (key ∷ []) outcome) records
   pub declined : outcome ≢ Granted
 
--- every record has the outcome granted
-abbrev pub AllGranted : List Logged → Type 0
-AllGranted records = (r : Logged) → IsIn r records → r.outcome ≡ Granted
+-- the record is of a listing, or of a member that a listing did not show
+abbrev pub is_listing : Op → Bool
+is_listing ReadDir = true
+is_listing Entry = true
+is_listing _ = false
+
+-- every listing was granted and showed every member; calls of other kinds may have failed
+abbrev pub AllShown : List Logged → Type 0
+AllShown records = (r : Logged) → IsIn r records → is_listing r.op ≡ true → r.outcome ≡ Granted
 
 -- on the way from `top` down to the key, some listing was not granted, or did not show the next member
 abbrev pub IsHidden : List Logged → Key → Key → Type 0
@@ -82,14 +88,14 @@ abbrev pub AreWithin : Key → List Key → Type 0
 AreWithin top keys = (key : Key) → IsIn key keys → (x : Key) × (key ≡ top ++ x)
 
 -- Exactly the resources in the Depth's range that are not hidden are reported: each once, and a directory before everything below it. So if every
--- record is granted, every resource in the range is reported. Exactly the directories whose members are in the range, and that are not hidden, are
--- listed: each once.
+-- listing is granted and shows every member, every resource in the range is reported, whatever other calls fail. Exactly the directories whose
+-- members are in the range, and that are not hidden, are listed: each once.
 pub record TellsRange (contents : Contents) (depth : Depth) (top : Key) (records : List Logged) (told : List Key) : Type 0 where
   pub once : AreDistinct told
   pub downwards : AreDownwards told
   pub within : AreWithin top told
   pub tells : AreReached (reaches depth) (Stands contents) records top told
-  pub whole : AllGranted records → (x : Key) → reaches depth x ≡ true → Stands contents (top ++ x) → IsIn (top ++ x) told
+  pub whole : AllShown records → (x : Key) → reaches depth x ≡ true → Stands contents (top ++ x) → IsIn (top ++ x) told
   pub listed_once : AreDistinct (listed_in records)
   pub listed_within : AreWithin top (listed_in records)
   pub lists : AreReached (reaches_members depth) (IsDirectory contents) records top (listed_in records)

@@ -20,7 +20,7 @@ use Rattle.dav_walks.specs.Listing.{AreThere}
 use Rattle.dav_walks.specs.declared.listing.Resource.{Resource}
 use Rattle.dav_find.specs.declared.search.AskedProperty.{AskedProperty}
 use Rattle.dav_find.specs.Finding.{View, QuotaTold}
-use Rattle.dav_find.specs.Range.{WasDeclined, IsHidden, AllGranted, listed_key, listed_in, AreDownwards, Stands, IsDirectory, AreReached, TellsRange, reaches, reaches_members}
+use Rattle.dav_find.specs.Range.{WasDeclined, IsHidden, is_listing, AllShown, listed_key, listed_in, AreDownwards, Stands, IsDirectory, AreReached, TellsRange, reaches, reaches_members}
 use Rattle.dav_find.specs.RangeKeys.{AreApart, AreAllApart, member_below, none_below, same_name, in_left, in_right, in_either, in_map, out_map, apart_members, distinct_downwards, IsFar, left_declined, hidden_more, hidden_less}
 use Rattle.dav_find.specs.RangeSteps.{HasNoListing, IsStep, FindsStep, none_listed, visit_step, told_keys, shows_keys}
 use Rattle.dav_find.specs.Visiting.{Visit, VisitsAll, over, more, stops, Visits, VisitsFrom, begins, breaks, is_shown, is_listed, is_deep}
@@ -316,14 +316,14 @@ module _ (contents : Contents) (formed : IsWellFormed contents) where
   stands_directory : (key : Key) → IsDirectory contents key → Stands contents key
   stands_directory key is none = let no : None ≡ Some Directory = sym none ∙ is in cc
 
-  -- nothing is hidden if every record is granted
-  none_declined : (records : List Logged) (op : Op) (key : Key) → AllGranted records → WasDeclined records op key → ⊥
-  none_declined records op key all d = d.declined (all _ d.called)
+  -- nothing is hidden if every listing shows every member
+  none_declined : (records : List Logged) (op : Op) (key : Key) → is_listing op ≡ true → AllShown records → WasDeclined records op key → ⊥
+  none_declined records op key is all d = d.declined (all _ d.called is)
 
-  none_hidden : (records : List Logged) (top x : Key) → AllGranted records → IsHidden records top x → ⊥
+  none_hidden : (records : List Logged) (top x : Key) → AllShown records → IsHidden records top x → ⊥
   none_hidden records top [] all h = h
-  none_hidden records top (name ∷ x) all (inl d) = none_declined records ReadDir top all d
-  none_hidden records top (name ∷ x) all (inr (inl d)) = none_declined records Entry (member top name) all d
+  none_hidden records top (name ∷ x) all (inl d) = none_declined records ReadDir top refl all d
+  none_hidden records top (name ∷ x) all (inr (inl d)) = none_declined records Entry (member top name) refl all d
   none_hidden records top (name ∷ x) all (inr (inr h)) = none_hidden records (member top name) x all h
 
   record IsWalked (deep : Bool) (waiting : List Resource) (records : List Logged) (visits : List Visit) : Type 0 where

@@ -21,17 +21,12 @@ use Rattle.dav_walks.specs.Listing.{Shown, ListsAt, listed, unlisted, shown_in, 
 use Rattle.dav_walks.specs.declared.listing.Resource.{Resource}
 use Rattle.dav_find.specs.declared.search.AskedProperty.{AskedProperty}
 use Rattle.dav_find.specs.Finding.{View, QuotaTold, ask_quota, live_told, find_quota, find_live, find_kept, is_looked_up, find_by, find_one, find_each, is_all_sought, find_stored}
-use Rattle.dav_find.specs.Range.{WasDeclined, Stands, listed_by, listed_key, listed_in}
+use Rattle.dav_find.specs.Range.{WasDeclined, Stands, is_listing, listed_by, listed_key, listed_in}
 use Rattle.dav_find.specs.RangeKeys.{in_either, more_declined}
 use Rattle.dav_find.specs.Response.{response_rules}
 use Rattle.dav_find.specs.Visiting.{Visit, Shows, FindsMembers, Visits}
 
 -- ---- a response lists nothing
-
-abbrev pub is_listing : Op → Bool
-is_listing ReadDir = true
-is_listing Entry = true
-is_listing _ = false
 
 -- no record is of a listing, or of a member that a listing did not show
 abbrev pub HasNoListing : List Logged → Type 0
