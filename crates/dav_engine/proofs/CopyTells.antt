@@ -1,5 +1,5 @@
 -- What follows for its caller from each step of a COPY.
-use Rattle.std.proofs.Common.{◌≡◌, ◌≢◌, ◌∙◌, Bool, true, false, List, [], ◌∷◌, ◌++◌, Option, Some, None, is_some, Result, Ok, Err, refl, sym, ap, if◌then◌else◌, append-nil, append_assoc}
+use Rattle.std.proofs.Common.{◌≡◌, ◌≢◌, ◌∙◌, Bool, true, false, List, [], ◌∷◌, ◌++◌, Option, Some, None, is_some, Result, Ok, Err, refl, sym, ap, if◌then◌else◌}
 use Rattle.std.specs.FinMap.{get}
 use Rattle.std.proofs.lemmas.List.{append_cancel_left}
 use Rattle.dav_resource.specs.Key.{Key}
@@ -7,16 +7,13 @@ use Rattle.dav_resource.specs.PathText.{PathValue}
 use Rattle.dav_resource.specs.declared.error.DavError.{DavError}
 use Rattle.dav_resource.specs.declared.error.DavError.TheVariants.{Memory}
 use Rattle.dav_resource.specs.declared.meta.Meta.{Meta}
-use Rattle.dav_resource.specs.declared.method.DavMethod.TheVariants.{Copy}
 use Rattle.dav_resource.specs.declared.request.DavRequest.{DavRequest}
 use Rattle.dav_resource.specs.declared.request.Depth.{Depth}
 use Rattle.dav_resource.specs.declared.request.Depth.TheVariants.{Zero, One, Infinity, Default}
 use Rattle.dav_headers.specs.Destination.{destination_of}
 use Rattle.dav_store.specs.Below.{is_at_or_below}
 use Rattle.dav_store.specs.Logged.{Logged}
-use Rattle.dav_store.specs.Members.{member}
-use Rattle.dav_store.specs.MemberLaws.{parent-member}
-use Rattle.dav_store.specs.Store.{Contents, Node, Directory, IsWellFormed}
+use Rattle.dav_store.specs.Store.{Contents, IsWellFormed}
 use Rattle.dav_parts.specs.Multistatus.{Item, multi_answer}
 use Rattle.dav_parts.specs.Reply.{Answer}
 use Rattle.dav_walks.specs.ClearedLaws.{all_gone}
@@ -24,21 +21,21 @@ use Rattle.dav_walks.specs.Copied.{CopiesAll}
 use Rattle.dav_walks.specs.Copying.{snapshot, copied}
 use Rattle.dav_walks.specs.CopyLaws.{IsCopiedWhole, copied_whole, copy_names_refused}
 use Rattle.dav_walks.specs.KeyCall.{standing}
-use Rattle.dav_engine.specs.State.{State, Seen, state_of}
+use Rattle.dav_engine.specs.State.{State, IsLawfulState}
 use Rattle.dav_engine.specs.Settings.{Settings}
 use Rattle.dav_engine.specs.Rules.{depth_or_all, fixed_path}
 use Rattle.dav_engine.specs.Transferring.{where_reached, reach_verdict, is_deep, transfer_rules, ClearsIf, UnlessNamed, transferred_items}
 use Rattle.dav_engine.specs.Copy.{replaced, MayCopy, CopiesSource, Copies, CopyWork}
-use Rattle.dav_engine.specs.Laws.{tells_transferred, AreRefusals, NamesRefusals, DuplicatesWhole}
+use Rattle.dav_engine.specs.Laws.{tells_transferred, DuplicatesWhole}
 use Rattle.dav_engine.specs.Method.{StepBy, Refused as ByRules, Done, CutShort, CutInWork}
 use Rattle.dav_engine.specs.Methods.{copy_method}
-use Rattle.dav_engine.specs.Step.{Serves}
 use Rattle.dav_engine.specs.declared.transfer.Transfer.{Transfer}
-use Rattle.dav_engine.proofs.Replacing.{apart_below, fits_none, clear_outside, replaced_refused}
+use Rattle.dav_engine.proofs.Replacing.{AreRefusals, apart_below, fits_none, clear_outside, replaced_refused}
 use Rattle.dav_engine.proofs.Copying.{replaced_deep, copied_outside}
-use Rattle.dav_engine.proofs.MoveLaws.{AnyError, errs_transfer, named_untold, clean_single, named_shown}
+use Rattle.dav_engine.proofs.MoveLaws.{errs_transfer, named_untold}
 use Rattle.dav_engine.proofs.Passing.{CopyPassed, copy_passed}
-use Rattle.dav_engine.proofs.Refusals.{errs_led}
+use Rattle.dav_engine.proofs.Refusals.{AnyError, errs_led}
+use Rattle.dav_engine.proofs.Trees.{none_below}
 
 -- ---- the names are refusals
 
@@ -55,18 +52,6 @@ whole_of Zero source destination old new records deep c = let no : false ≡ tru
 whole_of One source destination old new records deep c = copied_whole source destination destination.key old new c.0 c.2
 whole_of Infinity source destination old new records deep c = copied_whole source destination destination.key old new c.0 c.2
 whole_of Default source destination old new records deep c = copied_whole source destination destination.key old new c.0 c.2
-
--- nothing stands below where nothing stands
-none_below : (contents : Contents) → IsWellFormed contents → (x key : Key) → get contents.tree key ≡ None → get contents.tree (key ++ x) ≡ None
-none_below contents formed [] key none = ap (get contents.tree) (append-nil key) ∙ none
-none_below contents formed (n ∷ x) key none = ap (get contents.tree) (sym (append_assoc key (n ∷ []) x)) ∙ none_below contents formed x (member key n) (by_node (get contents.tree (member key n)) refl)
-  where
-    by_node : (it : Option Node) → get contents.tree (member key n) ≡ it → get contents.tree (member key n) ≡ None
-    by_node None is = is
-    by_node (Some it) is =
-        let above : get contents.tree key ≡ Some Directory = ap (get contents.tree) (sym (parent-member key n)) ∙ formed.parents (member key n) (λ nothing. let no : Some it ≡ None = sym is ∙ nothing in cc) in
-        let no : None ≡ Some Directory = sym none ∙ above in
-        absurd (cc)
 
 -- nothing is left at the destination once it is cleared
 cleared_out : (there : Option Meta) (destination : PathValue) (old mid : State) (head : List Logged) → IsWellFormed old.contents → old.contents.metas destination.key ≡ there → ClearsIf (is_some there) destination old head [] mid → (x : Key) → get mid.contents.tree (destination.key ++ x) ≡ None
@@ -120,15 +105,11 @@ module _ (depth : Depth) (deep : is_deep depth ≡ true) (source : PathValue) (f
 -- ---- the laws
 
 module _ (settings : Settings) (request : DavRequest) (old : State) (answer : Answer) (new : State) where
-  pub record CopyTells : Type 0 where
-    pub duplicated : DuplicatesWhole settings request old answer new
-    pub refusals : NamesRefusals answer
+  abbrev CopyTells : Type 0
+  CopyTells = DuplicatesWhole settings request old answer new
 
   error_tells : (e : DavError) → answer ≡ Err e → CopyTells
-  error_tells e is = record {
-    duplicated = λ told deep. absurd (let no : false ≡ true = sym (ap tells_transferred is) ∙ told in cc);
-    refusals = λ reply replied several. absurd (let no : ◌≡◌ {A = Answer} (Err e) (Ok reply) = sym is ∙ replied in cc);
-  }
+  error_tells e is told deep = absurd (let no : false ≡ true = sym (ap tells_transferred is) ∙ told in cc)
 
   module _ (formed : IsWellFormed old.contents) (found : Transfer) (rules : CopyPassed settings request old found) (records : List Logged) where
     abbrev path : PathValue
@@ -145,24 +126,18 @@ module _ (settings : Settings) (request : DavRequest) (old : State) (answer : An
         asked_so (Err e) is = absurd cc
 
         by_names : (names : List Item) → Copies depth path found old records names new → answer ≡ multi_answer path (transferred_items path found.there names) → CopyTells
-        by_names [] copies answered = record {
-          duplicated = λ told deep.
-              let whole = copies_whole depth deep path found old new records formed (rules.may formed) copies in
-              record {
-                destination = found.destination;
-                named = asked_so (reach_verdict false depth) rules.asked;
-                there = whole.there;
-                nothing_else = whole.nothing_else;
-                outside = λ key apart. copied_outside depth path found old new records key apart [] copies;
-              };
-          refusals = λ reply replied several. absurd (clean_single path found.there reply (sym answered ∙ replied) several);
-        }
-        by_names (item ∷ names) copies answered =
-            let refusals : AreRefusals (item ∷ names) = copies_refused depth path found old new records (item ∷ names) copies in
+        by_names [] copies answered told deep =
+            let whole = copies_whole depth deep path found old new records formed (rules.may formed) copies in
             record {
-              duplicated = λ told deep. absurd (let no : false ≡ true = sym (ap tells_transferred answered ∙ named_untold path item names refusals) ∙ told in cc);
-              refusals = λ reply replied several. (item ∷ names, named_shown path item names refusals reply (sym answered ∙ replied) several, refusals);
+              destination = found.destination;
+              named = asked_so (reach_verdict false depth) rules.asked;
+              there = whole.there;
+              nothing_else = whole.nothing_else;
+              outside = λ key apart. copied_outside depth path found old new records key apart [] copies;
             }
+        by_names (item ∷ names) copies answered told deep =
+            let refusals : AreRefusals (item ∷ names) = copies_refused depth path found old new records (item ∷ names) copies in
+            absurd (let no : false ≡ true = sym (ap tells_transferred answered ∙ named_untold path item names refusals) ∙ told in cc)
 
   step_tells : IsWellFormed old.contents → (records : List Logged) → StepBy copy_method settings request old records answer new → CopyTells
   step_tells formed records (ByRules h) =
@@ -172,6 +147,5 @@ module _ (settings : Settings) (request : DavRequest) (old : State) (answer : An
   step_tells formed records (CutShort h) = error_tells Memory h.told
   step_tells formed records (CutInWork h) = error_tells Memory h.told
 
--- of what is seen
-pub copy_tells : (settings : Settings) (old : Seen) (request : DavRequest) (answer : Answer) (new : Seen) → IsWellFormed old.store.contents → Serves (Some Copy) settings old request answer new → CopyTells settings request (state_of old) answer (state_of new)
-copy_tells settings old request answer new formed served = step_tells settings request (state_of old) answer (state_of new) formed served.records served.step
+pub copy_tells : {settings : Settings} {request : DavRequest} {old new : State} {records : List Logged} {answer : Answer} → IsLawfulState old → StepBy copy_method settings request old records answer new → DuplicatesWhole settings request old answer new
+copy_tells {settings} {request} {old} {new} {records} {answer} lawful step = step_tells settings request old answer new lawful.contents records step

@@ -1,7 +1,6 @@
 -- What follows for its caller from each step of a DELETE.
-use Rattle.std.proofs.Common.{◌≡◌, ◌≢◌, ◌⊎◌, ◌∙◌, ◌≤◌, ℕ, Bool, true, false, cond, not, List, [], ◌∷◌, ◌++◌, Option, Some, None, Ok, Err, inl, inr, refl, sym, ap, subst, length, drop, option_map, if◌then◌else◌, arith}
+use Rattle.std.proofs.Common.{◌≡◌, ◌≢◌, ◌⊎◌, ◌∙◌, ◌≤◌, ℕ, Bool, true, false, cond, not, List, [], ◌∷◌, ◌++◌, Option, Some, None, Ok, Err, inl, inr, refl, sym, ap, subst, append-nil, option_map, if◌then◌else◌, arith}
 use Rattle.std.specs.FinMap.{get}
-use Rattle.std.proofs.lemmas.Slice.Eq.{bytes_eq-Decides, starts_is}
 use Rattle.dav_resource.specs.Key.{Key, is_same_key, same_key_decides}
 use Rattle.dav_resource.specs.PathText.{PathValue}
 use Rattle.dav_resource.specs.Errors.{fs_status, dav_status, from_fs}
@@ -9,25 +8,33 @@ use Rattle.dav_resource.specs.declared.error.DavError.{DavError}
 use Rattle.dav_resource.specs.declared.error.DavError.TheVariants.{Memory, Status}
 use Rattle.dav_resource.specs.declared.error.FsError.{FsError}
 use Rattle.dav_resource.specs.declared.meta.Meta.{Meta}
+use Rattle.dav_resource.specs.declared.record.Outcome.{Outcome}
+use Rattle.dav_resource.specs.declared.record.Outcome.TheVariants as outcomes
+use Rattle.dav_resource.specs.declared.request.Depth.{Depth}
+use Rattle.dav_resource.specs.declared.request.Depth.TheVariants.{Zero, One, Infinity, Default}
 use Rattle.dav_resource.specs.declared.request.DavRequest.{DavRequest}
-use Rattle.dav_resource.specs.declared.method.DavMethod.TheVariants.{Delete}
+use Rattle.dav_store.specs.BelowLaws.{at_or_below-tail}
+use Rattle.dav_store.specs.Calls.{IsLawful, error_of}
 use Rattle.dav_store.specs.Logged.{Logged}
+use Rattle.dav_store.specs.MemberLaws.{there_members}
+use Rattle.dav_store.specs.Members.{IsIn, member, members, remove_dir_bar, IsRemovedAt}
+use Rattle.dav_store.specs.Store.{Contents, Node, File, Directory, IsWellFormed}
 use Rattle.dav_store.specs.Locks.{is_at_or_below, at_or_below, elsewhere}
 use Rattle.dav_store.specs.declared.lock.DavLock.{DavLock}
 use Rattle.dav_parts.specs.Conditions.{conditions}
 use Rattle.dav_parts.specs.Multistatus.{Item, multi_answer, multistatus_reply}
 use Rattle.dav_parts.specs.Reply.{Answer, bare_reply}
-use Rattle.dav_walks.specs.Deletion.{Removes}
-use Rattle.dav_walks.specs.ClearedLaws.{path_gone, all_gone, names_refused}
-use Rattle.dav_engine.specs.State.{State, Seen, state_of, LocksStay, DropsLocks}
+use Rattle.dav_walks.specs.Deletion.{Removes, RemovesAlone, removal_call}
+use Rattle.dav_walks.specs.ClearedLaws.{path_gone, clean_leaves_nothing, names_refused}
+use Rattle.dav_engine.specs.State.{State, LocksStay, DropsLocks, IsLawfulState}
 use Rattle.dav_engine.specs.Rules.{judged, told_by_look, must_find, is_permitted, depth_or_all, depth_verdict, fixed_path}
 use Rattle.dav_engine.specs.Delete.{delete_rules, told_items, LeavesLocks, DeleteWork, DeleteCut}
 use Rattle.dav_engine.specs.Laws.{IsNoContent, IsEmptied, IsUnlocked, EmptiesPath, IsGoneWithLocks, KeepsLocksUnlessGone}
 use Rattle.dav_engine.specs.Settings.{Settings}
 use Rattle.dav_engine.specs.Method.{StepBy, Refused, Done, CutShort, CutInWork}
 use Rattle.dav_engine.specs.Methods.{delete_method}
-use Rattle.dav_engine.specs.Step.{Serves}
 use Rattle.dav_engine.proofs.Refusals.{refusal_from_300, from_fs_status, RefusesBy, errs_then, errs_led, errs_told, errs_conditions, errs_depth, errs_permitted}
+use Rattle.dav_engine.proofs.Trees.{none_removed, no_member, memberless_below}
 
 -- ---- no rule refuses by a 204
 
@@ -70,6 +77,52 @@ named_tells path item (next ∷ names) other = λ told. omega (arith, told)
 clean_tells : (path : PathValue) → IsNoContent (multi_answer path ((path, 204) ∷ []))
 clean_tells path = subst (λ b. IsNoContent (if b then Ok (bare_reply 204 []) else Ok (multistatus_reply ((path, 204) ∷ [])))) (sym ((same_key_decides path.key path.key).1 refl)) refl
 
+-- ---- where nothing is named, nothing is left
+
+-- a directory that can be removed has no members
+no_names : (key : Key) (names : List (List ℕ)) → remove_dir_bar key (Some Directory) names ≡ None → names ≡ []
+no_names [] names free = absurd cc
+no_names (segment ∷ key) [] free = refl
+no_names (segment ∷ key) (name ∷ names) free = absurd cc
+
+module _ (path : PathValue) (old new : Contents) (formed : IsWellFormed old) where
+  -- what can be removed alone has no members
+  alone_memberless : (it : Option Node) → get old.tree path.key ≡ it → (removal_call old path.key).bar ≡ None → (n : List ℕ) → get old.tree (member path.key n) ≡ None
+  alone_memberless None is free n = no_member old formed path.key n (λ directory. let no : None ≡ Some Directory = sym is ∙ directory in cc)
+  alone_memberless (Some (File bytes)) is free n = no_member old formed path.key n (λ directory. let no : Some (File bytes) ≡ Some Directory = sym is ∙ directory in cc)
+  alone_memberless (Some Directory) is free n = by_member (get old.tree (member path.key n)) refl
+    where
+      none : members old.tree path.key ≡ []
+      none = no_names path.key (members old.tree path.key) (rw is at (rw is at free))
+
+      by_member : (there : Option Node) → get old.tree (member path.key n) ≡ there → get old.tree (member path.key n) ≡ None
+      by_member None at = at
+      by_member (Some node) at =
+          let inside : IsIn n (members old.tree path.key) = there_members old.tree path.key n (λ nothing. let no : Some node ≡ None = sym at ∙ nothing in cc) in
+          let no : IsIn n [] = subst (IsIn n) none inside in
+          absurd no
+
+  abbrev IsEndOf : Outcome → List Item → Type 0
+  IsEndOf outcome names = (outcome ≡ outcomes.Granted → IsRemovedAt path.key old new × (names ≡ [])) × ((e : FsError) → error_of outcome ≡ Some e → (new ≡ old) × (names ≡ (path, fs_status e) ∷ []))
+
+  alone_below : (records : List Logged) → RemovesAlone path old new records [] → (x : Key) → get new.tree (path.key ++ x) ≡ None
+  alone_below records alone [] = ap (get new.tree) (append-nil path.key) ∙ path_gone Zero path old new records alone
+  alone_below records alone (n ∷ x) = by_outcome alone.outcome alone.lawful (alone.granted, alone.refused)
+    where
+      by_outcome : (outcome : Outcome) → IsLawful (removal_call old path.key).bar outcome → IsEndOf outcome [] → get new.tree (path.key ++ n ∷ x) ≡ None
+      by_outcome outcomes.Granted free end =
+          ap (λ t. get t (path.key ++ n ∷ x)) (end.0 refl).0.tree
+          ∙ none_removed old.tree path.key (path.key ++ n ∷ x) (memberless_below old formed path.key (alone_memberless (get old.tree path.key) refl free) n x)
+      by_outcome (outcomes.Barred e) barred end = absurd (let none : [] ≡ (path, fs_status e) ∷ [] = (end.1 e refl).1 in cc)
+      by_outcome (outcomes.Refused e) own end = absurd (let none : [] ≡ (path, fs_status e) ∷ [] = (end.1 e refl).1 in cc)
+
+  -- at any Depth
+  pub removed_below : (depth : Depth) (records : List Logged) → Removes depth path old new records [] → (x : Key) → get new.tree (path.key ++ x) ≡ None
+  removed_below Zero records alone = alone_below records alone
+  removed_below One records r = clean_leaves_nothing path old new r.0 r.2
+  removed_below Infinity records r = clean_leaves_nothing path old new r.0 r.2
+  removed_below Default records r = clean_leaves_nothing path old new r.0 r.2
+
 -- ---- the locks
 
 -- of the locks elsewhere none is there
@@ -96,7 +149,7 @@ unlocked request old new (inl dropped) reliable = λ locks is. by_system old.loc
 abbrev IsSettled : DavRequest → State → Answer → State → Type 0
 IsSettled request old answer new = (LocksStay old new × (IsNoContent answer → ⊥)) ⊎ IsGoneWithLocks request old answer new
 
-module _ (request : DavRequest) (old : State) (answer : Answer) (new : State) where
+module _ (request : DavRequest) (old : State) (formed : IsWellFormed old.contents) (answer : Answer) (new : State) where
   module _ (meta : Meta) (records : List Logged) where
     abbrev path : PathValue
     path = fixed_path request.path (Some meta)
@@ -106,12 +159,9 @@ module _ (request : DavRequest) (old : State) (answer : Answer) (new : State) wh
 
     -- where nothing is named nothing is left
     emptied : RemovesAs [] → IsEmptied request new
-    emptied removed = record {
-      gone = path_gone (depth_or_all request) path old.contents new.contents records removed;
-      below = λ deep key below.
-          let is : key ≡ request.path.key ++ drop (length request.path.key) key = (starts_is bytes_eq-Decides key request.path.key (is_at_or_below key request.path.key) refl).0 below in
-          subst (λ k. get new.contents.tree k ≡ None) (sym is) (all_gone (depth_or_all request) path old.contents new.contents records deep removed (drop (length request.path.key) key));
-    }
+    emptied removed key below =
+        let tail = at_or_below-tail request.path.key key below in
+        subst (λ k. get new.contents.tree k ≡ None) (sym tail.1) (removed_below path old.contents new.contents formed (depth_or_all request) records removed tail.0)
 
     work_settles : DeleteWork request meta old records answer new → IsSettled request old answer new
     work_settles work = by_names work.names work.removed work.locks work.answered
@@ -145,13 +195,8 @@ module _ (request : DavRequest) (old : State) (answer : Answer) (new : State) wh
   settled_keeps (inl kept) = inl kept.0
   settled_keeps (inr gone) = inr gone
 
--- of what is seen
-module _ (settings : Settings) (old : Seen) (request : DavRequest) (answer : Answer) (new : Seen) where
-  settles : Serves (Some Delete) settings old request answer new → IsSettled request (state_of old) answer (state_of new)
-  settles served = step_settles request (state_of old) answer (state_of new) settings served.records served.step
-
-  pub delete_empties : Serves (Some Delete) settings old request answer new → EmptiesPath request (state_of old) answer (state_of new)
-  delete_empties served = settled_empties request (state_of old) answer (state_of new) (settles served)
-
-  pub delete_keeps : Serves (Some Delete) settings old request answer new → KeepsLocksUnlessGone request (state_of old) answer (state_of new)
-  delete_keeps served = settled_keeps request (state_of old) answer (state_of new) (settles served)
+pub delete_tells : {settings : Settings} {request : DavRequest} {old new : State} {records : List Logged} {answer : Answer} → IsLawfulState old → StepBy delete_method settings request old records answer new
+    → EmptiesPath request old answer new × KeepsLocksUnlessGone request old answer new
+delete_tells {settings} {request} {old} {new} {records} {answer} lawful step =
+    let settled = step_settles request old lawful.contents answer new settings records step in
+    (settled_empties request old lawful.contents answer new settled, settled_keeps request old lawful.contents answer new settled)

@@ -30,7 +30,7 @@ use Rattle.dav_walks.specs.RemovalLaws.{nothing_removed, whole_in_part}
 use Rattle.dav_engine.specs.State.{State, Seen, state_of, facts_of, LocksStay, DropsLocks, DropsSeen}
 use Rattle.dav_engine.specs.Rules.{judged, told_by_look, or_refused, must_find, is_permitted, depth_or_all, depth_verdict, fixed_path}
 use Rattle.dav_engine.specs.Delete.{delete_rules, told_items, LeavesLocks, DeleteWork, DeleteCut}
-use Rattle.dav_engine.specs.Step.{Performs}
+use Rattle.dav_engine.specs.Work.{Performs}
 
 -- ---- the rules
 

@@ -69,7 +69,7 @@ put_passed held partial request state head found h =
     let rules = LeadsTo-last (refusing closing (path_rules request state (result_ok looked.0))) _ aimed.2 found aimed.4 in
     path_passed request state (result_ok looked.0) rules.1 rules.0 (LeadsTo-unrefused closing (path_rules request state (result_ok looked.0)) rules.1 rules.0 rules.3)
 
-delete_passed : (request : DavRequest) (state : State) (head : List Logged) (meta : Meta) → LeadsTo (delete_rules request state) head (Passed meta) → is_permitted request state request.path.key true ≡ true
+pub delete_passed : (request : DavRequest) (state : State) (head : List Logged) (meta : Meta) → LeadsTo (delete_rules request state) head (Passed meta) → is_permitted request state request.path.key true ≡ true
 delete_passed request state head meta h =
     let reached = LeadsTo-last (judged (depth_verdict (depth_or_all request))) _ head meta h in
     let looked = LeadsTo-last (must_find state.contents request.path.key) _ reached.2 meta reached.4 in

@@ -31,3 +31,13 @@ pub mod Compatible
 pub mod LastNamed
 pub mod Locking
 pub mod WriteLaws
+pub mod LawsOfMethods
+pub mod MakingLaws
+pub mod OtherLocks
+pub mod Bounding
+pub mod Recorded
+pub mod UnlockLaws
+pub mod Causing
+pub mod Looking
+pub mod Untouched
+pub mod Reporting

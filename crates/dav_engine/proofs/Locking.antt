@@ -35,7 +35,7 @@ use Rattle.dav_engine.specs.Opening.{making_options}
 use Rattle.dav_engine.specs.declared.lock_info.LockInfo.{LockInfo}
 use Rattle.dav_engine.specs.Rules.{judged, holding}
 use Rattle.dav_engine.specs.State.{State, Seen, state_of, facts_of, LocksStay, ChangesLocks, KeepsLocks}
-use Rattle.dav_engine.specs.Step.{Performs, WorksOnStore}
+use Rattle.dav_engine.specs.Work.{Performs, WorksOnStore}
 use Rattle.dav_engine.specs.Unlocking.{token_verdict, UnlockWork}
 use Rattle.dav_engine.proofs.Deleting.{judges_known}
 use Rattle.dav_engine.proofs.Granting.{not_granted}

@@ -10,7 +10,7 @@ use Rattle.dav_store.specs.Calls.{record_of, Grants, Declines, create_dir_call, 
 use Rattle.dav_parts.specs.Reply.{Reply, Answer}
 use Rattle.dav_engine.specs.Answered.{Unbegun}
 use Rattle.dav_engine.specs.Mkcol.{mkcol_error, mkcol_reply, MkcolWork}
-use Rattle.dav_engine.specs.Step.{WorksOnStore}
+use Rattle.dav_engine.specs.Work.{WorksOnStore}
 use Rattle.dav_parts.specs.Dialogues.{unlike, needs-declined}
 use Rattle.dav_engine.proofs.Granting.{not_granted}
 

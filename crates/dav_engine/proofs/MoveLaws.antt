@@ -1,5 +1,5 @@
 -- What follows for its caller from each step of a MOVE.
-use Rattle.std.proofs.Common.{◌≡◌, ◌≢◌, ◌⊎◌, ◌∙◌, ◌&&◌, ◌||◌, ℕ, Bool, true, false, List, [], ◌∷◌, ◌++◌, Option, Some, None, is_some, Result, Ok, Err, inl, inr, refl, sym, ap, subst, nat_eq, bytes_eq, if◌then◌else◌, arith}
+use Rattle.std.proofs.Common.{◌≡◌, ◌≢◌, ◌⊎◌, ◌∙◌, ◌&&◌, ◌||◌, ℕ, Bool, true, false, List, [], ◌∷◌, ◌++◌, Option, Some, is_some, Result, Ok, Err, inl, inr, refl, sym, ap, subst, nat_eq, bytes_eq, if◌then◌else◌, arith}
 use Rattle.std.proofs.lemmas.Slice.Eq.{bytes_eq-Decides}
 use Rattle.dav_resource.specs.Errors.{fs_status}
 use Rattle.dav_resource.specs.Key.{Key, parent, is_same_key, same_key_decides}
@@ -8,7 +8,6 @@ use Rattle.dav_resource.specs.declared.error.DavError.{DavError}
 use Rattle.dav_resource.specs.declared.error.DavError.TheVariants.{Memory}
 use Rattle.dav_resource.specs.declared.error.FsError.{FsError}
 use Rattle.dav_resource.specs.declared.meta.Meta.{Meta}
-use Rattle.dav_resource.specs.declared.method.DavMethod.TheVariants.{Move}
 use Rattle.dav_resource.specs.declared.record.Outcome.{Outcome}
 use Rattle.dav_resource.specs.declared.record.Outcome.TheVariants.{Granted, Barred, Refused}
 use Rattle.dav_resource.specs.declared.request.DavRequest.{DavRequest}
@@ -24,31 +23,23 @@ use Rattle.dav_store.specs.Transfers.{IsRenamedTo}
 use Rattle.dav_parts.specs.Conditions.{conditions, submitted_tokens}
 use Rattle.dav_parts.specs.Dialogue.{look}
 use Rattle.dav_parts.specs.Multistatus.{Item, multi_answer, multistatus_reply}
-use Rattle.dav_parts.specs.Reply.{Reply, Answer, bare_reply}
+use Rattle.dav_parts.specs.Reply.{Answer, bare_reply}
 use Rattle.dav_walks.specs.KeyCall.{standing}
-use Rattle.dav_engine.specs.State.{State, Seen, state_of, DropsLocks, HasSameSystem}
+use Rattle.dav_engine.specs.State.{State, DropsLocks, HasSameSystem, IsLawfulState}
 use Rattle.dav_engine.specs.Settings.{Settings}
 use Rattle.dav_engine.specs.Rules.{judged, told_by_look, must_find, look_closely, depth_or_all, fixed_path}
 use Rattle.dav_engine.specs.Transferring.{where_reached, asked_destination, reach_verdict, parent_verdict, must_have_parent, found_or_absent, see_destination, place_verdict, permits_transfer, transfer_rules, ClearsIf, UnlessNamed, transferred_items}
 use Rattle.dav_engine.specs.Move.{MovesSource, Moves, MoveWork}
-use Rattle.dav_engine.specs.Laws.{tells_transferred, MovesWhole, KeepsSource, AreRefusals, NamesRefusals}
+use Rattle.dav_engine.specs.Laws.{tells_transferred, MovesWhole, KeepsSource}
 use Rattle.dav_engine.specs.Method.{StepBy, Refused as ByRules, Done, CutShort, CutInWork}
 use Rattle.dav_engine.specs.Methods.{move_method}
-use Rattle.dav_engine.specs.Step.{Serves}
 use Rattle.dav_engine.specs.declared.transfer.Transfer.{Transfer}
 use Rattle.dav_engine.proofs.DeleteLaws.{unlocked}
 use Rattle.dav_engine.proofs.Passing.{MovePassed, move_passed}
-use Rattle.dav_engine.proofs.Replacing.{apart_below, clear_outside, replaced_refused}
-use Rattle.dav_engine.proofs.Refusals.{refusal_from_300, RefusesBy, errs_then, errs_led, errs_told, errs_conditions, errs_permitted}
+use Rattle.dav_engine.proofs.Replacing.{AreRefusals, apart_below, clear_outside, replaced_refused}
+use Rattle.dav_engine.proofs.Refusals.{refusal_from_300, AnyError, RefusesBy, errs_then, errs_led, errs_judged, errs_told, errs_conditions, errs_permitted}
 
 -- ---- the rules refuse by errors
-
-abbrev pub AnyError : DavError → Type 0
-AnyError e = Unit {0}
-
-errs_judged : {A : Type 0} (verdict : Result A DavError) → RefusesBy AnyError (judged verdict)
-errs_judged (Ok a) = tt
-errs_judged (Err e) = tt
 
 pub errs_transfer : (moving : Bool) (settings : Settings) (request : DavRequest) (state : State) → RefusesBy AnyError (transfer_rules moving settings request state)
 errs_transfer moving settings request state =
@@ -192,45 +183,15 @@ clean_told path there =
     by_there true = refl
     by_there false = refl
 
--- and is no 207
-pub clean_single : (path : PathValue) (there : Option Meta) (reply : Reply) → multi_answer path (transferred_items path there []) ≡ Ok reply → reply.status ≡ 207 → ⊥
-clean_single path there reply is several = by_there there (sym bare)
-  where
-    bare : ◌≡◌ {A = Answer} (Ok reply) (Ok (bare_reply (if is_some there then 204 else 201) []))
-    bare = sym is ∙ ap (λ b. if b then Ok (bare_reply (if is_some there then 204 else 201) []) else Ok (multistatus_reply ((path, if is_some there then 204 else 201) ∷ []))) ((same_key_decides path.key path.key).1 refl)
-
-    by_there : (found : Option Meta) → ◌≡◌ {A = Answer} (Ok (bare_reply (if is_some found then 204 else 201) [])) (Ok reply) → ⊥
-    by_there None same = let at : bare_reply 201 [] ≡ reply = cc in let no : 201 ≡ 207 = ap (λ (r : Reply). r.status) at ∙ several in omega (arith, no)
-    by_there (Some meta) same = let at : bare_reply 204 [] ≡ reply = cc in let no : 204 ≡ 207 = ap (λ (r : Reply). r.status) at ∙ several in omega (arith, no)
-
--- a 207 shows the names
-pub named_shown : (path : PathValue) (item : Item) (names : List Item) → AreRefusals (item ∷ names) → (reply : Reply) → multi_answer path (item ∷ names) ≡ Ok reply → reply.status ≡ 207 → reply ≡ multistatus_reply (item ∷ names)
-named_shown path item [] refusals reply is several = by_key (is_same_key path.key item.0.key) is
-  where
-    by_key : (b : Bool) → ◌≡◌ {A = Answer} (if b then Ok (bare_reply item.1 []) else Ok (multistatus_reply (item ∷ []))) (Ok reply) → reply ≡ multistatus_reply (item ∷ [])
-    by_key true same =
-        let refusal = refusals item (inl refl) in
-        let at : bare_reply item.1 [] ≡ reply = cc in
-        let no : item.1 ≡ 207 = ap (λ (r : Reply). r.status) at ∙ several in
-        absurd (omega (arith, refusal_from_300 refusal.0, refusal.1, no))
-    by_key false same = let at : multistatus_reply (item ∷ []) ≡ reply = cc in sym at
-named_shown path item (next ∷ names) refusals reply is several = let at : multistatus_reply (item ∷ next ∷ names) ≡ reply = cc in sym at
-
 -- ---- the laws
 
 module _ (settings : Settings) (request : DavRequest) (old : State) (answer : Answer) (new : State) where
-  pub record MoveTells : Type 0 where
-    pub moved : MovesWhole settings request old answer new
-    pub kept : KeepsSource request old answer new
-    pub refusals : NamesRefusals answer
+  abbrev MoveTells : Type 0
+  MoveTells = MovesWhole settings request old answer new × KeepsSource request old answer new
 
   -- an error that isn't a want of memory has changed nothing
   error_tells : (e : DavError) → answer ≡ Err e → (new ≡ old) ⊎ (e ≡ Memory) → MoveTells
-  error_tells e is same = record {
-    moved = λ told. absurd (let no : false ≡ true = sym (ap tells_transferred is) ∙ told in cc);
-    kept = λ told other key below. by_end same other key;
-    refusals = λ reply replied several. absurd (let no : ◌≡◌ {A = Answer} (Err e) (Ok reply) = sym is ∙ replied in cc);
-  }
+  error_tells e is same = ((λ told. absurd (let no : false ≡ true = sym (ap tells_transferred is) ∙ told in cc)), (λ told other key below. by_end same other key))
     where
       by_end : (new ≡ old) ⊎ (e ≡ Memory) → answer ≢ Err Memory → (key : Key) → standing new.contents key ≡ standing old.contents key
       by_end (inl kept) other key = ap (λ (s : State). standing s.contents key) kept
@@ -249,26 +210,22 @@ module _ (settings : Settings) (request : DavRequest) (old : State) (answer : An
 
         by_names : (names : List Item) → Moves path found old records names new → answer ≡ multi_answer path (transferred_items path found.there names) → MoveTells
         by_names [] moved answered =
-            let whole = moves_whole path found old new records apart moved in
-            record {
-              moved = λ told. record {
+            let whole = moves_whole path found old new records apart moved in (
+              (λ told. record {
                 destination = found.destination;
                 named = asked_so (reach_verdict true (depth_or_all request)) rules.asked;
                 renamed = whole.0;
                 unlocked = λ reliable. unlocked request whole.1.0 new whole.1.2 (ap (λ (r : Reliable). r.delete) whole.1.1.reliable ∙ reliable);
-              };
-              kept = λ told other key below. absurd (let no : true ≡ false = sym (ap tells_transferred answered ∙ clean_told path found.there) ∙ told in cc);
-              refusals = λ reply replied several. absurd (clean_single path found.there reply (sym answered ∙ replied) several);
-            }
+              }),
+              (λ told other key below. absurd (let no : true ≡ false = sym (ap tells_transferred answered ∙ clean_told path found.there) ∙ told in cc)),
+            )
         by_names (item ∷ names) moved answered =
-            let refusals : AreRefusals (item ∷ names) = moves_refused path found old new records (item ∷ names) moved in
-            record {
-              moved = λ told. absurd (let no : false ≡ true = sym (ap tells_transferred answered ∙ named_untold path item names refusals) ∙ told in cc);
-              kept = λ told other key below.
+            let refusals : AreRefusals (item ∷ names) = moves_refused path found old new records (item ∷ names) moved in (
+              (λ told. absurd (let no : false ≡ true = sym (ap tells_transferred answered ∙ named_untold path item names refusals) ∙ told in cc)),
+              (λ told other key below.
                   let tail = at_or_below-tail request.path.key key below in
-                  subst (λ k. standing new.contents k ≡ standing old.contents k) (sym tail.1) (moves_none path found old new records apart item names moved tail.0);
-              refusals = λ reply replied several. (item ∷ names, named_shown path item names refusals reply (sym answered ∙ replied) several, refusals);
-            }
+                  subst (λ k. standing new.contents k ≡ standing old.contents k) (sym tail.1) (moves_none path found old new records apart item names moved tail.0)),
+            )
 
   step_tells : IsWellFormed old.contents → (records : List Logged) → StepBy move_method settings request old records answer new → MoveTells
   step_tells formed records (ByRules h) =
@@ -280,6 +237,6 @@ module _ (settings : Settings) (request : DavRequest) (old : State) (answer : An
   step_tells formed records (CutShort h) = error_tells Memory h.told (inl h.same)
   step_tells formed records (CutInWork h) = error_tells Memory h.told (inr refl)
 
--- of what is seen
-pub move_tells : (settings : Settings) (old : Seen) (request : DavRequest) (answer : Answer) (new : Seen) → IsWellFormed old.store.contents → Serves (Some Move) settings old request answer new → MoveTells settings request (state_of old) answer (state_of new)
-move_tells settings old request answer new formed served = step_tells settings request (state_of old) answer (state_of new) formed served.records served.step
+pub move_tells : {settings : Settings} {request : DavRequest} {old new : State} {records : List Logged} {answer : Answer} → IsLawfulState old → StepBy move_method settings request old records answer new
+    → MovesWhole settings request old answer new × KeepsSource request old answer new
+move_tells {settings} {request} {old} {new} {records} {answer} lawful step = step_tells settings request old answer new lawful.contents records step

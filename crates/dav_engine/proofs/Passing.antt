@@ -126,7 +126,8 @@ known_there Granted it None there fits lawful is = cc
 known_there (Barred e) it known there fits lawful is = barred_absent it known e fits lawful ∙ sym (absent_told e there is).1
 known_there (Refused e) it known there fits lawful is = absurd (lawful.not_missing (absent_told e there is).0)
 
-closely_passed : (contents : Contents) (key : Key) (told : Result Meta FsError) (records : List Logged) → LeadsTo (look_closely contents key) records (Passed told) → (outcome : Outcome) × IsLawful (metadata_bar (get contents.tree key)) outcome × (told ≡ told_by_look outcome (contents.metas key))
+-- a look whose result is passed on
+pub closely_passed : (contents : Contents) (key : Key) (told : Result Meta FsError) (records : List Logged) → LeadsTo (look_closely contents key) records (Passed told) → (outcome : Outcome) × IsLawful (metadata_bar (get contents.tree key)) outcome × (told ≡ told_by_look outcome (contents.metas key))
 closely_passed contents key told [] h = absurd cc
 closely_passed contents key told (r ∷ []) h = (r.outcome, h.1, let end = h.2 in cc)
 closely_passed contents key told (r ∷ s ∷ records) h = absurd h.2

@@ -1,9 +1,8 @@
 -- What follows for its caller from each step of a PROPPATCH.
-use Rattle.std.proofs.Common.{◌≡◌, ◌⊎◌, ◌∙◌, ◌==◌, ℕ, Bool, true, false, if◌then◌else◌, List, [], ◌∷◌, Option, Some, None, Result, Ok, Err, inl, inr, refl, sym, ap, subst, length, replicate, unwrap_or, arith}
+use Rattle.std.proofs.Common.{◌≡◌, ◌⊎◌, ◌∙◌, ◌==◌, ℕ, Bool, true, false, if◌then◌else◌, List, [], ◌∷◌, ◌++◌, map, Option, Some, None, Result, Ok, Err, inl, inr, refl, sym, ap, subst, length, replicate, unwrap_or, arith}
 use Rattle.std.specs.FinMap.{get, empty, empty_of_len, len}
 use Rattle.std.proofs.lemmas.Bool.Decides.{nat_tests}
 use Rattle.std.proofs.lemmas.List.{length-replicate}
-use Rattle.dav_resource.specs.declared.error.DavError.{DavError}
 use Rattle.dav_resource.specs.declared.error.FsError.{FsError}
 use Rattle.dav_resource.specs.declared.meta.Meta.{Meta}
 use Rattle.dav_resource.specs.declared.request.DavRequest.{DavRequest}
@@ -14,19 +13,19 @@ use Rattle.dav_parts.specs.Conditions.{conditions}
 use Rattle.dav_parts.specs.Dialogue.{Dialogue, Asks, Refuses, Passed, LeadsTo, ◌>>=◌}
 use Rattle.dav_parts.specs.Reply.{Reply, Answer}
 use Rattle.dav_props.specs.Propstat.{grouped}
-use Rattle.dav_props.specs.Update.{Change, update_verdict, some_refused, patches_of, told_failed, told_made}
+use Rattle.dav_props.specs.Update.{Change, update_verdict, some_refused, live_first, patches_of, told_failed, told_made}
 use Rattle.dav_walks.specs.PutLaws.{put_at_here, put_at_elsewhere}
-use Rattle.dav_engine.specs.Laws.{all_ok, ChangesNothing, AreStored, StoresAllOrNothing, TellsStored, KeepsUnlessTold, StoresNothingBesideRefused}
+use Rattle.dav_engine.specs.Laws.{status_beside_refused, statuses_of, returned, all_ok, ChangesNothing, AreStored, StoresAllOrNothing, TellsStored, KeepsUnlessTold, StoresNothingBesideRefused, ProppatchLaw}
 use Rattle.dav_engine.specs.Method.{StepBy, Refused, Done, CutShort, CutInWork}
 use Rattle.dav_engine.specs.Methods.{proppatch_method}
 use Rattle.dav_engine.specs.Proppatch.{Update, found_rules, unless_some_refused, proppatch_rules, proppatch_reply, told_by_store, MakesChanges}
 use Rattle.dav_engine.specs.Rules.{judged, told_by_look, must_find, is_permitted}
 use Rattle.dav_engine.specs.Settings.{Settings}
-use Rattle.dav_engine.specs.State.{State, LocksStay}
+use Rattle.dav_engine.specs.State.{State, LocksStay, IsLawfulState}
 use Rattle.dav_engine.proofs.Patching.{UpdatePassed, found_known, update_passed}
-use Rattle.dav_engine.proofs.PatchTells.{failed_not_ok, made_all_ok, made_not_ok, failed_names, made_names}
+use Rattle.dav_engine.proofs.PatchTells.{all_200, status_of, ok_statuses, beside_not_ok, ok_returned, ok_each, each_ok, failed_names, made_names, failed_statuses, made_statuses, passed, none_returned, work_returned, both_returned}
 use Rattle.dav_engine.proofs.Passing.{judged_passed}
-use Rattle.dav_engine.proofs.Refusals.{RefusesBy, errs_then, errs_led, errs_told, errs_conditions, errs_permitted}
+use Rattle.dav_engine.proofs.Refusals.{AnyError, RefusesBy, errs_then, errs_led, errs_judged, errs_told, errs_conditions, errs_permitted}
 
 -- ---- the properties of a key
 
@@ -80,18 +79,11 @@ led_refused (Asks call next) after (logged ∷ records) answer h = further (led_
 led_refused (Refuses other) after (logged ∷ records) answer h = absurd h
 led_refused (Passed a) after (logged ∷ records) answer h = inr (a, [], logged ∷ records, refl, h)
 
-abbrev AnyError : DavError → Type 0
-AnyError e = Unit {0}
-
 errs_found : (request : DavRequest) (state : State) → RefusesBy AnyError (found_rules request state)
 errs_found request state =
     errs_then AnyError (must_find state.contents request.path.key) _ (λ outcome. errs_told AnyError (λ e. tt) (told_by_look outcome (state.contents.metas request.path.key)))
     (λ meta. errs_then AnyError (conditions state.contents state.locks request (Some meta) request.path) _ (errs_conditions AnyError (λ s least. tt) state.contents state.locks request (Some meta) request.path)
     (λ _. errs_permitted AnyError (λ s least. tt) 423 (omega arith) (is_permitted request state request.path.key false) (Some meta)))
-
-errs_judged : {A : Type 0} (verdict : Result A DavError) → RefusesBy AnyError (judged verdict)
-errs_judged (Ok a) = tt
-errs_judged (Err e) = tt
 
 no_reply : {A : Type 0} (dialogue : Dialogue A) (records : List Logged) (reply : Reply) → RefusesBy AnyError dialogue → LeadsTo dialogue records (Refuses (Ok reply)) → ⊥
 no_reply dialogue records reply errs led = let e = errs_led AnyError dialogue records (Ok reply) errs led in let no = e.1 in cc
@@ -132,35 +124,49 @@ module _ (settings : Settings) (request : DavRequest) (old : State) (records : L
   abbrev keeps : Bool
   keeps = settings.facts.keeps_properties
 
-  module _ (update : Update) (new : State) (passed : UpdatePassed keeps request old update) (locks : LocksStay old new) (rest : List Logged) (statuses : List ℕ) (reply : Reply)
-      (shown : reply ≡ proppatch_reply request.path update.0 (grouped (told_made update.1 statuses))) where
-    tells : length statuses ≡ length (patches_of update.1) → (all_ok (told_made update.1 statuses) ≡ true → AreStored request update.1 old new) → (all_ok (told_made update.1 statuses) ≡ false → ChangesNothing old new) → StoresAllOrNothing settings request old reply new
+  -- what the store returned in this request
+  abbrev here : List ℕ
+  here = returned request.path.key records
+
+  statuses_by : (changes : List Change) (refused : Bool) → some_refused changes ≡ refused → statuses_of changes here ≡ (if refused then map status_beside_refused (live_first changes) else passed changes ++ here)
+  statuses_by changes refused is = ap (λ b. if b then map status_beside_refused (live_first changes) else passed changes ++ here) is
+
+  module _ (update : Update) (new : State) (seen : UpdatePassed keeps request old update) (locks : LocksStay old new) (rest : List Logged) (statuses : List ℕ) (reply : Reply)
+      (shown : reply ≡ proppatch_reply request.path update.0 (grouped (told_made update.1 statuses))) (is_returned : here ≡ statuses) where
+    tells : length statuses ≡ length (patches_of update.1) → (all_200 statuses ≡ true → AreStored request update.1 old new) → (all_200 statuses ≡ false → ChangesNothing old new) → StoresAllOrNothing settings request old records reply new
     tells count stored unstored = record {
       changes = update.1;
-      asked = passed.read;
+      asked = seen.read;
       told = told_made update.1 statuses;
       each = made_names update.1 statuses count;
-      shown = shown ∙ ap (λ m. proppatch_reply request.path m (grouped (told_made update.1 statuses))) passed.known;
-      stored = stored;
-      unstored = unstored;
+      own = own ∙ ap (λ more. passed update.1 ++ more) (sym is_returned) ∙ sym (statuses_by update.1 false seen.none_refused);
+      shown = shown ∙ ap (λ m. proppatch_reply request.path m (grouped (told_made update.1 statuses))) seen.known;
+      stored = λ ok. stored (sym is_ok ∙ ok);
+      unstored = λ not_ok. unstored (sym is_ok ∙ not_ok);
     }
+      where
+        own : map status_of (told_made update.1 statuses) ≡ passed update.1 ++ statuses
+        own = made_statuses update.1 statuses seen.none_refused count
 
-    tells_changes : (patches : List Patch) → patches_of update.1 ≡ patches → MakesChanges keeps request.path.key patches old.contents rest (Ok statuses) new.contents → StoresAllOrNothing settings request old reply new
+        is_ok : all_ok (told_made update.1 statuses) ≡ all_200 statuses
+        is_ok = ok_statuses (told_made update.1 statuses) ∙ ap all_200 own ∙ ok_returned update.1 statuses
+
+    tells_changes : (patches : List Patch) → patches_of update.1 ≡ patches → MakesChanges keeps request.path.key patches old.contents rest (Ok statuses) new.contents → StoresAllOrNothing settings request old records reply new
     tells_changes [] none asks =
         let told : statuses ≡ [] = let h = asks.told_none in cc in
         tells (ap length told ∙ ap length (sym none)) (λ ok. stored_none request update.1 old new locks none asks.same) (λ not_ok. record { contents = asks.same; locks = locks })
     tells_changes (patch ∷ patches) is (inl all) =
         let told : statuses ≡ replicate (length (patch ∷ patches)) 200 = let h = all.told_all in cc in
         tells (ap length told ∙ length-replicate (length (patch ∷ patches)) 200 ∙ ap length (sym is)) (λ ok. stored_all request update.1 old new locks (rw is all.made))
-        (λ not_ok. let no : false ≡ true = sym not_ok ∙ ap (λ s. all_ok (told_made update.1 s)) told ∙ made_all_ok update.1 (length (patch ∷ patches)) passed.none_refused in absurd cc)
+        (λ not_ok. let no : false ≡ true = sym not_ok ∙ ap all_200 told ∙ ok_each (length (patch ∷ patches)) in absurd cc)
     tells_changes (patch ∷ patches) is (inr (inl none)) =
         let told : statuses ≡ none.statuses = let h = none.told_each in cc in
-        let count : length statuses ≡ length (patches_of update.1) = ap length told ∙ none.each ∙ ap length (sym is) in
-        tells count (λ ok. absurd (made_not_ok update.1 statuses count (λ all. none.not_all (sym told ∙ all ∙ ap (λ p. replicate (length p) 200) is)) ok))
+        tells (ap length told ∙ none.each ∙ ap length (sym is))
+        (λ ok. absurd (none.not_all (sym told ∙ each_ok statuses ok ∙ ap (λ count. replicate count 200) (ap length told ∙ none.each))))
         (λ not_ok. record { contents = none.same; locks = locks })
     tells_changes (patch ∷ patches) is (inr (inr refused)) = let no = refused.told_error in absurd cc
 
-  pub patch_tells : (answer : Answer) (new : State) → StepBy proppatch_method settings request old records answer new → TellsStored settings request old answer new
+  patch_tells : (answer : Answer) (new : State) → StepBy proppatch_method settings request old records answer new → TellsStored settings request old records answer new
   patch_tells answer new (Refused h) reply is =
       let r = replies_refused keeps request old reply records (subst (λ a. LeadsTo (proppatch_rules keeps request old) records (Refuses a)) is h.head) in
       record {
@@ -168,22 +174,26 @@ module _ (settings : Settings) (request : DavRequest) (old : State) (records : L
         asked = r.asked;
         told = told_failed r.changes;
         each = failed_names r.changes;
+        own = failed_statuses r.changes ∙ sym (statuses_by r.changes true r.refused);
         shown = r.shown;
-        stored = λ ok. absurd (failed_not_ok r.changes r.refused ok);
+        stored = λ ok. absurd (beside_not_ok r.changes r.refused (sym (ok_statuses (told_failed r.changes) ∙ ap all_200 (failed_statuses r.changes)) ∙ ok));
         unstored = λ not_ok. same_state old new h.same;
       }
   patch_tells answer new (Done h) reply is = by_told h.work.0.told h.work.0.stored h.work.0.answered
     where
-      passed : UpdatePassed keeps request old h.found
-      passed = update_passed keeps request old h.head h.found h.passed
+      seen : UpdatePassed keeps request old h.found
+      seen = update_passed keeps request old h.head h.found h.passed
 
-      by_told : (told : Result (List ℕ) FsError) → MakesChanges keeps request.path.key (patches_of h.found.1) old.contents h.rest told new.contents → answer ≡ told_by_store request h.found told → StoresAllOrNothing settings request old reply new
-      by_told (Ok statuses) made answered = tells_changes h.found new passed h.work.1 h.rest statuses reply (let same = sym is ∙ answered in cc) (patches_of h.found.1) refl made
+      by_told : (told : Result (List ℕ) FsError) → MakesChanges keeps request.path.key (patches_of h.found.1) old.contents h.rest told new.contents → answer ≡ told_by_store request h.found told → StoresAllOrNothing settings request old records reply new
+      by_told (Ok statuses) made answered =
+          tells_changes h.found new seen h.work.1 h.rest statuses reply (let same = sym is ∙ answered in cc)
+          (both_returned request.path.key records h.head h.rest h.cut (none_returned request.path.key (proppatch_rules keeps request old) h.head (Passed h.found) h.passed) ∙ work_returned keeps request.path.key (patches_of h.found.1) old.contents h.rest statuses new.contents made)
+          (patches_of h.found.1) refl made
       by_told (Err e) made answered = let no = sym is ∙ answered in absurd cc
   patch_tells answer new (CutShort h) reply is = let no = sym is ∙ h.told in absurd cc
   patch_tells answer new (CutInWork h) reply is = let no = sym is ∙ h.told in absurd cc
 
-  pub patch_kept : (answer : Answer) (new : State) → StepBy proppatch_method settings request old records answer new → KeepsUnlessTold old answer new
+  patch_kept : (answer : Answer) (new : State) → StepBy proppatch_method settings request old records answer new → KeepsUnlessTold old answer new
   patch_kept answer new (Refused h) e is other = same_state old new h.same
   patch_kept answer new (Done h) e is other = by_told h.work.0.told (patches_of h.found.1) h.work.0.stored h.work.0.answered
     where
@@ -204,8 +214,15 @@ module _ (settings : Settings) (request : DavRequest) (old : State) (records : L
       let no : true ≡ false = sym refused ∙ ap some_refused same ∙ passed.none_refused in
       cc
 
-  pub patch_refused : (answer : Answer) (new : State) → StepBy proppatch_method settings request old records answer new → StoresNothingBesideRefused settings request old new
+  patch_refused : (answer : Answer) (new : State) → StepBy proppatch_method settings request old records answer new → StoresNothingBesideRefused settings request old new
   patch_refused answer new (Refused h) changes asked refused = same_state old new h.same
   patch_refused answer new (Done h) changes asked refused = absurd (unrefused h.found h.head h.passed changes asked refused)
   patch_refused answer new (CutShort h) changes asked refused = same_state old new h.same
   patch_refused answer new (CutInWork h) changes asked refused = absurd (unrefused h.found h.head h.passed changes asked refused)
+
+pub proppatch_law : {settings : Settings} {request : DavRequest} {old new : State} {records : List Logged} {answer : Answer} → IsLawfulState old → StepBy proppatch_method settings request old records answer new → ProppatchLaw settings request old records answer new
+proppatch_law {settings} {request} {old} {new} {records} {answer} lawful step = record {
+  stored = patch_tells settings request old records answer new step;
+  kept = patch_kept settings request old records answer new step;
+  refused = patch_refused settings request old records answer new step;
+}

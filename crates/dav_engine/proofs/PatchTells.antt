@@ -1,19 +1,30 @@
 -- What the statuses in the reply to a PROPPATCH tell.
-use Rattle.std.proofs.Common.{◌≡◌, ◌≢◌, ◌∙◌, ◌++◌, ℕ, zero, suc, Bool, true, false, not, ◌&&◌, ◌||◌, nat_eq, if◌then◌else◌, Option, Some, None, List, [], ◌∷◌, map, filter, length, replicate, refl, sym, ap, arith}
-use Rattle.std.specs.List.{list_any, zip}
+use Rattle.std.proofs.Common.{◌≡◌, ◌∙◌, ◌++◌, ℕ, zero, suc, Bool, true, false, not, ◌&&◌, ◌||◌, nat_eq, if◌then◌else◌, Option, Some, None, Ok, List, [], ◌∷◌, map, filter, length, replicate, inl, inr, refl, sym, ap, arith, append-nil}
+use Rattle.std.specs.List.{list_any, list_all, zip}
 use Rattle.std.proofs.lemmas.Bool.Decides.{nat_tests}
+use Rattle.std.proofs.lemmas.Grind.{flat_map-append}
 use Rattle.std.proofs.lemmas.List.{map-append, length-map}
 use Rattle.std.proofs.lemmas.List.Folds.{list_all-append}
-use Rattle.dav_resource.specs.Key.{Key}
+use Rattle.dav_resource.specs.Key.{Key, same_key_decides}
 use Rattle.dav_resource.specs.Tree.{Tree, Tag, Nodes}
-use Rattle.dav_store.specs.Store.{property_key}
+use Rattle.dav_resource.specs.declared.error.FsError.TheVariants.{GeneralFailure}
+use Rattle.dav_resource.specs.declared.record.Outcome.{Outcome}
+use Rattle.dav_resource.specs.declared.record.Outcome.TheVariants.{Granted, Refused}
+use Rattle.dav_store.specs.Logged.{Logged}
+use Rattle.dav_store.specs.PropertyCalls.{Patch, patch_record}
+use Rattle.dav_store.specs.Store.{Contents, property_key}
+use Rattle.dav_parts.specs.Dialogue.{Dialogue, Asks, Refuses, Passed, LeadsTo}
 use Rattle.dav_props.specs.Property.{bare}
 use Rattle.dav_props.specs.Propstat.{Told}
 use Rattle.dav_props.specs.Update.{Change, is_dead, is_refused, live_first, failed, told_failed, patch_of, patches_of, made, live_made, told_made}
-use Rattle.dav_engine.specs.Laws.{all_ok, property_of}
+use Rattle.dav_engine.specs.Laws.{is_passed_over, status_beside_refused, is_patch, returned, all_ok, property_of, TellsEach}
+use Rattle.dav_engine.specs.Proppatch.{MakesChanges}
 
 abbrev live : Change → Bool
 live change = not (is_dead change)
+
+abbrev pub all_200 : List ℕ → Bool
+all_200 statuses = list_all (λ status. nat_eq status 200) statuses
 
 both : (a b : Bool) → (a && b) ≡ true → (a ≡ true) × (b ≡ true)
 both true b is = (refl, is)
@@ -23,80 +34,59 @@ neither : (a b : Bool) → (a || b) ≡ false → (a ≡ false) × (b ≡ false)
 neither false b is = (refl, is)
 neither true b is = absurd cc
 
-all_both : (told more : List Told) → all_ok (told ++ more) ≡ true → (all_ok told ≡ true) × (all_ok more ≡ true)
-all_both told more is = both (all_ok told) (all_ok more) (sym (list_all-append (λ (t : Told). nat_eq t.0 200) told more) ∙ is)
+all_both : (statuses more : List ℕ) → all_200 (statuses ++ more) ≡ true → (all_200 statuses ≡ true) × (all_200 more ≡ true)
+all_both statuses more is = both (all_200 statuses) (all_200 more) (sym (list_all-append (λ status. nat_eq status 200) statuses more) ∙ is)
 
 -- ---- a change was refused
 
 -- 200 is told of none that is
-ok_unrefused : (status : ℕ) (dead ok : Bool) (one other : Tree) → nat_eq status 200 ≡ ok → nat_eq (if◌then◌else◌ {A = Told} (not (dead || ok)) (status, one) (424, other)).0 200 ≡ true → not (dead || ok) ≡ false
-ok_unrefused status true ok one other is told = refl
-ok_unrefused status false true one other is told = refl
-ok_unrefused status false false one other is told = let no : false ≡ true = sym is ∙ told in absurd cc
+ok_unrefused : (status : ℕ) (dead ok : Bool) → nat_eq status 200 ≡ ok → nat_eq (if not (dead || ok) then status else 424) 200 ≡ true → not (dead || ok) ≡ false
+ok_unrefused status true ok is told = refl
+ok_unrefused status false true is told = refl
+ok_unrefused status false false is told = let no : false ≡ true = sym is ∙ told in absurd cc
 
-failed_unrefused : (change : Change) → nat_eq (failed change).0 200 ≡ true → is_refused change ≡ false
-failed_unrefused change = ok_unrefused change.status (nat_eq change.status 100) (nat_eq change.status 200) _ _ refl
+beside_unrefused : (change : Change) → nat_eq (status_beside_refused change) 200 ≡ true → is_refused change ≡ false
+beside_unrefused change = ok_unrefused change.status (nat_eq change.status 100) (nat_eq change.status 200) refl
 
-failed_each : (changes : List Change) → all_ok (map failed (filter live changes)) ≡ true → all_ok (map failed (filter is_dead changes)) ≡ true → list_any is_refused changes ≡ false
-failed_each [] told more = refl
-failed_each (change ∷ changes) told more =
+beside_each : (changes : List Change) → all_200 (map status_beside_refused (filter live changes)) ≡ true → all_200 (map status_beside_refused (filter is_dead changes)) ≡ true → list_any is_refused changes ≡ false
+beside_each [] told more = refl
+beside_each (change ∷ changes) told more =
     elim (is_dead change) as
-    (λ b. all_ok (map failed (if not b then change ∷ filter live changes else filter live changes)) ≡ true → all_ok (map failed (if b then change ∷ filter is_dead changes else filter is_dead changes)) ≡ true
+    (λ b. all_200 (map status_beside_refused (if not b then change ∷ filter live changes else filter live changes)) ≡ true → all_200 (map status_beside_refused (if b then change ∷ filter is_dead changes else filter is_dead changes)) ≡ true
     → list_any is_refused (change ∷ changes) ≡ false) [
-      | true ↦ λ told more. let first = both _ _ more in rw (failed_unrefused change first.0) (failed_each changes told first.1)
-      | false ↦ λ told more. let first = both _ _ told in rw (failed_unrefused change first.0) (failed_each changes first.1 more)
+      | true ↦ λ told more. let first = both _ _ more in rw (beside_unrefused change first.0) (beside_each changes told first.1)
+      | false ↦ λ told more. let first = both _ _ told in rw (beside_unrefused change first.0) (beside_each changes first.1 more)
     ] told more
 
 -- where one is refused, not all are told with 200
-pub failed_not_ok : (changes : List Change) → list_any is_refused changes ≡ true → all_ok (told_failed changes) ≡ true → ⊥
-failed_not_ok changes refused ok =
-    let parts = all_both (map failed (filter live changes)) (map failed (filter is_dead changes)) (ap all_ok (sym (map-append failed (filter live changes) (filter is_dead changes))) ∙ ok) in
-    let no : true ≡ false = sym refused ∙ failed_each changes parts.0 parts.1 in cc
+pub beside_not_ok : (changes : List Change) → list_any is_refused changes ≡ true → all_200 (map status_beside_refused (live_first changes)) ≡ true → ⊥
+beside_not_ok changes refused ok =
+    let parts = all_both (map status_beside_refused (filter live changes)) (map status_beside_refused (filter is_dead changes)) (ap all_200 (sym (map-append status_beside_refused (filter live changes) (filter is_dead changes))) ∙ ok) in
+    let no : true ≡ false = sym refused ∙ beside_each changes parts.0 parts.1 in cc
 
 -- ---- none was refused
 
--- a live one that isn't refused is told with 200
-live_ok : (status : ℕ) (dead ok : Bool) → nat_eq status 200 ≡ ok → not (dead || ok) ≡ false → not dead ≡ true → nat_eq status 200 ≡ true
-live_ok status true ok is unrefused alive = absurd cc
-live_ok status false true is unrefused alive = is
-live_ok status false false is unrefused alive = absurd cc
+abbrev pub passed : List Change → List ℕ
+passed changes = map (λ change. 200) (filter is_passed_over changes)
 
-pub live_all_ok : (changes : List Change) → list_any is_refused changes ≡ false → all_ok (live_made changes) ≡ true
-live_all_ok [] none = refl
-live_all_ok (change ∷ changes) none =
-    let first = neither (is_refused change) (list_any is_refused changes) none in
-    elim (live change) as (λ b. live change ≡ b → all_ok (map made (if b then change ∷ filter live changes else filter live changes)) ≡ true) [
-      | true ↦ λ alive. rw (live_ok change.status (is_dead change) (nat_eq change.status 200) refl first.0 alive) (live_all_ok changes first.1)
-      | false ↦ λ dead. live_all_ok changes first.1
-    ] refl
+passed_ok : (changes : List Change) → all_200 (map (λ change. 200) changes) ≡ true
+passed_ok [] = refl
+passed_ok (change ∷ changes) = passed_ok changes
 
--- 200 for each
-zip_ok : (count : ℕ) (elements : List Tree) → all_ok (zip (replicate count 200) elements) ≡ true
-zip_ok zero elements = refl
-zip_ok (suc count) [] = refl
-zip_ok (suc count) (element ∷ elements) = zip_ok count elements
+-- all are told with 200 where the store returned nothing else
+pub ok_returned : (changes : List Change) (statuses : List ℕ) → all_200 (passed changes ++ statuses) ≡ all_200 statuses
+ok_returned changes statuses = list_all-append (λ status. nat_eq status 200) (passed changes) statuses ∙ (rw (passed_ok (filter is_passed_over changes)) refl)
 
-zip_all : (statuses : List ℕ) (elements : List Tree) → length statuses ≡ length elements → all_ok (zip statuses elements) ≡ true → statuses ≡ replicate (length elements) 200
-zip_all [] [] same ok = refl
-zip_all [] (element ∷ elements) same ok = absurd cc
-zip_all (status ∷ statuses) [] same ok = absurd cc
-zip_all (status ∷ statuses) (element ∷ elements) same ok =
+pub ok_each : (count : ℕ) → all_200 (replicate count 200) ≡ true
+ok_each zero = refl
+ok_each (suc count) = ok_each count
+
+pub each_ok : (statuses : List ℕ) → all_200 statuses ≡ true → statuses ≡ replicate (length statuses) 200
+each_ok [] ok = refl
+each_ok (status ∷ statuses) ok =
     let first = both (nat_eq status 200) _ ok in
     let is : status ≡ 200 = grind (arith, nat_tests) in
-    rw is (ap (λ rest. 200 ∷ rest) (zip_all statuses elements (omega (arith, same)) first.1))
-
--- all of a store's statuses are 200
-pub made_all_ok : (changes : List Change) (count : ℕ) → list_any is_refused changes ≡ false → all_ok (told_made changes (replicate count 200)) ≡ true
-made_all_ok changes count none =
-    list_all-append (λ (t : Told). nat_eq t.0 200) (live_made changes) _ ∙ (rw (live_all_ok changes none) (zip_ok count _))
-
--- or not all of them
-pub made_not_ok : (changes : List Change) (statuses : List ℕ) → length statuses ≡ length (patches_of changes) → statuses ≢ replicate (length (patches_of changes)) 200 → all_ok (told_made changes statuses) ≡ true → ⊥
-made_not_ok changes statuses same other ok =
-    let elements : List Tree = map (λ change. bare change.element) (filter is_dead changes) in
-    let count : length (patches_of changes) ≡ length elements = length-map (filter is_dead changes) patch_of ∙ sym (length-map (filter is_dead changes) (λ change. bare change.element)) in
-    let all = zip_all statuses elements (same ∙ count) (all_both (live_made changes) (zip statuses elements) ok).1 in
-    other (all ∙ ap (λ n. replicate n 200) (sym count))
+    rw is (ap (λ rest. 200 ∷ rest) (each_ok statuses first.1))
 
 -- ---- each change is told once
 
@@ -124,9 +114,10 @@ failed_named change =
       | false ↦ elim (change.set && is_dead change) as (λ b. property_of (if b then change.element else bare change.element) ≡ asked change) [ true ↦ refl | false ↦ bare_named change.element ]
     ]
 
-names_of : (tell : Change → Told) → ((change : Change) → named (tell change) ≡ asked change) → (changes : List Change) → map named (map tell changes) ≡ map asked changes
-names_of tell each [] = refl
-names_of tell each (change ∷ changes) = rw (each change) (ap (λ names. asked change ∷ names) (names_of tell each changes))
+-- what is told of each change, if it is `of` for one
+each_of : {X : Type 0} (say : Told → X) (tell : Change → Told) (of : Change → X) → ((change : Change) → say (tell change) ≡ of change) → (changes : List Change) → map say (map tell changes) ≡ map of changes
+each_of say tell of each [] = refl
+each_of say tell of each (change ∷ changes) = λ i. each change i ∷ each_of say tell of each changes i
 
 -- a status for each
 zip_names : (statuses : List ℕ) (changes : List Change) → length statuses ≡ length changes → map named (zip statuses (map (λ change. bare change.element) changes)) ≡ map asked changes
@@ -136,12 +127,95 @@ zip_names (status ∷ statuses) [] same = absurd cc
 zip_names (status ∷ statuses) (change ∷ changes) same = rw (bare_named change.element) (ap (λ names. asked change ∷ names) (zip_names statuses changes (omega (arith, same))))
 
 -- where one is refused
-pub failed_names : (changes : List Change) → map named (told_failed changes) ≡ map asked (live_first changes)
-failed_names changes = names_of failed failed_named (live_first changes)
+pub failed_names : (changes : List Change) → TellsEach changes (told_failed changes)
+failed_names changes = each_of named failed asked failed_named (live_first changes)
 
 -- where none is
-pub made_names : (changes : List Change) (statuses : List ℕ) → length statuses ≡ length (patches_of changes) → map named (told_made changes statuses) ≡ map asked (live_first changes)
+pub made_names : (changes : List Change) (statuses : List ℕ) → length statuses ≡ length (patches_of changes) → TellsEach changes (told_made changes statuses)
 made_names changes statuses count =
     map-append named (live_made changes) (zip statuses (map (λ change. bare change.element) (filter is_dead changes)))
-    ∙ (rw (names_of made (λ change. bare_named change.element) (filter live changes), zip_names statuses (filter is_dead changes) (count ∙ length-map (filter is_dead changes) patch_of))
+    ∙ (rw (each_of named made asked (λ change. bare_named change.element) (filter live changes), zip_names statuses (filter is_dead changes) (count ∙ length-map (filter is_dead changes) patch_of))
     (sym (map-append asked (filter live changes) (filter is_dead changes))))
+
+-- ---- each change has its own status
+
+abbrev pub status_of : Told → ℕ
+status_of told = told.0
+
+pub ok_statuses : (told : List Told) → all_ok told ≡ all_200 (map status_of told)
+ok_statuses [] = refl
+ok_statuses (t ∷ told) = ap (λ rest. nat_eq t.0 200 && rest) (ok_statuses told)
+
+failed_status : (change : Change) → status_of (failed change) ≡ status_beside_refused change
+failed_status change = elim (is_refused change) as (λ b. status_of (told_if change b) ≡ (if b then change.status else 424)) [ true ↦ refl | false ↦ refl ]
+
+-- where one is refused
+pub failed_statuses : (changes : List Change) → map status_of (told_failed changes) ≡ map status_beside_refused (live_first changes)
+failed_statuses changes = each_of status_of failed status_beside_refused failed_status (live_first changes)
+
+-- a live one that isn't refused is passed over
+pub passed_statuses : (changes : List Change) → list_any is_refused changes ≡ false → map status_of (live_made changes) ≡ passed changes
+passed_statuses [] none = refl
+passed_statuses (change ∷ changes) none = by_kind (is_dead change) (is_passed_over change) refl refl (passed_statuses changes (neither (is_refused change) (list_any is_refused changes) none).1)
+  where
+    by_kind : (dead over : Bool) → is_dead change ≡ dead → is_passed_over change ≡ over → map status_of (live_made changes) ≡ passed changes → map status_of (map made (if not dead then change ∷ filter live changes else filter live changes)) ≡ map (λ change. 200) (if over then change ∷ filter is_passed_over changes else filter is_passed_over changes)
+    by_kind true true dead over rest = let hundred : change.status ≡ 100 = grind (arith, nat_tests) in let two : change.status ≡ 200 = grind (arith, nat_tests) in absurd (omega (arith, hundred, two))
+    by_kind true false dead over rest = rest
+    by_kind false true dead over rest = let is : change.status ≡ 200 = grind (arith, nat_tests) in λ i. is i ∷ rest i
+    by_kind false false dead over rest =
+        let no : true ≡ false = sym (ap (λ d. not (d || is_passed_over change)) dead ∙ ap (λ o. not (false || o)) over) ∙ (neither (is_refused change) (list_any is_refused changes) none).0 in absurd cc
+
+zip_statuses : (statuses : List ℕ) (elements : List Tree) → length statuses ≡ length elements → map status_of (zip statuses elements) ≡ statuses
+zip_statuses [] [] same = refl
+zip_statuses [] (element ∷ elements) same = absurd cc
+zip_statuses (status ∷ statuses) [] same = absurd cc
+zip_statuses (status ∷ statuses) (element ∷ elements) same = ap (λ rest. status ∷ rest) (zip_statuses statuses elements (omega (arith, same)))
+
+-- where none is refused
+pub made_statuses : (changes : List Change) (statuses : List ℕ) → list_any is_refused changes ≡ false → length statuses ≡ length (patches_of changes) → map status_of (told_made changes statuses) ≡ passed changes ++ statuses
+made_statuses changes statuses none count =
+    map-append status_of (live_made changes) (zip statuses (map (λ change. bare change.element) (filter is_dead changes)))
+    ∙ (λ i. passed_statuses changes none i ++ zip_statuses statuses (map (λ change. bare change.element) (filter is_dead changes)) elements i)
+  where
+    elements : length statuses ≡ length (map (λ change. bare change.element) (filter is_dead changes))
+    elements = count ∙ length-map (filter is_dead changes) patch_of ∙ sym (length-map (filter is_dead changes) (λ change. bare change.element))
+
+-- ---- what the store returned
+
+abbrev pub returned_by : Key → Logged → List ℕ
+returned_by key call = if is_patch key call.op call.keys then call.statuses else []
+
+-- a record without statuses returns none
+no_statuses : (b : Bool) → (if◌then◌else◌ {A = List ℕ} b [] []) ≡ []
+no_statuses true = refl
+no_statuses false = refl
+
+-- the rules' calls return none
+pub none_returned : {A : Type 0} (key : Key) (dialogue : Dialogue A) (records : List Logged) (left : Dialogue A) → LeadsTo dialogue records left → returned key records ≡ []
+none_returned key dialogue [] left led = refl
+none_returned key (Asks call next) (logged ∷ records) left led =
+    ap (λ (r : Logged). returned_by key r ++ returned key records) led.0 ∙ ap (λ statuses. statuses ++ returned key records) (no_statuses (is_patch key call.op call.keys)) ∙ none_returned key (next logged.outcome) records left led.2
+none_returned key (Refuses answer) (logged ∷ records) left led = absurd led
+none_returned key (Passed a) (logged ∷ records) left led = absurd led
+
+-- a call at the key
+one_returned : (key : Key) (outcome : Outcome) (statuses : List ℕ) → returned key (patch_record key outcome statuses ∷ []) ≡ statuses
+one_returned key outcome statuses = ap (λ b. (if b then statuses else []) ++ []) ((same_key_decides key key).1 refl) ∙ append-nil statuses
+
+-- the work's call returns those that are told
+pub work_returned : (keeps : Bool) (key : Key) (patches : List Patch) (old : Contents) (records : List Logged) (statuses : List ℕ) (new : Contents) → MakesChanges keeps key patches old records (Ok statuses) new → returned key records ≡ statuses
+work_returned keeps key [] old records statuses new asks =
+    let told : statuses ≡ [] = let h = asks.told_none in cc in
+    ap (returned key) asks.none ∙ sym told
+work_returned keeps key (patch ∷ patches) old records statuses new (inl all) =
+    let told : statuses ≡ replicate (length (patch ∷ patches)) 200 = let h = all.told_all in cc in
+    ap (returned key) all.called ∙ one_returned key Granted (replicate (length (patch ∷ patches)) 200) ∙ sym told
+work_returned keeps key (patch ∷ patches) old records statuses new (inr (inl none)) =
+    let told : statuses ≡ none.statuses = let h = none.told_each in cc in
+    ap (returned key) none.called ∙ one_returned key (Refused GeneralFailure) none.statuses ∙ sym told
+work_returned keeps key (patch ∷ patches) old records statuses new (inr (inr refused)) = let no = refused.told_error in absurd cc
+
+-- of both
+pub both_returned : (key : Key) (records head rest : List Logged) → records ≡ head ++ rest → returned key head ≡ [] → returned key records ≡ returned key rest
+both_returned key records head rest cut none =
+    ap (returned key) cut ∙ flat_map-append (returned_by key) head rest ∙ ap (λ statuses. statuses ++ returned key rest) none

@@ -1,38 +1,37 @@
 -- What follows for its caller from each step of a PROPFIND.
-use Rattle.std.proofs.Common.{◌≡◌, ◌∙◌, ℕ, Bool, true, false, List, [], ◌∷◌, ◌++◌, Some, Result, Ok, Err, refl, sym, ap, subst, if◌then◌else◌, arith}
+use Rattle.std.proofs.Common.{◌≡◌, ◌∙◌, ℕ, Bool, true, false, List, [], ◌∷◌, Some, Result, Ok, Err, refl, sym, ap, subst, if◌then◌else◌, arith}
 use Rattle.dav_resource.specs.declared.error.DavError.{DavError}
 use Rattle.dav_resource.specs.declared.error.DavError.TheVariants.{Memory}
 use Rattle.dav_resource.specs.declared.error.FsError.{FsError}
 use Rattle.dav_resource.specs.declared.meta.Meta.{Meta}
-use Rattle.dav_resource.specs.declared.method.DavMethod.TheVariants.{PropFind}
 use Rattle.dav_resource.specs.declared.request.DavRequest.{DavRequest}
 use Rattle.dav_headers.specs.Client.{user_agent_of}
 use Rattle.dav_store.specs.Logged.{Logged}
+use Rattle.dav_store.specs.Members.{IsIn}
 use Rattle.dav_store.specs.Store.{Bodies, IsWellFormed}
 use Rattle.dav_parts.specs.Dialogue.{Dialogue, Passed, Refuses, LeadsTo, ◌>>=◌}
 use Rattle.dav_parts.specs.Dialogues.{LeadsTo-last}
 use Rattle.dav_parts.specs.Reply.{Reply, Answer}
 use Rattle.dav_find.specs.Asked.{Asking, asking_of}
+use Rattle.dav_find.specs.AskedOnceLaws.{asks_each_once, prop_unlisted}
+use Rattle.dav_find.specs.NamedLaws.{reports_named}
+use Rattle.dav_find.specs.OrderedLaws.{reports_in_order}
 use Rattle.dav_find.specs.Range.{TellsRange}
+use Rattle.dav_find.specs.RangeKeys.{in_right}
 use Rattle.dav_find.specs.RangeLaws.{tells_range, range_behind}
 use Rattle.dav_find.specs.RangeSteps.{HasNoListing, AsksNoListing, no_listing_then, leads_to_none, told_keys}
-use Rattle.dav_engine.specs.Laws.{TellsItsRange}
+use Rattle.dav_find.specs.Reported.{AreReported}
+use Rattle.dav_find.specs.ReportedLaws.{reports_each}
+use Rattle.dav_engine.specs.Laws.{TellsItsRange, PropfindLaw}
 use Rattle.dav_engine.specs.Method.{StepBy, Refused, Done, CutShort, CutInWork}
 use Rattle.dav_engine.specs.Methods.{propfind_method}
 use Rattle.dav_engine.specs.Propfind.{is_too_deep, finite_depth_reply, propfind_reply, propfind_rules, sought_rules, view_in, target_at, depth_or_default}
 use Rattle.dav_engine.specs.Rules.{judged, told_by_look, or_refused, must_find}
 use Rattle.dav_engine.specs.Settings.{Settings}
-use Rattle.dav_engine.specs.State.{State, Seen, state_of}
-use Rattle.dav_engine.specs.Step.{Serves}
+use Rattle.dav_engine.specs.State.{State, IsLawfulState}
 use Rattle.dav_engine.proofs.Passing.{found_passed}
-use Rattle.dav_engine.proofs.Refusals.{RefusesBy, errs_then, errs_led, errs_told}
-
-abbrev AnyError : DavError → Type 0
-AnyError e = Unit {0}
-
-errs_judged : {A : Type 0} (verdict : Result A DavError) → RefusesBy AnyError (judged verdict)
-errs_judged (Ok a) = tt
-errs_judged (Err e) = tt
+use Rattle.dav_engine.proofs.Propfinding.{propfind_unchanged}
+use Rattle.dav_engine.proofs.Refusals.{AnyError, RefusesBy, errs_then, errs_led, errs_judged, errs_told}
 
 -- ---- the rules list nothing, and pass what is there
 
@@ -62,6 +61,7 @@ module _ (held : Bodies) (request : DavRequest) (state : State) where
   record PassedRules (head : List Logged) (found : Meta × Asking) : Type 0 where
     none : HasNoListing head
     there : state.contents.metas request.path.key ≡ Some found.0
+    asked : asking_of held request.body (user_agent_of request.headers) ≡ Ok found.1
 
   passed_sought : (head : List Logged) (found : Meta × Asking) → LeadsTo (sought_rules held request state) head (Passed found) → PassedRules head found
   passed_sought head found led =
@@ -70,8 +70,19 @@ module _ (held : Bodies) (request : DavRequest) (state : State) where
       record {
         none = leads_to_none (sought_rules held request state) (Passed found) head sought_lists_none led;
         there = found_passed state.contents request.path.key p.0 p.1 p.3 ∙ ap Some (meta_is p.0 q.0 q.2 q.4);
+        asked = judged_is (asking_of held request.body (user_agent_of request.headers)) q.0 q.1 q.3 ∙ ap Ok (asked_is p.0 q.0 q.2 q.4);
       }
     where
+      judged_is : (verdict : Result Asking DavError) (asking : Asking) (rest : List Logged) → LeadsTo (judged verdict) rest (Passed asking) → verdict ≡ Ok asking
+      judged_is (Ok a) asking [] end = let same : asking ≡ a = cc in ap Ok (sym same)
+      judged_is (Err e) asking [] end = absurd cc
+      judged_is (Ok a) asking (r ∷ rest) end = absurd end
+      judged_is (Err e) asking (r ∷ rest) end = absurd end
+
+      asked_is : (meta : Meta) (asking : Asking) (rest : List Logged) → LeadsTo (Passed (meta, asking)) rest (Passed found) → asking ≡ found.1
+      asked_is meta asking [] end = let same : found ≡ (meta, asking) = cc in ap (λ (f : Meta × Asking). f.1) (sym same)
+      asked_is meta asking (r ∷ rest) end = absurd end
+
       meta_is : (meta : Meta) (asking : Asking) (rest : List Logged) → LeadsTo (Passed (meta, asking)) rest (Passed found) → meta ≡ found.0
       meta_is meta asking [] end = let same : found ≡ (meta, asking) = cc in ap (λ (f : Meta × Asking). f.0) (sym same)
       meta_is meta asking (r ∷ rest) end = absurd end
@@ -104,26 +115,36 @@ module _ (held : Bodies) (request : DavRequest) (state : State) where
 not_both : (status : ℕ) → status ≡ 501 → status ≡ 207 → ⊥
 not_both status one other = omega (arith, one, other)
 
-module _ (settings : Settings) (request : DavRequest) (old new : Seen) (formed : IsWellFormed old.store.contents) where
-  step_tells : (records : List Logged) (answer : Answer) → new.store.log ≡ old.store.log ++ records → StepBy propfind_method settings request (state_of old) records answer (state_of new) → TellsItsRange request old answer new
-  step_tells records answer logged (Refused h) reply is told =
-      let finite : reply ≡ finite_depth_reply = refused_rules settings.facts.bodies request (state_of old) records reply (subst (λ a. LeadsTo (propfind_rules settings.facts.bodies request (state_of old)) records (Refuses a)) is h.head) in
+module _ (settings : Settings) (request : DavRequest) (old new : State) (formed : IsWellFormed old.contents) where
+  step_tells : (records : List Logged) (answer : Answer) → StepBy propfind_method settings request old records answer new → TellsItsRange settings request old records answer
+  step_tells records answer (Refused h) reply is told =
+      let finite : reply ≡ finite_depth_reply = refused_rules settings.facts.bodies request old records reply (subst (λ a. LeadsTo (propfind_rules settings.facts.bodies request old) records (Refuses a)) is h.head) in
       absurd (not_both reply.status (ap (λ (r : Reply). r.status) finite) told)
-  step_tells records answer logged (Done h) reply is told =
-      let passed = passed_rules settings.facts.bodies request (state_of old) h.head h.found h.passed in
+  step_tells records answer (Done h) reply is told =
+      let passed = passed_rules settings.facts.bodies request old h.head h.found h.passed in
+      let each : AreReported (view_in settings request old h.found.1.kind) old.contents h.found.1.asked request.path h.work.visits =
+      reports_each old.contents formed request.path (view_in settings request old h.found.1.kind) h.found.1.asked (target_at request h.found.0) (depth_or_default request) h.rest h.work.visits h.work.tells passed.there refl in
       record {
         found = h.found;
         visits = h.work.visits;
         shown = let same : Ok reply ≡ Ok (propfind_reply request h.found h.work.visits) = sym is ∙ h.work.answered in cc;
-        records = records;
-        logged = logged;
-        range = subst (λ rs. TellsRange old.store.contents (depth_or_default request) request.path.key rs (told_keys h.work.visits)) (sym h.cut)
-            (range_behind old.store.contents (depth_or_default request) request.path.key h.head h.rest (told_keys h.work.visits) passed.none
-            (tells_range old.store.contents formed (view_in settings request (state_of old) h.found.1.kind) h.found.1.asked (target_at request h.found.0) (depth_or_default request) h.rest h.work.visits h.work.tells passed.there));
+        range = subst (λ rs. TellsRange old.contents (depth_or_default request) request.path.key rs (told_keys h.work.visits)) (sym h.cut)
+            (range_behind old.contents (depth_or_default request) request.path.key h.head h.rest (told_keys h.work.visits) passed.none
+            (tells_range old.contents formed (view_in settings request old h.found.1.kind) h.found.1.asked (target_at request h.found.0) (depth_or_default request) h.rest h.work.visits h.work.tells passed.there));
+        there = passed.there;
+        order = reports_in_order (view_in settings request old h.found.1.kind) old.contents h.found.1.asked records (target_at request h.found.0) (depth_or_default request) h.rest h.work.visits h.work.tells
+            (λ r i. subst (IsIn r) (sym h.cut) (in_right r h.head h.rest i));
+        each = each;
+        named = reports_named (view_in settings request old h.found.1.kind) old.contents h.found.1.asked request.path h.work.visits formed
+            (prop_unlisted settings.facts.bodies (user_agent_of request.headers) request.body h.found.1 passed.asked) each;
+        wanted = passed.asked;
+        asked = asks_each_once settings.facts.bodies (user_agent_of request.headers) request.body h.found.1 passed.asked;
       }
-  step_tells records answer logged (CutShort h) reply is told = absurd (let no : Ok reply ≡ Err Memory = sym is ∙ h.told in cc)
-  step_tells records answer logged (CutInWork h) reply is told = absurd (let no : Ok reply ≡ Err Memory = sym is ∙ h.told in cc)
+  step_tells records answer (CutShort h) reply is told = absurd (let no : Ok reply ≡ Err Memory = sym is ∙ h.told in cc)
+  step_tells records answer (CutInWork h) reply is told = absurd (let no : Ok reply ≡ Err Memory = sym is ∙ h.told in cc)
 
--- of what is seen
-pub propfind_tells : (settings : Settings) (old : Seen) (request : DavRequest) (answer : Answer) (new : Seen) → IsWellFormed old.store.contents → Serves (Some PropFind) settings old request answer new → TellsItsRange request old answer new
-propfind_tells settings old request answer new formed served = step_tells settings request old new formed served.records answer served.told served.step
+pub propfind_law : {settings : Settings} {request : DavRequest} {old new : State} {records : List Logged} {answer : Answer} → IsLawfulState old → StepBy propfind_method settings request old records answer new → PropfindLaw settings request old records answer new
+propfind_law {settings} {request} {old} {new} {records} {answer} lawful step = record {
+  unchanged = propfind_unchanged settings request old records answer new step;
+  range = step_tells settings request old new lawful.contents records answer step;
+}

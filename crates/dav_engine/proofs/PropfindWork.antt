@@ -27,7 +27,7 @@ use Rattle.dav_engine.specs.Location.{location_fields}
 use Rattle.dav_engine.specs.Propfind.{view_in, target_at, depth_or_default, propfind_fields, Tells, PropfindWork, PropfindCut}
 use Rattle.dav_engine.specs.Settings.{Settings}
 use Rattle.dav_engine.specs.State.{State, state_of}
-use Rattle.dav_engine.specs.Step.{Performs}
+use Rattle.dav_engine.specs.Work.{Performs}
 use Rattle.dav_engine.proofs.Serving.{over, same_facts, same_state}
 
 abbrev failed : DavError → Answer

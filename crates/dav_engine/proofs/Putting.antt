@@ -29,7 +29,7 @@ use Rattle.dav_engine.specs.Target.{target_of}
 use Rattle.dav_engine.specs.declared.target.Target.{Target}
 use Rattle.dav_engine.specs.Opening.{IsFileAt}
 use Rattle.dav_engine.specs.Put.{new_bytes, put_options, put_open_error, put_seek_error, on_file, put_seek, put_write, look_by, put_steps, opened_bytes, final_bytes, as_looked, PutLeaves, PutWork, PutCut, SeeksIf, SeeksPlace, WritesBody, look_at_file}
-use Rattle.dav_engine.specs.Step.{WorksOnStore}
+use Rattle.dav_engine.specs.Work.{WorksOnStore}
 use Rattle.dav_engine.proofs.Granting.{not_granted, not_this_op, WasGranted-first, WasGranted-last, WasGranted-either}
 use Rattle.dav_parts.specs.Dialogues.{LeadsTo-more, unlike, needs-declined}
 use Rattle.dav_engine.proofs.Trees.{insert-inserted}
@@ -270,7 +270,7 @@ module _ (held : Bodies) (request : DavRequest) (target : Target) where
         leaves = leaves_looked h.records j.records _ _ _ _ h.leaves j.same asked;
       }
 
-never : (call : Call) (meta : Option Meta) (records : List Logged) (e : DavError) → LeadsTo (look_by call meta) records (Refuses (Err e)) → ⊥
+pub never : (call : Call) (meta : Option Meta) (records : List Logged) (e : DavError) → LeadsTo (look_by call meta) records (Refuses (Err e)) → ⊥
 never call meta [] e h = absurd cc
 never call meta (r ∷ []) e h = absurd (let p : Refuses (Err e) ≡ Passed (if_granted r.outcome meta) = h.2 in cc)
 never call meta (r ∷ s ∷ records) e h = absurd h.2

@@ -25,7 +25,7 @@ use Rattle.dav_store.specs.Logged.{Logged}
 use Rattle.dav_store.specs.Store.{Contents}
 use Rattle.dav_store.specs.declared.lock.DavLock.{DavLock}
 use Rattle.dav_parts.specs.Conditions.{item_holds_at, condition_holds, all_hold, key_of_list, conditions_hold, any_holds, lists_hold, if_holds, while_true, until_true, unless_refused, tokens_where, http_verdict, if_match_fails, if_none_match_fails, none_match_status, none_match_verdict, current_tag, dav_if_match, conditions}
-use Rattle.dav_parts.specs.Dialogue.{Dialogue, Asks, Refuses, Passed, LeadsTo, look, ◌>>=◌}
+use Rattle.dav_parts.specs.Dialogue.{Dialogue, Asks, Refuses, Passed, LeadsTo, look, ◌>>=◌, refusing}
 use Rattle.dav_parts.specs.Reply.{Answer}
 use Rattle.dav_engine.specs.Rules.{judged, or_refused, where_permitted, depth_verdict}
 
@@ -141,7 +141,7 @@ module _ (Kind : DavError → Type 0) where
           errs_then (conditions_hold contents locks about list.conditions) _ (errs_list about list.conditions)
           (λ holds. errs_until holds (any_holds contents locks path about lists) (errs_any path about lists))
 
-      errs_lists : (path : PathValue) (lists : Option (List IfList)) → RefusesBy (lists_hold contents locks path lists)
+      pub errs_lists : (path : PathValue) (lists : Option (List IfList)) → RefusesBy (lists_hold contents locks path lists)
       errs_lists path None = tt
       errs_lists path (Some lists) = errs_any path (Some path.key) lists
 
@@ -167,3 +167,21 @@ module _ (Kind : DavError → Type 0) where
     pub errs_permitted : {A : Type 0} (s : ℕ) → 300 ≤ s → (permitted : Bool) (a : A) → RefusesBy (where_permitted s permitted a)
     errs_permitted s least true a = tt
     errs_permitted s least false a = status s least
+
+-- ---- no refusal is a reply
+
+-- any error is one of this kind
+abbrev pub AnyError : DavError → Type 0
+AnyError e = Unit {0}
+
+pub errs_judged : {A : Type 0} (verdict : Result A DavError) → RefusesBy AnyError (judged verdict)
+errs_judged (Ok a) = tt
+errs_judged (Err e) = tt
+
+-- nor is one whose error is changed
+pub errs_refusing : {A : Type 0} (change : DavError → DavError) (dialogue : Dialogue A) → RefusesBy AnyError dialogue → RefusesBy AnyError (refusing change dialogue)
+unfolding refusing
+errs_refusing change (Asks call next) h = λ outcome. errs_refusing change (next outcome) (h outcome)
+errs_refusing change (Refuses (Ok reply)) h = h
+errs_refusing change (Refuses (Err e)) h = tt
+errs_refusing change (Passed a) h = tt

@@ -8,6 +8,8 @@ use Rattle.dav_resource.specs.Key.{Key, parent}
 use Rattle.dav_resource.specs.PathText.{PathValue}
 use Rattle.dav_resource.specs.declared.error.DavError.{DavError}
 use Rattle.dav_resource.specs.declared.error.DavError.TheVariants.{Memory}
+use Rattle.dav_resource.specs.declared.error.FsError.{FsError}
+use Rattle.dav_resource.specs.Errors.{fs_status}
 use Rattle.dav_resource.specs.declared.meta.Meta.{Meta}
 use Rattle.dav_resource.specs.declared.request.Body.{Body}
 use Rattle.dav_resource.specs.declared.request.Depth.TheVariants.{Infinity}
@@ -23,8 +25,7 @@ use Rattle.dav_walks.specs.KeyCall.{standing}
 use Rattle.dav_walks.specs.RemovalLaws.{nothing_removed, whole_in_part, removes_within}
 use Rattle.dav_engine.specs.State.{State, Seen, state_of}
 use Rattle.dav_engine.specs.Transferring.{ClearsIf, ClearsInPart, Clearing, Names, NamesBy, UnlessNamed, Replaces, ReplacesInPart, transferred_items, TransferWork}
-use Rattle.dav_engine.specs.Laws.{AreRefusals}
-use Rattle.dav_engine.specs.Step.{Performs}
+use Rattle.dav_engine.specs.Work.{Performs}
 use Rattle.dav_engine.proofs.Deleting.{none_named, some_named, no_memory, answered}
 
 -- ---- keys apart
@@ -65,6 +66,10 @@ pub clear_gone : (there : Option Meta) (destination : PathValue) (old mid : Stat
 clear_gone None destination old mid head formed known cleared =
     ap (λ (s : State). get s.contents.tree destination.key) cleared.2 ∙ fits_none (get old.contents.tree destination.key) (old.contents.metas destination.key) (formed.metas destination.key) known
 clear_gone (Some meta) destination old mid head formed known cleared = path_gone Infinity destination old.contents mid.contents head cleared.removed
+
+-- each status is that of some store error
+abbrev pub AreRefusals : List Item → Type 0
+AreRefusals names = (item : Item) → IsIn item names → (e : FsError) × (fs_status e ≡ item.1)
 
 -- each name is a refusal's
 clear_refused : (there : Bool) (destination : PathValue) (old mid : State) (head : List Logged) (names : List Item) → ClearsIf there destination old head names mid → AreRefusals names

@@ -17,9 +17,7 @@ use Rattle.dav_engine.specs.State.{State, Seen, state_of, facts_of, IsLawfulStat
 use Rattle.dav_engine.specs.DavInner.{lent, lent_locks, frame, seen_by, settings_by}
 use Rattle.dav_engine.specs.Settings.{Settings}
 use Rattle.dav_engine.specs.declared.inner.DavInner.{DavInner}
-use Rattle.dav_engine.specs.Guarded.{IsGuarded}
-use Rattle.dav_engine.specs.Methods.{Step}
-use Rattle.dav_engine.specs.Step.{Serves, Run, Runs}
+use Rattle.dav_engine.specs.Step.{Serves, RunsOne, Run, Runs}
 
 -- a state has what the facts say
 system_there : (seen : Seen) → is_some (state_of seen).locks ≡ is_some (facts_of seen).1
@@ -44,14 +42,12 @@ same_system old new fixed = record {
 
 module _ (settings : Settings) where
   Run-more : (requests : List DavRequest) (answers : List Answer) (old mid new : State) (records part : List Logged) (request : DavRequest) (answer : Answer)
-      → Run settings old requests records answers mid → Step (method_of request.method) settings request mid part answer new → IsGuarded (method_of request.method) request mid new → IsLawfulState new → HasSameSystem mid new
-      → Run settings old (requests ++ request ∷ []) (records ++ part) (answers ++ answer ∷ []) new
-  Run-more [] [] old mid new records part request answer run step guarded fits same =
-      (part, [], new, rw (run.0, append-nil), rw run.1 at step, rw run.1 at guarded, fits, rw run.1 at same, (refl, refl))
-  Run-more [] (a ∷ answers) old mid new records part request answer run step guarded fits same = absurd run
-  Run-more (r ∷ requests) [] old mid new records part request answer run step guarded fits same = absurd run
-  Run-more (r ∷ requests) (a ∷ answers) old mid new records part request answer run step guarded fits same =
-      (run.0, run.1 ++ part, run.2, rw (run.3, append_assoc), run.4, run.5, run.6, run.7, Run-more requests answers run.2 mid new run.1 part request answer run.8 step guarded fits same)
+      → Run settings old requests records answers mid → RunsOne settings request mid part answer new → Run settings old (requests ++ request ∷ []) (records ++ part) (answers ++ answer ∷ []) new
+  Run-more [] [] old mid new records part request answer run one = (part, [], new, rw (run.0, append-nil), rw run.1 at one, (refl, refl))
+  Run-more [] (a ∷ answers) old mid new records part request answer run one = absurd run
+  Run-more (r ∷ requests) [] old mid new records part request answer run one = absurd run
+  Run-more (r ∷ requests) (a ∷ answers) old mid new records part request answer run one =
+      (run.0, run.1 ++ part, run.2, rw (run.3, append_assoc), run.4, Run-more requests answers run.2 mid new run.1 part request answer run.5 one)
 
   -- a run, and then one more request
   Runs-more : (old mid new : Seen) (requests : List DavRequest) (answers : List Answer) (request : DavRequest) (answer : Answer)
@@ -60,7 +56,7 @@ module _ (settings : Settings) where
     records = runs.records ++ serves.records;
     told = rw (serves.told, runs.told, append_assoc);
     fixed = rw (serves.fixed, runs.fixed);
-    run = Run-more requests answers _ _ _ _ _ request answer runs.run serves.step serves.guarded fits (same_system mid new serves.fixed);
+    run = Run-more requests answers _ _ _ _ _ request answer runs.run (record { step = serves.step; guarded = serves.guarded; law = serves.law; lawful = fits; system = same_system mid new serves.fixed });
     compatible = λ h. serves.compatible (runs.compatible h);
   }
 

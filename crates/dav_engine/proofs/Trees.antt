@@ -1,9 +1,13 @@
--- Trees that gain a node.
-use Rattle.std.proofs.Common.{◌≡◌, Bool, true, false, Option, Some, refl, sym, ◌∙◌, ap, cond}
+-- Trees that gain or lose a node, and what stands below a key.
+use Rattle.std.proofs.Common.{◌≡◌, ◌≢◌, Bool, true, false, ℕ, List, [], ◌∷◌, ◌++◌, append-nil, append_assoc, Option, Some, None, refl, sym, ◌∙◌, ap, cond}
 use Rattle.std.specs.Ordering.{eq_by_cmp}
-use Rattle.std.specs.FinMap.{get, insert, get-insert, same_map}
+use Rattle.std.specs.FinMap.{get, insert, remove, get-insert, get-remove, same_map}
 use Rattle.dav_resource.specs.Key.{Key, key_cmp, key_cmp_total, key_cmp_exact, tied_decides}
-use Rattle.dav_store.specs.Store.{Node, Tree}
+use Rattle.dav_store.specs.Below.{is_at_or_below}
+use Rattle.dav_store.specs.BelowLaws.{at_or_below-tail}
+use Rattle.dav_store.specs.Members.{member}
+use Rattle.dav_store.specs.MemberLaws.{parent-member}
+use Rattle.dav_store.specs.Store.{Contents, Node, Directory, Tree, IsWellFormed}
 
 -- the last of two at one key counts
 pub insert-inserted : (tree : Tree) (key : Key) (n m : Node) → insert (insert tree key n) key m ≡ insert tree key m
@@ -26,3 +30,39 @@ insert-there tree key n there =
     covered : (q : Key) (b : Bool) → eq_by_cmp key_cmp q key ≡ b → cond b (Some n) (get tree q) ≡ get tree q
     covered q true same = sym (ap (get tree) ((tied_decides q key).0 same) ∙ there)
     covered q false apart = refl
+
+-- where nothing stands, nothing stands after a removal
+pub none_removed : (tree : Tree) (key q : Key) → get tree q ≡ None → get (remove tree key) q ≡ None
+none_removed tree key q none =
+    get-remove key_cmp_total tree key q ∙ ap (λ o. cond (eq_by_cmp key_cmp q key) None o) none ∙ either (eq_by_cmp key_cmp q key)
+  where
+    either : (b : Bool) → ◌≡◌ {A = Option Node} (cond b None None) None
+    either true = refl
+    either false = refl
+
+-- what is no directory has no members
+pub no_member : (contents : Contents) → IsWellFormed contents → (key : Key) (n : List ℕ) → get contents.tree key ≢ Some Directory → get contents.tree (member key n) ≡ None
+no_member contents formed key n other = by_node (get contents.tree (member key n)) refl
+  where
+    by_node : (it : Option Node) → get contents.tree (member key n) ≡ it → get contents.tree (member key n) ≡ None
+    by_node None is = is
+    by_node (Some it) is =
+        let above : get contents.tree key ≡ Some Directory = ap (get contents.tree) (sym (parent-member key n)) ∙ formed.parents (member key n) (λ nothing. let no : Some it ≡ None = sym is ∙ nothing in cc) in
+        absurd (other above)
+
+-- nothing stands below where nothing stands
+pub none_below : (contents : Contents) → IsWellFormed contents → (x key : Key) → get contents.tree key ≡ None → get contents.tree (key ++ x) ≡ None
+none_below contents formed [] key none = ap (get contents.tree) (append-nil key) ∙ none
+none_below contents formed (n ∷ x) key none =
+    ap (get contents.tree) (sym (append_assoc key (n ∷ []) x))
+    ∙ none_below contents formed x (member key n) (no_member contents formed key n (λ is. let no : None ≡ Some Directory = sym none ∙ is in cc))
+
+-- nor below where no member stands
+pub memberless_below : (contents : Contents) → IsWellFormed contents → (key : Key) → ((n : List ℕ) → get contents.tree (member key n) ≡ None) → (n : List ℕ) (x : Key) → get contents.tree (key ++ n ∷ x) ≡ None
+memberless_below contents formed key none n x = ap (get contents.tree) (sym (append_assoc key (n ∷ []) x)) ∙ none_below contents formed x (member key n) (none n)
+
+-- nothing stands at or below a key where nothing stands
+pub none_at_or_below : (contents : Contents) → IsWellFormed contents → (key place : Key) → get contents.tree key ≡ None → is_at_or_below place key ≡ true → get contents.tree place ≡ None
+none_at_or_below contents formed key place none below =
+    let tail = at_or_below-tail key place below in
+    ap (get contents.tree) tail.1 ∙ none_below contents formed tail.0 key none

@@ -1,47 +1,50 @@
 -- The laws of PUT, PATCH and LOCK, by the definitions of the methods.
-use Rattle.std.proofs.Common.{◌≡◌, ◌≢◌, ◌⊎◌, ◌∙◌, inl, inr, refl, sym, ap, ℕ, Bool, true, false, if◌then◌else◌, List, [], ◌∷◌, map, Option, Some, None, option_map, Ok, Err}
+use Rattle.std.proofs.Common.{◌≡◌, ◌≢◌, ◌⊎◌, ◌∙◌, inl, inr, refl, sym, ap, subst, ℕ, Bool, true, false, if◌then◌else◌, List, [], ◌∷◌, map, Option, Some, None, option_map, Ok, Err}
 use Rattle.std.specs.Ordering.{eq_by_cmp}
 use Rattle.std.specs.FinMap.{get}
 use Rattle.dav_resource.specs.Key.{Key, key_cmp, tied_decides}
 use Rattle.dav_resource.specs.declared.error.DavError.{DavError}
-use Rattle.dav_resource.specs.declared.error.DavError.TheVariants.{Memory}
+use Rattle.dav_resource.specs.declared.error.DavError.TheVariants.{Memory, Status}
 use Rattle.dav_resource.specs.declared.error.FsError.{FsError}
 use Rattle.dav_resource.specs.declared.meta.Meta.{Meta}
-use Rattle.dav_resource.specs.declared.method.DavMethod.{DavMethod}
-use Rattle.dav_resource.specs.declared.method.DavMethod.TheVariants.{Put, Patch, Lock}
 use Rattle.dav_resource.specs.declared.record.Op.{Op}
 use Rattle.dav_resource.specs.declared.record.Op.TheVariants.{OpenFile, WriteBytes}
 use Rattle.dav_resource.specs.declared.record.Outcome.{Outcome}
 use Rattle.dav_resource.specs.declared.record.Outcome.TheVariants as outcomes
 use Rattle.dav_resource.specs.declared.request.DavRequest.{DavRequest}
+use Rattle.dav_headers.specs.IfHeader.{if_of}
 use Rattle.dav_store.specs.Calls.{Call, open_call}
 use Rattle.dav_store.specs.LockCalls.{is_named, refreshed, with_refreshed}
 use Rattle.dav_store.specs.Logged.{Logged, logged}
 use Rattle.dav_store.specs.Store.{Contents, Bodies, File}
 use Rattle.dav_store.specs.declared.lock.DavLock.{DavLock}
+use Rattle.dav_parts.specs.Conditions.{if_holds, unless_refused}
 use Rattle.dav_parts.specs.Dialogue.{Dialogue, Asks, Refuses, Passed, needs, LeadsTo, WasGranted}
 use Rattle.dav_parts.specs.Reply.{Reply, Answer}
 use Rattle.dav_walks.specs.PutLaws.{put_elsewhere}
-use Rattle.dav_engine.specs.Laws.{ChangesPathAlone, tells_lock, untimed, untimed_locks, MayHaveRefreshed, MakesNothing, MakesNothingUnlessLocked}
+use Rattle.dav_engine.specs.Bounds.{untimed}
+use Rattle.dav_engine.specs.Laws.{ChangesPathAlone, tells_lock, untimed_locks, MayHaveRefreshed, MakesNothing, MakesNothingUnlessLocked, IsLocked, LockLaw}
+use Rattle.dav_engine.specs.LockInfo.{lock_info_verdict}
 use Rattle.dav_engine.specs.LockReply.{granted_reply, refreshed_reply}
-use Rattle.dav_engine.specs.Locking.{is_refresh, lock_open_error, file_steps, FileLeaves, TakesBack, GrantsLock, DeniesLock, RefreshesAlone, RefreshesTold, FindsNoLock, lock_asked, refresh_timeout, LockWorkBy, LockCutBy}
+use Rattle.dav_engine.specs.Locking.{is_refresh, locks_verdict, look_to_lock, refresh_rules, new_lock_rules, lock_open_error, file_steps, FileLeaves, TakesBack, LeavesLock, GrantsLock, DeniesLock, NewLockWork, RefreshesAlone, RefreshesTold, FindsNoLock, lock_asked, refresh_timeout, LockWorkBy, LockCutBy}
 use Rattle.dav_engine.specs.Method.{StepBy, Refused, Done, CutShort, CutInWork}
-use Rattle.dav_engine.specs.Methods.{Step, write_method, lock_method}
+use Rattle.dav_engine.specs.Methods.{write_method, lock_method}
 use Rattle.dav_engine.specs.Opening.{making_options, IsFileAt}
-use Rattle.dav_engine.specs.Put.{PutLeaves, is_patch, put_method}
+use Rattle.dav_engine.specs.Put.{PutLeaves}
+use Rattle.dav_engine.specs.Rules.{judged, own_if_match, holding, depth_or_all, depth_verdict}
 use Rattle.dav_engine.specs.Settings.{Settings}
-use Rattle.dav_engine.specs.State.{State, Seen, state_of, LocksStay}
-use Rattle.dav_engine.specs.Step.{Serves}
+use Rattle.dav_engine.specs.State.{State, LocksStay, IsLawfulState}
 use Rattle.dav_engine.specs.declared.target.Target.{Target}
 use Rattle.dav_engine.proofs.Granting.{not_granted}
+use Rattle.dav_engine.proofs.Refusals.{AnyError, RefusesBy, errs_then, errs_led, errs_lists, errs_judged}
 
 -- ---- a call was granted, or it wasn't
 
-is_open : (op : Op) → (op ≡ OpenFile) ⊎ (op ≢ OpenFile)
+pub is_open : (op : Op) → (op ≡ OpenFile) ⊎ (op ≢ OpenFile)
 is_open OpenFile = inl refl
 is_open op = inr (λ e. cc)
 
-is_write : (op : Op) → (op ≡ WriteBytes) ⊎ (op ≢ WriteBytes)
+pub is_write : (op : Op) → (op ≡ WriteBytes) ⊎ (op ≢ WriteBytes)
 is_write WriteBytes = inl refl
 is_write op = inr (λ e. cc)
 
@@ -74,7 +77,7 @@ module _ (op : Op) (is_op : (o : Op) → (o ≡ op) ⊎ (o ≢ op)) (key : Key) 
       by_parts (inl a) (inl b) (inr other) d = inr (λ e. other (ap (λ (l : Logged). l.outcome) e))
       by_parts (inl a) (inl b) (inl c) (inr other) = inr (λ e. other (ap (λ (l : Logged). l.statuses) e))
 
-  granted_or_not : (records : List Logged) → WasGranted op key records ⊎ (WasGranted op key records → ⊥)
+  pub granted_or_not : (records : List Logged) → WasGranted op key records ⊎ (WasGranted op key records → ⊥)
   granted_or_not [] = inr (λ g. g)
   granted_or_not (r ∷ records) = by_first (is_granted r) (granted_or_not records)
     where
@@ -106,29 +109,22 @@ module _ (request : DavRequest) (old new : State) where
           let same = leaves.untouched unopened in
           record { elsewhere = λ key apart. ap (λ (c : Contents). get c.tree key) same; properties = ap (λ (c : Contents). c.properties) same }
 
-  alone_step : (partial : Bool) (settings : Settings) (records : List Logged) (answer : Answer) → StepBy (write_method partial) settings request old records answer new → ChangesPathAlone request old new
+  pub alone_step : (partial : Bool) (settings : Settings) (records : List Logged) (answer : Answer) → StepBy (write_method partial) settings request old records answer new → ChangesPathAlone request old new
   alone_step partial settings records answer (Refused h) = alone_same h.same
   alone_step partial settings records answer (Done h) = alone_put settings.facts.bodies h.work.0.target h.rest h.work.0.leaves
   alone_step partial settings records answer (CutShort h) = alone_same h.same
   alone_step partial settings records answer (CutInWork h) = alone_put settings.facts.bodies h.work.0.target h.rest h.work.0.leaves
 
-pub serves_alone : (method : Option DavMethod) (settings : Settings) (old : Seen) (request : DavRequest) (answer : Answer) (new : Seen) → Serves (Some (put_method method)) settings old request answer new → ChangesPathAlone request (state_of old) (state_of new)
-serves_alone method settings old request answer new h = by_method (is_patch method) h.step
-  where
-    by_method : (partial : Bool) → Step (Some (if partial then Patch else Put)) settings request (state_of old) h.records answer (state_of new) → ChangesPathAlone request (state_of old) (state_of new)
-    by_method true step = alone_step request (state_of old) (state_of new) true settings h.records answer step
-    by_method false step = alone_step request (state_of old) (state_of new) false settings h.records answer step
-
 -- ---- a LOCK that isn't granted makes nothing
 
 -- what a call leads to by an outcome
-abbrev met : {A : Type 0} → Dialogue A → Outcome → Dialogue A
+abbrev pub met : {A : Type 0} → Dialogue A → Outcome → Dialogue A
 met (Asks call next) outcome = next outcome
 met (Refuses answer) outcome = Refuses answer
 met (Passed a) outcome = Passed a
 
 -- a request that a call is needed for is refused by that call alone
-refused_by : {A : Type 0} (a : A) (call : Call) (error : FsError → DavError) (outcome : Outcome) (rest : List Logged) (e : DavError) → LeadsTo (met (needs call error (Passed a)) outcome) rest (Refuses (Err e)) → (outcome ≢ outcomes.Granted) × (rest ≡ [])
+pub refused_by : {A : Type 0} (a : A) (call : Call) (error : FsError → DavError) (outcome : Outcome) (rest : List Logged) (e : DavError) → LeadsTo (met (needs call error (Passed a)) outcome) rest (Refuses (Err e)) → (outcome ≢ outcomes.Granted) × (rest ≡ [])
 refused_by a call error outcomes.Granted [] e h = absurd cc
 refused_by a call error outcomes.Granted (r ∷ rest) e h = absurd h
 refused_by a call error (outcomes.Barred d) [] e h = (λ same. cc, refl)
@@ -137,7 +133,7 @@ refused_by a call error (outcomes.Refused d) [] e h = (λ same. cc, refl)
 refused_by a call error (outcomes.Refused d) (r ∷ rest) e h = absurd h
 
 -- so no file is made
-no_file : (request : DavRequest) (found : Option Meta) (records : List Logged) (old new : Contents) (e : DavError) → LeadsTo (file_steps request found old) records (Refuses (Err e)) → FileLeaves request records old new → new ≡ old
+pub no_file : (request : DavRequest) (found : Option Meta) (records : List Logged) (old new : Contents) (e : DavError) → LeadsTo (file_steps request found old) records (Refuses (Err e)) → FileLeaves request records old new → new ≡ old
 no_file request found records old new e h (inr none) = none.1
 no_file request (Some meta) [] old new e h (inl made) = absurd made.0
 no_file request (Some meta) (r ∷ records) old new e h (inl made) = absurd h
@@ -212,5 +208,56 @@ module _ (settings : Settings) (request : DavRequest) (old new : State) where
   ungranted_step records answer (CutShort h) otherwise = nothing_same answer h.same
   ungranted_step records answer (CutInWork h) otherwise = ungranted_cut h.found h.rest answer h.told (is_refresh settings.facts.bodies request.body) refl h.work
 
-pub serves_ungranted : (settings : Settings) (old : Seen) (request : DavRequest) (answer : Answer) (new : Seen) → Serves (Some Lock) settings old request answer new → MakesNothingUnlessLocked settings request answer (state_of old) (state_of new)
-serves_ungranted settings old request answer new h = ungranted_step settings request (state_of old) (state_of new) h.records answer h.step
+-- ---- a LOCK that is told of is granted
+
+-- the rules of a new lock refuse by errors
+errs_unless : (refusal : Option ℕ) → RefusesBy AnyError (unless_refused {A = Unit {0}} refusal (Passed tt))
+errs_unless None = tt
+errs_unless (Some status) = tt
+
+module _ (request : DavRequest) (state : State) where
+  errs_holding : (found : Option Meta) → RefusesBy AnyError (holding request state found)
+  errs_holding found =
+      errs_then AnyError (own_if_match request state found) _
+      (errs_then AnyError (if_holds state.contents state.locks request request.path) _ (errs_lists AnyError (λ s least. tt) state.contents state.locks request.path (if_of request.headers)) (λ holds. tt)) errs_unless
+
+  errs_new_lock : RefusesBy AnyError (new_lock_rules request state)
+  errs_new_lock =
+      errs_then AnyError (look_to_lock request state) _ (errs_then AnyError (judged (locks_verdict state)) _ (errs_judged (locks_verdict state)) (λ there outcome. tt))
+      (λ found. errs_then AnyError (judged (depth_verdict (depth_or_all request))) _ (errs_judged (depth_verdict (depth_or_all request)))
+      (λ reached. errs_then AnyError (holding request state found) _ (errs_holding found)
+      (λ held. errs_then AnyError (judged (lock_info_verdict request.body)) _ (errs_judged (lock_info_verdict request.body)) (λ info. tt))))
+
+-- an error tells no lock
+error_untold : (answer : Answer) (e : DavError) → answer ≡ Err e → tells_lock answer ≡ true → ⊥
+error_untold answer e is told = let no : false ≡ true = sym (ap tells_lock is) ∙ told in cc
+
+module _ (settings : Settings) (request : DavRequest) (old new : State) (records : List Logged) (answer : Answer) (told : tells_lock answer ≡ true) (made : is_refresh settings.facts.bodies request.body ≡ false) where
+  locked_work : (found : Option Meta) (rest : List Logged) → NewLockWork request found old rest answer new → IsLocked request old new
+  locked_work found rest work = by_end work.done
+    where
+      asked : DavLock
+      asked = lock_asked request found work.info
+
+      by_answer : (given : Answer) → answer ≡ given → LeavesLock asked given old new → IsLocked request old new
+      by_answer (Ok reply) is added = record { found = found; info = work.info; asked = work.asked; added = added }
+      by_answer (Err e) is taken = absurd (error_untold answer e is told)
+
+      by_end : GrantsLock request found asked old rest answer new ⊎ DeniesLock asked old rest answer new → IsLocked request old new
+      by_end (inl granted) = by_answer answer refl granted.locks
+      by_end (inr denied) = absurd (error_untold answer (Status 423) denied.told told)
+
+  locked_step : StepBy lock_method settings request old records answer new → IsLocked request old new
+  locked_step (Refused h) =
+      let led = subst (λ b. LeadsTo (if b then refresh_rules request old else new_lock_rules request old) records (Refuses answer)) made h.head in
+      let refused = errs_led AnyError (new_lock_rules request old) records answer (errs_new_lock request old) led in
+      absurd (error_untold answer refused.0 refused.1 told)
+  locked_step (Done h) = locked_work h.found h.rest (subst (λ b. LockWorkBy b request h.found old h.rest answer new) made h.work)
+  locked_step (CutShort h) = absurd (error_untold answer Memory h.told told)
+  locked_step (CutInWork h) = absurd (error_untold answer Memory h.told told)
+
+pub lock_law : {settings : Settings} {request : DavRequest} {old new : State} {records : List Logged} {answer : Answer} → IsLawfulState old → StepBy lock_method settings request old records answer new → LockLaw settings request old answer new
+lock_law {settings} {request} {old} {new} {records} {answer} lawful step = record {
+  locked = λ told made. locked_step settings request old new records answer told made step;
+  unlocked = ungranted_step settings request old new records answer step;
+}

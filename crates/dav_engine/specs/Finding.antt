@@ -6,7 +6,7 @@ use Rattle.dav_find.specs.Asked.{Asking}
 use Rattle.dav_engine.specs.Propfind.{PropfindWork, PropfindCut}
 use Rattle.dav_engine.specs.Settings.{Settings}
 use Rattle.dav_engine.specs.State.{Seen}
-use Rattle.dav_engine.specs.Step.{Performs}
+use Rattle.dav_engine.specs.Work.{Performs}
 
 -- the work is done, or memory ran out in it
 abbrev pub PerformsPropfind : Settings → DavRequest → Meta × Asking → Seen → Answer → Seen → Type 0

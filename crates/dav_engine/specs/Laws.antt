@@ -1,44 +1,65 @@
 -- What a request may change, and what its result says, in a user's terms. Each law follows from the method's definition (RFC 4918, sections 9.1, 9.2,
 -- 9.6 to 9.10 and 13).
-use Rattle.std.specs.Prelude.{◌≡◌, ◌≢◌, ◌⊎◌, ◌||◌, nat_eq, Bool, true, false, List, [], ◌++◌, map, Option, None, option_map, Ok, Err}
+use Rattle.std.specs.Prelude.{◌≡◌, ◌≢◌, ◌⊎◌, ◌||◌, ℕ, nat_eq, Bool, true, false, if◌then◌else◌, List, [], ◌∷◌, ◌++◌, map, filter, Option, Some, None, option_map, Ok, Err}
 use Rattle.std.specs.FinMap.{get}
-use Rattle.std.specs.List.{list_all}
+use Rattle.std.specs.List.{list_all, flat_map}
 use Rattle.std.specs.Option.{ForSome}
-use Rattle.dav_resource.specs.Key.{Key}
+use Rattle.dav_resource.specs.Key.{Key, is_same_key}
 use Rattle.dav_resource.specs.PathText.{PathValue}
 use Rattle.dav_resource.specs.Tree.{Tree}
-use Rattle.dav_resource.specs.Errors.{dav_status, fs_status}
+use Rattle.dav_resource.specs.Errors.{dav_status}
 use Rattle.dav_resource.specs.declared.error.DavError.{DavError}
 use Rattle.dav_resource.specs.declared.error.DavError.TheVariants.{Memory}
-use Rattle.dav_resource.specs.declared.error.FsError.{FsError}
 use Rattle.dav_resource.specs.declared.meta.Meta.{Meta}
-use Rattle.dav_resource.specs.declared.request.Depth.TheVariants.{Zero}
+use Rattle.dav_resource.specs.declared.record.Op.{Op}
+use Rattle.dav_resource.specs.declared.record.Op.TheVariants.{PatchProps}
 use Rattle.dav_resource.specs.declared.request.DavRequest.{DavRequest}
 use Rattle.dav_headers.specs.Destination.{destination_of}
+use Rattle.dav_headers.specs.Client.{user_agent_of}
+use Rattle.dav_headers.specs.LockToken.{lock_token_of}
+use Rattle.dav_headers.specs.Range.{content_range_of}
+use Rattle.dav_store.specs.Below.{is_below}
+use Rattle.dav_store.specs.Calls.{bytes_at}
+use Rattle.dav_store.specs.LockCalls.{without_named}
 use Rattle.dav_store.specs.Locks.{is_at_or_below, at_or_below}
 use Rattle.dav_store.specs.Logged.{Logged}
-use Rattle.dav_store.specs.Members.{IsIn}
 use Rattle.dav_store.specs.PropertyCalls.{properties_at, patched}
-use Rattle.dav_store.specs.Store.{property_key}
+use Rattle.dav_store.specs.Store.{Contents, Bodies, File, Directory, property_key}
 use Rattle.dav_store.specs.Transfers.{IsRenamedTo}
 use Rattle.dav_store.specs.declared.lock.DavLock.{DavLock}
-use Rattle.dav_parts.specs.Multistatus.{Item, multistatus_reply}
 use Rattle.dav_parts.specs.Reply.{Reply, Answer}
 use Rattle.dav_props.specs.Propstat.{Told, grouped}
-use Rattle.dav_props.specs.Update.{Change, update_verdict, some_refused, live_first, patches_of}
-use Rattle.dav_find.specs.Asked.{Asking}
+use Rattle.dav_props.specs.Update.{Change, update_verdict, is_refused, some_refused, live_first, patches_of}
+use Rattle.dav_find.specs.Asked.{Asking, asking_of}
+use Rattle.dav_find.specs.AskedOnce.{AsksEachOnce}
+use Rattle.dav_find.specs.Ordered.{IsDepthFirst}
 use Rattle.dav_find.specs.Range.{TellsRange}
 use Rattle.dav_find.specs.RangeSteps.{told_keys}
+use Rattle.dav_find.specs.Reported.{AreReported, AreNamedAsAsked}
 use Rattle.dav_find.specs.Visiting.{Visit}
 use Rattle.dav_walks.specs.Copying.{snapshot, copied}
 use Rattle.dav_walks.specs.KeyCall.{standing}
-use Rattle.dav_engine.specs.Locking.{is_refresh}
-use Rattle.dav_engine.specs.Propfind.{depth_or_default, propfind_reply}
+use Rattle.dav_engine.specs.Bounds.{untimed}
+use Rattle.dav_engine.specs.LockInfo.{lock_info_of}
+use Rattle.dav_engine.specs.Locking.{is_refresh, lock_asked, AddsToLocks}
+use Rattle.dav_engine.specs.Propfind.{depth_or_default, propfind_reply, view_in}
+use Rattle.dav_engine.specs.Put.{new_bytes, final_bytes, as_looked}
+use Rattle.dav_engine.specs.Target.{target_of}
+use Rattle.dav_engine.specs.declared.target.Target.{Target}
+use Rattle.dav_engine.specs.declared.lock_info.LockInfo.{LockInfo}
 use Rattle.dav_engine.specs.Proppatch.{proppatch_reply}
+use Rattle.dav_engine.specs.Reports.{DeleteReports, CopyReports, MoveReports}
 use Rattle.dav_engine.specs.Rules.{depth_or_all}
 use Rattle.dav_engine.specs.Transferring.{is_deep}
 use Rattle.dav_engine.specs.Settings.{Settings}
-use Rattle.dav_engine.specs.State.{State, Seen, LocksStay, DropsLocks}
+use Rattle.dav_engine.specs.State.{State, LocksStay, DropsLocks}
+
+-- ---- a request that changes nothing
+
+-- the contents of the store and the locks are unchanged
+pub record ChangesNothing (old new : State) : Type 0 where
+  pub contents : new.contents ≡ old.contents
+  pub locks : LocksStay old new
 
 -- ---- DELETE
 
@@ -47,10 +68,9 @@ abbrev pub IsNoContent : Answer → Type 0
 IsNoContent (Ok reply) = reply.status ≡ 204
 IsNoContent (Err e) = dav_status e ≡ 204
 
--- nothing exists at the path and, unless Depth is 0, nothing below it
-pub record IsEmptied (request : DavRequest) (new : State) : Type 0 where
-  pub gone : get new.contents.tree request.path.key ≡ None
-  pub below : depth_or_all request ≢ Zero → (key : Key) → is_at_or_below key request.path.key ≡ true → get new.contents.tree key ≡ None
+-- nothing exists at the path or below it
+abbrev pub IsEmptied : DavRequest → State → Type 0
+IsEmptied request new = (key : Key) → is_at_or_below key request.path.key ≡ true → get new.contents.tree key ≡ None
 
 -- no lock is left whose own path is the request's path or below it; a lock above the path may cover it
 abbrev pub IsUnlocked : DavRequest → State → Type 0
@@ -71,6 +91,31 @@ pub record IsGoneWithLocks (request : DavRequest) (old : State) (answer : Answer
 abbrev pub KeepsLocksUnlessGone : DavRequest → State → Answer → State → Type 0
 KeepsLocksUnlessGone request old answer new = LocksStay old new ⊎ IsGoneWithLocks request old answer new
 
+-- what a DELETE leaves and reports, by its result
+pub record DeleteLaw (request : DavRequest) (old : State) (records : List Logged) (answer : Answer) (new : State) : Type 0 where
+  pub emptied : EmptiesPath request old answer new
+  pub locks : KeepsLocksUnlessGone request old answer new
+  pub reports : DeleteReports request old records answer
+
+-- ---- MKCOL
+
+-- the result is a response with status 201
+abbrev pub tells_created : Answer → Bool
+tells_created (Ok reply) = nat_eq reply.status 201
+tells_created (Err e) = false
+
+-- nothing existed at the key, and now a directory does, without members and dead properties
+pub record IsNewDirectory (key : Key) (old new : Contents) : Type 0 where
+  pub nothing : get old.tree key ≡ None
+  pub made : get new.tree key ≡ Some Directory
+  pub empty : (member : Key) → is_below member key ≡ true → get new.tree member ≡ None
+  pub bare : get new.properties key ≡ None
+
+-- after a 201 an empty collection exists at the path; after any other result nothing has changed
+pub record MkcolLaw (request : DavRequest) (old : State) (answer : Answer) (new : State) : Type 0 where
+  pub made : tells_created answer ≡ true → IsNewDirectory request.path.key old.contents new.contents
+  pub unmade : tells_created answer ≡ false → ChangesNothing old new
+
 -- ---- PUT and PATCH
 
 -- every key except the request's path has the same file or directory as before, and all dead properties are the same
@@ -78,12 +123,45 @@ pub record ChangesPathAlone (request : DavRequest) (old new : State) : Type 0 wh
   pub elsewhere : (key : Key) → key ≢ request.path.key → get new.contents.tree key ≡ get old.contents.tree key
   pub properties : new.contents.properties ≡ old.contents.properties
 
--- ---- MOVE
-
 -- the result is a response with status 201 or 204
 abbrev pub tells_transferred : Answer → Bool
 tells_transferred (Ok reply) = nat_eq reply.status 201 || nat_eq reply.status 204
 tells_transferred (Err e) = false
+
+-- a file with these bytes exists at the request's path
+abbrev pub HasFileAtPath : DavRequest → State → List ℕ → Type 0
+HasFileAtPath request state bytes = get state.contents.tree request.path.key ≡ Some (File bytes)
+
+-- the request replaces the whole file: it is a PUT (`partial` is false) whose headers have no Content-Range with a range
+pub record ReplacesWhole (partial : Bool) (request : DavRequest) : Type 0 where
+  pub put : partial ≡ false
+  pub no_range : content_range_of request.headers ≡ Ok None
+
+-- The bytes of the file at the path are those of the method's definition: the body, or what the file held before with the body in the range that the
+-- headers name (`final_bytes`). `found` is what the lookup of the path found, which a range may depend on.
+pub record WritesFile (held : Bodies) (partial : Bool) (request : DavRequest) (old new : State) : Type 0 where
+  pub found : Option Meta
+  pub known : ForSome found (λ meta. old.contents.metas request.path.key ≡ Some meta)
+  pub target : Target
+  pub aimed : target_of partial request.headers (as_looked found) ≡ Ok target
+  pub file : HasFileAtPath request new (final_bytes target (new_bytes held request.body) (bytes_at (get old.contents.tree request.path.key)))
+
+-- what is at the path is as before, or a file that has no bytes or the whole body
+abbrev pub IsWholeOrEmpty : Bodies → DavRequest → State → State → Type 0
+IsWholeOrEmpty held request old new =
+    (get new.contents.tree request.path.key ≡ get old.contents.tree request.path.key)
+    ⊎ HasFileAtPath request new []
+    ⊎ HasFileAtPath request new (new_bytes held request.body)
+
+-- Only the file at the path changes. After a 201 or 204 it has the bytes of the method's definition (`WritesFile`), which for a whole PUT are exactly
+-- the body. Whatever the result of a whole PUT is, the file never has a part of the body (`IsWholeOrEmpty`).
+pub record PutLaw (held : Bodies) (partial : Bool) (request : DavRequest) (old : State) (answer : Answer) (new : State) : Type 0 where
+  pub alone : ChangesPathAlone request old new
+  pub written : tells_transferred answer ≡ true → WritesFile held partial request old new
+  pub whole : tells_transferred answer ≡ true → ReplacesWhole partial request → HasFileAtPath request new (new_bytes held request.body)
+  pub never_part : ReplacesWhole partial request → IsWholeOrEmpty held request old new
+
+-- ---- MOVE
 
 -- Everything at the path and below it, with its dead properties, is now at the path in `Destination` and below that, in place of everything that was
 -- there. Nothing is left at the path or below it. No other file, directory or dead property changes, nor does the quota's limit. If the lock system's
@@ -101,16 +179,14 @@ MovesWhole settings request old answer new = tells_transferred answer ≡ true �
 -- unless the result is a 201, a 204 or `Memory`, the files, directories and dead properties at the path and below it are unchanged
 abbrev pub KeepsSource : DavRequest → State → Answer → State → Type 0
 KeepsSource request old answer new =
-    tells_transferred answer ≡ false → answer ≢ Err Memory → (key : Key) → is_at_or_below key request.path.key ≡ true → standing new.contents key ≡ standing old.contents key
+    tells_transferred answer ≡ false → answer ≢ Err Memory → (key : Key) → is_at_or_below key request.path.key ≡ true
+    → standing new.contents key ≡ standing old.contents key
 
--- each status in the list is the status of some store error
-abbrev pub AreRefusals : List Item → Type 0
-AreRefusals names = (item : Item) → IsIn item names → (e : FsError) × (fs_status e ≡ item.1)
-
--- A 207 response is the multistatus of some list in which each status is the status of some store error. It does not say that the log records such an
--- error.
-abbrev pub NamesRefusals : Answer → Type 0
-NamesRefusals answer = (reply : Reply) → answer ≡ Ok reply → reply.status ≡ 207 → (names : List Item) × (reply ≡ multistatus_reply names) × AreRefusals names
+-- what a MOVE leaves and reports, by its result
+pub record MoveLaw (settings : Settings) (request : DavRequest) (old : State) (records : List Logged) (answer : Answer) (new : State) : Type 0 where
+  pub moved : MovesWhole settings request old answer new
+  pub source : KeepsSource request old answer new
+  pub reports : MoveReports settings request old records answer
 
 -- ---- LOCK
 
@@ -118,10 +194,6 @@ NamesRefusals answer = (reply : Reply) → answer ≡ Ok reply → reply.status 
 abbrev pub tells_lock : Answer → Bool
 tells_lock (Ok reply) = nat_eq reply.status 200 || nat_eq reply.status 201
 tells_lock (Err e) = false
-
--- a lock without its timeout
-abbrev pub untimed : DavLock → DavLock
-untimed lock = record lock { timeout = None; timeout_at = None }
 
 -- the locks without their timeouts
 abbrev pub untimed_locks : State → Option (List DavLock)
@@ -143,6 +215,32 @@ pub record MakesNothing (settings : Settings) (request : DavRequest) (answer : A
 abbrev pub MakesNothingUnlessLocked : Settings → DavRequest → Answer → State → State → Type 0
 MakesNothingUnlessLocked settings request answer old new = tells_lock answer ≡ false → MakesNothing settings request answer old new
 
+-- the lock that the request asks for was granted, and is now the last one
+pub record IsLocked (request : DavRequest) (old new : State) : Type 0 where
+  pub found : Option Meta
+  pub info : LockInfo
+  pub asked : lock_info_of request.body ≡ Some info
+  pub added : AddsToLocks (lock_asked request found info) old new
+
+-- what a LOCK leaves, by its result: after a 200 or 201 to a new lock this lock exists
+pub record LockLaw (settings : Settings) (request : DavRequest) (old : State) (answer : Answer) (new : State) : Type 0 where
+  pub locked : tells_lock answer ≡ true → is_refresh settings.facts.bodies request.body ≡ false → IsLocked request old new
+  pub unlocked : MakesNothingUnlessLocked settings request answer old new
+
+-- ---- UNLOCK
+
+-- the locks with the token in `Lock-Token` at the path or above it are removed, and no others
+pub record IsUnlockedBy (request : DavRequest) (old new : State) : Type 0 where
+  pub token : List ℕ
+  pub named : lock_token_of request.headers ≡ Some token
+  pub removed : new.locks ≡ option_map (without_named request.path.key token) old.locks
+
+-- the contents of the store never change; after a 204 the named lock is removed; after any other result the locks are unchanged
+pub record UnlockLaw (request : DavRequest) (old : State) (answer : Answer) (new : State) : Type 0 where
+  pub contents : new.contents ≡ old.contents
+  pub removed : IsNoContent answer → IsUnlockedBy request old new
+  pub kept : (IsNoContent answer → ⊥) → LocksStay old new
+
 -- ---- COPY
 
 -- Everything that was at the path and below it, except what was at the destination or below that, is now at the path in `Destination` and below that:
@@ -151,20 +249,48 @@ MakesNothingUnlessLocked settings request answer old new = tells_lock answer ≡
 pub record IsDuplicated (settings : Settings) (request : DavRequest) (old new : State) : Type 0 where
   pub destination : PathValue
   pub named : destination_of request.headers settings.prefix ≡ Ok destination
-  pub there : (x : Key) → snapshot old.contents.tree request.path.key destination.key x ≢ None → standing new.contents (destination.key ++ x) ≡ copied (standing old.contents (request.path.key ++ x))
-  pub nothing_else : (x : Key) → snapshot old.contents.tree request.path.key destination.key x ≡ None → get new.contents.tree (destination.key ++ x) ≡ None
+  pub there : (x : Key) → snapshot old.contents.tree request.path.key destination.key x ≢ None
+      → standing new.contents (destination.key ++ x) ≡ copied (standing old.contents (request.path.key ++ x))
+  pub nothing_else : (x : Key) → snapshot old.contents.tree request.path.key destination.key x ≡ None
+      → get new.contents.tree (destination.key ++ x) ≡ None
   pub outside : (key : Key) → is_at_or_below key destination.key ≡ false → standing new.contents key ≡ standing old.contents key
 
 -- after a 201 or 204 to a COPY whose Depth is not 0, everything is copied (`IsDuplicated`)
 abbrev pub DuplicatesWhole : Settings → DavRequest → State → Answer → State → Type 0
-DuplicatesWhole settings request old answer new = tells_transferred answer ≡ true → is_deep (depth_or_all request) ≡ true → IsDuplicated settings request old new
+DuplicatesWhole settings request old answer new =
+    tells_transferred answer ≡ true → is_deep (depth_or_all request) ≡ true → IsDuplicated settings request old new
+
+-- what a COPY leaves and reports, by its result
+pub record CopyLaw (settings : Settings) (request : DavRequest) (old : State) (records : List Logged) (answer : Answer) (new : State) : Type 0 where
+  pub duplicated : DuplicatesWhole settings request old answer new
+  pub reports : CopyReports settings request old records answer
 
 -- ---- PROPPATCH
 
--- the contents of the store and the locks are unchanged
-pub record ChangesNothing (old new : State) : Type 0 where
-  pub contents : new.contents ≡ old.contents
-  pub locks : LocksStay old new
+-- The third kind of change, beside those rejected before the store is asked (`is_refused`) and those that the store has to make (`is_dead`): it is
+-- accepted, and nothing is stored. Microsoft's clients set such times and attributes of each file that they write.
+abbrev pub is_passed_over : Change → Bool
+is_passed_over change = nat_eq change.status 200
+
+-- the status of a change if some change is rejected: its own verdict if it is itself rejected, else 424 (Failed Dependency)
+abbrev pub status_beside_refused : Change → ℕ
+status_beside_refused change = if is_refused change then change.status else 424
+
+-- a call of this kind on these keys is a `patch_props` at the key
+abbrev pub is_patch : Key → Op → List Key → Bool
+is_patch key PatchProps (at ∷ []) = is_same_key key at
+is_patch key _ keys = false
+
+-- the statuses that the store's `patch_props` at the key returned, in order; none if it was not called
+abbrev pub returned : Key → List Logged → List ℕ
+returned key records = flat_map (λ (call : Logged). if is_patch key call.op call.keys then call.statuses else []) records
+
+-- The status of each change, in the order of `live_first`, if the store returned these statuses. If some change is rejected, see
+-- `status_beside_refused`. Otherwise each change that is passed over has 200, and the others have what the store returned for them, in order.
+abbrev pub statuses_of : List Change → List ℕ → List ℕ
+statuses_of changes given =
+    if some_refused changes then map status_beside_refused (live_first changes)
+    else map (λ change. 200) (filter is_passed_over changes) ++ given
 
 -- The dead properties among these changes are set and removed at the path, in order. No other dead property, no file, no directory and no lock
 -- changes.
@@ -174,28 +300,43 @@ pub record AreStored (request : DavRequest) (changes : List Change) (old new : S
   pub tree : new.contents.tree ≡ old.contents.tree
   pub locks : LocksStay old new
 
--- each status is 200
-abbrev pub all_ok : List Told → Bool
-all_ok told = list_all (λ (t : Told). nat_eq t.0 200) told
-
 -- the name of an element's property, as a key: its namespace and its local name
 abbrev pub property_of : Tree → Key
 property_of element = property_key element.tag.namespace element.tag.name
 
--- The response reports the property of each change in the body, once for each change, grouped by status. If each status is 200, the changes are
--- stored (`AreStored`); otherwise nothing changes.
-pub record StoresAllOrNothing (settings : Settings) (request : DavRequest) (old : State) (reply : Reply) (new : State) : Type 0 where
+-- each change is reported once, by the name of its property, in the order of `live_first`
+abbrev pub TellsEach : List Change → List Told → Type 0
+TellsEach changes told = map (λ (t : Told). property_of t.1) told ≡ map (λ change. property_of change.element) (live_first changes)
+
+-- each change is reported with its own status (`statuses_of`)
+abbrev pub TellsOwn : DavRequest → List Logged → List Change → List Told → Type 0
+TellsOwn request records changes told = map (λ (t : Told). t.0) told ≡ statuses_of changes (returned request.path.key records)
+
+-- each reported status is 200
+abbrev pub all_ok : List Told → Bool
+all_ok told = list_all (λ (t : Told). nat_eq t.0 200) told
+
+-- the body requests these changes
+abbrev pub AreAsked : Settings → DavRequest → List Change → Type 0
+AreAsked settings request changes = update_verdict settings.facts.keeps_properties request.body ≡ Ok changes
+
+-- The response reports each change in the body once (`each`), with its own status (`own`), grouped by status. If each status is 200, the changes are
+-- stored (`AreStored`); otherwise nothing changes, even for a property whose status is 200.
+pub record StoresAllOrNothing (settings : Settings) (request : DavRequest) (old : State) (records : List Logged) (reply : Reply) (new : State)
+    : Type 0 where
   pub changes : List Change
-  pub asked : update_verdict settings.facts.keeps_properties request.body ≡ Ok changes
+  pub asked : AreAsked settings request changes
   pub told : List Told
-  pub each : map (λ (t : Told). property_of t.1) told ≡ map (λ change. property_of change.element) (live_first changes)
+  pub each : TellsEach changes told
+  pub own : TellsOwn request records changes told
   pub shown : reply ≡ proppatch_reply request.path (old.contents.metas request.path.key) (grouped told)
   pub stored : all_ok told ≡ true → AreStored request changes old new
   pub unstored : all_ok told ≡ false → ChangesNothing old new
 
 -- if the result is a response, `StoresAllOrNothing` holds of it
-abbrev pub TellsStored : Settings → DavRequest → State → Answer → State → Type 0
-TellsStored settings request old answer new = (reply : Reply) → answer ≡ Ok reply → StoresAllOrNothing settings request old reply new
+abbrev pub TellsStored : Settings → DavRequest → State → List Logged → Answer → State → Type 0
+TellsStored settings request old records answer new =
+    (reply : Reply) → answer ≡ Ok reply → StoresAllOrNothing settings request old records reply new
 
 -- an error other than `Memory` changes nothing
 abbrev pub KeepsUnlessTold : State → Answer → State → Type 0
@@ -204,20 +345,40 @@ KeepsUnlessTold old answer new = (e : DavError) → answer ≡ Err e → e ≢ M
 -- a body in which some change is rejected before the store is asked (`some_refused`) changes nothing
 abbrev pub StoresNothingBesideRefused : Settings → DavRequest → State → State → Type 0
 StoresNothingBesideRefused settings request old new =
-    (changes : List Change) → update_verdict settings.facts.keeps_properties request.body ≡ Ok changes → some_refused changes ≡ true → ChangesNothing old new
+    (changes : List Change) → AreAsked settings request changes → some_refused changes ≡ true → ChangesNothing old new
+
+-- what a PROPPATCH stores and reports, by its result
+pub record ProppatchLaw (settings : Settings) (request : DavRequest) (old : State) (records : List Logged) (answer : Answer) (new : State)
+    : Type 0 where
+  pub stored : TellsStored settings request old records answer new
+  pub kept : KeepsUnlessTold old answer new
+  pub refused : StoresNothingBesideRefused settings request old new
 
 -- ---- PROPFIND
 
 -- The response reports some list of resources. Their keys are those that the Depth reaches, except members hidden by a listing that was not granted
--- (`TellsRange`). It does not say which properties are reported.
-pub record ShowsRange (request : DavRequest) (old : Seen) (reply : Reply) (new : Seen) : Type 0 where
+-- or did not show them (`TellsRange`), in the order of the listings, depth first (`IsDepthFirst`). Each is reported under its own path and with the
+-- requested properties (`AreReported`), which are those of the body and those that the server adds, each once (`AsksEachOnce`). With `prop` these
+-- are all that is reported (`AreNamedAsAsked`).
+pub record ShowsRange (settings : Settings) (request : DavRequest) (old : State) (records : List Logged) (reply : Reply) : Type 0 where
   pub found : Meta × Asking
   pub visits : List Visit
   pub shown : reply ≡ propfind_reply request found visits
-  pub records : List Logged
-  pub logged : new.store.log ≡ old.store.log ++ records
-  pub range : TellsRange old.store.contents (depth_or_default request) request.path.key records (told_keys visits)
+  pub there : old.contents.metas request.path.key ≡ Some found.0
+  pub range : TellsRange old.contents (depth_or_default request) request.path.key records (told_keys visits)
+  pub order : IsDepthFirst settings.facts.shows old.contents records (depth_or_default request) request.path.key (told_keys visits)
+  pub each : AreReported (view_in settings request old found.1.kind) old.contents found.1.asked request.path visits
+  pub named : AreNamedAsAsked found.1.kind found.1.asked visits
+  pub wanted : asking_of settings.facts.bodies request.body (user_agent_of request.headers) ≡ Ok found.1
+  pub asked : AsksEachOnce settings.facts.bodies request.body (user_agent_of request.headers) found.1
 
 -- `ShowsRange` holds of each 207 response
-abbrev pub TellsItsRange : DavRequest → Seen → Answer → Seen → Type 0
-TellsItsRange request old answer new = (reply : Reply) → answer ≡ Ok reply → reply.status ≡ 207 → ShowsRange request old reply new
+abbrev pub TellsItsRange : Settings → DavRequest → State → List Logged → Answer → Type 0
+TellsItsRange settings request old records answer =
+    (reply : Reply) → answer ≡ Ok reply → reply.status ≡ 207 → ShowsRange settings request old records reply
+
+-- nothing changes, and the response reports the resources that the Depth reaches, each with the requested properties
+pub record PropfindLaw (settings : Settings) (request : DavRequest) (old : State) (records : List Logged) (answer : Answer) (new : State)
+    : Type 0 where
+  pub unchanged : ChangesNothing old new
+  pub range : TellsItsRange settings request old records answer

@@ -28,3 +28,8 @@ pub mod Finding
 pub mod Proppatch
 pub mod Patching
 pub mod Laws
+pub mod Bounds
+pub mod Law
+pub mod Causes
+pub mod Work
+pub mod Reports

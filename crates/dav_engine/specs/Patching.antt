@@ -12,7 +12,7 @@ use Rattle.dav_store.specs.PropertyCalls.{Patch}
 use Rattle.dav_store.specs.Store.{Store}
 use Rattle.dav_parts.specs.Reply.{Answer}
 use Rattle.dav_engine.specs.Proppatch.{Update, MakesChanges, ProppatchWork, ProppatchCut}
-use Rattle.dav_engine.specs.Step.{WorksOnStore}
+use Rattle.dav_engine.specs.Work.{WorksOnStore}
 
 -- the log gained `records`, over which the store returned `told` for these changes and made all of them or none (`MakesChanges`)
 pub record StoresChanges (key : Key) (patches : List Patch) (old : Store) (told : Result (List ℕ) FsError) (new : Store) : Type 0 where

@@ -5,13 +5,12 @@ ghost use Rattle.dav_resource.specs.declared.request.Depth.TheVariants.{Zero};
 ghost use Rattle.dav_parts.specs.Reply.{answer_of};
 ghost use Rattle.dav_walks.specs.Copying.{HasRoom};
 ghost use Rattle.dav_walks.specs.Copied.{Copying};
-ghost use Rattle.dav_engine.specs.DavInner.{lent, lent_locks, frame, seen_by, state_by, settings_by};
+ghost use Rattle.dav_engine.specs.DavInner.{lent, lent_locks, frame, seen_by};
 ghost use Rattle.dav_engine.specs.Rules.{depth_or_all as depth_or_all_of};
 ghost use Rattle.dav_engine.specs.Served.{IsServed};
 ghost use Rattle.dav_engine.specs.Transferring.{Names};
 ghost use Rattle.dav_engine.specs.Copy.{MayCopy, Copies, CopiesSoFar, CopyWork, CopyCut, replaced as replaced_by};
-ghost use Rattle.dav_engine.specs.Laws.{DuplicatesWhole, NamesRefusals};
-ghost use Rattle.dav_engine.specs.Step.{Performs};
+ghost use Rattle.dav_engine.specs.Work.{Performs};
 
 use crate::DavInner;
 use crate::inner::fixed_path;
@@ -58,8 +57,6 @@ impl<'a, C: Drop, F: GuardedFileSystem<C>, L: DavLockSystem> DavInner<'a, C, F, 
     pub fn handle_copy(&mut self, request: &DavRequest) -> DavResult<Response<Body>>
         ensures same_engine { frame self.new ≡ frame self.old }
         ensures step { IsServed F.seen L.seen (Some Copy) self.old request.entry.now (answer_of result) self.new }
-        ensures duplicated { DuplicatesWhole (settings_by F.seen self.old) request.entry.now (state_by F.seen L.seen self.old) (answer_of result) (state_by F.seen L.seen self.new) }
-        ensures refusals { NamesRefusals (answer_of result) }
     {
         let found = self.judge_transfer(false, request)?;
         self.copy_found(request, &found)

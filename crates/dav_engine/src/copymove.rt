@@ -3,7 +3,6 @@ ghost use Rattle.std.specs.Prelude.{◌≡◌, Some};
 ghost use Rattle.dav_resource.specs.Methods.{method_of};
 ghost use Rattle.dav_parts.specs.Reply.{answer_of};
 ghost use Rattle.dav_engine.specs.DavInner.{frame};
-ghost use Rattle.dav_engine.specs.Laws.{NamesRefusals};
 ghost use Rattle.dav_engine.specs.Served.{IsServed};
 ghost use Rattle.dav_engine.specs.Transferring.{is_copy as is_copy_method, transfer_method};
 
@@ -18,7 +17,6 @@ impl<'a, C: Drop, F: GuardedFileSystem<C>, L: DavLockSystem> DavInner<'a, C, F, 
     pub fn handle_copymove(&mut self, request: &DavRequest) -> DavResult<Response<Body>>
         ensures same_engine { frame self.new ≡ frame self.old }
         ensures step { IsServed F.seen L.seen (Some (transfer_method (method_of request.entry.now.method))) self.old request.entry.now (answer_of result) self.new }
-        ensures refusals { NamesRefusals (answer_of result) }
     {
         if is_copy(DavMethod::from_method(&request.method)) {
             self.handle_copy(request)

@@ -8,8 +8,7 @@ ghost use Rattle.dav_engine.specs.DavInner.{lent, lent_locks, frame, seen_by, st
 ghost use Rattle.dav_engine.specs.Served.{IsServed};
 ghost use Rattle.dav_engine.specs.State.{DropsSeen};
 ghost use Rattle.dav_engine.specs.Delete.{delete_rules, DeleteWork, DeleteCut};
-ghost use Rattle.dav_engine.specs.Laws.{EmptiesPath, KeepsLocksUnlessGone};
-ghost use Rattle.dav_engine.specs.Step.{Performs};
+ghost use Rattle.dav_engine.specs.Work.{Performs};
 
 use crate::DavInner;
 use crate::inner::fixed_path;
@@ -41,8 +40,6 @@ impl<'a, C: Drop, F: GuardedFileSystem<C>, L: DavLockSystem> DavInner<'a, C, F, 
     pub fn handle_delete(&mut self, request: &DavRequest) -> DavResult<Response<Body>>
         ensures same_engine { frame self.new ≡ frame self.old }
         ensures step { IsServed F.seen L.seen (Some Delete) self.old request.entry.now (answer_of result) self.new }
-        ensures emptied { EmptiesPath request.entry.now (state_by F.seen L.seen self.old) (answer_of result) (state_by F.seen L.seen self.new) }
-        ensures locks_kept { KeepsLocksUnlessGone request.entry.now (state_by F.seen L.seen self.old) (answer_of result) (state_by F.seen L.seen self.new) }
     {
         let meta = self.judge_delete(request)?;
         self.delete_found(request, &meta)

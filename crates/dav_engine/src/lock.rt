@@ -7,14 +7,13 @@ ghost use Rattle.dav_store.specs.LockCalls.{AddsLock};
 ghost use Rattle.dav_parts.specs.Dialogue.{Judges};
 ghost use Rattle.dav_parts.specs.Reply.{answer_of};
 ghost use Rattle.dav_engine.specs.Answered.{Unbegun};
-ghost use Rattle.dav_engine.specs.DavInner.{lent, lent_locks, frame, seen_by, state_by, settings_by, bodies_by};
+ghost use Rattle.dav_engine.specs.DavInner.{lent, lent_locks, frame, seen_by, state_by, bodies_by};
 ghost use Rattle.dav_engine.specs.Served.{IsServed};
-ghost use Rattle.dav_engine.specs.Laws.{MakesNothingUnlessLocked};
 ghost use Rattle.dav_engine.specs.LockInfo.{lock_info_of};
 ghost use Rattle.dav_engine.specs.Locking.{greatest_timeout as greatest_timeout_of, timeout_for, is_refresh as is_refresh_body, new_lock_rules, is_deep as is_deep_depth, lock_asked, DeniesAsked, lock_open_error as error_of_open, TellsLock, NewLockWork, NewLockCut};
 ghost use Rattle.dav_engine.specs.Rules.{found_in};
 ghost use Rattle.dav_engine.specs.State.{ChangesLocks, IsRefusedByLocks};
-ghost use Rattle.dav_engine.specs.Step.{Performs, WorksOnStore};
+ghost use Rattle.dav_engine.specs.Work.{Performs, WorksOnStore};
 
 use crate::DavInner;
 use crate::inner::fixed_path;
@@ -63,7 +62,6 @@ impl<'a, C: Drop, F: GuardedFileSystem<C>, L: DavLockSystem> DavInner<'a, C, F, 
     pub fn handle_lock(&mut self, request: &DavRequest) -> DavResult<Response<Body>>
         ensures same_engine { frame self.new ≡ frame self.old }
         ensures step { IsServed F.seen L.seen (Some Lock) self.old request.entry.now (answer_of result) self.new }
-        ensures ungranted { MakesNothingUnlessLocked (settings_by F.seen self.old) request.entry.now (answer_of result) (state_by F.seen L.seen self.old) (state_by F.seen L.seen self.new) }
     {
         if is_empty_body::<C, F>(&*self.fs, &request.body) {
             self.refresh(request)

@@ -6,7 +6,7 @@ ghost use Rattle.dav_engine.specs.Served.{IsServed};
 ghost use Rattle.dav_parts.specs.Reply.{reply_of, answer_of};
 ghost use Rattle.dav_engine.specs.Mkcol.{mkcol_error as error_of_mkcol, mkcol_reply as reply_of_mkcol, mkcol_location as location_of_mkcol, MkcolWork};
 ghost use Rattle.dav_engine.specs.Answered.{Unbegun};
-ghost use Rattle.dav_engine.specs.Step.{WorksOnStore};
+ghost use Rattle.dav_engine.specs.Work.{WorksOnStore};
 
 use crate::DavInner;
 use dav_parts::{add_header, header_value};

@@ -9,10 +9,9 @@ ghost use Rattle.dav_parts.specs.Dialogue.{Judges};
 ghost use Rattle.dav_parts.specs.Reply.{reply_of, answer_of};
 ghost use Rattle.dav_engine.specs.Answered.{Unbegun};
 ghost use Rattle.dav_engine.specs.DavInner.{lent, lent_locks, frame, seen_by, state_by};
-ghost use Rattle.dav_engine.specs.Laws.{ChangesNothing};
 ghost use Rattle.dav_engine.specs.Options.{options_rules, OptionsWork, found_methods as methods_of_found, is_told, is_let, is_own, needs_locks, name_of, names_of, options_reply as reply_of_options};
 ghost use Rattle.dav_engine.specs.Served.{IsServed};
-ghost use Rattle.dav_engine.specs.Step.{Performs};
+ghost use Rattle.dav_engine.specs.Work.{Performs};
 
 use crate::DavInner;
 use dav_parts::{add_header, header_value};
@@ -79,7 +78,6 @@ impl<'a, C: Drop, F: GuardedFileSystem<C>, L: DavLockSystem> DavInner<'a, C, F, 
     pub fn handle_options(&mut self, request: &DavRequest) -> DavResult<Response<Body>>
         ensures same_engine { frame self.new ≡ frame self.old }
         ensures step { IsServed F.seen L.seen (Some Options) self.old request.entry.now (answer_of result) self.new }
-        ensures unchanged { ChangesNothing (state_by F.seen L.seen self.old) (state_by F.seen L.seen self.new) }
     {
         let found = self.look_unless_star(request)?;
         self.tell_methods(request, &found)

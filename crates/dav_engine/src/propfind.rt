@@ -8,9 +8,8 @@ ghost use Rattle.dav_parts.specs.Reply.{reply_of, answer_of, bare_reply};
 ghost use Rattle.dav_props.specs.Propstat.{property_multistatus};
 ghost use Rattle.dav_find.specs.Declaring.{with_prefixes};
 ghost use Rattle.dav_find.specs.Searching.{asking_for};
-ghost use Rattle.dav_engine.specs.DavInner.{lent, lent_locks, frame, settings_by, seen_by, state_by};
+ghost use Rattle.dav_engine.specs.DavInner.{lent, lent_locks, frame, settings_by, seen_by};
 ghost use Rattle.dav_engine.specs.Finding.{PerformsPropfind};
-ghost use Rattle.dav_engine.specs.Laws.{ChangesNothing, TellsItsRange};
 ghost use Rattle.dav_engine.specs.Location.{location_fields};
 ghost use Rattle.dav_engine.specs.Propfind.{depth_or_default as depth_of_propfind, is_too_deep as is_too_deep_request, finite_depth_error as tree_of_finite_depth, finite_depth_reply as reply_of_finite_depth, uncached_fields, propfind_fields};
 ghost use Rattle.dav_engine.specs.Rules.{must_find};
@@ -49,8 +48,6 @@ impl<'a, C: Drop, F: GuardedFileSystem<C>, L: DavLockSystem> DavInner<'a, C, F, 
     pub fn handle_propfind(&mut self, request: &DavRequest) -> DavResult<Response<Body>>
         ensures same_engine { frame self.new ≡ frame self.old }
         ensures step { IsServed F.seen L.seen (Some PropFind) self.old request.entry.now (answer_of result) self.new }
-        ensures unchanged { ChangesNothing (state_by F.seen L.seen self.old) (state_by F.seen L.seen self.new) }
-        ensures range { TellsItsRange request.entry.now (seen_by F.seen L.seen self.old) (answer_of result) (seen_by F.seen L.seen self.new) }
     {
         let alloc = *self.prefix.allocator();
         if is_too_deep(request) {

@@ -6,8 +6,7 @@ ghost use Rattle.dav_parts.specs.Dialogue.{Judges};
 ghost use Rattle.dav_parts.specs.Reply.{reply_of, answer_of};
 ghost use Rattle.dav_props.specs.Groups.{groups_of, AreStatuses};
 ghost use Rattle.dav_props.specs.Update.{change_of, patches_of};
-ghost use Rattle.dav_engine.specs.DavInner.{lent, lent_locks, frame, settings_by, state_by};
-ghost use Rattle.dav_engine.specs.Laws.{TellsStored, KeepsUnlessTold, StoresNothingBesideRefused};
+ghost use Rattle.dav_engine.specs.DavInner.{lent, lent_locks, frame, state_by};
 ghost use Rattle.dav_engine.specs.Patching.{Storing, Patching};
 ghost use Rattle.dav_engine.specs.Proppatch.{proppatch_reply as reply_of_proppatch, found_rules};
 ghost use Rattle.dav_engine.specs.Served.{IsServed};
@@ -45,9 +44,6 @@ impl<'a, C: Drop, F: GuardedFileSystem<C>, L: DavLockSystem> DavInner<'a, C, F, 
     pub fn handle_proppatch(&mut self, request: &DavRequest) -> DavResult<Response<Body>>
         ensures same_engine { frame self.new ≡ frame self.old }
         ensures step { IsServed F.seen L.seen (Some PropPatch) self.old request.entry.now (answer_of result) self.new }
-        ensures stored { TellsStored (settings_by F.seen self.old) request.entry.now (state_by F.seen L.seen self.old) (answer_of result) (state_by F.seen L.seen self.new) }
-        ensures kept { KeepsUnlessTold (state_by F.seen L.seen self.old) (answer_of result) (state_by F.seen L.seen self.new) }
-        ensures refused { StoresNothingBesideRefused (settings_by F.seen self.old) request.entry.now (state_by F.seen L.seen self.old) (state_by F.seen L.seen self.new) }
     {
         let found = self.judge_found(request)?;
         let alloc = *self.prefix.allocator();

@@ -5,14 +5,13 @@ ghost use Rattle.dav_resource.specs.Methods.{method_of};
 ghost use Rattle.dav_store.specs.Store.{IsTagText};
 ghost use Rattle.dav_engine.specs.DavInner.{lent, lent_locks, frame, state_by, bodies_by};
 ghost use Rattle.dav_engine.specs.Served.{IsServed};
-ghost use Rattle.dav_engine.specs.Laws.{ChangesPathAlone};
 ghost use Rattle.dav_parts.specs.Reply.{answer_of};
 ghost use Rattle.dav_parts.specs.Dialogue.{Judges};
 ghost use Rattle.dav_headers.specs.Body.{checksum_of};
 ghost use Rattle.dav_engine.specs.Target.{target_of};
 ghost use Rattle.dav_engine.specs.Put.{new_bytes as bytes_of_request, put_rules, put_method, is_patch as is_patch_method, as_looked, put_options as options_of_put, put_open_error as error_of_open, put_seek_error as seek_error_of, PutWork, PutCut, SeeksPlace, WritesBody, look_at_file as file_look, body_verdict};
 ghost use Rattle.dav_engine.specs.Rules.{found_in};
-ghost use Rattle.dav_engine.specs.Step.{WorksOnStore};
+ghost use Rattle.dav_engine.specs.Work.{WorksOnStore};
 
 use crate::DavInner;
 use crate::judge::closed;
@@ -63,7 +62,6 @@ impl<'a, C: Drop, F: GuardedFileSystem<C>, L: DavLockSystem> DavInner<'a, C, F, 
     pub fn handle_put(&mut self, request: &DavRequest) -> DavResult<Response<Body>>
         ensures same_engine { frame self.new ≡ frame self.old }
         ensures step { IsServed F.seen L.seen (Some (put_method (method_of request.entry.now.method))) self.old request.entry.now (answer_of result) self.new }
-        ensures alone { ChangesPathAlone request.entry.now (state_by F.seen L.seen self.old) (state_by F.seen L.seen self.new) }
         ensures same_locks { lent_locks self.new ≡ lent_locks self.old }
     {
         let partial = is_patch(DavMethod::from_method(&request.method));

@@ -10,7 +10,7 @@ ghost use Rattle.dav_engine.specs.Served.{IsServed};
 ghost use Rattle.dav_engine.specs.Locking.{is_refresh as is_refresh_body, one_token as one_token_of, refresh_rules, RefreshesAsked, LacksLock, RefreshWork, RefreshCut};
 ghost use Rattle.dav_engine.specs.Rules.{found_in};
 ghost use Rattle.dav_engine.specs.State.{ChangesLocks, IsRefusedByLocks};
-ghost use Rattle.dav_engine.specs.Step.{Performs};
+ghost use Rattle.dav_engine.specs.Work.{Performs};
 
 use crate::DavInner;
 use crate::judge::where_permitted;

@@ -3,12 +3,11 @@ ghost use Rattle.std.specs.Prelude.{◌≡◌, Some, None, is_some, if◌then◌
 ghost use Rattle.dav_resource.specs.declared.method.DavMethod.TheVariants.{Move};
 ghost use Rattle.dav_store.specs.Transfers.{rename_call};
 ghost use Rattle.dav_parts.specs.Reply.{answer_of};
-ghost use Rattle.dav_engine.specs.DavInner.{lent, lent_locks, frame, seen_by, state_by, settings_by};
+ghost use Rattle.dav_engine.specs.DavInner.{lent, lent_locks, frame, seen_by};
 ghost use Rattle.dav_engine.specs.Served.{IsServed};
 ghost use Rattle.dav_engine.specs.Transferring.{Names};
 ghost use Rattle.dav_engine.specs.Move.{MayMove, Renaming, MovesSource, MovesInPart, Moves, MovesSoFar, MoveWork, MoveCut};
-ghost use Rattle.dav_engine.specs.Laws.{MovesWhole, KeepsSource, NamesRefusals};
-ghost use Rattle.dav_engine.specs.Step.{Performs};
+ghost use Rattle.dav_engine.specs.Work.{Performs};
 
 use crate::DavInner;
 use crate::inner::fixed_path;
@@ -50,9 +49,6 @@ impl<'a, C: Drop, F: GuardedFileSystem<C>, L: DavLockSystem> DavInner<'a, C, F, 
     pub fn handle_move(&mut self, request: &DavRequest) -> DavResult<Response<Body>>
         ensures same_engine { frame self.new ≡ frame self.old }
         ensures step { IsServed F.seen L.seen (Some Move) self.old request.entry.now (answer_of result) self.new }
-        ensures moved { MovesWhole (settings_by F.seen self.old) request.entry.now (state_by F.seen L.seen self.old) (answer_of result) (state_by F.seen L.seen self.new) }
-        ensures kept { KeepsSource request.entry.now (state_by F.seen L.seen self.old) (answer_of result) (state_by F.seen L.seen self.new) }
-        ensures refusals { NamesRefusals (answer_of result) }
     {
         let found = self.judge_transfer(true, request)?;
         self.move_found(request, &found)

@@ -9,7 +9,7 @@ ghost use Rattle.dav_engine.specs.Answered.{Unbegun};
 ghost use Rattle.dav_engine.specs.DavInner.{lent, lent_locks, frame, seen_by, state_by};
 ghost use Rattle.dav_engine.specs.Served.{IsServed};
 ghost use Rattle.dav_engine.specs.Rules.{found_in};
-ghost use Rattle.dav_engine.specs.Step.{Performs};
+ghost use Rattle.dav_engine.specs.Work.{Performs};
 ghost use Rattle.dav_engine.specs.Unlocking.{unlock_rules, UnlockWork};
 
 use crate::DavInner;

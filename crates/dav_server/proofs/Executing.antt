@@ -23,7 +23,7 @@ use Rattle.dav_server.specs.State.{Rules, ServerState, unlogged_seen}
 pub serves_unlogged : (method : Option DavMethod) (settings : Settings) (old : Seen) (request : DavRequest) (answer : Answer) (new : Seen)
     → (h : Serves method settings old request answer new) → Serves method settings (unlogged_seen old) request answer (record { store = record new.store { log = h.records }; locks = new.locks })
 serves_unlogged method settings old request answer new h =
-    record { records = h.records; told = refl; fixed = h.fixed; step = h.step; guarded = h.guarded; compatible = h.compatible }
+    record { records = h.records; told = refl; fixed = h.fixed; step = h.step; guarded = h.guarded; law = h.law; compatible = h.compatible }
 
 -- why a frame carries no request
 pub unfit : (rules : Rules) (state : ServerState) (frame : RequestValue) (e : DavError) → (e ≡ Memory) ⊎ IsUnfit rules.prefix frame e → IsRejected rules state frame e

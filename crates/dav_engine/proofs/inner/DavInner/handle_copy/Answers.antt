@@ -1,15 +1,15 @@
 use Rattle.dav_engine.specs.DavInner.{lent, seen_by, settings_by}
 use Rattle.dav_engine.specs.Methods.{copy_method}
 use Rattle.dav_engine.specs.State.{state_of}
-use Rattle.dav_engine.proofs.CopyTells.{copy_tells}
 use Rattle.dav_engine.proofs.Passing.{copy_passed}
+use Rattle.dav_engine.proofs.Running.{lawful}
 use Rattle.dav_engine.proofs.Serving.{copy_sound, serves_exit, serves_work}
 use Rattle.dav_engine.proofs.inner.DavInner.handle_copy.Goals as goal
 
 pub returns-in_err-found-clause-step : goal.returns-in_err-found-clause-step
 returns-in_err-found-clause-step g c =
     let judged = c.in_err-found.ensures in
-    rw judged.same_locks (serves_exit copy_method copy_sound (settings_by g.F.GuardedFileSystem.seen c.args.self.now) c.args.request.now _ _ _ _ _ c.from_residual.ensures.1 judged.rules)
+    rw judged.same_locks (serves_exit copy_method copy_sound (settings_by g.F.GuardedFileSystem.seen c.args.self.now) c.args.request.now _ _ _ _ _ (lawful g.F.GuardedFileSystem.seen g.L.DavLockSystem.seen g.met.F.GuardedFileSystem.well_formed g.met.L.DavLockSystem.distinct c.args.self.now) c.from_residual.ensures.1 judged.rules)
 
 pub copy_found-requires : goal.copy_found-requires
 copy_found-requires g c =
@@ -20,10 +20,4 @@ copy_found-requires g c =
 pub returns-clause-step : goal.returns-clause-step
 returns-clause-step g c =
     let judged = c.in_ok-found.ensures in
-    serves_work copy_method copy_sound (settings_by g.F.GuardedFileSystem.seen c.args.self.now) c.args.request.now _ c.in_ok-found.found _ _ _ _ judged.rules (rw judged.same_locks at c.copy_found.ensures.work)
-
-pub returns-clause-duplicated : goal.returns-clause-duplicated
-returns-clause-duplicated g c = (copy_tells _ _ _ _ _ (g.met.F.GuardedFileSystem.well_formed (lent c.args.self.now)) (returns-clause-step g c)).duplicated
-
-pub returns-clause-refusals : goal.returns-clause-refusals
-returns-clause-refusals g c = (copy_tells _ _ _ _ _ (g.met.F.GuardedFileSystem.well_formed (lent c.args.self.now)) (returns-clause-step g c)).refusals
+    serves_work copy_method copy_sound (settings_by g.F.GuardedFileSystem.seen c.args.self.now) c.args.request.now _ c.in_ok-found.found _ _ _ _ (lawful g.F.GuardedFileSystem.seen g.L.DavLockSystem.seen g.met.F.GuardedFileSystem.well_formed g.met.L.DavLockSystem.distinct c.args.self.now) judged.rules (rw judged.same_locks at c.copy_found.ensures.work)

@@ -4,8 +4,8 @@ use Rattle.dav_engine.specs.DavInner.{lent, settings_by, seen_by, bodies_by}
 use Rattle.dav_engine.specs.Methods.{propfind_method}
 use Rattle.dav_engine.specs.Propfind.{is_too_deep, finite_depth_reply}
 use Rattle.dav_engine.specs.State.{state_of}
-use Rattle.dav_engine.proofs.PropfindLaws.{propfind_tells}
-use Rattle.dav_engine.proofs.Propfinding.{reaches_finite, judges_lacking, judges_missing, judges_unread_body, judges_sought, found_there, propfind_unchanged}
+use Rattle.dav_engine.proofs.Propfinding.{reaches_finite, judges_lacking, judges_missing, judges_unread_body, judges_sought, found_there}
+use Rattle.dav_engine.proofs.Running.{lawful}
 use Rattle.dav_engine.proofs.Serving.{propfind_sound, serves_exit, serves_told, serves_work}
 use Rattle.dav_engine.proofs.inner.DavInner.handle_propfind.Goals as goal
 
@@ -14,7 +14,7 @@ returns-then-is_too_deep-clause-step g c =
     let held = bodies_by g.F.GuardedFileSystem.seen c.args.self.now in
     let state = state_of (seen_by g.F.GuardedFileSystem.seen g.L.DavLockSystem.seen c.args.self.now) in
     let deep : is_too_deep c.args.request.now ≡ true = sym c.is_too_deep.ensures ∙ c.if-is_too_deep.true in
-    serves_told propfind_method propfind_sound (settings_by g.F.GuardedFileSystem.seen c.args.self.now) c.args.request.now _ _ _ finite_depth_reply c.finite_depth_reply.result c.finite_depth_reply.ensures.ok c.finite_depth_reply.ensures.err
+    serves_told propfind_method propfind_sound (settings_by g.F.GuardedFileSystem.seen c.args.self.now) c.args.request.now _ _ _ finite_depth_reply c.finite_depth_reply.result (lawful g.F.GuardedFileSystem.seen g.L.DavLockSystem.seen g.met.F.GuardedFileSystem.well_formed g.met.L.DavLockSystem.distinct c.args.self.now) c.finite_depth_reply.ensures.ok c.finite_depth_reply.ensures.err
     (reaches_finite held c.args.request.now state _ deep) (judges_lacking held c.args.request.now state _)
 
 pub returns-in_err-meta-clause-step : goal.returns-in_err-meta-clause-step
@@ -23,7 +23,7 @@ returns-in_err-meta-clause-step g c =
     let state = state_of (seen_by g.F.GuardedFileSystem.seen g.L.DavLockSystem.seen c.args.self.now) in
     let shallow : is_too_deep c.args.request.now ≡ false = sym c.is_too_deep.ensures ∙ c.if-is_too_deep.false in
     let found = c.in_err-meta.ensures in
-    rw found.same_locks (serves_exit propfind_method propfind_sound (settings_by g.F.GuardedFileSystem.seen c.args.self.now) c.args.request.now _ _ _ _ _ c.from_residual.ensures.1 (judges_missing held c.args.request.now state shallow _ _ _ found.rules))
+    rw found.same_locks (serves_exit propfind_method propfind_sound (settings_by g.F.GuardedFileSystem.seen c.args.self.now) c.args.request.now _ _ _ _ _ (lawful g.F.GuardedFileSystem.seen g.L.DavLockSystem.seen g.met.F.GuardedFileSystem.well_formed g.met.L.DavLockSystem.distinct c.args.self.now) c.from_residual.ensures.1 (judges_missing held c.args.request.now state shallow _ _ _ found.rules))
 
 pub returns-in_err-search-clause-step : goal.returns-in_err-search-clause-step
 returns-in_err-search-clause-step g c =
@@ -32,7 +32,7 @@ returns-in_err-search-clause-step g c =
     let shallow : is_too_deep c.args.request.now ≡ false = sym c.is_too_deep.ensures ∙ c.if-is_too_deep.false in
     let found = c.in_ok-meta.ensures in
     let read = rw (c.user_agent.ensures, found.rules.fixed) at c.in_err-search.ensures in
-    rw found.same_locks (serves_exit propfind_method propfind_sound (settings_by g.F.GuardedFileSystem.seen c.args.self.now) c.args.request.now _ _ _ _ _ c.from_residual-in_err-search.ensures.1 (judges_unread_body held c.args.request.now state shallow _ _ c.in_ok-meta.meta found.rules _ read))
+    rw found.same_locks (serves_exit propfind_method propfind_sound (settings_by g.F.GuardedFileSystem.seen c.args.self.now) c.args.request.now _ _ _ _ _ (lawful g.F.GuardedFileSystem.seen g.L.DavLockSystem.seen g.met.F.GuardedFileSystem.well_formed g.met.L.DavLockSystem.distinct c.args.self.now) c.from_residual-in_err-search.ensures.1 (judges_unread_body held c.args.request.now state shallow _ _ c.in_ok-meta.meta found.rules _ read))
 
 pub returns-clause-step : goal.returns-clause-step
 returns-clause-step g c =
@@ -42,7 +42,7 @@ returns-clause-step g c =
     let found = c.in_ok-meta.ensures in
     let read = rw (c.user_agent.ensures, found.rules.fixed) at c.in_ok-search.ensures in
     let work = rw (ap (λ f. f.1.0) found.same_engine, ap (λ f. f.1.1) found.same_engine, found.rules.fixed, found.same_locks) at c.tell_found.ensures.work in
-    serves_work propfind_method propfind_sound (settings_by g.F.GuardedFileSystem.seen c.args.self.now) c.args.request.now _ (c.in_ok-meta.meta, asking_for c.in_ok-search.search) _ _ _ _
+    serves_work propfind_method propfind_sound (settings_by g.F.GuardedFileSystem.seen c.args.self.now) c.args.request.now _ (c.in_ok-meta.meta, asking_for c.in_ok-search.search) _ _ _ _ (lawful g.F.GuardedFileSystem.seen g.L.DavLockSystem.seen g.met.F.GuardedFileSystem.well_formed g.met.L.DavLockSystem.distinct c.args.self.now)
     (judges_sought held c.args.request.now state shallow _ _ c.in_ok-meta.meta found.rules _ read) work
 
 pub tell_found-requires : goal.tell_found-requires
@@ -52,27 +52,3 @@ tell_found-requires g c =
     let shallow : is_too_deep c.args.request.now ≡ false = sym c.is_too_deep.ensures ∙ c.if-is_too_deep.false in
     let found = c.in_ok-meta.ensures in
     rw found.rules.same (found_there held c.args.request.now state shallow _ _ c.in_ok-meta.meta found.rules)
-
-pub returns-then-is_too_deep-clause-unchanged : goal.returns-then-is_too_deep-clause-unchanged
-returns-then-is_too_deep-clause-unchanged g c = propfind_unchanged _ _ _ _ _ _ (returns-then-is_too_deep-clause-step g c).step
-
-pub returns-in_err-meta-clause-unchanged : goal.returns-in_err-meta-clause-unchanged
-returns-in_err-meta-clause-unchanged g c = propfind_unchanged _ _ _ _ _ _ (returns-in_err-meta-clause-step g c).step
-
-pub returns-in_err-search-clause-unchanged : goal.returns-in_err-search-clause-unchanged
-returns-in_err-search-clause-unchanged g c = propfind_unchanged _ _ _ _ _ _ (returns-in_err-search-clause-step g c).step
-
-pub returns-clause-unchanged : goal.returns-clause-unchanged
-returns-clause-unchanged g c = propfind_unchanged _ _ _ _ _ _ (returns-clause-step g c).step
-
-pub returns-then-is_too_deep-clause-range : goal.returns-then-is_too_deep-clause-range
-returns-then-is_too_deep-clause-range g c = propfind_tells _ _ _ _ _ (g.met.F.GuardedFileSystem.well_formed (lent c.args.self.now)) (returns-then-is_too_deep-clause-step g c)
-
-pub returns-in_err-meta-clause-range : goal.returns-in_err-meta-clause-range
-returns-in_err-meta-clause-range g c = propfind_tells _ _ _ _ _ (g.met.F.GuardedFileSystem.well_formed (lent c.args.self.now)) (returns-in_err-meta-clause-step g c)
-
-pub returns-in_err-search-clause-range : goal.returns-in_err-search-clause-range
-returns-in_err-search-clause-range g c = propfind_tells _ _ _ _ _ (g.met.F.GuardedFileSystem.well_formed (lent c.args.self.now)) (returns-in_err-search-clause-step g c)
-
-pub returns-clause-range : goal.returns-clause-range
-returns-clause-range g c = propfind_tells _ _ _ _ _ (g.met.F.GuardedFileSystem.well_formed (lent c.args.self.now)) (returns-clause-step g c)

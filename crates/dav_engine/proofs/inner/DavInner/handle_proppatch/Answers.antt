@@ -7,7 +7,7 @@ use Rattle.dav_engine.specs.Methods.{proppatch_method}
 use Rattle.dav_engine.specs.Proppatch.{proppatch_reply}
 use Rattle.dav_engine.specs.State.{state_of}
 use Rattle.dav_engine.proofs.Patching.{judges_unfound, judges_unreadable, judges_untold, reaches_refusal, judges_update}
-use Rattle.dav_engine.proofs.PatchLaws.{patch_tells, patch_kept, patch_refused}
+use Rattle.dav_engine.proofs.Running.{lawful}
 use Rattle.dav_engine.proofs.Serving.{proppatch_sound, serves_exit, serves_told, serves_work, performs_on_store}
 use Rattle.dav_engine.proofs.inner.DavInner.handle_proppatch.Goals as goal
 
@@ -16,7 +16,7 @@ returns-in_err-found-clause-step g c =
     let keeps = (g.F.GuardedFileSystem.seen (lent c.args.self.now)).facts.keeps_properties in
     let state = state_of (seen_by g.F.GuardedFileSystem.seen g.L.DavLockSystem.seen c.args.self.now) in
     let judged = c.in_err-found.ensures in
-    rw judged.same_locks (serves_exit proppatch_method proppatch_sound (settings_by g.F.GuardedFileSystem.seen c.args.self.now) c.args.request.now _ _ _ _ _ c.from_residual.ensures.1 (judges_unfound keeps c.args.request.now state _ _ _ judged.rules))
+    rw judged.same_locks (serves_exit proppatch_method proppatch_sound (settings_by g.F.GuardedFileSystem.seen c.args.self.now) c.args.request.now _ _ _ _ _ (lawful g.F.GuardedFileSystem.seen g.L.DavLockSystem.seen g.met.F.GuardedFileSystem.well_formed g.met.L.DavLockSystem.distinct c.args.self.now) c.from_residual.ensures.1 (judges_unfound keeps c.args.request.now state _ _ _ judged.rules))
 
 pub returns-in_err-changes-clause-step : goal.returns-in_err-changes-clause-step
 returns-in_err-changes-clause-step g c =
@@ -24,7 +24,7 @@ returns-in_err-changes-clause-step g c =
     let state = state_of (seen_by g.F.GuardedFileSystem.seen g.L.DavLockSystem.seen c.args.self.now) in
     let judged = c.in_ok-found.ensures in
     let read = rw (c.have_props.ensures, judged.rules.fixed) at c.in_err-changes.ensures.given in
-    rw judged.same_locks (serves_exit proppatch_method proppatch_sound (settings_by g.F.GuardedFileSystem.seen c.args.self.now) c.args.request.now _ _ _ _ _ c.from_residual-in_err-changes.ensures.1 (judges_unreadable keeps c.args.request.now state _ _ c.in_ok-found.found judged.rules _ read))
+    rw judged.same_locks (serves_exit proppatch_method proppatch_sound (settings_by g.F.GuardedFileSystem.seen c.args.self.now) c.args.request.now _ _ _ _ _ (lawful g.F.GuardedFileSystem.seen g.L.DavLockSystem.seen g.met.F.GuardedFileSystem.well_formed g.met.L.DavLockSystem.distinct c.args.self.now) c.from_residual-in_err-changes.ensures.1 (judges_unreadable keeps c.args.request.now state _ _ c.in_ok-found.found judged.rules _ read))
 
 pub returns-in_err-groups-clause-step : goal.returns-in_err-groups-clause-step
 returns-in_err-groups-clause-step g c =
@@ -32,7 +32,7 @@ returns-in_err-groups-clause-step g c =
     let state = state_of (seen_by g.F.GuardedFileSystem.seen g.L.DavLockSystem.seen c.args.self.now) in
     let judged = c.in_ok-found.ensures in
     let read = rw (c.have_props.ensures, judged.rules.fixed) at c.in_ok-changes.ensures.given in
-    rw judged.same_locks (serves_exit proppatch_method proppatch_sound (settings_by g.F.GuardedFileSystem.seen c.args.self.now) c.args.request.now _ _ _ _ _ c.from_residual-in_err-groups.ensures.1 (judges_untold keeps c.args.request.now state _ _ c.in_ok-found.found judged.rules _ read))
+    rw judged.same_locks (serves_exit proppatch_method proppatch_sound (settings_by g.F.GuardedFileSystem.seen c.args.self.now) c.args.request.now _ _ _ _ _ (lawful g.F.GuardedFileSystem.seen g.L.DavLockSystem.seen g.met.F.GuardedFileSystem.well_formed g.met.L.DavLockSystem.distinct c.args.self.now) c.from_residual-in_err-groups.ensures.1 (judges_untold keeps c.args.request.now state _ _ c.in_ok-found.found judged.rules _ read))
 
 pub returns-then-some_refused-clause-step : goal.returns-then-some_refused-clause-step
 returns-then-some_refused-clause-step g c =
@@ -46,14 +46,8 @@ returns-then-some_refused-clause-step g c =
     let are : groups_of c.in_ok-groups.groups ≡ groups = rw c.as_slice-then-some_refused.ensures.value at c.in_ok-groups.ensures.groups in
     let told = rw are at c.proppatch_reply.ensures.ok in
     rw judged.same_locks
-    (serves_told proppatch_method proppatch_sound (settings_by g.F.GuardedFileSystem.seen c.args.self.now) c.args.request.now _ _ _ (proppatch_reply c.args.request.now.path c.in_ok-found.found groups) c.proppatch_reply.result told c.proppatch_reply.ensures.err
+    (serves_told proppatch_method proppatch_sound (settings_by g.F.GuardedFileSystem.seen c.args.self.now) c.args.request.now _ _ _ (proppatch_reply c.args.request.now.path c.in_ok-found.found groups) c.proppatch_reply.result (lawful g.F.GuardedFileSystem.seen g.L.DavLockSystem.seen g.met.F.GuardedFileSystem.well_formed g.met.L.DavLockSystem.distinct c.args.self.now) told c.proppatch_reply.ensures.err
     (reaches_refusal keeps c.args.request.now state _ _ c.in_ok-found.found judged.rules _ read refused) (judges_untold keeps c.args.request.now state _ _ c.in_ok-found.found judged.rules _ read))
-
-pub returns-then-some_refused-clause-stored : goal.returns-then-some_refused-clause-stored
-returns-then-some_refused-clause-stored g c = patch_tells _ _ _ _ _ _ (returns-then-some_refused-clause-step g c).step
-
-pub returns-then-some_refused-clause-refused : goal.returns-then-some_refused-clause-refused
-returns-then-some_refused-clause-refused g c = patch_refused _ _ _ _ _ _ (returns-then-some_refused-clause-step g c).step
 
 pub returns-clause-step : goal.returns-clause-step
 returns-clause-step g c =
@@ -65,26 +59,5 @@ returns-clause-step g c =
     let none = rw c.as_slice.ensures.value at is in
     let work = rw (c.as_slice-2.ensures.value, judged.rules.fixed) at c.patch_found.ensures.work in
     rw (c.patch_found.ensures.same_locks, judged.same_locks)
-    (serves_work proppatch_method proppatch_sound (settings_by g.F.GuardedFileSystem.seen c.args.self.now) c.args.request.now _ (c.in_ok-found.found, map change_of c.in_ok-changes.changes.items) _ _ _ _
+    (serves_work proppatch_method proppatch_sound (settings_by g.F.GuardedFileSystem.seen c.args.self.now) c.args.request.now _ (c.in_ok-found.found, map change_of c.in_ok-changes.changes.items) _ _ _ _ (lawful g.F.GuardedFileSystem.seen g.L.DavLockSystem.seen g.met.F.GuardedFileSystem.well_formed g.met.L.DavLockSystem.distinct c.args.self.now)
     (judges_update keeps c.args.request.now state _ _ c.in_ok-found.found judged.rules _ read none) (performs_on_store _ _ _ _ work))
-
-pub returns-clause-stored : goal.returns-clause-stored
-returns-clause-stored g c = patch_tells _ _ _ _ _ _ (returns-clause-step g c).step
-
-pub returns-clause-refused : goal.returns-clause-refused
-returns-clause-refused g c = patch_refused _ _ _ _ _ _ (returns-clause-step g c).step
-
-pub returns-in_err-found-clause-kept : goal.returns-in_err-found-clause-kept
-returns-in_err-found-clause-kept g c = patch_kept _ _ _ _ _ _ (returns-in_err-found-clause-step g c).step
-
-pub returns-in_err-changes-clause-kept : goal.returns-in_err-changes-clause-kept
-returns-in_err-changes-clause-kept g c = patch_kept _ _ _ _ _ _ (returns-in_err-changes-clause-step g c).step
-
-pub returns-in_err-groups-clause-kept : goal.returns-in_err-groups-clause-kept
-returns-in_err-groups-clause-kept g c = patch_kept _ _ _ _ _ _ (returns-in_err-groups-clause-step g c).step
-
-pub returns-then-some_refused-clause-kept : goal.returns-then-some_refused-clause-kept
-returns-then-some_refused-clause-kept g c = patch_kept _ _ _ _ _ _ (returns-then-some_refused-clause-step g c).step
-
-pub returns-clause-kept : goal.returns-clause-kept
-returns-clause-kept g c = patch_kept _ _ _ _ _ _ (returns-clause-step g c).step

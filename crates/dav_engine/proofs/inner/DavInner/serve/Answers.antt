@@ -1,9 +1,9 @@
 use Rattle.std.proofs.Common.{◌∙◌, Some, None, refl, sym}
-use Rattle.dav_engine.proofs.Serving.{serves_none, serves_as, unserved}
+use Rattle.dav_engine.proofs.Serving.{serves_none, serves_as, unserved, unserved_unknown}
 use Rattle.dav_engine.proofs.inner.DavInner.serve.Goals as goal
 
 pub returns-in_default-clause-step : goal.returns-in_default-clause-step
-returns-in_default-clause-step g c = serves_as None _ _ _ c.args.request.now _ _ (sym c.in_default.is ∙ c.from_method.ensures) (serves_none None _ c.args.request.now _ (λ state. record { none = refl; told = refl; same = refl }))
+returns-in_default-clause-step g c = serves_as None _ _ _ c.args.request.now _ _ (sym c.in_default.is ∙ c.from_method.ensures) (serves_none None _ c.args.request.now _ (unserved_unknown _ c.args.request.now))
 
 pub returns-in_default-method : goal.returns-in_default-method
 returns-in_default-method g c =
