@@ -5,4 +5,6 @@ pub mod PartReads
 pub mod Executing
 pub mod FrameLists
 pub mod Streams
+pub mod KeepingFiles
+pub mod ReadingBack
 pub mod StreamRuns

@@ -1,5 +1,5 @@
 -- An exchange from its parts, and runs of exchanges.
-use Rattle.std.proofs.Common.{◌≡◌, inr, ℕ, Bool, List, [], ◌∷◌, ◌++◌, length, flat_map, refl, sym, subst, Option, Some, None, IfSome, MatchOption, Result, Ok, Err, OnErr, Vec}
+use Rattle.std.proofs.Common.{◌≡◌, inr, ℕ, Bool, List, [], ◌∷◌, ◌++◌, length, flat_map, refl, sym, subst, Option, Some, None, IfSome, MatchOption, Result, Ok, Err, OnErr, Vec, append-nil}
 use Rattle.std.specs.Prelude.{⊤}
 use Rattle.std.specs.Io.KnownBytes.{Appends, Consumes}
 use Rattle.std.specs.declared.alloc.Global.{Global}
@@ -8,9 +8,11 @@ use Rattle.std.proofs.KnownBytes.{Consumes-kept, Consumes-trans, Appends-trans, 
 use Rattle.dav_store.specs.Store.{Store}
 use Rattle.dav_wire.specs.Batches.{batch_header}
 use Rattle.dav_wire.specs.declared.batch.BatchHeader.{BatchHeader}
-use Rattle.dav_server.specs.Batches.{BatchAnswer, AnswersBatch}
-use Rattle.dav_server.specs.Exchanges.{Skips, answer_bytes, Exchange, bytes_in, bytes_out, IsAnswered, AreAnswered, Exchanges, Ends, StopsInside, Runs, StopsAfter}
+use Rattle.dav_server.specs.Batches.{BatchAnswer, Exchange, AnswersBatch}
+use Rattle.dav_server.specs.Exchanges.{Skips, answer_bytes, bytes_in, bytes_out, IsAnswered, AreAnswered, Exchanges, Ends, StopsInside, Runs, StopsAfter}
+use Rattle.dav_server.specs.Guarantees.{AreOneRun}
 use Rattle.dav_server.specs.State.{Rules, ServerState}
+use Rattle.dav_server.proofs.ReadingBack.{one_run}
 
 module _ {F : Type 0} (see_store : F → Store) (is_honest : F → Bool) (rules : Rules) where
   -- the content of a batch was read or skipped, and the batch was answered
@@ -55,6 +57,19 @@ module _ {F : Type 0} (see_store : F → Store) (is_honest : F → Bool) (rules 
 
   -- ---- runs
 
+  none_read : (a : Option (List ℕ)) → Consumes a a []
+  none_read None = tt
+  none_read (Some bytes) = refl
+
+  none_written : (a : Option (List ℕ)) → Appends a a []
+  none_written None = tt
+  none_written (Some bytes) = sym (append-nil bytes)
+
+  -- no exchange yet
+  pub runs_none : (state : ServerState) (a u : Option (List ℕ)) → Runs see_store is_honest rules state state a a u u
+  runs_none state a u =
+      record { exchanges = []; answered = refl; read = none_read a; written = none_written u; law = one_run see_store is_honest rules [] state state refl }
+
   -- one more exchange
   answered_more :
       (xs : List Exchange) (x : Exchange) (old mid new : ServerState) → AreAnswered see_store is_honest rules xs old mid
@@ -67,15 +82,17 @@ module _ {F : Type 0} (see_store : F → Store) (is_honest : F → Bool) (rules 
       → Exchanges see_store is_honest rules mid new b c v w → Runs see_store is_honest rules old new a c u w
   runs_more old mid new a b c u v w run more =
       let x = more.exchange in
+      let all = answered_more run.exchanges x old mid new run.answered more.answered in
       record {
         exchanges = run.exchanges ++ x ∷ [];
-        answered = answered_more run.exchanges x old mid new run.answered more.answered;
+        answered = all;
         read =
             subst (Consumes a c) (flat_map_more bytes_in [] run.exchanges x)
             (Consumes-trans a b c (flat_map bytes_in run.exchanges) (bytes_in x) run.read more.read);
         written =
             subst (Appends u w) (flat_map_more bytes_out [] run.exchanges x)
             (Appends-trans u v w (flat_map bytes_out run.exchanges) (bytes_out x) run.written more.written);
+        law = one_run see_store is_honest rules (run.exchanges ++ x ∷ []) old new all;
       }
 
   -- the input ends after a run
@@ -88,6 +105,7 @@ module _ {F : Type 0} (see_store : F → Store) (is_honest : F → Bool) (rules 
         answered = subst (AreAnswered see_store is_honest rules run.exchanges old) (sym end.same) run.answered;
         read = Consumes-kept a b c (flat_map bytes_in run.exchanges) run.read end.none_read;
         written = Appends-kept u v w (flat_map bytes_out run.exchanges) run.written end.none_written;
+        law = subst (AreOneRun see_store is_honest rules run.exchanges old) (sym end.same) run.law;
       }
 
   -- a stream fails after a run
@@ -96,4 +114,4 @@ module _ {F : Type 0} (see_store : F → Store) (is_honest : F → Bool) (rules 
       → StopsInside see_store is_honest rules mid new → OnErr r (StopsAfter see_store is_honest rules old new)
   runs_stopped (Ok x) old mid new a b u v run inside = tt
   runs_stopped (Err e) old mid new a b u v run inside =
-      record { exchanges = run.exchanges; mid = mid; answered = run.answered; stopped = inside }
+      record { exchanges = run.exchanges; mid = mid; answered = run.answered; law = run.law; stopped = inside }

@@ -12,6 +12,12 @@ pub record BatchAnswer : Type 0 where
   pub status : ℕ
   pub replies : List (List ℕ)
 
+-- a batch and its answer
+pub record Exchange : Type 0 where
+  pub header : BatchHeader
+  pub content : List ℕ
+  pub answer : BatchAnswer
+
 -- an answer without replies
 abbrev pub bare_answer : ℕ → BatchAnswer
 bare_answer status = record { status = status; replies = [] }

@@ -6,8 +6,8 @@ use Rattle.dav_wire.specs.Batches.{batch, batch_header}
 use Rattle.dav_wire.specs.Codec.{Codec}
 use Rattle.dav_wire.specs.Combine.{pair}
 use Rattle.dav_wire.specs.Numbers.{number}
-use Rattle.dav_wire.specs.declared.batch.BatchHeader.{BatchHeader}
-use Rattle.dav_server.specs.Batches.{BatchAnswer, AnswersBatch}
+use Rattle.dav_server.specs.Batches.{BatchAnswer, Exchange, AnswersBatch}
+use Rattle.dav_server.specs.Guarantees.{AreOneRun}
 use Rattle.dav_server.specs.State.{Rules, ServerState}
 
 -- a batch of replies: the number of the batch, its status, and the replies
@@ -42,12 +42,6 @@ pub record ReadsMore (input input' : Option (List ℕ)) (count : ℕ) (old new :
   pub appended : new ≡ old ++ bytes
 
 -- ---- exchanges
-
--- a batch and its answer
-pub record Exchange : Type 0 where
-  pub header : BatchHeader
-  pub content : List ℕ
-  pub answer : BatchAnswer
 
 -- the bytes of the batch, and those of its answer
 abbrev pub bytes_in : Exchange → List ℕ
@@ -90,16 +84,18 @@ module _ {F : Type 0} (see_store : F → Store) (is_honest : F → Bool) where
   abbrev pub StopsInside : Rules → ServerState → ServerState → Type 0
   StopsInside rules old new = (new ≡ old) ⊎ ((exchange : Exchange) × IsAnswered rules exchange old new)
 
-  -- the exchanges of a run: their bytes are read, and those of their answers are written
+  -- the exchanges of a run: their bytes are read, and those of their answers are written; what a PUT wrote is what a later read returns (`AreOneRun`)
   pub record Runs (rules : Rules) (old new : ServerState) (input input' output output' : Option (List ℕ)) : Type 0 where
     pub exchanges : List Exchange
     pub answered : AreAnswered rules exchanges old new
     pub read : Consumes input input' (flat_map bytes_in exchanges)
     pub written : Appends output output' (flat_map bytes_out exchanges)
+    pub law : AreOneRun see_store is_honest rules exchanges old new
 
   -- a run that a failed stream stops: all exchanges before were answered
   pub record StopsAfter (rules : Rules) (old new : ServerState) : Type 0 where
     pub exchanges : List Exchange
     pub mid : ServerState
     pub answered : AreAnswered rules exchanges old mid
+    pub law : AreOneRun see_store is_honest rules exchanges old mid
     pub stopped : StopsInside rules mid new

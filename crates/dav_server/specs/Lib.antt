@@ -8,4 +8,5 @@ pub mod Events
 pub mod Frames
 pub mod Batches
 pub mod Answers
+pub mod Guarantees
 pub mod Exchanges

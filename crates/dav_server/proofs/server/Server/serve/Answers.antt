@@ -1,6 +1,6 @@
 use Rattle.std.proofs.Common.{◌∙◌, inl, refl}
 use Rattle.dav_server.specs.State.{rules_of}
-use Rattle.dav_server.proofs.StreamRuns.{runs_more, runs_end, runs_stopped}
+use Rattle.dav_server.proofs.StreamRuns.{runs_none, runs_more, runs_end, runs_stopped}
 use Rattle.dav_server.proofs.server.Server.serve.Goals as goal
 
 pub returns-in_err-exchange-clause-stopped : goal.returns-in_err-exchange-clause-stopped
@@ -8,6 +8,10 @@ returns-in_err-exchange-clause-stopped g c =
     let (same, run) = c.loop.invariant in
     runs_stopped g.F.GuardedFileSystem.seen g.F.GuardedFileSystem.is_honest (rules_of c.args.self.now) c.from_residual.result _ _ _ _ _ _ _
     run (rw same at c.in_err-exchange.ensures.stopped)
+
+pub loop-init : goal.loop-init
+loop-init g c =
+    (refl, runs_none g.F.GuardedFileSystem.seen g.F.GuardedFileSystem.is_honest (rules_of c.args.self.now) _ (g.R.Read.remaining c.args.input.now) (g.W.Write.contents c.args.output.now))
 
 pub loop-preserved : goal.loop-preserved
 loop-preserved g c =
@@ -21,7 +25,7 @@ loop-preserved g c =
 pub returns-clause-stopped : goal.returns-clause-stopped
 returns-clause-stopped g c =
     let run = c.loop.invariant.1 in
-    record { exchanges = run.exchanges; mid = _; answered = run.answered; stopped = inl refl }
+    record { exchanges = run.exchanges; mid = _; answered = run.answered; law = run.law; stopped = inl refl }
 
 pub returns-then-not-branch-clause-ran : goal.returns-then-not-branch-clause-ran
 returns-then-not-branch-clause-ran g c =

@@ -1,0 +1,255 @@
+-- What a PUT wrote is what a later read returns.
+use Rattle.std.proofs.Common.{◌≡◌, ◌≢◌, ◌∙◌, ◌⊎◌, inl, inr, ℕ, Bool, false, List, [], ◌∷◌, ◌++◌, length, Option, Some, None, Ok, Err, refl, sym, ap, subst, arith}
+use Rattle.std.specs.List.{AllZip, list_any}
+use Rattle.std.specs.FinMap.{get}
+use Rattle.std.proofs.lemmas.Bool.{or_parts}
+use Rattle.dav_resource.specs.Key.{Key}
+use Rattle.dav_resource.specs.Methods.{method_of}
+use Rattle.dav_resource.specs.PathText.{PathValue, read_path}
+use Rattle.dav_resource.specs.declared.method.DavMethod.{DavMethod}
+use Rattle.dav_resource.specs.declared.method.DavMethod.TheVariants.{Put, Patch, Copy, Move, Delete}
+use Rattle.dav_resource.specs.declared.request.DavRequest.{DavRequest}
+use Rattle.dav_store.specs.Calls.{bytes_from}
+use Rattle.dav_store.specs.Store.{Store, Bodies, Contents, Node, File, Directory}
+use Rattle.dav_parts.specs.Reply.{Answer}
+use Rattle.dav_engine.specs.Law.{MethodLaw}
+use Rattle.dav_engine.specs.Put.{new_bytes}
+use Rattle.dav_engine.specs.State.{state_of}
+use Rattle.dav_wire.specs.Frames.{RequestValue, ReadValue}
+use Rattle.dav_wire.specs.Replies.{PartValue, ReplyValue, Part, Collection, Failed}
+use Rattle.dav_server.specs.Batches.{BatchAnswer, Exchange, bare_answer, AnswersBatch, SkipsBatch, begun}
+use Rattle.dav_server.specs.Events.{Action, Malformed, OutOfMemory, BodyStarted, BodyExtended, BodyDropped, FileRead, ExpiryReturned, HeldReturned, Rejected, Served, Acts, Happen, events_of, ServesRequest}
+use Rattle.dav_server.specs.Exchanges.{IsAnswered, AreAnswered}
+use Rattle.dav_server.specs.Parts.{ReadsFile, ReadsBy, ReturnsAt, ReturnsPart, is_same_version}
+use Rattle.dav_server.specs.State.{Rules, ServerState, settings_at}
+use Rattle.dav_server.proofs.KeepingFiles.{file_stays}
+use Rattle.dav_server.specs.Guarantees.{AreFor, bodies_by, bodies_after, may_rewrite, rewrites, WritesWhole, IsPartOf, IsReplyFrom, ReadsBack, joined, ActInOrder, AreOneRun}
+
+-- the file or directory at a key of a state
+abbrev node_at : ServerState → Key → Option Node
+node_at state key = get state.seen.store.contents.tree key
+
+-- the bodies that the store holds
+abbrev held_in : ServerState → Bodies
+held_in state = state.seen.store.facts.bodies
+
+-- ---- one request
+
+-- what a request may change does not depend on the state
+rewrite_same : (method : Option DavMethod) (rules : Rules) (one other : ServerState) (request : DavRequest) (key : Key)
+    → may_rewrite method (settings_at rules one) request key ≡ may_rewrite method (settings_at rules other) request key
+rewrite_same (Some Copy) rules one other request key = refl
+rewrite_same (Some Move) rules one other request key = refl
+rewrite_same (Some Put) rules one other request key = refl
+rewrite_same (Some Patch) rules one other request key = refl
+rewrite_same (Some Delete) rules one other request key = refl
+rewrite_same _ rules one other request key = refl
+
+-- a request that may not change a file leaves it as it is
+request_keeps : (rules : Rules) (frame : RequestValue) (request : DavRequest) (answer : Answer) (first old new : ServerState) (key : Key) (bytes : List ℕ)
+    → ServesRequest rules frame request answer old new → may_rewrite (method_of request.method) (settings_at rules first) request key ≡ false
+    → node_at old key ≡ Some (File bytes) → node_at new key ≡ Some (File bytes)
+request_keeps rules frame request answer first old new key bytes served apart file =
+    let step = served.executes.served in
+    ap (λ (s : ServerState). node_at s key) served.executes.emptied
+    ∙ file_stays (settings_at rules old) request (state_of old.seen) step.records answer (state_of served.executes.after) (method_of request.method) key bytes step.step step.law
+    (rewrite_same (method_of request.method) rules old first request key ∙ apart) file
+
+-- no request changes the bodies that the store holds
+request_holds : (rules : Rules) (frame : RequestValue) (request : DavRequest) (answer : Answer) (old new : ServerState)
+    → ServesRequest rules frame request answer old new → held_in new ≡ held_in old
+request_holds rules frame request answer old new served =
+    ap held_in served.executes.emptied ∙ ap (λ p. p.0.bodies) served.executes.served.fixed
+
+-- after a PUT of a whole file the file has its body
+put_writes : (rules : Rules) (frame : RequestValue) (put : DavRequest) (answer : Answer) (old new : ServerState)
+    → ServesRequest rules frame put answer old new → WritesWhole put answer → node_at new put.path.key ≡ Some (File (new_bytes (held_in old) put.body))
+put_writes rules frame put answer old new served whole =
+    let step = served.executes.served in
+    let law = subst (λ m. MethodLaw m (settings_at rules old) put (state_of old.seen) step.records answer (state_of served.executes.after)) whole.method step.law.own in
+    ap (λ (s : ServerState). node_at s put.path.key) served.executes.emptied ∙ law.whole whole.told (record { put = refl; no_range = whole.no_range })
+
+-- ---- one action
+
+module _ {F : Type 0} (see_store : F → Store) (is_honest : F → Bool) (rules : Rules) where
+  -- an action that may not change a file leaves it as it is
+  keeps : (action : Action) (first old new : ServerState) (key : Key) (bytes : List ℕ)
+      → Acts see_store is_honest rules action old new → rewrites (settings_at rules first) key action ≡ false
+      → node_at old key ≡ Some (File bytes) → node_at new key ≡ Some (File bytes)
+  keeps Malformed first old new key bytes acts apart file = ap (λ (s : ServerState). node_at s key) acts ∙ file
+  keeps (OutOfMemory frame) first old new key bytes acts apart file = ap (λ (s : ServerState). node_at s key) acts ∙ file
+  keeps (BodyStarted (Ok number)) first old new key bytes acts apart file = ap (λ (s : Store). get s.contents.tree key) acts.change.started.begun ∙ file
+  keeps (BodyStarted (Err e)) first old new key bytes acts apart file = ap (λ (s : Store). get s.contents.tree key) acts.change.refused.0 ∙ file
+  keeps (BodyExtended number more (Ok done)) first old new key bytes acts apart file = ap (λ (s : Store). get s.contents.tree key) acts.change.added.extended ∙ file
+  keeps (BodyExtended number more (Err e)) first old new key bytes acts apart file = ap (λ (s : Store). get s.contents.tree key) acts.change.1 ∙ file
+  keeps (BodyDropped number) first old new key bytes acts apart file = ap (λ (s : ServerState). node_at s key) acts ∙ file
+  keeps (FileRead asked reply) first old new key bytes acts apart file = ap (λ (s : ServerState). node_at s key) acts.0 ∙ file
+  keeps (ExpiryReturned time) first old new key bytes acts apart file = ap (λ (s : ServerState). node_at s key) acts.0 ∙ file
+  keeps (HeldReturned reply) first old new key bytes acts apart file = ap (λ (s : ServerState). node_at s key) acts.0 ∙ file
+  keeps (Rejected frame e) first old new key bytes acts apart file = ap (λ (s : ServerState). node_at s key) acts.0 ∙ file
+  keeps (Served frame request answer) first old new key bytes acts apart file = request_keeps rules frame request answer first old new key bytes acts apart file
+
+  -- the bodies after an action
+  holds : (action : Action) (old new : ServerState) → Acts see_store is_honest rules action old new → held_in new ≡ bodies_by action (held_in old)
+  holds Malformed old new acts = ap held_in acts
+  holds (OutOfMemory frame) old new acts = ap held_in acts
+  holds (BodyStarted (Ok number)) old new acts = ap (λ (s : Store). s.facts.bodies) acts.change.started.begun
+  holds (BodyStarted (Err e)) old new acts = ap (λ (s : Store). s.facts.bodies) acts.change.refused.0
+  holds (BodyExtended number more (Ok done)) old new acts = ap (λ (s : Store). s.facts.bodies) acts.change.added.extended
+  holds (BodyExtended number more (Err e)) old new acts = ap (λ (s : Store). s.facts.bodies) acts.change.1
+  holds (BodyDropped number) old new acts = ap held_in acts
+  holds (FileRead asked reply) old new acts = ap held_in acts.0
+  holds (ExpiryReturned time) old new acts = ap held_in acts.0
+  holds (HeldReturned reply) old new acts = ap held_in acts.0
+  holds (Rejected frame e) old new acts = ap held_in acts.0
+  holds (Served frame request answer) old new acts = request_holds rules frame request answer old new acts
+
+  -- a part of a file with these bytes
+  part_of : (contents : Contents) (key : Key) (asked : ReadValue) (part : PartValue) (bytes : List ℕ) (store : F)
+      → get contents.tree key ≡ Some (File bytes) → ReturnsPart (is_honest store) contents key asked part → IsPartOf is_honest bytes asked part
+  part_of contents key asked part bytes store file returns =
+      let there : Some (File returns.bytes) ≡ Some (File bytes) = sym returns.file ∙ file in
+      let same : returns.bytes ≡ bytes = cc in
+      let is_length : part.length ≡ returns.meta.len = ap (λ (p : PartValue). p.length) returns.is in
+      let are_bytes : part.bytes ≡ returns.read = ap (λ (p : PartValue). p.bytes) returns.is in
+      record {
+        whole = is_length ∙ returns.whole ∙ ap length same;
+        count = ap length are_bytes ∙ returns.count ∙ ap (λ bs. length (bytes_from asked.place asked.length bs)) same;
+        answer = λ honest. are_bytes ∙ returns.answer (honest store) ∙ ap (bytes_from asked.place asked.length) same;
+      }
+
+  other_version : (version tag : Option (List ℕ)) → is_same_version version tag ≡ false → version ≢ None
+  other_version None tag other = absurd cc
+  other_version (Some version) tag other = λ h. cc
+
+  -- the reply to a read of a file with these bytes
+  reply_from : (contents : Contents) (key : Key) (asked : ReadValue) (reply : ReplyValue) (bytes : List ℕ) (store : F)
+      → get contents.tree key ≡ Some (File bytes) → ReturnsAt (is_honest store) contents key asked reply ⊎ (reply ≡ Failed 507) → IsReplyFrom is_honest bytes asked reply
+  reply_from contents key asked (Part part) bytes store file (inl returns) = part_of contents key asked part bytes store file returns
+  reply_from contents key asked Collection bytes store file (inl returns) = let no : Some Directory ≡ Some (File bytes) = sym returns ∙ file in absurd cc
+  reply_from contents key asked (Failed status) bytes store file (inl (inl (missing, none))) = let no : None ≡ Some (File bytes) = sym none ∙ file in absurd cc
+  reply_from contents key asked (Failed status) bytes store file (inl (inr (inl (told, version)))) = inl (told, other_version asked.version version.meta.etag version.other)
+  reply_from contents key asked (Failed status) bytes store file (inl (inr (inr own))) = inr own
+  reply_from contents key asked reply bytes store file (inl returns) = absurd returns
+  reply_from contents key asked reply bytes store file (inr full) = subst (IsReplyFrom is_honest bytes asked) (sym full) (inr (inr refl))
+
+  -- a read of a file with these bytes
+  read_gives : (old : ServerState) (asked : ReadValue) (reply : ReplyValue) (path : PathValue) (key : Key) (bytes : List ℕ)
+      → ReadsFile see_store is_honest rules old asked reply → read_path asked.path rules.prefix ≡ Ok path → path.key ≡ key
+      → node_at old key ≡ Some (File bytes) → IsReplyFrom is_honest bytes asked reply
+  read_gives old asked reply path key bytes reads read same file =
+      reply_from old.seen.store.contents path.key asked reply bytes reads.store (ap (node_at old) same ∙ file)
+      (subst (λ r. ReadsBy r (is_honest reads.store) old.seen.store.contents asked reply) read reads.reads)
+
+  -- ---- actions in order
+
+  -- the actions up to a place, and those from there on
+  split : (xs ys : List Action) (old new : ServerState) → ActInOrder see_store is_honest rules (xs ++ ys) old new
+      → (mid : ServerState) × ActInOrder see_store is_honest rules xs old mid × ActInOrder see_store is_honest rules ys mid new
+  split [] ys old new run = (old, refl, run)
+  split (x ∷ xs) ys old new run =
+      let (before, after, same, acts, others) = run in
+      let (mid, first, second) = split xs ys after new others in
+      (mid, (before, after, same, acts, first), second)
+
+  all_keep : (actions : List Action) (first old new : ServerState) (key : Key) (bytes : List ℕ)
+      → ActInOrder see_store is_honest rules actions old new → list_any (rewrites (settings_at rules first) key) actions ≡ false
+      → node_at old key ≡ Some (File bytes) → node_at new key ≡ Some (File bytes)
+  all_keep [] first old new key bytes run apart file = ap (λ (s : Store). get s.contents.tree key) run ∙ file
+  all_keep (action ∷ actions) first old new key bytes run apart file =
+      let (before, after, same, acts, others) = run in
+      let p = or_parts (rewrites (settings_at rules first) key action) (list_any (rewrites (settings_at rules first) key) actions) apart in
+      all_keep actions first after new key bytes others p.1 (keeps action first before after key bytes acts p.0 (ap (λ (s : Store). get s.contents.tree key) same ∙ file))
+
+  all_hold : (actions : List Action) (old new : ServerState) → ActInOrder see_store is_honest rules actions old new → held_in new ≡ bodies_after actions (held_in old)
+  all_hold [] old new run = ap (λ (s : Store). s.facts.bodies) run
+  all_hold (action ∷ actions) old new run =
+      let (before, after, same, acts, others) = run in
+      all_hold actions after new others
+      ∙ ap (bodies_after actions) (holds action before after acts ∙ ap (λ (s : Store). bodies_by action s.facts.bodies) same)
+
+  -- what a PUT wrote is what a later read returns
+  pub reads_back : (actions : List Action) (old new : ServerState) → ActInOrder see_store is_honest rules actions old new
+      → ReadsBack is_honest (settings_at rules old) actions
+  reads_back actions old new run h =
+      let all = subst (λ list. ActInOrder see_store is_honest rules list old new) h.in_order run in
+      let (start, earlier, (put_at, written, same, put, later)) = split h.before (Served h.frame h.put h.answer ∷ (h.between ++ FileRead h.asked h.reply ∷ h.after)) old new all in
+      let (end, middle, (read_at, left, kept, read, last)) = split h.between (FileRead h.asked h.reply ∷ h.after) written new later in
+      let key = h.put.path.key in
+      let bytes = new_bytes (bodies_after h.before (held_in old)) h.put.body in
+      let body : held_in put_at ≡ bodies_after h.before (held_in old) = ap (λ (s : Store). s.facts.bodies) same ∙ all_hold h.before old start earlier in
+      let file : node_at written key ≡ Some (File bytes) =
+      put_writes rules h.frame h.put h.answer put_at written put h.whole ∙ ap (λ (held : Bodies). Some (File (new_bytes held h.put.body))) body in
+      let stays : node_at read_at key ≡ Some (File bytes) = ap (λ (s : Store). get s.contents.tree key) kept ∙ all_keep h.between old written end key bytes middle h.unchanged file in
+      read_gives read_at h.asked h.reply h.path key bytes read.1 h.read h.same stays
+
+  -- ---- the actions of batches
+
+  from_same : (actions : List Action) (one other new : ServerState) → one.seen.store ≡ other.seen.store
+      → ActInOrder see_store is_honest rules actions one new → ActInOrder see_store is_honest rules actions other new
+  from_same [] one other new same run = run ∙ same
+  from_same (action ∷ actions) one other new same (before, after, kept, acts, others) = (before, after, kept ∙ same, acts, others)
+
+  join : (xs ys : List Action) (old mid new : ServerState)
+      → ActInOrder see_store is_honest rules xs old mid → ActInOrder see_store is_honest rules ys mid new → ActInOrder see_store is_honest rules (xs ++ ys) old new
+  join [] ys old mid new same second = from_same ys mid old new same second
+  join (x ∷ xs) ys old mid new (before, after, kept, acts, others) second = (before, after, kept, acts, join xs ys after mid new others second)
+
+  -- the actions of a batch, between which locks expire
+  in_order : (actions : List Action) (old new : ServerState) → Happen see_store is_honest rules (events_of actions) old new
+      → ActInOrder see_store is_honest rules actions old new
+  in_order [] old new same = ap (λ (s : ServerState). s.seen.store) same
+  in_order (action ∷ actions) old new (expired, is, (after, acts, others)) =
+      (expired, after, ap (λ (s : ServerState). s.seen.store) is, acts, in_order actions after new others)
+
+  -- the actions for the batch of an exchange
+  record HasActions (exchange : Exchange) (old new : ServerState) : Type 0 where
+    actions : List Action
+    of : AreFor exchange actions
+    in_order : ActInOrder see_store is_honest rules actions old new
+
+  actions_of : (exchange : Exchange) (old new : ServerState) → IsAnswered see_store is_honest rules exchange old new → HasActions exchange old new
+  actions_of exchange old new h = by_answer h.answers
+    where
+      none : (status : ℕ) → exchange.answer ≡ bare_answer status → status ≢ 200 → new.seen.store ≡ old.seen.store → HasActions exchange old new
+      none status told other same =
+          record { actions = []; of = inr (record { status = λ h. other (sym (ap (λ (a : BatchAnswer). a.status) told) ∙ h); none = refl }); in_order = same }
+
+      skipped : (status : ℕ) → SkipsBatch status exchange.header exchange.answer old new → status ≢ 200 → HasActions exchange old new
+      skipped status skips other = none status skips.answered other (ap (λ (s : ServerState). s.seen.store) skips.same)
+
+      by_answer : AnswersBatch see_store is_honest rules exchange.header exchange.content exchange.answer old new → HasActions exchange old new
+      by_answer (inl serves) =
+          record {
+            actions = serves.served.actions;
+            of = inl (record { status = serves.status; frames = serves.frames; read = serves.read; of = serves.served.read; sent = serves.served.sent });
+            in_order = from_same serves.served.actions (begun exchange.header old) old new refl (in_order serves.served.actions (begun exchange.header old) new serves.served.happen);
+          }
+      by_answer (inr (inl (unread, skips))) = skipped 400 skips (λ h. omega arith)
+      by_answer (inr (inr (inl skips))) = skipped 507 skips (λ h. omega arith)
+      by_answer (inr (inr (inr refuses))) = none 409 refuses.answered (λ h. omega arith) (ap (λ (s : ServerState). s.seen.store) refuses.same)
+
+  -- ---- a run
+
+  -- the actions for each of some exchanges, in order
+  record HasActionsOfAll (exchanges : List Exchange) (old new : ServerState) : Type 0 where
+    actions : List (List Action)
+    of : AllZip AreFor exchanges actions
+    in_order : ActInOrder see_store is_honest rules (joined actions) old new
+
+  actions_of_all : (exchanges : List Exchange) (old new : ServerState) → AreAnswered see_store is_honest rules exchanges old new → HasActionsOfAll exchanges old new
+  actions_of_all [] old new same = record { actions = []; of = tt; in_order = ap (λ (s : ServerState). s.seen.store) same }
+  actions_of_all (exchange ∷ exchanges) old new (mid, answered, others) =
+      let first = actions_of exchange old mid answered in
+      let rest = actions_of_all exchanges mid new others in
+      record {
+        actions = first.actions ∷ rest.actions;
+        of = (first.of, rest.of);
+        in_order = join first.actions (joined rest.actions) old mid new first.in_order rest.in_order;
+      }
+
+  pub one_run : (exchanges : List Exchange) (old new : ServerState) → AreAnswered see_store is_honest rules exchanges old new
+      → AreOneRun see_store is_honest rules exchanges old new
+  one_run exchanges old new answered =
+      let h = actions_of_all exchanges old new answered in
+      record { actions = h.actions; of = h.of; in_order = h.in_order; reads_back = reads_back (joined h.actions) old new h.in_order }
