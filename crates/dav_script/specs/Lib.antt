@@ -4,5 +4,6 @@ pub mod Escape
 pub mod Outline
 pub mod Refusals
 pub mod Requests
+pub mod Serving
 pub mod Status
 pub mod Texts

@@ -1,9 +1,10 @@
 //! Runs a program that serves a script from its input and prints to its output.
-ghost use Rattle.std.specs.Prelude.{◌≡◌, ◌⊎◌, ◌<◌, length, IfErr, IfOk, IfSome, IsErr, IsErrOf, IsOk, OnOk};
+ghost use Rattle.std.specs.Prelude.{◌≡◌, ◌⊎◌, ◌<◌, ℕ, List, length, IfErr, IfOk, IfSome, IsErr, IsErrOf, IsOk, OnOk};
 ghost use Rattle.std.specs.Io.KnownBytes.{Appends, IsAtEnd};
 ghost use Rattle.dav_resource.specs.PathText.{read_prefix};
 ghost use Rattle.dav_resource.specs.Texts.{texts};
 ghost use Rattle.dav_script.specs.Arguments.{AreUsable};
+ghost use Rattle.dav_script.specs.Serving.{IsAllServed, Shared, first_shared, prefix_in, shared_by};
 ghost use Rattle.dav_script.specs.Status.{SaysFault, trouble_line};
 
 use crate::faults::ScriptError;
@@ -15,8 +16,15 @@ use std::io::{Read, Write};
 
 /// A script, as a program reads and serves it.
 pub trait Script: Drop {
+    /// The script is one that `read` may return for this text.
+    ghost is_given: { List ℕ → Self → Type 0 };
+
+    /// Serving the script has this effect.
+    ghost is_done: { Self → Shared → Shared → Type 0 };
+
     /// Reads a whole script. The error is the fault of the first faulty line, or `Memory`.
-    fn read(alloc: Global, text: &[u8]) -> Result<Self, ScriptError>;
+    fn read(alloc: Global, text: &[u8]) -> Result<Self, ScriptError>
+        ensures { IfOk result (λ script. is_given text.now script) };
 
     /// Serves the script in order, and prints the responses.
     fn serve<O: Write>(
@@ -24,7 +32,8 @@ pub trait Script: Drop {
         alloc: Global,
         session: &mut Session<'_>,
         output: &mut O,
-    ) -> Result<(), Stopped>;
+    ) -> Result<(), Stopped>
+        ensures { OnOk result (is_done self (shared_by session.old) (shared_by session.new)) };
 }
 
 /// Runs the program with this name on its arguments (without the name), and returns its exit status:
@@ -54,6 +63,9 @@ pub fn run_script<S: Script, I: Read, O: Write, E: Write>(
     ensures whole { result ≡ 0 → IsAtEnd (I.remaining input.new) }
     ensures served { result ≡ 0 → errors.new ≡ errors.old }
 
+    // With 0 the script that was read from the input was served, over a new store and a new lock system.
+    ensures run { result ≡ 0 → IsAllServed S.is_given S.is_done (prefix_in (texts arguments.now)) (I.remaining input.old) }
+
     // With 2 nothing was printed, and what is at fault was written to `errors`.
     ensures refused { result ≡ 2 → output.new ≡ output.old }
     ensures said { result ≡ 2 → SaysFault program.now (texts arguments.now) (E.contents errors.old) (E.contents errors.new) }
@@ -78,6 +90,8 @@ fn read_all<'a, S: Script, I: Read>(
     ensures usable { OnOk result (AreUsable (texts arguments.now)) }
     ensures unusable { IfErr result (λ e. e ≡ Trouble.Usage → ¬ (AreUsable (texts arguments.now))) }
     ensures whole { OnOk result (IsAtEnd (I.remaining input.new)) }
+    ensures prefix { IfOk result (λ read. read.0.now ≡ prefix_in (texts arguments.now)) }
+    ensures given { IfOk result (λ read. (text : List ℕ) × IfSome (I.remaining input.old) (λ bytes. text ≡ bytes) × S.is_given text read.1) }
 {
     let prefix = match arguments {
         [] => "",
@@ -118,7 +132,9 @@ fn serve_all<S: Script, O: Write>(
     prefix: &str,
     script: S,
     output: &mut O,
-) -> Result<(), Stopped> {
+) -> Result<(), Stopped>
+    ensures { OnOk result ((last : Shared) × S.is_done script (first_shared prefix.now) last) }
+{
     let mut session = Session::new(alloc, prefix)?;
     script.serve(alloc, &mut session, output)?;
     session.print_end(alloc, output)?;

@@ -1,4 +1,8 @@
 //! Serves the blocks of a script.
+ghost use Rattle.std.specs.Prelude.{◌≡◌, map, string_bytes, IfOk, OnOk};
+ghost use Rattle.dav_parts.specs.Reply.{answer_of};
+ghost use Rattle.dav_script.specs.Serving.{AreRun, IsServed, RunsBelow, begun, first_shared, request_in, seen_over, shared_by, without_log};
+
 use crate::blocks::Block;
 use crate::print::{print_end, print_reply, request_line};
 use crate::refusal::PlannedRefusal;
@@ -34,7 +38,9 @@ pub struct Session<'a> {
 impl<'a> Session<'a> {
     /// Creates a session before its first block. The store holds only the root, at time 0, and refuses
     /// nothing. There is no lock. Requests have paths below the prefix. Fails only if memory runs out.
-    pub fn new(alloc: Global, prefix: &'a str) -> Result<Session<'a>, Stopped> {
+    pub fn new(alloc: Global, prefix: &'a str) -> Result<Session<'a>, Stopped>
+        ensures { IfOk result (λ session. shared_by session ≡ first_shared prefix.now) }
+    {
         Ok(Session {
             prefix,
             store: Refusing::new(alloc, MemFs::new(alloc)?),
@@ -44,14 +50,16 @@ impl<'a> Session<'a> {
         })
     }
 
-    /// Serves one block, and prints its request line and its response. If the path cannot be parsed, the
-    /// request is not served, and the error's status is printed.
+    /// Serves one block in a run of its own, and prints its request line and its response. If the path cannot
+    /// be parsed, the request is not served, and the error's status is printed.
     pub fn serve<O: Write>(
         &mut self,
         alloc: Global,
         block: Block,
         output: &mut O,
-    ) -> Result<(), Stopped> {
+    ) -> Result<(), Stopped>
+        ensures { OnOk result (IsServed block (shared_by self.old) (shared_by self.new)) }
+    {
         let line = request_line(alloc, &block)?;
         writeln!(output, "{line}")?;
         let request = match self.begin(alloc, block)? {
@@ -95,7 +103,10 @@ impl<'a> Session<'a> {
 
     /// Counts a block, sets its time and plans its refusals. Returns its request, or the error if its path
     /// cannot be parsed. Fails only if memory runs out.
-    fn begin(&mut self, alloc: Global, mut block: Block) -> Result<DavResult<DavRequest>, Stopped> {
+    fn begin(&mut self, alloc: Global, mut block: Block) -> Result<DavResult<DavRequest>, Stopped>
+        ensures begun { OnOk result (shared_by self.new ≡ begun block (shared_by self.old)) }
+        ensures request { IfOk result (λ request. request ≡ request_in block (shared_by self.new)) }
+    {
         self.blocks = self.blocks.saturating_add(1);
         if let Some(now) = block.now {
             self.set_now(now);
@@ -111,12 +122,16 @@ impl<'a> Session<'a> {
     }
 
     /// Returns the current time, in whole seconds since 1970.
-    pub fn now(&self) -> u64 {
+    pub fn now(&self) -> u64
+        ensures { result ≡ (shared_by self.entry.now).now }
+    {
         self.now
     }
 
     /// Sets the current time.
-    pub fn set_now(&mut self, now: u64) {
+    pub fn set_now(&mut self, now: u64)
+        ensures { shared_by self.new ≡ record (shared_by self.old) { now = now } }
+    {
         self.now = now;
         self.store.inner_mut().set_now(now);
     }
@@ -128,12 +143,16 @@ impl<'a> Session<'a> {
     }
 
     /// Clears the records of the calls so far, in the store's log and in that of the wrapped store.
-    pub fn clear_log(&mut self) {
+    pub fn clear_log(&mut self)
+        ensures { shared_by self.new ≡ without_log (shared_by self.old) }
+    {
         GuardedFileSystem::<()>::clear_log(&mut self.store);
     }
 
     /// Plans a refusal, after those that are planned and not yet used. Fails only if memory runs out.
-    pub fn plan(&mut self, refusal: PlannedRefusal) -> Result<(), Stopped> {
+    pub fn plan(&mut self, refusal: PlannedRefusal) -> Result<(), Stopped>
+        ensures { shared_by self.new ≡ shared_by self.old }
+    {
         let PlannedRefusal { op, path, error } = refusal;
         self.store.add(op, path, error)?;
         Ok(())
@@ -145,26 +164,40 @@ impl<'a> Session<'a> {
     }
 
     /// Serves requests in one run of an engine, and returns the run's result. Fails only if memory runs out.
-    fn run(
-        &mut self,
-        alloc: Global,
-        requests: &[DavRequest],
-    ) -> Result<DavResult<Replies>, Stopped> {
+    fn run(&mut self, alloc: Global, requests: &[DavRequest]) -> Result<DavResult<Replies>, Stopped>
+        ensures { IfOk result (λ run. OnOk run (AreRun (shared_by self.old) requests.now (shared_by self.new))) }
+    {
         let prefix = String::from_str(alloc, self.prefix)?;
-        Ok(run_requests(&mut self.store, &mut self.locks, prefix, requests))
+        let (replies, store, locks) = run_over(&mut self.store, &mut self.locks, prefix, requests);
+        give_back(store, locks);
+        Ok(replies)
     }
 }
 
-/// Serves requests in one run of a new engine over a store and a lock system.
-fn run_requests<'a>(
+/// Serves requests in one run of a new engine over a store and a lock system, below this prefix, and returns
+/// both.
+fn run_over<'a>(
     store: &'a mut Refusing<MemFs>,
     locks: &'a mut MemLs,
     prefix: String,
     requests: &[DavRequest],
-) -> DavResult<Replies> {
+) -> (DavResult<Replies>, &'a mut Refusing<MemFs>, &'a mut MemLs)
+    ensures same_store { result.1.ghost_name ≡ store.entry.ghost_name }
+    ensures same_locks { result.2.ghost_name ≡ locks.entry.ghost_name }
+    ensures run { IfOk result.0 (λ replies. RunsBelow (string_bytes prefix)
+        (seen_over store.old locks.old) requests.now (map answer_of replies.items) (seen_over result.1.now result.2.now)) }
+{
     let mut engine = DavInner::new(store, Some(locks), prefix, None, ());
-    engine.run(requests)
+    let replies = engine.run(requests);
+    let (store, locks) = engine.finish();
+    (replies, store, locks.unwrap())
 }
+
+/// Does nothing. Without this use of both references the prover would not know what they leave behind.
+fn give_back<F, L>(store: &mut F, locks: &mut L)
+    ensures store { store.new ≡ store.old }
+    ensures locks { locks.new ≡ locks.old }
+{}
 
 /// A block of a run.
 #[derive(Drop)]

@@ -5,7 +5,7 @@
 mod program;
 
 use dav_script::{Stopped, arguments_of, report};
-use program::{PROGRAM, run_script};
+use program::{Blocks, PROGRAM, run_script};
 use std::io::BufWriter;
 use std::process::ExitCode;
 
@@ -21,7 +21,7 @@ fn run(rt: &HostRuntime) -> u8 {
         Err(trouble) => return report(&mut errors, PROGRAM, trouble),
     };
     match BufWriter::new(rt.alloc(), rt.stdout()) {
-        Ok(mut output) => run_script(
+        Ok(mut output) => run_script::<Blocks, _, _, _>(
             rt.alloc(),
             &arguments,
             &mut rt.stdin(),

@@ -1,5 +1,5 @@
 //! Tests of the program with readers and writers that fail. What it does with a script is tested by cases.
-use crate::program::run_script;
+use crate::program::{Blocks, run_script};
 use std::alloc::Global;
 use std::io::{self, Read, Write};
 use std::process::Abort;
@@ -45,7 +45,13 @@ const FAILED: &[u8] = b"davrun: input or output failed\n";
 fn expect_unread(rt: &impl Abort, alloc: Global, script: &[u8]) {
     let mut output = Vec::new(alloc);
     let mut errors = Vec::new(alloc);
-    let status = run_script(alloc, &[], &mut Broken(script), &mut output, &mut errors);
+    let status = run_script::<Blocks, _, _, _>(
+        alloc,
+        &[],
+        &mut Broken(script),
+        &mut output,
+        &mut errors,
+    );
     assert_eq!(rt; (status, output.len()), (3, 0));
     assert_eq!(rt; errors.as_slice(), FAILED);
 }
@@ -64,7 +70,13 @@ const WHOLE: usize = 197;
 fn expect_printed(rt: &impl Abort, alloc: Global, room: usize, status: u8, said: &[u8]) {
     let mut script = b"MKCOL /d/\n\nPUT /d/a\n=bytes hi\n".as_slice();
     let mut errors = Vec::new(alloc);
-    let found = run_script(alloc, &[], &mut script, &mut Full { room }, &mut errors);
+    let found = run_script::<Blocks, _, _, _>(
+        alloc,
+        &[],
+        &mut script,
+        &mut Full { room },
+        &mut errors,
+    );
     assert_eq!(rt; found, status, "room for {room}");
     assert_eq!(rt; errors.as_slice(), said, "room for {room}");
 }
@@ -87,6 +99,12 @@ fn a_fault_that_cannot_be_said_is_a_failed_write(rt: HostRuntime) {
     let alloc = rt.alloc();
     let mut script = b"MKCOL".as_slice();
     let mut output = Vec::new(alloc);
-    let status = run_script(alloc, &[], &mut script, &mut output, &mut Full { room: 3 });
+    let status = run_script::<Blocks, _, _, _>(
+        alloc,
+        &[],
+        &mut script,
+        &mut output,
+        &mut Full { room: 3 },
+    );
     assert_eq!(rt; (status, output.len()), (3, 0));
 }

@@ -26,6 +26,10 @@ enum Step {
 }
 
 impl Script for Trace {
+    ghost is_given = { λ text script. Unit {0} };
+
+    ghost is_done = { λ script old new. Unit {0} };
+
     fn read(alloc: Global, text: &[u8]) -> Result<Trace, ScriptError> {
         let mut reader = TraceReader {
             steps: Vec::new(alloc),

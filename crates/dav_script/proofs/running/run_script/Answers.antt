@@ -1,0 +1,15 @@
+use Rattle.std.proofs.Common.{subst}
+use Rattle.dav_script.specs.Serving.{first_shared}
+use Rattle.dav_script.proofs.running.run_script.Goals as goal
+
+pub returns-in-Ok-serve_all-clause-run : goal.returns-in-Ok-serve_all-clause-run
+returns-in-Ok-serve_all-clause-run g c _ =
+    let last = c.in-Ok-serve_all.ensures.0 in
+    record {
+      text = c.in-Ok.ensures.given.0;
+      whole = c.in-Ok.ensures.given.1;
+      script = c.in-Ok.read.1;
+      given = c.in-Ok.ensures.given.2;
+      last = last;
+      done = subst (λ prefix. g.S.Script.is_done c.in-Ok.read.1 (first_shared prefix) last) c.in-Ok.ensures.prefix c.in-Ok-serve_all.ensures.1;
+    }
