@@ -7,7 +7,7 @@
 - Citations of docs/GUARANTEES.md: of [`handle_delete` (`emptied`)](../crates/dav_engine/src/delete.rt) the file must
   have the function and its contract the clause. The file of a link to an .antt file must define each name. In the other
   documents only citations with clauses are checked.
-- Laws: docs/GUARANTEES.md cites each clause of a handler that uses a law of dav_engine (specs/Laws.antt), and the law.
+- Laws: docs/GUARANTEES.md cites each definition that a field of a law of dav_engine uses (specs/Law.antt).
 - The picture docs/crates.svg is that of crates.txt (tools/picture).
 - Words: the documents and the comments of the sources, those in Go too, use no word of WORDS. tools/words-allowed lists
   exceptions.
@@ -129,34 +129,31 @@ def check_citations(document, prose):
             yield where, wrong if names else f"{link.text}: a name in backticks is wanted"
 
 
-def laws_used():
-    """Each clause of a handler that uses laws: its file, function, label and those laws."""
-    laws_file = text_of(ENGINE / "specs/Laws.antt")
-    defined = re.findall(r"^(?:(?:pub|abbrev|record|data) )*(\w+)", laws_file, re.M)
-    for file in sorted((ENGINE / "src").rglob("*.rt")):
-        source = text_of(file)
-        for name in re.findall(r"^\s*pub fn (handle_\w+|serve|run)\b", source, re.M):
-            for contract in contracts(source, name):
-                for label, clause in CLAUSE.findall(contract):
-                    laws = set(re.findall(r"[\w']+", clause)) & set(defined)
-                    if laws:
-                        yield file, name, label, sorted(laws)
+LAW_FILES = ["Bounds", "Causes", "Reports", "Laws", "Law"]
+LAW = re.compile(r"^pub record (\w*Law|IsBounded) (.*?)\n\n", re.M | re.S)
+FIELD = re.compile(r"^  pub (\w+) : (.*(?:\n    .*)*)", re.M)
+
+
+def laws():
+    """Each field of a law of dav_engine: its file, law and name, and the definitions of the laws in it."""
+    texts = {it: text_of(ENGINE / f"specs/{it}.antt") for it in LAW_FILES}
+    defined = {it for text in texts.values() for it in re.findall(r"^(?:(?:pub|abbrev|record) )+([A-Z]\w+)", text, re.M)}
+    for file, text in texts.items():
+        for law, fields in LAW.findall(text + "\n\n"):
+            for name, said in FIELD.findall(fields):
+                yield file, law, name, sorted(set(re.findall(r"\w+", said)) & defined)
 
 
 def check_laws(prose):
-    """Checks that GUARANTEES.md cites each law that a handler's contract has."""
-    clauses, names = set(), set()
+    """Checks that GUARANTEES.md cites what each law of dav_engine says."""
+    names = set()
     for link in markdown.links(prose):
-        cited = CITED_FUNCTION.fullmatch(link.text)
-        if link.target.endswith(".rt") and cited:
-            clauses |= {(cited[1], label) for label in re.findall(r"\w+", cited[2] or "")}
-        elif link.target.endswith("dav_engine/specs/Laws.antt"):
+        if re.search(r"dav_engine/specs/\w+\.antt$", link.target):
             names |= set(re.findall(r"`([^`]+)`", link.text))
-    for file, name, label, laws in laws_used():
-        missing = [] if (name, label) in clauses else [f"{name} ({label})"]
-        missing += [law for law in laws if law not in names]
+    for file, law, name, said in laws():
+        missing = [it for it in said if it not in names]
         wrong = f"{shown(GUARANTEES)} does not cite {', '.join(missing)}" if missing else None
-        yield f"{shown(file)}, {name} ({label})", wrong
+        yield f"{file}.antt, {law} ({name})", wrong
 
 
 def check_picture():
