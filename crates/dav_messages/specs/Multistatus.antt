@@ -1,0 +1,53 @@
+-- The response that reports the status of each of several resources (RFC 4918, sections 11.1, 13 and 14.16).
+use Rattle.std.specs.Prelude.{ℕ, ◌==◌, if◌then◌else◌, List, [], ◌∷◌, ◌++◌, map, codes, Option, Some, None, Ok, Err}
+use Rattle.std.specs.Option.{option_map_or}
+use Rattle.http.specs.StatusCode.{code_digits, reason_phrase}
+use Rattle.http.specs.declared.version.TheConstants.Version.{HTTP_11}
+use Rattle.dav_resource.specs.Key.{is_same_key}
+use Rattle.dav_resource.specs.PathText.{PathValue}
+use Rattle.dav_resource.specs.Tree.{Tree, prefixed_element}
+use Rattle.dav_resource.specs.declared.request.Body.{Body}
+use Rattle.dav_resource.specs.declared.error.DavError.TheVariants.{ChanError}
+use Rattle.dav_messages.specs.DavElement.{with_elements, declaring_element, text_element, href_element}
+use Rattle.dav_messages.specs.Reply.{Reply, Answer, bare_reply, field}
+
+-- a resource and its status
+abbrev pub Item : Type 0
+Item = PathValue × ℕ
+
+-- the status of the first item, if there is one
+abbrev pub first_status : List Item → Option ℕ
+first_status [] = None
+first_status (item ∷ items) = Some item.1
+
+-- the status as in the first line of an HTTP response, with its reason phrase if it has one
+abbrev pub status_line : ℕ → List ℕ
+status_line status = codes "HTTP/1.1 " ++ code_digits status ++ option_map_or (λ phrase. 32 ∷ phrase) (reason_phrase status) []
+
+-- 204 is shown as 200, since an item has no content of its own
+abbrev pub shown_status : ℕ → ℕ
+shown_status status = if status == 204 then 200 else status
+
+-- the resource's path, including its prefix, and its status
+abbrev pub response_element : Item → Tree
+response_element item =
+    with_elements (prefixed_element (codes "D:response"))
+    (href_element item.0 ∷ text_element (codes "D:status") (status_line (shown_status item.1)) ∷ [])
+
+-- a response for each item, in order
+abbrev pub multistatus : List Item → Tree
+multistatus items = with_elements (declaring_element (codes "D:multistatus")) (map response_element items)
+
+abbrev pub xml_type : List ℕ
+xml_type = codes "application/xml; charset=utf-8"
+
+-- 207, with the tree
+abbrev pub multistatus_reply : List Item → Reply
+multistatus_reply items =
+    record { status = 207; version = HTTP_11; headers = field (codes "content-type") xml_type ∷ []; body = Body.Tree (multistatus items) }
+
+-- One item with the request's own key gives the response its status, without a body. No item is an error. Otherwise the response is a 207.
+abbrev pub multi_answer : PathValue → List Item → Answer
+multi_answer path [] = Err ChanError
+multi_answer path (item ∷ []) = if is_same_key path.key item.0.key then Ok (bare_reply item.1 []) else Ok (multistatus_reply (item ∷ []))
+multi_answer path (item ∷ next ∷ items) = Ok (multistatus_reply (item ∷ next ∷ items))

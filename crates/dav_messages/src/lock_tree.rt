@@ -1,0 +1,159 @@
+//! XML elements that describe locks (RFC 4918, sections 14.1 to 14.13, 15.8 and 15.10).
+ghost use Rattle.std.specs.Prelude.{◌≡◌, IfOk, IfErr, option_copied, string_bytes};
+ghost use Rattle.dav_resource.specs.declared.error.DavError.TheVariants.{Memory};
+ghost use Rattle.dav_messages.specs.Conditions.{locks_in};
+ghost use Rattle.dav_messages.specs.LockTree.{lock_scope as scope_of_lock, lock_type as type_of_lock, depth_text as text_of_depth, timeout_text as text_of_timeout, token_element as element_of_token, lock_root as element_of_root, active_lock as tree_of_lock, lock_discovery as tree_of_locks, covering_in, lock_prop as shown_lock, lock_entry as entry_of_scope, supported_lock as tree_of_entries};
+
+use crate::dav_element::{declaring_element, href_element, outer_element, text_element};
+use dav_resource::{DavError, DavPath, DavResult, Element};
+use dav_store::{DavLock, DavLockSystem};
+use std::alloc::{AllocError, Global};
+
+/// Returns the XML that describes a lock (RFC 4918, sections 9.10.1, 14.1 and 15.8). With `full`, as in the
+/// response to LOCK, it is a `D:prop` that declares the prefix and holds the property `D:lockdiscovery` with
+/// this lock only. Otherwise it is only the lock's `D:activelock`. The only error is `Memory`.
+pub fn build_lock_prop(alloc: Global, lock: &DavLock, full: bool) -> DavResult<Element>
+    ensures ok { IfOk result (λ tree. tree ≡ shown_lock lock.now full) }
+    ensures err { IfErr result (λ e. e ≡ Memory) }
+{
+    Ok(lock_prop(alloc, lock, full)?)
+}
+
+/// Returns the property `D:lockdiscovery` of a path (RFC 4918, section 15.8): a `D:activelock` for each lock
+/// that covers the path, the oldest first. Without a lock system it is empty. The only error is `Memory`.
+pub fn list_lockdiscovery<L: DavLockSystem>(
+    alloc: Global,
+    ls: Option<&L>,
+    path: &DavPath,
+) -> DavResult<Element>
+    ensures ok { IfOk result (λ tree. tree ≡ tree_of_locks (covering_in (locks_in L.seen (option_copied ls.entry)) path.now.key)) }
+    ensures err { IfErr result (λ e. e ≡ Memory) }
+{
+    let Some(ls) = ls else {
+        return Ok(lock_discovery(alloc, &[])?);
+    };
+    match ls.discover(path) {
+        Ok(locks) => Ok(lock_discovery(alloc, locks.as_slice())?),
+        Err(_) => Err(DavError::Memory),
+    }
+}
+
+/// Returns the property `D:supportedlock` (RFC 4918, section 15.10): exclusive and then shared write locks if
+/// a lock system is present, else nothing. The only error is `Memory`.
+pub fn list_supportedlock(alloc: Global, present: bool) -> DavResult<Element>
+    ensures ok { IfOk result (λ tree. tree ≡ tree_of_entries present) }
+    ensures err { IfErr result (λ e. e ≡ Memory) }
+{
+    Ok(supported_lock(alloc, present)?)
+}
+
+/// Formats a timeout in seconds (RFC 4918, sections 10.7 and 14.29). `None` is infinite. Fails only if memory
+/// runs out.
+pub fn timeout_text(alloc: Global, timeout: Option<u64>) -> Result<String, AllocError>
+    ensures { IfOk result (λ text. string_bytes text ≡ text_of_timeout timeout) }
+{
+    match timeout {
+        Some(seconds) => format!(in alloc; "Second-{seconds}"),
+        None => String::from_str(alloc, "Infinite"),
+    }
+}
+
+fn lock_prop(alloc: Global, lock: &DavLock, full: bool) -> Result<Element, AllocError>
+    ensures { IfOk result (λ tree. tree ≡ shown_lock lock.now full) }
+{
+    let active = active_lock(alloc, lock)?;
+    if !full {
+        return Ok(active);
+    }
+    let mut prop = declaring_element(alloc, "D:prop")?;
+    prop.push_element(outer_element(alloc, "D:lockdiscovery", active)?)?;
+    Ok(prop)
+}
+
+/// Returns a `D:lockdiscovery` with a `D:activelock` for each lock, in order.
+fn lock_discovery(alloc: Global, locks: &[DavLock]) -> Result<Element, AllocError>
+    ensures { IfOk result (λ tree. tree ≡ tree_of_locks locks.now) }
+{
+    let mut tree = Element::new2(alloc, "D:lockdiscovery")?;
+    for lock in locks {
+        tree.push_element(active_lock(alloc, lock)?)?;
+    }
+    Ok(tree)
+}
+
+/// Returns the `D:activelock` of a lock, with its owner last, if it has one.
+fn active_lock(alloc: Global, lock: &DavLock) -> Result<Element, AllocError>
+    ensures { IfOk result (λ tree. tree ≡ tree_of_lock lock.now) }
+{
+    let timeout = timeout_text(alloc, lock.timeout)?;
+    let mut tree = Element::new2(alloc, "D:activelock")?;
+    tree.push_element(lock_scope(alloc, lock.shared)?)?;
+    tree.push_element(lock_type(alloc)?)?;
+    tree.push_element(text_element(alloc, "D:depth", depth_text(lock.deep))?)?;
+    tree.push_element(text_element(alloc, "D:timeout", timeout.as_str())?)?;
+    tree.push_element(lock_token(alloc, lock.token.as_str())?)?;
+    tree.push_element(lock_root(alloc, &lock.path)?)?;
+    if let Some(owner) = &lock.owner {
+        tree.push_element(owner.clone()?)?;
+    }
+    Ok(tree)
+}
+
+/// Returns the scope of a lock: shared, so that others may hold shared locks too, or exclusive.
+fn lock_scope(alloc: Global, shared: bool) -> Result<Element, AllocError>
+    ensures { IfOk result (λ scope. scope ≡ scope_of_lock shared) }
+{
+    let name = if shared { "D:shared" } else { "D:exclusive" };
+    outer_element(alloc, "D:lockscope", Element::new2(alloc, name)?)
+}
+
+/// Returns the type of a lock: each is a write lock.
+fn lock_type(alloc: Global) -> Result<Element, AllocError>
+    ensures { IfOk result (λ kind. kind ≡ type_of_lock) }
+{
+    outer_element(alloc, "D:locktype", Element::new2(alloc, "D:write")?)
+}
+
+/// Returns the depth of a lock: whether it covers everything below its path.
+fn depth_text(deep: bool) -> &'static str
+    ensures { result.now ≡ text_of_depth deep }
+{
+    if deep { "Infinity" } else { "0" }
+}
+
+/// Returns the token, as it is.
+fn lock_token(alloc: Global, token: &str) -> Result<Element, AllocError>
+    ensures { IfOk result (λ element. element ≡ element_of_token token.now) }
+{
+    let href = text_element(alloc, "D:href", token)?;
+    outer_element(alloc, "D:locktoken", href)
+}
+
+/// Returns the path that was locked.
+fn lock_root(alloc: Global, path: &DavPath) -> Result<Element, AllocError>
+    ensures { IfOk result (λ element. element ≡ element_of_root path.now) }
+{
+    outer_element(alloc, "D:lockroot", href_element(alloc, path)?)
+}
+
+/// Returns a `D:supportedlock` with exclusive and then shared locks, if a lock system is present.
+fn supported_lock(alloc: Global, present: bool) -> Result<Element, AllocError>
+    ensures { IfOk result (λ tree. tree ≡ tree_of_entries present) }
+{
+    let mut tree = Element::new2(alloc, "D:supportedlock")?;
+    if present {
+        tree.push_element(lock_entry(alloc, false)?)?;
+        tree.push_element(lock_entry(alloc, true)?)?;
+    }
+    Ok(tree)
+}
+
+/// Returns a `D:lockentry` for locks of one scope.
+fn lock_entry(alloc: Global, shared: bool) -> Result<Element, AllocError>
+    ensures { IfOk result (λ entry. entry ≡ entry_of_scope shared) }
+{
+    let mut entry = Element::new2(alloc, "D:lockentry")?;
+    entry.push_element(lock_scope(alloc, shared)?)?;
+    entry.push_element(lock_type(alloc)?)?;
+    Ok(entry)
+}

@@ -1,0 +1,111 @@
+//! Responses that report statuses, and the XML in them (RFC 4918, sections 11.1, 13 and 14).
+ghost use Rattle.std.specs.Prelude.{◌≡◌, ◌++◌, codes, [], ◌∷◌, IfOk, OnOk, OnErr, IfErr, string_bytes};
+ghost use Rattle.dav_resource.specs.declared.error.DavError.TheVariants.{Memory};
+ghost use Rattle.dav_messages.specs.Reply.{reply_of, bare_reply as reply_without_body, field};
+ghost use Rattle.dav_messages.specs.ReplyHeader.{HasRoomFor};
+ghost use Rattle.dav_messages.specs.Multistatus.{status_line as line_of_status, shown_status as status_shown_for, response_element as element_of_item, multistatus as tree_of_items, xml_type, multistatus_reply as reply_of_items};
+
+use crate::dav_element::{declaring_element, href_element, text_element};
+use crate::reply_header::add_header;
+use dav_resource::{Body, DavPath, DavResult, Element};
+use http::{Response, StatusCode};
+use http_header::{CONTENT_TYPE, HeaderMap, HeaderValue};
+use std::alloc::{AllocError, Global};
+
+/// Returns a response with this status, no header fields and no body.
+pub(crate) fn bare_reply(alloc: Global, status: StatusCode) -> Response<Body>
+    ensures { reply_of result ≡ reply_without_body status [] }
+{
+    let mut reply = Response::new(alloc, Body::Empty);
+    *reply.status_mut() = status;
+    reply
+}
+
+/// Returns a 207 with a `response` for each item, in order. The only error is `Memory`.
+pub(crate) fn multistatus_reply(
+    alloc: Global,
+    items: &[(DavPath, StatusCode)],
+) -> DavResult<Response<Body>>
+    ensures ok { IfOk result (λ reply. reply_of reply ≡ reply_of_items items.now) }
+    ensures err { IfErr result (λ e. e ≡ Memory) }
+{
+    let tree = multistatus(alloc, items)?;
+    let headers = xml_headers(alloc)?;
+    let mut reply = Response::new(alloc, Body::Tree(tree));
+    *reply.status_mut() = StatusCode::MULTI_STATUS;
+    *reply.headers_mut() = headers;
+    Ok(reply)
+}
+
+/// Returns the header fields of a response with an XML body: only `content-type`, for XML in UTF-8 (RFC 4918,
+/// section 8.2). The only error is `Memory`.
+pub fn xml_headers(alloc: Global) -> DavResult<HeaderMap<HeaderValue>>
+    ensures ok { IfOk result (λ headers. headers ≡ field (codes "content-type") xml_type ∷ []) }
+    ensures err { IfErr result (λ e. e ≡ Memory) }
+{
+    let mut headers = HeaderMap::new(alloc);
+    add_xml_type(&mut headers)?;
+    Ok(headers)
+}
+
+/// Appends the header field `content-type` for XML in UTF-8 (RFC 4918, section 8.2). The caller ensures that it
+/// is not set yet, as for `add_header`. The only error is `Memory`, and then the fields are unchanged.
+pub fn add_xml_type(headers: &mut HeaderMap<HeaderValue>) -> DavResult<()>
+    requires { HasRoomFor headers.old (codes "content-type") }
+    ensures ok { OnOk result (headers.new ≡ headers.old ++ field (codes "content-type") xml_type ∷ []) }
+    ensures unset { OnErr result (headers.new ≡ headers.old) }
+    ensures err { IfErr result (λ e. e ≡ Memory) }
+{
+    let xml = HeaderValue::from_static("application/xml; charset=utf-8");
+    add_header(headers, CONTENT_TYPE, Some(xml))
+}
+
+/// Returns a `multistatus` with a `response` for each item, in order.
+fn multistatus(alloc: Global, items: &[(DavPath, StatusCode)]) -> Result<Element, AllocError>
+    ensures { IfOk result (λ tree. tree ≡ tree_of_items items.now) }
+{
+    let mut tree = declaring_element(alloc, "D:multistatus")?;
+    for (path, status) in items {
+        tree.push_element(response_element(alloc, path, *status)?)?;
+    }
+    Ok(tree)
+}
+
+/// Returns a `response` with the resource's path, including its prefix, and its status.
+fn response_element(
+    alloc: Global,
+    path: &DavPath,
+    status: StatusCode,
+) -> Result<Element, AllocError>
+    ensures { IfOk result (λ response. response ≡ element_of_item (path.now, status)) }
+{
+    let line = status_line(alloc, shown_status(status))?;
+    let mut response = Element::new2(alloc, "D:response")?;
+    response.push_element(href_element(alloc, path)?)?;
+    response.push_element(text_element(alloc, "D:status", line.as_str())?)?;
+    Ok(response)
+}
+
+/// Returns the status as in the first line of an HTTP response, with its reason phrase if it has one (RFC
+/// 4918, section 14.28). Fails only if memory runs out.
+pub fn status_line(alloc: Global, status: StatusCode) -> Result<String, AllocError>
+    ensures { IfOk result (λ line. string_bytes line ≡ line_of_status status) }
+{
+    let digits = status.as_str();
+    match status.canonical_reason() {
+        Some(phrase) => format!(in alloc; "HTTP/1.1 {digits} {phrase}"),
+        None => format!(in alloc; "HTTP/1.1 {digits}"),
+    }
+}
+
+/// Returns the status that a multistatus shows: 200 in place of 204, since an item has no content of its own,
+/// and every other status as it is.
+fn shown_status(status: StatusCode) -> StatusCode
+    ensures { result ≡ status_shown_for status }
+{
+    if status == StatusCode::NO_CONTENT {
+        StatusCode::OK
+    } else {
+        status
+    }
+}

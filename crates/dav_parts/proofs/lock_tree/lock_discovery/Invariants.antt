@@ -1,7 +1,0 @@
-use Rattle.std.proofs.Common.{◌≡◌, take}
-use Rattle.dav_parts.specs.LockTree.{lock_discovery}
-use Rattle.dav_parts.proofs.lock_tree.lock_discovery.Given as goal
-
--- a tree for each lock so far
-abbrev pub invariant-loop-lock : goal.invariant-loop-lock
-invariant-loop-lock l = l.tree ≡ lock_discovery (take l.lock-index l.locks)

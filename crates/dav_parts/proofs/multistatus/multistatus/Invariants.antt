@@ -1,7 +1,0 @@
-use Rattle.std.proofs.Common.{◌≡◌, take}
-use Rattle.dav_parts.specs.Multistatus.{multistatus}
-use Rattle.dav_parts.proofs.multistatus.multistatus.Given as goal
-
--- a response for each item so far
-abbrev pub invariant-loop-path : goal.invariant-loop-path
-invariant-loop-path l = l.tree ≡ multistatus (take l.path-index l.items)
