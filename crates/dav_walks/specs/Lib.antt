@@ -7,6 +7,7 @@ pub mod Frames
 pub mod Copying
 pub mod Copied
 pub mod CopyFrames
+pub mod CopyTask
 pub mod CopyLaws
 pub mod PutLaws
 pub mod RemovalLaws

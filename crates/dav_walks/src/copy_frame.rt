@@ -5,10 +5,10 @@ ghost use Rattle.dav_store.specs.Calls.{metadata_call, create_dir_call};
 ghost use Rattle.dav_store.specs.Members.{read_dir_call};
 ghost use Rattle.dav_store.specs.Transfers.{copy_call};
 ghost use Rattle.dav_walks.specs.Frames.{IsCut};
-ghost use Rattle.dav_walks.specs.CopyFrames.{LooksAt, CopiesFile, MakesPlace, ListsSource, EntersCopy, IsCutCopy, IsNextOf, VisitsMember, IsCutMember};
+ghost use Rattle.dav_walks.specs.CopyFrames.{LooksUpAt, CopiesFile, MakesPlace, ListsSource, EntersCopy, IsCutCopy, IsNextOf, VisitsMember, IsCutMember};
 
 use crate::frame::member_path;
-use dav_parts::MultiError;
+use dav_messages::MultiError;
 use dav_resource::{DavError, DavPath, DavResult, DirEntry, FsError, FsResult, Meta};
 use dav_store::GuardedFileSystem;
 
@@ -27,13 +27,13 @@ pub(crate) struct CopyFrame {
 
 /// Looks up the metadata of a path. If the lookup fails, adds a status for the path and returns `None`. The
 /// only error is `Memory`, and then no status was added.
-pub(crate) fn look<C, F: GuardedFileSystem<C>>(
+pub(crate) fn look_up<C, F: GuardedFileSystem<C>>(
     fs: &mut F,
     credentials: &C,
     res: &mut MultiError,
     path: &DavPath,
 ) -> DavResult<Option<Meta>>
-    ensures done { IfOk result (LooksAt path.now (F.seen fs.old) (F.seen fs.new) res.old res.new) }
+    ensures done { IfOk result (LooksUpAt path.now (F.seen fs.old) (F.seen fs.new) res.old res.new) }
     ensures fixed { (F.seen fs.new).facts ≡ (F.seen fs.old).facts }
     ensures err { IfErr result (λ e. e ≡ DavError.Memory) }
     ensures unnamed { OnErr result (res.new ≡ res.old) }
@@ -144,7 +144,7 @@ pub(crate) fn enter_copy<C, F: GuardedFileSystem<C>>(
     ensures unnamed { OnErr result (res.new ≡ res.old) }
     ensures stopped { OnErr result (IsCutCopy source dest (F.seen fs.old) (F.seen fs.new)) }
 {
-    let meta = match look(fs, credentials, res, &source)? {
+    let meta = match look_up(fs, credentials, res, &source)? {
         None => return Ok(None),
         Some(meta) => meta,
     };

@@ -7,7 +7,7 @@ ghost use Rattle.dav_walks.specs.Frames.{RemovesAll, BreaksOff};
 ghost use Rattle.dav_walks.specs.Trace.{HasKind};
 
 use crate::frame::{Entered, Frame, close, enter, remove, visit};
-use dav_parts::MultiError;
+use dav_messages::MultiError;
 use dav_resource::{DavError, DavPath, DavResult, Depth, Meta};
 use dav_store::GuardedFileSystem;
 use std::alloc::Global;

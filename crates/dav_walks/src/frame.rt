@@ -3,7 +3,7 @@ ghost use Rattle.std.specs.Prelude.{◌≡◌, ◌<◌, true, length, Ok, IfOk, 
 ghost use Rattle.dav_resource.specs.PathText.{IsSegment};
 ghost use Rattle.dav_walks.specs.Frames.{RemovesOne, Enters, IsNext, Visits, Closes, IsCut, IsCutNext, removal_by, entering_call, path_of_entry};
 
-use dav_parts::MultiError;
+use dav_messages::MultiError;
 use dav_resource::{DavError, DavPath, DavResult, DirEntry, FsError, FsResult};
 use dav_store::GuardedFileSystem;
 use std::alloc::AllocError;

@@ -7,6 +7,6 @@ mod deletion;
 mod frame;
 mod listing;
 
-pub use copying::do_copy;
+pub use copying::CopyTask;
 pub use deletion::delete_items;
 pub use listing::{Resource, add_members, take_next};
