@@ -1,4 +1,4 @@
--- All that a store keeps, by the properties that it tells.
+-- All that a store keeps, by the properties that it reports.
 use Rattle.std.proofs.Common.{◌≡◌, ℕ, Bool, true, false, List, [], ◌∷◌, Option, None, Some, Result, Ok, Err, map, inl, inr, refl, sym, ap, subst, IsSome, IsPermutation, Vec}
 use Rattle.std.specs.declared.alloc.Global.{Global}
 use Rattle.std.specs.Prelude.{filter_map, ◌&&◌, not}
@@ -20,15 +20,15 @@ use Rattle.dav_store.specs.Members.{IsIn}
 use Rattle.dav_store.specs.MemberLaws.{IsIn-unpermuted}
 use Rattle.dav_store.specs.PropertyCalls.{ArePropertiesAt, named_element, properties_at, get_props_call}
 use Rattle.dav_store.specs.Store.{Store, Contents}
-use Rattle.dav_parts.specs.Dialogue.{Passed}
-use Rattle.dav_parts.specs.Dialogues.{judges_pure, judges_memory}
+use Rattle.dav_messages.specs.Dialogue.{Passed}
+use Rattle.dav_messages.specs.Dialogues.{judges_pure, judges_memory}
 use Rattle.dav_find.specs.Asked.{named_only}
 use Rattle.dav_find.specs.Finder.{refusal_of}
 use Rattle.dav_find.specs.Finding.{View, AreKept, is_all_sought}
 use Rattle.dav_find.specs.Response.{FindsStored}
-use Rattle.dav_find.proofs.Answering.{told_why}
+use Rattle.dav_find.proofs.Answering.{declined_why}
 
--- ---- the elements of the properties that are told
+-- ---- the elements of the properties that are reported
 
 no_element : Tree
 no_element = record { tag = record { name = []; prefix = None; namespace = None; attributes = [] }; children = no_nodes }
@@ -36,20 +36,20 @@ no_element = record { tag = record { name = []; prefix = None; namespace = None;
 element_or : Key × Option Tree → Tree
 element_or named = unwrap_or named.1 no_element
 
-abbrev pub told_elements : List DavProp → List Tree
-told_elements props = filter_map (λ (p : DavProp). p.element) props
+abbrev pub named_elements : List DavProp → List Tree
+named_elements props = filter_map (λ (p : DavProp). p.element) props
 
 some_in : (es : List (Key × Tree)) (n : Key × Option Tree) → IsIn n (map (λ (e : Key × Tree). (e.0, Some e.1)) es) → IsSome n.1
 some_in [] n i = absurd i
 some_in (e ∷ es) n (inl p) = subst (λ (m : Key × Option Tree). IsSome m.1) p refl
 some_in (e ∷ es) n (inr i) = some_in es n i
 
-all_told : (ps : List DavProp) → ((n : Key × Option Tree) → IsIn n (map named_element ps) → IsSome n.1) → told_elements ps ≡ map element_or (map named_element ps)
+all_named : (ps : List DavProp) → ((n : Key × Option Tree) → IsIn n (map named_element ps) → IsSome n.1) → named_elements ps ≡ map element_or (map named_element ps)
 unfolding element_or
-all_told [] some = refl
-all_told (p ∷ ps) some = go p.element (some (named_element p) (inl refl)) (all_told ps (λ n i. some n (inr i)))
+all_named [] some = refl
+all_named (p ∷ ps) some = go p.element (some (named_element p) (inl refl)) (all_named ps (λ n i. some n (inr i)))
   where
-    go : (o : Option Tree) → IsSome o → told_elements ps ≡ map element_or (map named_element ps) → cons_option o (told_elements ps) ≡ unwrap_or o no_element ∷ map element_or (map named_element ps)
+    go : (o : Option Tree) → IsSome o → named_elements ps ≡ map element_or (map named_element ps) → cons_option o (named_elements ps) ≡ unwrap_or o no_element ∷ map element_or (map named_element ps)
     go None s e = absurd cc
     go (Some t) s e = ap (λ xs. t ∷ xs) e
 
@@ -58,12 +58,12 @@ unfolding element_or
 each_element [] = refl
 each_element (e ∷ es) = ap (λ xs. e.1 ∷ xs) (each_element es)
 
-are_kept : (key : Key) (props : List DavProp) (old new : Contents) → ArePropertiesAt key props old new → AreKept old key (told_elements props)
+are_kept : (key : Key) (props : List DavProp) (old new : Contents) → ArePropertiesAt key props old new → AreKept old key (named_elements props)
 are_kept key props old new are =
     let es : List (Key × Tree) = entries (properties_at old key) in
     let some : (n : Key × Option Tree) → IsIn n (map named_element props) → IsSome n.1 = λ n i. some_in es n (IsIn-unpermuted _ _ n are.each_once i) in
-    subst (λ xs. IsPermutation xs (told_elements props)) (each_element es)
-    (subst (λ ys. IsPermutation (map element_or (map (λ (e : Key × Tree). (e.0, Some e.1)) es)) ys) (sym (all_told props some)) (IsPermutation-map element_or _ _ are.each_once))
+    subst (λ xs. IsPermutation xs (named_elements props)) (each_element es)
+    (subst (λ ys. IsPermutation (map element_or (map (λ (e : Key × Tree). (e.0, Some e.1)) es)) ys) (sym (all_named props some)) (IsPermutation-map element_or _ _ are.each_once))
 
 -- ---- the call
 
@@ -83,13 +83,13 @@ module _ (view : View) (key : Key) (old : Store) where
   stored_lacked verdict is = record { kept = in_order old.contents key; are = in_some_order old.contents key; held = judges_memory _ _ _ is }
 
   module _ (keeps : old.facts.keeps_properties ≡ true) (sought : is_all_sought view ≡ true) (new : Store) where
-    pub stored_granted : (props : Vec DavProp Global) → Grants (get_props_call old key) (ArePropertiesAt key props.items) old new → FindsStored view key old (Ok (Ok (told_elements props.items))) new
+    pub stored_granted : (props : Vec DavProp Global) → Grants (get_props_call old key) (ArePropertiesAt key props.items) old new → FindsStored view key old (Ok (Ok (named_elements props.items))) new
     stored_granted props granted = record {
-      kept = told_elements props.items;
+      kept = named_elements props.items;
       are = are_kept key props.items old.contents new.contents granted.effect;
       held = rw sought (record {
         records = record_of (get_props_call old key) Granted ∷ [];
-        told = granted.told;
+        recorded = granted.recorded;
         same = granted.effect.same;
         fixed = granted.fixed;
         ends = (refl, rw keeps at granted.allowed, refl);
@@ -100,11 +100,11 @@ module _ (view : View) (key : Key) (old : Store) where
     stored_lost props verdict is granted =
         let p = err_from_is_err_and verdict is in
         rw (p.1, p.2) (record {
-          kept = told_elements props.items;
+          kept = named_elements props.items;
           are = are_kept key props.items old.contents new.contents granted.effect;
           held = rw sought (record {
             records = record_of (get_props_call old key) Granted ∷ [];
-            told = granted.told;
+            recorded = granted.recorded;
             same = granted.effect.same;
             fixed = granted.fixed;
             ends = inr (refl, (_, (refl, rw keeps at granted.allowed, refl)));
@@ -117,10 +117,10 @@ module _ (view : View) (key : Key) (old : Store) where
       are = in_some_order old.contents key;
       held = rw (sought, is) (record {
         records = record_of (get_props_call old key) declined.outcome ∷ [];
-        told = declined.told;
+        recorded = declined.recorded;
         same = declined.same;
         fixed = declined.fixed;
-        ends = (refl, rw keeps at declined.lawful, ap Passed (sym (told_why (Some (in_order old.contents key)) e declined.outcome declined.cause)));
+        ends = (refl, rw keeps at declined.lawful, ap Passed (sym (declined_why (Some (in_order old.contents key)) e declined.outcome declined.cause)));
       });
     }
 

@@ -4,4 +4,4 @@ pub mod Each
 pub mod Kept
 pub mod Responses
 pub mod Visits
-pub mod Tellings
+pub mod ReportLemmas

@@ -1,4 +1,4 @@
--- How the set of their names tells which properties are among some.
+-- How the set of their names shows which properties are among some.
 use Rattle.std.specs.Prelude.{◌≡◌, ◌&&◌, ◌||◌, Bool, true, false, not, if◌then◌else◌, cond, List, [], ◌∷◌, ◌++◌, Option, Some, None, bytes_eq}
 use Rattle.std.proofs.Common.{ap, refl, sym, ◌∙◌, ℕ}
 use Rattle.std.proofs.lemmas.Bool.{and_parts}

@@ -9,8 +9,8 @@ use Rattle.dav_resource.specs.declared.error.DavError.TheVariants.{XmlParseError
 use Rattle.dav_resource.specs.declared.request.ReqBody.{ReqBody}
 use Rattle.dav_resource.specs.declared.request.ReqBody.TheVariants as bodies
 use Rattle.dav_store.specs.Store.{Bodies}
-use Rattle.dav_parts.specs.DavElement.{is_named}
-use Rattle.dav_parts.specs.RequestBody.{is_empty_body}
+use Rattle.dav_messages.specs.DavElement.{is_named}
+use Rattle.dav_messages.specs.RequestBody.{is_empty_body}
 use Rattle.dav_live.specs.Viewing.{names_microsoft}
 use Rattle.dav_find.specs.declared.search.FindKind.{FindKind}
 use Rattle.dav_find.specs.declared.search.FindKind.TheVariants.{AllProp, PropName, Prop}
@@ -32,10 +32,10 @@ is_among prop props = list_any (is_same prop) props
 
 -- a property that the request names, and one that the server adds
 abbrev pub asked_by_request : Tree → AskedProperty
-asked_by_request element = record { element = element; listed = false }
+asked_by_request element = record { element = element; by_server = false }
 
 abbrev pub asked_by_server : Tree → AskedProperty
-asked_by_server element = record { element = element; listed = true }
+asked_by_server element = record { element = element; by_server = true }
 
 -- one more property, unless the list already has it
 abbrev pub ask_once : List AskedProperty → AskedProperty → List AskedProperty

@@ -8,8 +8,8 @@ use Rattle.dav_resource.specs.declared.request.ReqBody.{ReqBody}
 use Rattle.dav_resource.specs.declared.request.ReqBody.TheVariants as bodies
 use Rattle.dav_store.specs.Members.{IsIn, AreDistinct}
 use Rattle.dav_store.specs.Store.{Bodies, element_key}
-use Rattle.dav_parts.specs.DavElement.{is_named}
-use Rattle.dav_parts.specs.RequestBody.{is_empty_body}
+use Rattle.dav_messages.specs.DavElement.{is_named}
+use Rattle.dav_messages.specs.RequestBody.{is_empty_body}
 use Rattle.dav_find.specs.Asked.{Asking, says_kind, named_in, include_in, server_properties}
 use Rattle.dav_find.specs.Names.{elements_in}
 

@@ -14,8 +14,8 @@ use Rattle.dav_resource.specs.declared.request.ReqBody.{ReqBody}
 use Rattle.dav_resource.specs.declared.request.ReqBody.TheVariants as bodies
 use Rattle.dav_store.specs.Members.{IsIn, AreDistinct}
 use Rattle.dav_store.specs.Store.{Bodies, property_key, element_key}
-use Rattle.dav_parts.specs.DavElement.{is_named}
-use Rattle.dav_parts.specs.RequestBody.{is_empty_body}
+use Rattle.dav_messages.specs.DavElement.{is_named}
+use Rattle.dav_messages.specs.RequestBody.{is_empty_body}
 use Rattle.dav_find.specs.declared.search.AskedProperty.{AskedProperty}
 use Rattle.dav_find.specs.declared.search.FindKind.{FindKind}
 use Rattle.dav_find.specs.declared.search.FindKind.TheVariants.{AllProp, PropName, Prop}
@@ -235,7 +235,7 @@ module _ (held : Bodies) (user_agent : Option (List ℕ)) where
           which (inr j) = kind_of (in_either p (map asked_by_request own) _ j)
 
   -- a request with `prop` names every property in the list itself
-  pub prop_unlisted : (body : ReqBody) (a : Asking) → asking_of held body user_agent ≡ Ok a → a.kind ≡ Prop → (p : AskedProperty) → IsIn p a.asked → p.listed ≡ false
+  pub prop_unlisted : (body : ReqBody) (a : Asking) → asking_of held body user_agent ≡ Ok a → a.kind ≡ Prop → (p : AskedProperty) → IsIn p a.asked → p.by_server ≡ false
   prop_unlisted body a is kind p i = which (grown.from p (subst (IsIn p) asked_are i))
     where
       own : List Tree
@@ -247,10 +247,10 @@ module _ (held : Bodies) (user_agent : Option (List ℕ)) where
       asked_are : a.asked ≡ fold ask_once [] (all_of Prop own)
       asked_are = ap (λ (v : Asking). v.asked) (is_asking body a is) ∙ ap (λ k. fold ask_once [] (all_of k own)) kind
 
-      of_own : IsIn p (map asked_by_request own) ⊎ IsIn p [] → p.listed ≡ false
-      of_own (inl j) = let q = out_map asked_by_request p own j in ap (λ (v : AskedProperty). v.listed) q.2
+      of_own : IsIn p (map asked_by_request own) ⊎ IsIn p [] → p.by_server ≡ false
+      of_own (inl j) = let q = out_map asked_by_request p own j in ap (λ (v : AskedProperty). v.by_server) q.2
       of_own (inr j) = absurd j
 
-      which : IsIn p [] ⊎ IsIn p (all_of Prop own) → p.listed ≡ false
+      which : IsIn p [] ⊎ IsIn p (all_of Prop own) → p.by_server ≡ false
       which (inl j) = absurd j
       which (inr j) = of_own (in_either p (map asked_by_request own) [] j)

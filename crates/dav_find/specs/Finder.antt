@@ -11,7 +11,7 @@ use Rattle.dav_resource.specs.declared.record.Outcome.TheVariants.{Granted, Barr
 use Rattle.dav_store.specs.Locks.{Locks}
 use Rattle.dav_store.specs.Logged.{Logged}
 use Rattle.dav_store.specs.Store.{Facts}
-use Rattle.dav_parts.specs.Conditions.{locks_in}
+use Rattle.dav_messages.specs.Conditions.{locks_in}
 use Rattle.dav_find.specs.Finding.{View}
 use Rattle.dav_find.specs.declared.finding.Finder.{Finder}
 
@@ -38,7 +38,7 @@ abbrev pub IsLast : Logged → List Logged → Type 0
 IsLast record_of log = (before : List Logged) × (log ≡ before ++ record_of ∷ [])
 
 -- the store's value, or `Memory` if memory ran out, or otherwise the status of the log's last record, if the log has one
-pub record TellsAnswer {A : Type 0} (log : List Logged) (answer : Result A FsError) (told : Result (Result A ℕ) DavError) : Type 0 where
-  pub granted : IfOk answer (λ a. told ≡ Ok (Ok a))
-  pub lacked : answer ≡ Err fs.Memory → told ≡ Err dav.Memory
-  pub declined : IfErr answer (λ e. e ≢ fs.Memory → (last : Logged) → IsLast last log → told ≡ Ok (Err (refusal_of last.outcome)))
+pub record ReturnsAnswer {A : Type 0} (log : List Logged) (answer : Result A FsError) (returned : Result (Result A ℕ) DavError) : Type 0 where
+  pub granted : IfOk answer (λ a. returned ≡ Ok (Ok a))
+  pub lacked : answer ≡ Err fs.Memory → returned ≡ Err dav.Memory
+  pub declined : IfErr answer (λ e. e ≢ fs.Memory → (last : Logged) → IsLast last log → returned ≡ Ok (Err (refusal_of last.outcome)))

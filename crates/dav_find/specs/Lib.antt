@@ -3,7 +3,7 @@ pub mod Names
 pub mod Searching
 pub mod Declaring
 pub mod Finding
-pub mod Telling
+pub mod Reporting
 pub mod Response
 pub mod Finder
 pub mod Visiting

@@ -17,11 +17,11 @@ use Rattle.dav_store.specs.Members.{IsIn}
 use Rattle.dav_store.specs.PropertyCalls.{properties_at, get_prop_call}
 use Rattle.dav_store.specs.Store.{Contents, PropertyMap, AreNamed, IsWellFormed, property_key}
 use Rattle.dav_store.specs.declared.lock.DavLock.{DavLock}
-use Rattle.dav_parts.specs.DavElement.{with_elements, text_element}
-use Rattle.dav_parts.specs.Dialogue.{Asks, Passed, LeadsTo}
-use Rattle.dav_parts.specs.Dialogues.{LeadsTo-last}
+use Rattle.dav_messages.specs.DavElement.{with_elements, text_element}
+use Rattle.dav_messages.specs.Dialogue.{Asks, Passed, LeadsTo}
+use Rattle.dav_messages.specs.Dialogues.{LeadsTo-last}
 use Rattle.dav_props.specs.Property.{bare}
-use Rattle.dav_props.specs.Propstat.{Told}
+use Rattle.dav_props.specs.Propstat.{PropertyStatus}
 use Rattle.dav_live.specs.Live.{live_value, text_property}
 use Rattle.dav_live.specs.Names.{live_property_of, named_in_dav, named_in_apache, named_in_microsoft, shown_name, is_quota}
 use Rattle.dav_live.specs.Rows.{live_text}
@@ -32,10 +32,10 @@ use Rattle.dav_walks.specs.declared.listing.Resource.{Resource}
 use Rattle.dav_find.specs.declared.search.AskedProperty.{AskedProperty}
 use Rattle.dav_find.specs.declared.search.FindKind.TheVariants.{Prop}
 use Rattle.dav_find.specs.Asked.{names_only, named_only}
-use Rattle.dav_find.specs.Finding.{View, QuotaTold, Finding, ask_quota, asker_with, quota_status, live_told, find_quota, find_live, find_kept, find_by, find_one, is_looked_up, is_all_sought, name_in, told_by}
+use Rattle.dav_find.specs.Finding.{View, QuotaAnswer, Finding, ask_quota, asker_with, quota_status, live_result, find_quota, find_live, find_kept, find_by, find_one, is_looked_up, is_all_sought, name_in, returned_by}
 use Rattle.dav_find.specs.RangeKeys.{in_map}
-use Rattle.dav_find.specs.Reported.{IsStored, IsFoundAt, TellsAsked, AreReported, told_name, asked_name, AreNamedAsAsked}
-use Rattle.dav_find.specs.Telling.{told_of, tell_one, tell_by}
+use Rattle.dav_find.specs.Reported.{IsStored, IsFoundAt, ReportsAsked, AreReported, reported_name, asked_name, AreNamedAsAsked}
+use Rattle.dav_find.specs.Reporting.{report_of, report_one, report_by}
 use Rattle.dav_find.specs.Visiting.{Visit}
 
 -- ---- the names of live properties
@@ -158,11 +158,11 @@ stored_named : (there : Option PropertyMap) → ForSome there AreNamed → AreNa
 stored_named None named = λ name element e. absurd (let no : None ≡ Some element = sym (get-empty key_cmp name) ∙ e in cc)
 stored_named (Some properties) named = named properties refl
 
-told_there : (outcome : Outcome) (there : Option Tree) (element : Tree) → told_by outcome there ≡ Ok element → there ≡ Some element
-told_there Granted None element e = absurd cc
-told_there Granted (Some t) element e = let q : t ≡ element = cc in ap Some q
-told_there (Barred d) there element e = absurd cc
-told_there (Refused d) there element e = absurd cc
+reported_there : (outcome : Outcome) (there : Option Tree) (element : Tree) → returned_by outcome there ≡ Ok element → there ≡ Some element
+reported_there Granted None element e = absurd cc
+reported_there Granted (Some t) element e = let q : t ≡ element = cc in ap Some q
+reported_there (Barred d) there element e = absurd cc
+reported_there (Refused d) there element e = absurd cc
 
 bare_named : (element : Tree) → name_of (bare element) ≡ name_of element
 bare_named element = by_namespace element.tag.namespace
@@ -172,7 +172,7 @@ bare_named element = by_namespace element.tag.namespace
     by_namespace (Some namespace) = refl
 
 module _ (view : View) (contents : Contents) (formed : IsWellFormed contents) (here : Resource) where
-  live_named : (asked element : Tree) (p : LiveProperty) (quota : Option QuotaTold) → name_of asked ≡ local_of p → live_told view here asked p quota ≡ Ok element → name_of element ≡ name_of asked
+  live_named : (asked element : Tree) (p : LiveProperty) (quota : Option QuotaAnswer) → name_of asked ≡ local_of p → live_result view here asked p quota ≡ Ok element → name_of element ≡ name_of asked
   live_named asked element p quota is = by_value (live_value p asked (names_only view.kind) (asker_with view quota) view.locks here.path.key here.meta) refl
     where
       by_value : (v : Option Tree) → live_value p asked (names_only view.kind) (asker_with view quota) view.locks here.path.key here.meta ≡ v → ok_or v (quota_status quota) ≡ Ok element → name_of element ≡ name_of asked
@@ -181,29 +181,29 @@ module _ (view : View) (contents : Contents) (formed : IsWellFormed contents) (h
           let q : t ≡ element = cc in
           value_named asked element (names_only view.kind) (asker_with view quota) view.locks here.path.key here.meta p is (same ∙ ap Some q)
 
-  found_live_named : (asked element : Tree) (p : LiveProperty) (quota next : Option QuotaTold) (records : List Logged) → name_of asked ≡ local_of p → LeadsTo (find_live view contents here asked p quota) records (Passed (Ok element, next)) → name_of element ≡ name_of asked
+  found_live_named : (asked element : Tree) (p : LiveProperty) (quota next : Option QuotaAnswer) (records : List Logged) → name_of asked ≡ local_of p → LeadsTo (find_live view contents here asked p quota) records (Passed (Ok element, next)) → name_of element ≡ name_of asked
   found_live_named asked element p quota next records is led = by_quota (is_quota p) led
     where
-      by_quota : (b : Bool) → LeadsTo (if b then find_quota view contents here asked p quota else Passed (live_told view here asked p None, quota)) records (Passed (Ok element, next)) → name_of element ≡ name_of asked
+      by_quota : (b : Bool) → LeadsTo (if b then find_quota view contents here asked p quota else Passed (live_result view here asked p None, quota)) records (Passed (Ok element, next)) → name_of element ≡ name_of asked
       by_quota true end =
           let q = LeadsTo-last (ask_quota contents quota) _ records (Ok element, next) end in
-          live_named asked element p (Some q.0) is (sym (ap (λ (t : Result Tree ℕ × Option QuotaTold). t.0) (passed_is _ (Ok element, next) q.2 q.4)))
-      by_quota false end = live_named asked element p None is (sym (ap (λ (t : Result Tree ℕ × Option QuotaTold). t.0) (passed_is _ (Ok element, next) records end)))
+          live_named asked element p (Some q.0) is (sym (ap (λ (t : Result Tree ℕ × Option QuotaAnswer). t.0) (passed_is _ (Ok element, next) q.2 q.4)))
+      by_quota false end = live_named asked element p None is (sym (ap (λ (t : Result Tree ℕ × Option QuotaAnswer). t.0) (passed_is _ (Ok element, next) records end)))
 
   found_kept_named : (asked element : Tree) (records : List Logged) → LeadsTo (find_kept view contents here asked) records (Passed (Ok element)) → name_of element ≡ name_of asked
   found_kept_named asked element records led = by_looked (is_looked_up view asked) records led
     where
-      by_looked : (b : Bool) (rs : List Logged) → LeadsTo (if b then Asks (get_prop_call contents here.path.key (name_in asked)) (λ outcome. Passed (told_by outcome (get (properties_at contents here.path.key) (name_in asked)))) else Passed (Err 404)) rs (Passed (Ok element))
+      by_looked : (b : Bool) (rs : List Logged) → LeadsTo (if b then Asks (get_prop_call contents here.path.key (name_in asked)) (λ outcome. Passed (returned_by outcome (get (properties_at contents here.path.key) (name_in asked)))) else Passed (Err 404)) rs (Passed (Ok element))
           → name_of element ≡ name_of asked
       by_looked true [] end = absurd cc
       by_looked true (r ∷ rs) end =
-          let got = told_there r.outcome (get (properties_at contents here.path.key) (name_in asked)) element (sym (passed_is _ (Ok element) rs end.2)) in
+          let got = reported_there r.outcome (get (properties_at contents here.path.key) (name_in asked)) element (sym (passed_is _ (Ok element) rs end.2)) in
           let same = stored_named (get contents.properties here.path.key) (formed.named here.path.key) (name_in asked) element got in
           key_named element.tag.namespace asked.tag.namespace element.tag.name asked.tag.name same
       by_looked false rs end = absurd (let no : Ok element ≡ Err 404 = passed_is _ (Ok element) rs end in cc)
 
   -- what is found for a requested property has its local name
-  finding_named : (one : Finding) → IsFoundAt view contents here one → (element : Tree) → one.told ≡ Ok element → name_of element ≡ name_of one.asked.element
+  finding_named : (one : Finding) → IsFoundAt view contents here one → (element : Tree) → one.value ≡ Ok element → name_of element ≡ name_of one.asked.element
   finding_named one found element is =
       by_live (live_property_of asked.tag.namespace asked.tag.name) refl (subst (λ t. LeadsTo (find_one view contents here asked found.quota) found.records (Passed (t, found.next))) is found.leads)
     where
@@ -214,33 +214,33 @@ module _ (view : View) (contents : Contents) (formed : IsWellFormed contents) (h
       by_live (Some p) same led = found_live_named asked element p found.quota found.next found.records (local_name asked.tag.namespace asked.tag.name p same) led
       by_live None same led =
           let q = LeadsTo-last (find_kept view contents here asked) _ found.records (Ok element, found.next) led in
-          found_kept_named asked element q.1 (subst (λ t. LeadsTo (find_kept view contents here asked) q.1 (Passed t)) (sym (ap (λ (t : Result Tree ℕ × Option QuotaTold). t.0) (passed_is _ (Ok element, found.next) q.2 q.4))) q.3)
+          found_kept_named asked element q.1 (subst (λ t. LeadsTo (find_kept view contents here asked) q.1 (Passed t)) (sym (ap (λ (t : Result Tree ℕ × Option QuotaAnswer). t.0) (passed_is _ (Ok element, found.next) q.2 q.4))) q.3)
 
   -- ---- what is reported
 
-  tell_named : (one : Finding) → IsFoundAt view contents here one → one.asked.listed ≡ false → map told_name (tell_one (Ok []) one) ≡ name_of one.asked.element ∷ []
-  tell_named one found unlisted = by_told one.told refl
+  tell_named : (one : Finding) → IsFoundAt view contents here one → one.asked.by_server ≡ false → map reported_name (report_one (Ok []) one) ≡ name_of one.asked.element ∷ []
+  tell_named one found unlisted = by_reported one.value refl
     where
-      by_listed : (b : Bool) (status : ℕ) → b ≡ false → map told_name (if b || false then [] else (status, bare one.asked.element) ∷ []) ≡ name_of one.asked.element ∷ []
+      by_listed : (b : Bool) (status : ℕ) → b ≡ false → map reported_name (if b || false then [] else (status, bare one.asked.element) ∷ []) ≡ name_of one.asked.element ∷ []
       by_listed true status not = absurd (let none : true ≡ false = not in cc)
       by_listed false status is = ap (λ n. n ∷ []) (bare_named one.asked.element)
 
-      by_told : (t : Result Tree ℕ) → one.told ≡ t → map told_name (tell_by (Ok []) one.asked t) ≡ name_of one.asked.element ∷ []
-      by_told (Ok element) is = ap (λ n. n ∷ []) (finding_named one found element is)
-      by_told (Err status) is = by_listed one.asked.listed status unlisted
+      by_reported : (t : Result Tree ℕ) → one.value ≡ t → map reported_name (report_by (Ok []) one.asked t) ≡ name_of one.asked.element ∷ []
+      by_reported (Ok element) is = ap (λ n. n ∷ []) (finding_named one found element is)
+      by_reported (Err status) is = by_listed one.asked.by_server status unlisted
 
-  each_named : (found : List Finding) → ((one : Finding) → IsIn one found → IsFoundAt view contents here one) → ((one : Finding) → IsIn one found → one.asked.listed ≡ false)
-      → map told_name (flat_map (tell_one (Ok [])) found) ≡ map asked_name (map (λ (one : Finding). one.asked) found)
+  each_named : (found : List Finding) → ((one : Finding) → IsIn one found → IsFoundAt view contents here one) → ((one : Finding) → IsIn one found → one.asked.by_server ≡ false)
+      → map reported_name (flat_map (report_one (Ok [])) found) ≡ map asked_name (map (λ (one : Finding). one.asked) found)
   each_named [] found unlisted = refl
   each_named (one ∷ more) found unlisted =
-      map-append told_name (tell_one (Ok []) one) (flat_map (tell_one (Ok [])) more)
+      map-append reported_name (report_one (Ok []) one) (flat_map (report_one (Ok [])) more)
       ∙ (λ i. tell_named one (found one (inl refl)) (unlisted one (inl refl)) i ++ each_named more (λ o j. found o (inr j)) (λ o j. unlisted o (inr j)) i)
 
-  prop_named : (asked : List AskedProperty) (told : List Told) → view.kind ≡ Prop → ((a : AskedProperty) → IsIn a asked → a.listed ≡ false) → TellsAsked view contents asked here told → map told_name told ≡ map asked_name asked
-  prop_named asked told kind unlisted tells =
-      ap (map told_name) (tells.tells ∙ (λ i. told_of (kind i) tells.found (stored_none i)) ∙ append-nil (flat_map (tell_one (Ok [])) tells.found))
-      ∙ each_named tells.found tells.by_lookup (λ one i. unlisted one.asked (subst (IsIn one.asked) tells.each (in_map (λ (o : Finding). o.asked) one tells.found i)))
-      ∙ ap (map asked_name) tells.each
+  prop_named : (asked : List AskedProperty) (reported : List PropertyStatus) → view.kind ≡ Prop → ((a : AskedProperty) → IsIn a asked → a.by_server ≡ false) → ReportsAsked view contents asked here reported → map reported_name reported ≡ map asked_name asked
+  prop_named asked reported kind unlisted reports =
+      ap (map reported_name) (reports.reported ∙ (λ i. report_of (kind i) reports.found (stored_none i)) ∙ append-nil (flat_map (report_one (Ok [])) reports.found))
+      ∙ each_named reports.found reports.by_lookup (λ one i. unlisted one.asked (subst (IsIn one.asked) reports.each (in_map (λ (o : Finding). o.asked) one reports.found i)))
+      ∙ ap (map asked_name) reports.each
     where
       and_false : (b : Bool) → (b && false) ≡ false
       and_false true = refl
@@ -249,12 +249,12 @@ module _ (view : View) (contents : Contents) (formed : IsWellFormed contents) (h
       unsought : is_all_sought view ≡ false
       unsought = ap (λ k. view.keeps && not (named_only k)) kind ∙ and_false view.keeps
 
-      stored_none : tells.stored ≡ Ok []
-      stored_none = subst (λ b. IsStored b contents here.path.key tells.stored) unsought tells.kept
+      stored_none : reports.stored ≡ Ok []
+      stored_none = subst (λ b. IsStored b contents here.path.key reports.stored) unsought reports.kept
 
 -- with `prop`, each resource is reported with the requested properties by their local names, one each, in order
-pub reports_named : (view : View) (contents : Contents) (asked : List AskedProperty) (top : PathValue) (visits : List Visit) → IsWellFormed contents → (view.kind ≡ Prop → (a : AskedProperty) → IsIn a asked → a.listed ≡ false)
+pub reports_named : (view : View) (contents : Contents) (asked : List AskedProperty) (top : PathValue) (visits : List Visit) → IsWellFormed contents → (view.kind ≡ Prop → (a : AskedProperty) → IsIn a asked → a.by_server ≡ false)
     → AreReported view contents asked top visits → AreNamedAsAsked view.kind asked visits
 reports_named view contents asked top visits formed unlisted each kind visit i =
     let one = each visit i in
-    prop_named view contents formed (record { path = visit.path; meta = one.meta }) asked visit.told kind (unlisted kind) one.properties
+    prop_named view contents formed (record { path = visit.path; meta = one.meta }) asked visit.reported kind (unlisted kind) one.properties

@@ -31,15 +31,15 @@ module _ (shows : Key → Bool) (contents : Contents) (records : List Logged) wh
 
   -- the first pending key is reported next; then its members, in the order of its listing, become pending before the others
   pub data AreInTurn : List Key → List Key → Type 0 where
-    over : {waiting told : List Key} → waiting ≡ [] → told ≡ [] → AreInTurn waiting told
-    next : {waiting told : List Key} (key : Key) (rest later : List Key) (names : List (List ℕ)) → waiting ≡ key ∷ rest → told ≡ key ∷ later
-        → AreFound key names → AreInTurn (map (member key) names ++ rest) later → AreInTurn waiting told
+    over : {waiting reported : List Key} → waiting ≡ [] → reported ≡ [] → AreInTurn waiting reported
+    next : {waiting reported : List Key} (key : Key) (rest later : List Key) (names : List (List ℕ)) → waiting ≡ key ∷ rest → reported ≡ key ∷ later
+        → AreFound key names → AreInTurn (map (member key) names ++ rest) later → AreInTurn waiting reported
 
   -- The target comes first, if the Depth includes it. Then its members come in the order of its listing, and each is followed directly by what is
   -- reported below it, in the same way.
-  pub record IsDepthFirst (depth : Depth) (top : Key) (told : List Key) : Type 0 where
+  pub record IsDepthFirst (depth : Depth) (top : Key) (reported : List Key) : Type 0 where
     pub names : List (List ℕ)
     pub found : AreFound top names
     pub later : List Key
-    pub begins : told ≡ (if is_shown depth then top ∷ [] else []) ++ later
+    pub begins : reported ≡ (if is_shown depth then top ∷ [] else []) ++ later
     pub follows : AreInTurn (map (member top) names) later

@@ -11,12 +11,12 @@ use Rattle.dav_store.specs.Store.{Contents}
 use Rattle.dav_walks.specs.Listing.{Shown, shown_in}
 use Rattle.dav_walks.specs.declared.listing.Resource.{Resource}
 use Rattle.dav_find.specs.declared.search.AskedProperty.{AskedProperty}
-use Rattle.dav_find.specs.Finding.{View, QuotaTold}
+use Rattle.dav_find.specs.Finding.{View, QuotaAnswer}
 use Rattle.dav_find.specs.Ordered as order
 use Rattle.dav_find.specs.Ordered.{entry_names, IsListing, AreFound, AreInTurn, IsDepthFirst}
 use Rattle.dav_find.specs.RangeKeys.{in_left, in_right}
-use Rattle.dav_find.specs.RangeSteps.{told_keys, shows_keys}
-use Rattle.dav_find.specs.Visiting.{Visit, VisitsAll, over, more, stops, FindsMembers, Visits, VisitsFrom, begins, breaks, is_shown, is_listed, is_deep}
+use Rattle.dav_find.specs.RangeSteps.{reported_keys, shows_keys, shown_key, member_shown}
+use Rattle.dav_find.specs.Visiting.{Visit, VisitsAll, over, more, stops, FindsMembers, Visits, VisitsFrom, begins, breaks, is_shown, is_listed, member_depth}
 
 abbrev keys_of : List Resource → List Key
 keys_of waiting = map (λ (r : Resource). r.path.key) waiting
@@ -44,19 +44,21 @@ module _ (view : View) (contents : Contents) (asked : List AskedProperty) (all :
   }
   found_in_order false here records members among (none, is) = record { names = []; found = inl refl; keys = ap keys_of is }
 
-  step_in_order : (shown entered : Bool) (here : Resource) (quota next : Option QuotaTold) (records : List Logged) (visits : List Visit) (members : List Resource) → AreAmong records
-      → Visits view contents asked shown entered here quota records visits next members → FoundInOrder here.path.key members
-  step_in_order shown entered here quota next records visits members among visited =
-      found_in_order entered here visited.rest members (λ r i. among r (subst (IsIn r) (sym visited.cut) (in_right r visited.first visited.rest i))) visited.finds
+  step_in_order : (depth : Depth) (here : Resource) (quota next : Option QuotaAnswer) (records : List Logged) (visits : List Visit)
+      (members : List Resource) → AreAmong records
+      → Visits view contents asked depth here quota records visits next members → FoundInOrder here.path.key members
+  step_in_order depth here quota next records visits members among visited =
+      found_in_order (is_listed depth && here.meta.dir) here visited.rest members (λ r i. among r (subst (IsIn r) (sym visited.cut) (in_right r visited.first visited.rest i))) visited.finds
 
-  all_in_order : (deep : Bool) (waiting : List Resource) (quota : Option QuotaTold) (records : List Logged) (end : Option (List Visit)) (visits : List Visit) → VisitsAll view contents asked deep waiting quota records end → end ≡ Some visits
-      → AreAmong records → AreInTurn view.shows contents all (keys_of waiting) (told_keys visits)
-  all_in_order deep waiting quota records end visits (over none called is) whole among =
+  all_in_order : (depth : Depth) (waiting : List Resource) (quota : Option QuotaAnswer) (records : List Logged) (end : Option (List Visit))
+      (visits : List Visit) → VisitsAll view contents asked depth waiting quota records end → end ≡ Some visits
+      → is_shown depth ≡ true → AreAmong records → AreInTurn view.shows contents all (keys_of waiting) (reported_keys visits)
+  all_in_order depth waiting quota records end visits (over none called is) whole shown among =
       let p : Some [] ≡ Some visits = sym is ∙ whole in
       let same : visits ≡ [] = cc in
-      order.over (ap keys_of none) (ap told_keys same)
-  all_in_order deep waiting quota records end visits (more here rest first others told next members later waits called visited further is) whole among =
-      go later (λ vs e. all_in_order deep (members ++ rest) next others later vs further e others_among) (sym is ∙ whole)
+      order.over (ap keys_of none) (ap reported_keys same)
+  all_in_order depth waiting quota records end visits (more here rest first others reported next members later waits called visited further is) whole shown among =
+      go later (λ vs e. all_in_order depth (members ++ rest) next others later vs further e shown others_among) (sym is ∙ whole)
     where
       first_among : AreAmong first
       first_among r i = among r (subst (IsIn r) (sym called) (in_left r first others i))
@@ -65,23 +67,23 @@ module _ (view : View) (contents : Contents) (asked : List AskedProperty) (all :
       others_among r i = among r (subst (IsIn r) (sym called) (in_right r first others i))
 
       step : FoundInOrder here.path.key members
-      step = step_in_order true (deep && here.meta.dir) here quota next first told members first_among visited
+      step = step_in_order depth here quota next first reported members first_among visited
 
-      go : (l : Option (List Visit)) → ((vs : List Visit) → l ≡ Some vs → AreInTurn view.shows contents all (keys_of (members ++ rest)) (told_keys vs)) → option_map (λ vs. told ++ vs) l ≡ Some visits
-          → AreInTurn view.shows contents all (keys_of waiting) (told_keys visits)
+      go : (l : Option (List Visit)) → ((vs : List Visit) → l ≡ Some vs → AreInTurn view.shows contents all (keys_of (members ++ rest)) (reported_keys vs)) → option_map (λ vs. reported ++ vs) l ≡ Some visits
+          → AreInTurn view.shows contents all (keys_of waiting) (reported_keys visits)
       go None walked p = absurd cc
       go (Some vs) walked p =
-          let same : visits ≡ told ++ vs = cc in
-          let told_are : told_keys visits ≡ here.path.key ∷ told_keys vs =
-          ap told_keys same ∙ map-append _ told vs ∙ ap (λ ks. ks ++ told_keys vs) (shows_keys view contents asked true here quota next visited.first told visited.shows) in
+          let same : visits ≡ reported ++ vs = cc in
+          let reported_are : reported_keys visits ≡ here.path.key ∷ reported_keys vs =
+          ap reported_keys same ∙ map-append _ reported vs ∙ ap (λ ks. ks ++ reported_keys vs) (shown_key view contents asked (is_shown depth) here quota next visited.first reported shown visited.shows) in
           let pending : keys_of (members ++ rest) ≡ map (member here.path.key) step.names ++ keys_of rest = map-append _ members rest ∙ ap (λ ks. ks ++ keys_of rest) step.keys in
-          order.next here.path.key (keys_of rest) (told_keys vs) step.names (ap keys_of waits) told_are step.found (subst (λ ks. AreInTurn view.shows contents all ks (told_keys vs)) pending (walked vs refl))
-  all_in_order deep waiting quota records end visits (stops here rest waits part is) whole among = absurd (let no : None ≡ Some visits = sym is ∙ whole in cc)
+          order.next here.path.key (keys_of rest) (reported_keys vs) step.names (ap keys_of waits) reported_are step.found (subst (λ ks. AreInTurn view.shows contents all ks (reported_keys vs)) pending (walked vs refl))
+  all_in_order depth waiting quota records end visits (stops here rest waits part is) whole shown among = absurd (let no : None ≡ Some visits = sym is ∙ whole in cc)
 
   -- the resources are reported depth first, members in the order of their listing
   pub reports_in_order : (target : Resource) (depth : Depth) (records : List Logged) (visits : List Visit) → VisitsFrom view contents asked target depth records (Some visits) → AreAmong records
-      → IsDepthFirst view.shows contents all depth target.path.key (told_keys visits)
-  reports_in_order target depth records visits (begins first others told next members later called visited further is) among = go later further is
+      → IsDepthFirst view.shows contents all depth target.path.key (reported_keys visits)
+  reports_in_order target depth records visits (begins first others reported next members later called visited further is) among = go later further is
     where
       first_among : AreAmong first
       first_among r i = among r (subst (IsIn r) (sym called) (in_left r first others i))
@@ -90,17 +92,18 @@ module _ (view : View) (contents : Contents) (asked : List AskedProperty) (all :
       others_among r i = among r (subst (IsIn r) (sym called) (in_right r first others i))
 
       step : FoundInOrder target.path.key members
-      step = step_in_order (is_shown depth) (is_listed depth && target.meta.dir) target None next first told members first_among visited
+      step = step_in_order depth target None next first reported members first_among visited
 
-      go : (l : Option (List Visit)) → VisitsAll view contents asked (is_deep depth) members next others l → Some visits ≡ option_map (λ vs. told ++ vs) l → IsDepthFirst view.shows contents all depth target.path.key (told_keys visits)
+      go : (l : Option (List Visit)) → VisitsAll view contents asked (member_depth depth) members next others l
+          → Some visits ≡ option_map (λ vs. reported ++ vs) l → IsDepthFirst view.shows contents all depth target.path.key (reported_keys visits)
       go None v p = absurd cc
       go (Some vs) v p =
-          let same : visits ≡ told ++ vs = cc in
+          let same : visits ≡ reported ++ vs = cc in
           record {
             names = step.names;
             found = step.found;
-            later = told_keys vs;
-            begins = ap told_keys same ∙ map-append _ told vs ∙ ap (λ ks. ks ++ told_keys vs) (shows_keys view contents asked (is_shown depth) target None next visited.first told visited.shows);
-            follows = subst (λ ks. AreInTurn view.shows contents all ks (told_keys vs)) step.keys (all_in_order (is_deep depth) members next others (Some vs) vs v refl others_among);
+            later = reported_keys vs;
+            begins = ap reported_keys same ∙ map-append _ reported vs ∙ ap (λ ks. ks ++ reported_keys vs) (shows_keys view contents asked (is_shown depth) target None next visited.first reported visited.shows);
+            follows = subst (λ ks. AreInTurn view.shows contents all ks (reported_keys vs)) step.keys (all_in_order (member_depth depth) members next others (Some vs) vs v refl (member_shown depth) others_among);
           }
   reports_in_order target depth records visits (breaks part is) among = absurd (let no : Some visits ≡ None = is in cc)

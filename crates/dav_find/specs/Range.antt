@@ -11,7 +11,7 @@ use Rattle.dav_resource.specs.declared.request.Depth.{Depth}
 use Rattle.dav_store.specs.Logged.{Logged, logged}
 use Rattle.dav_store.specs.Members.{IsIn, AreDistinct, member}
 use Rattle.dav_store.specs.Store.{Contents, Directory}
-use Rattle.dav_find.specs.Visiting.{is_shown, is_listed, is_deep}
+use Rattle.dav_find.specs.Visiting.{is_shown, is_listed, is_infinite}
 
 -- ---- what the Depth reaches
 
@@ -19,12 +19,12 @@ use Rattle.dav_find.specs.Visiting.{is_shown, is_listed, is_deep}
 abbrev pub reaches : Depth → Key → Bool
 reaches depth [] = is_shown depth
 reaches depth (name ∷ []) = is_listed depth
-reaches depth (name ∷ next ∷ x) = is_deep depth
+reaches depth (name ∷ next ∷ x) = is_infinite depth
 
 -- whether the members of the resource at this path are reached
 abbrev pub reaches_members : Depth → Key → Bool
 reaches_members depth [] = is_listed depth
-reaches_members depth (name ∷ x) = is_deep depth
+reaches_members depth (name ∷ x) = is_infinite depth
 
 -- ---- members that are not listed
 
@@ -90,12 +90,12 @@ AreWithin top keys = (key : Key) → IsIn key keys → (x : Key) × (key ≡ top
 -- Exactly the resources in the Depth's range that are not hidden are reported: each once, and a directory before everything below it. So if every
 -- listing is granted and shows every member, every resource in the range is reported, whatever other calls fail. Exactly the directories whose
 -- members are in the range, and that are not hidden, are listed: each once.
-pub record TellsRange (contents : Contents) (depth : Depth) (top : Key) (records : List Logged) (told : List Key) : Type 0 where
-  pub once : AreDistinct told
-  pub downwards : AreDownwards told
-  pub within : AreWithin top told
-  pub tells : AreReached (reaches depth) (Stands contents) records top told
-  pub whole : AllShown records → (x : Key) → reaches depth x ≡ true → Stands contents (top ++ x) → IsIn (top ++ x) told
+pub record ReportsRange (contents : Contents) (depth : Depth) (top : Key) (records : List Logged) (reported : List Key) : Type 0 where
+  pub once : AreDistinct reported
+  pub downwards : AreDownwards reported
+  pub within : AreWithin top reported
+  pub reports : AreReached (reaches depth) (Stands contents) records top reported
+  pub whole : AllShown records → (x : Key) → reaches depth x ≡ true → Stands contents (top ++ x) → IsIn (top ++ x) reported
   pub listed_once : AreDistinct (listed_in records)
   pub listed_within : AreWithin top (listed_in records)
   pub lists : AreReached (reaches_members depth) (IsDirectory contents) records top (listed_in records)

@@ -19,11 +19,11 @@ use Rattle.dav_store.specs.Store.{Contents, Node, File, Directory, MetaFits, IsW
 use Rattle.dav_walks.specs.Listing.{AreThere}
 use Rattle.dav_walks.specs.declared.listing.Resource.{Resource}
 use Rattle.dav_find.specs.declared.search.AskedProperty.{AskedProperty}
-use Rattle.dav_find.specs.Finding.{View, QuotaTold}
-use Rattle.dav_find.specs.Range.{WasDeclined, IsHidden, is_listing, AllShown, listed_key, listed_in, AreDownwards, Stands, IsDirectory, AreReached, TellsRange, reaches, reaches_members}
+use Rattle.dav_find.specs.Finding.{View, QuotaAnswer}
+use Rattle.dav_find.specs.Range.{WasDeclined, IsHidden, is_listing, AllShown, listed_key, listed_in, AreDownwards, Stands, IsDirectory, AreReached, ReportsRange, reaches, reaches_members}
 use Rattle.dav_find.specs.RangeKeys.{AreApart, AreAllApart, member_below, none_below, same_name, in_left, in_right, in_either, in_map, out_map, apart_members, distinct_downwards, IsFar, left_declined, hidden_more, hidden_less}
-use Rattle.dav_find.specs.RangeSteps.{HasNoListing, IsStep, FindsStep, none_listed, visit_step, told_keys, shows_keys}
-use Rattle.dav_find.specs.Visiting.{Visit, VisitsAll, over, more, stops, Visits, VisitsFrom, begins, breaks, is_shown, is_listed, is_deep}
+use Rattle.dav_find.specs.RangeSteps.{HasNoListing, IsStep, FindsStep, none_listed, visit_step, reported_keys, shows_keys, shown_key, member_shown, member_listed}
+use Rattle.dav_find.specs.Visiting.{Visit, VisitsAll, over, more, stops, Visits, VisitsFrom, begins, breaks, is_shown, is_listed, is_infinite, member_depth}
 
 both : (a b : Bool) → (a && b) ≡ true → (a ≡ true) × (b ≡ true)
 both true b is = (refl, is)
@@ -191,11 +191,11 @@ module _ (contents : Contents) (formed : IsWellFormed contents) where
       found x i = which (in_either (here ++ x) (heads head) keys i)
         where
           below : (top y : Key) → here ++ x ≡ top ++ y → IsIn (here ++ x) keys → IsIn top (map (member here) names) ⊎ IsIn top waiting → Found x
-          below top y e told (inl j) =
+          below top y e reported (inl j) =
               let q = out_map (member here) top names j in
               let at : here ++ x ≡ member here q.0 ++ y = e ∙ ap (λ k. k ++ y) q.2 in
-              inr (q.0, y, append_cancel_left here x (q.0 ∷ y) (at ∙ member_below here q.0 y), q.1, subst (λ k. IsIn k keys) at told)
-          below top y e told (inr j) = absurd (apart top j x y e)
+              inr (q.0, y, append_cancel_left here x (q.0 ∷ y) (at ∙ member_below here q.0 y), q.1, subst (λ k. IsIn k keys) at reported)
+          below top y e reported (inr j) = absurd (apart top j x y e)
 
           which : IsIn (here ++ x) (heads head) ⊎ IsIn (here ++ x) keys → Found x
           which (inl j) = let p = in_heads head (here ++ x) j in inl (append_cancel_left here x [] (sym p.1 ∙ sym (append-nil here)), p.0)
@@ -214,15 +214,15 @@ module _ (contents : Contents) (formed : IsWellFormed contents) where
         where
           reached_of : (x : Key) → Found x → here_reached x ≡ true
           reached_of x (inl (e, is)) = ap here_reached e ∙ (head_is is).0
-          reached_of x (inr (name, y, e, i, told)) = ap here_reached e ∙ down name y ∙ (λ k. wants (entered_by name i) k && (at_member name i).reached y told k)
+          reached_of x (inr (name, y, e, i, reported)) = ap here_reached e ∙ down name y ∙ (λ k. wants (entered_by name i) k && (at_member name i).reached y reported k)
 
           kind_of : (x : Key) → Found x → Kind (here ++ x)
           kind_of x (inl (e, is)) = subst (λ z. Kind (here ++ z)) (sym e) (subst Kind (sym (append-nil here)) (head_is is).1)
-          kind_of x (inr (name, y, e, i, told)) = subst (λ z. Kind (here ++ z)) (sym e) (subst Kind (member_below here name y) ((at_member name i).kind y told))
+          kind_of x (inr (name, y, e, i, reported)) = subst (λ z. Kind (here ++ z)) (sym e) (subst Kind (member_below here name y) ((at_member name i).kind y reported))
 
           unhidden_of : (x : Key) → Found x → IsHidden (first ++ others) here x → ⊥
           unhidden_of x (inl (e, is)) h = subst (IsHidden (first ++ others) here) e h
-          unhidden_of x (inr (name, y, e, i, told)) h = (at_member name i).unhidden y told (hidden_below name y i (subst (IsHidden (first ++ others) here) e h))
+          unhidden_of x (inr (name, y, e, i, reported)) h = (at_member name i).unhidden y reported (hidden_below name y i (subst (IsHidden (first ++ others) here) e h))
 
           each_of : (x : Key) → here_reached x ≡ true → Kind (here ++ x) → (IsHidden (first ++ others) here x → ⊥) → IsIn (here ++ x) (heads head ++ keys)
           each_of [] is kind shown =
@@ -235,8 +235,8 @@ module _ (contents : Contents) (formed : IsWellFormed contents) where
             where
               which : reached x ≡ true → Kind (member here name ++ x) → IsIn name names ⊎ WasDeclined first ReadDir here ⊎ WasDeclined first Entry (member here name) → IsIn (here ++ name ∷ x) (heads head ++ keys)
               which is below (inl i) =
-                  let told = (at_member name i).each x is below (λ h. shown (inr (inr (hidden_more first others (member here name) x h)))) in
-                  in_right _ (heads head) keys (subst (λ k. IsIn k keys) (member_below here name x) told)
+                  let reported = (at_member name i).each x is below (λ h. shown (inr (inr (hidden_more first others (member here name) x h)))) in
+                  in_right _ (heads head) keys (subst (λ k. IsIn k keys) (member_below here name x) reported)
               which is below (inr (inl d)) = absurd (shown (inl (left_declined first others ReadDir here d)))
               which is below (inr (inr d)) = absurd (shown (inr (inl (left_declined first others Entry (member here name) d))))
 
@@ -328,42 +328,44 @@ module _ (contents : Contents) (formed : IsWellFormed contents) where
 
   record IsWalked (deep : Bool) (waiting : List Resource) (records : List Logged) (visits : List Visit) : Type 0 where
     called : AreCalledBelow records (keys_of waiting)
-    tells : Covers (reached_all deep) (Stands contents) records (keys_of waiting) (told_keys visits)
+    reports : Covers (reached_all deep) (Stands contents) records (keys_of waiting) (reported_keys visits)
     lists : Covers (λ x. deep) (IsDirectory contents) records (keys_of waiting) (listed_in records)
 
   walked_none : (deep : Bool) → IsWalked deep [] [] []
   walked_none deep = record {
     called = record { listings = λ key outcome i. absurd i; entries = λ key outcome i. absurd i };
-    tells = record { downwards = tt; within = λ key i. absurd i; each = λ top i. absurd i };
+    reports = record { downwards = tt; within = λ key i. absurd i; each = λ top i. absurd i };
     lists = record { downwards = tt; within = λ key i. absurd i; each = λ top i. absurd i };
   }
 
   module _ (view : View) (asked : List AskedProperty) where
-    walked_more : (deep : Bool) (here : Resource) (rest members : List Resource) (quota next : Option QuotaTold) (first others : List Logged) (told visits : List Visit) (there : contents.metas here.path.key ≡ Some here.meta)
-        (apart : (other : Key) → IsIn other (keys_of rest) → AreApart here.path.key other) (visited : Visits view contents asked true (deep && here.meta.dir) here quota first told next members)
-        → IsWalked deep (members ++ rest) others visits → IsWalked deep (here ∷ rest) (first ++ others) (told ++ visits)
-    walked_more deep here rest members quota next first others told visits there apart visited walked =
+    walked_more : (depth : Depth) (here : Resource) (rest members : List Resource) (quota next : Option QuotaAnswer) (first others : List Logged)
+        (reported visits : List Visit) (shown : is_shown depth ≡ true) (there : contents.metas here.path.key ≡ Some here.meta)
+        (apart : (other : Key) → IsIn other (keys_of rest) → AreApart here.path.key other) (visited : Visits view contents asked depth here quota first reported next members)
+        → IsWalked (is_listed depth) (members ++ rest) others visits → IsWalked (is_listed depth) (here ∷ rest) (first ++ others) (reported ++ visits)
+    walked_more depth here rest members quota next first others reported visits shown there apart visited walked =
+        let deep : Bool = is_listed depth in
         let key : Key = here.path.key in
         let waiting : List Key = keys_of rest in
         let entered : Bool = deep && here.meta.dir in
-        let finds : FindsStep contents key entered first members = visit_step contents view asked true entered here quota first told next members visited in
+        let finds : FindsStep contents key entered first members = visit_step contents view asked depth here quota first reported next members visited in
         let waits : keys_of (members ++ rest) ≡ map (member key) finds.names ++ waiting = map-append _ members rest ∙ ap (λ ks. ks ++ waiting) finds.found in
         let called : AreCalledBelow others (map (member key) finds.names ++ waiting) = subst (AreCalledBelow others) waits walked.called in
         let wants : entered ≡ true → deep ≡ true = λ t. (both deep here.meta.dir t).0 in
         let enters : deep ≡ true → IsDirectory contents key → entered ≡ true = λ d is. enters_by deep here.meta.dir d ((is_directory_by here there).1 is) in
-        let tells : Covers (reached_all deep) (Stands contents) (first ++ others) (key ∷ waiting) (key ∷ told_keys visits) =
+        let reports : Covers (reached_all deep) (Stands contents) (first ++ others) (key ∷ waiting) (key ∷ reported_keys visits) =
         covers_all key waiting entered deep first others finds.names finds.step apart called (Stands contents) (λ k stands. stands) (reached_all deep) wants enters (all_down deep) true (λ t. (refl, stands_by here there)) (λ t stands. refl)
-        (told_keys visits) (subst (λ ks. Covers (reached_all deep) (Stands contents) others ks (told_keys visits)) waits walked.tells) in
+        (reported_keys visits) (subst (λ ks. Covers (reached_all deep) (Stands contents) others ks (reported_keys visits)) waits walked.reports) in
         let lists : Covers (λ x. deep) (IsDirectory contents) (first ++ others) (key ∷ waiting) ((if entered then key ∷ [] else []) ++ listed_in others) =
         covers_all key waiting entered deep first others finds.names finds.step apart called (IsDirectory contents) stands_directory (λ x. deep) wants enters (λ name x. twice deep) entered
         (λ t. (wants t, (is_directory_by here there).0 (both deep here.meta.dir t).1)) enters (listed_in others)
         (subst (λ ks. Covers (λ x. deep) (IsDirectory contents) others ks (listed_in others)) waits walked.lists) in
-        let told_are : told_keys (told ++ visits) ≡ key ∷ told_keys visits =
-        map-append _ told visits ∙ ap (λ ks. ks ++ told_keys visits) (shows_keys view contents asked true here quota next visited.first told visited.shows) in
+        let reported_are : reported_keys (reported ++ visits) ≡ key ∷ reported_keys visits =
+        map-append _ reported visits ∙ ap (λ ks. ks ++ reported_keys visits) (shown_key view contents asked (is_shown depth) here quota next visited.first reported shown visited.shows) in
         let listed_are : listed_in (first ++ others) ≡ (if entered then key ∷ [] else []) ++ listed_in others = filter_map-append listed_key first others ∙ ap (λ ks. ks ++ listed_in others) finds.step.keys in
         record {
           called = called_all key waiting entered deep first others finds.names finds.step apart called;
-          tells = subst (Covers (reached_all deep) (Stands contents) (first ++ others) (key ∷ waiting)) (sym told_are) tells;
+          reports = subst (Covers (reached_all deep) (Stands contents) (first ++ others) (key ∷ waiting)) (sym reported_are) reports;
           lists = subst (Covers (λ x. deep) (IsDirectory contents) (first ++ others) (key ∷ waiting)) (sym listed_are) lists;
         }
 
@@ -382,33 +384,36 @@ module _ (contents : Contents) (formed : IsWellFormed contents) where
         which r (inl i) = there r i
         which r (inr i) = waiting.there r (inr i)
 
-    walk : (deep : Bool) (waiting : List Resource) (quota : Option QuotaTold) (records : List Logged) (end : Option (List Visit)) (visits : List Visit) → VisitsAll view contents asked deep waiting quota records end
-        → end ≡ Some visits → AreWaiting waiting → IsWalked deep waiting records visits
-    walk deep waiting quota records end visits (over none called is) whole are =
+    walk : (depth : Depth) (waiting : List Resource) (quota : Option QuotaAnswer) (records : List Logged) (end : Option (List Visit))
+        (visits : List Visit) → VisitsAll view contents asked depth waiting quota records end
+        → end ≡ Some visits → is_shown depth ≡ true → AreWaiting waiting → IsWalked (is_listed depth) waiting records visits
+    walk depth waiting quota records end visits (over none called is) whole shown are =
         let p : Some [] ≡ Some visits = sym is ∙ whole in
         let same : visits ≡ [] = cc in
-        rw (none, called, same) (walked_none deep)
-    walk deep waiting quota records end visits (more here rest first others told next members later waits called visited further is) whole are = go later (λ vs e. walk deep (members ++ rest) next others later vs further e next_are) (sym is ∙ whole)
+        rw (none, called, same) (walked_none (is_listed depth))
+    walk depth waiting quota records end visits (more here rest first others reported next members later waits called visited further is) whole shown are =
+        go later (λ vs e. walk depth (members ++ rest) next others later vs further e shown next_are) (sym is ∙ whole)
       where
         here_are : AreWaiting (here ∷ rest)
         here_are = subst AreWaiting waits are
 
-        finds : FindsStep contents here.path.key (deep && here.meta.dir) first members
-        finds = visit_step contents view asked true (deep && here.meta.dir) here quota first told next members visited
+        finds : FindsStep contents here.path.key (is_listed depth && here.meta.dir) first members
+        finds = visit_step contents view asked depth here quota first reported next members visited
 
         next_are : AreWaiting (members ++ rest)
         next_are = waiting_next here rest members finds.names here_are finds.there finds.step.once finds.found
 
-        go : (l : Option (List Visit)) → ((vs : List Visit) → l ≡ Some vs → IsWalked deep (members ++ rest) others vs) → option_map (λ vs. told ++ vs) l ≡ Some visits → IsWalked deep waiting records visits
+        go : (l : Option (List Visit)) → ((vs : List Visit) → l ≡ Some vs → IsWalked (is_listed depth) (members ++ rest) others vs)
+            → option_map (λ vs. reported ++ vs) l ≡ Some visits → IsWalked (is_listed depth) waiting records visits
         go None walked p = absurd cc
         go (Some vs) walked p =
-            let same : visits ≡ told ++ vs = cc in
-            rw (waits, called, same) (walked_more deep here rest members quota next first others told vs (here_are.there here (inl refl)) here_are.apart.0 visited (walked vs refl))
-    walk deep waiting quota records end visits (stops here rest waits part is) whole are = absurd (let no : None ≡ Some visits = sym is ∙ whole in cc)
+            let same : visits ≡ reported ++ vs = cc in
+            rw (waits, called, same) (walked_more depth here rest members quota next first others reported vs shown (here_are.there here (inl refl)) here_are.apart.0 visited (walked vs refl))
+    walk depth waiting quota records end visits (stops here rest waits part is) whole shown are = absurd (let no : None ≡ Some visits = sym is ∙ whole in cc)
 
     -- ---- from the target
 
-    depth_down : (depth : Depth) (name : List ℕ) (x : Key) → reaches depth (name ∷ x) ≡ (is_listed depth && reached_all (is_deep depth) x)
+    depth_down : (depth : Depth) (name : List ℕ) (x : Key) → reaches depth (name ∷ x) ≡ (is_listed depth && reached_all (is_infinite depth) x)
     depth_down Zero name [] = refl
     depth_down Zero name (next ∷ x) = refl
     depth_down One name [] = refl
@@ -418,7 +423,7 @@ module _ (contents : Contents) (formed : IsWellFormed contents) where
     depth_down Default name [] = refl
     depth_down Default name (next ∷ x) = refl
 
-    members_down : (depth : Depth) → is_deep depth ≡ (is_listed depth && is_deep depth)
+    members_down : (depth : Depth) → is_infinite depth ≡ (is_listed depth && is_infinite depth)
     members_down Zero = refl
     members_down One = refl
     members_down Infinity = refl
@@ -428,64 +433,68 @@ module _ (contents : Contents) (formed : IsWellFormed contents) where
     below_one top key (above, inl e, x, is) = (x, is ∙ ap (λ k. k ++ x) (sym e))
     below_one top key (above, inr i, x, is) = absurd i
 
-    range_of : (target : Resource) (depth : Depth) (first others : List Logged) (told visits : List Visit) (next : Option QuotaTold) (members : List Resource) → contents.metas target.path.key ≡ Some target.meta
-        → Visits view contents asked (is_shown depth) (is_listed depth && target.meta.dir) target None first told next members
-        → VisitsAll view contents asked (is_deep depth) members next others (Some visits) → TellsRange contents depth target.path.key (first ++ others) (told_keys (told ++ visits))
-    range_of target depth first others told visits next members there visited further =
+    range_of : (target : Resource) (depth : Depth) (first others : List Logged) (reported visits : List Visit) (next : Option QuotaAnswer) (members : List Resource) → contents.metas target.path.key ≡ Some target.meta
+        → Visits view contents asked depth target None first reported next members
+        → VisitsAll view contents asked (member_depth depth) members next others (Some visits)
+        → ReportsRange contents depth target.path.key (first ++ others) (reported_keys (reported ++ visits))
+    range_of target depth first others reported visits next members there visited further =
         let key : Key = target.path.key in
         let entered : Bool = is_listed depth && target.meta.dir in
-        let finds : FindsStep contents key entered first members = visit_step contents view asked (is_shown depth) entered target None first told next members visited in
+        let finds : FindsStep contents key entered first members = visit_step contents view asked depth target None first reported next members visited in
         let waits : keys_of members ≡ map (member key) finds.names ++ [] = finds.found ∙ sym (append-nil (map (member key) finds.names)) in
         let apart : AreAllApart (keys_of members) = subst AreAllApart (sym waits) (apart_members key finds.names [] finds.step.once (λ other i. absurd i) tt) in
-        let walked : IsWalked (is_deep depth) members others visits = walk (is_deep depth) members next others (Some visits) visits further refl (record { there = finds.there; apart = apart }) in
+        let all : IsWalked (is_listed (member_depth depth)) members others visits =
+        walk (member_depth depth) members next others (Some visits) visits further refl (member_shown depth) (record { there = finds.there; apart = apart }) in
+        let walked : IsWalked (is_infinite depth) members others visits = subst (λ deep. IsWalked deep members others visits) (member_listed depth) all in
         let called : AreCalledBelow others (map (member key) finds.names ++ []) = subst (AreCalledBelow others) waits walked.called in
         let wants : entered ≡ true → is_listed depth ≡ true = λ t. (both (is_listed depth) target.meta.dir t).0 in
         let enters : is_listed depth ≡ true → IsDirectory contents key → entered ≡ true = λ d is. enters_by (is_listed depth) target.meta.dir d ((is_directory_by target there).1 is) in
         let shown_is : is_shown depth ≡ true → (is_shown depth ≡ true) × Stands contents key = λ t. (t, stands_by target there) in
         let entered_is : entered ≡ true → (is_listed depth ≡ true) × IsDirectory contents key = λ t. (wants t, (is_directory_by target there).0 (both (is_listed depth) target.meta.dir t).1) in
-        let tells : Covers (reached_all (is_deep depth)) (Stands contents) others (map (member key) finds.names ++ []) (told_keys visits) =
-        subst (λ ks. Covers (reached_all (is_deep depth)) (Stands contents) others ks (told_keys visits)) waits walked.tells in
-        let lists : Covers (λ x. is_deep depth) (IsDirectory contents) others (map (member key) finds.names ++ []) (listed_in others) =
-        subst (λ ks. Covers (λ x. is_deep depth) (IsDirectory contents) others ks (listed_in others)) waits walked.lists in
-        let told_are : told_keys (told ++ visits) ≡ (if is_shown depth then key ∷ [] else []) ++ told_keys visits =
-        map-append _ told visits ∙ ap (λ ks. ks ++ told_keys visits) (shows_keys view contents asked (is_shown depth) target None next visited.first told visited.shows) in
+        let reports : Covers (reached_all (is_infinite depth)) (Stands contents) others (map (member key) finds.names ++ []) (reported_keys visits) =
+        subst (λ ks. Covers (reached_all (is_infinite depth)) (Stands contents) others ks (reported_keys visits)) waits walked.reports in
+        let lists : Covers (λ x. is_infinite depth) (IsDirectory contents) others (map (member key) finds.names ++ []) (listed_in others) =
+        subst (λ ks. Covers (λ x. is_infinite depth) (IsDirectory contents) others ks (listed_in others)) waits walked.lists in
+        let reported_are : reported_keys (reported ++ visits) ≡ (if is_shown depth then key ∷ [] else []) ++ reported_keys visits =
+        map-append _ reported visits ∙ ap (λ ks. ks ++ reported_keys visits) (shows_keys view contents asked (is_shown depth) target None next visited.first reported visited.shows) in
         let listed_are : listed_in (first ++ others) ≡ (if entered then key ∷ [] else []) ++ listed_in others = filter_map-append listed_key first others ∙ ap (λ ks. ks ++ listed_in others) finds.step.keys in
         let none_apart : (other : Key) → IsIn other [] → AreApart key other = λ other i. absurd i in
-        let told_down : AreDownwards ((if is_shown depth then key ∷ [] else []) ++ told_keys visits) =
-        downwards_all key [] entered (is_listed depth) first others finds.names finds.step none_apart called (Stands contents) (λ k stands. stands) (reaches depth) (reached_all (is_deep depth)) wants enters (depth_down depth)
-        (is_shown depth) shown_is (λ r stands. r) (told_keys visits) tells in
+        let reported_down : AreDownwards ((if is_shown depth then key ∷ [] else []) ++ reported_keys visits) =
+        downwards_all key [] entered (is_listed depth) first others finds.names finds.step none_apart called (Stands contents) (λ k stands. stands) (reaches depth) (reached_all (is_infinite depth)) wants enters (depth_down depth)
+        (is_shown depth) shown_is (λ r stands. r) (reported_keys visits) reports in
         let listed_down : AreDownwards ((if entered then key ∷ [] else []) ++ listed_in others) =
-        downwards_all key [] entered (is_listed depth) first others finds.names finds.step none_apart called (IsDirectory contents) stands_directory (reaches_members depth) (λ x. is_deep depth) wants enters (λ name x. members_down depth)
+        downwards_all key [] entered (is_listed depth) first others finds.names finds.step none_apart called (IsDirectory contents) stands_directory (reaches_members depth) (λ x. is_infinite depth) wants enters (λ name x. members_down depth)
         entered entered_is enters (listed_in others) lists in
-        let here_tells : AreReached (reaches depth) (Stands contents) (first ++ others) key ((if is_shown depth then key ∷ [] else []) ++ told_keys visits) =
-        covers_here key [] entered (is_listed depth) first others finds.names finds.step none_apart called (Stands contents) (λ k stands. stands) (reaches depth) (reached_all (is_deep depth)) wants enters (depth_down depth)
-        (is_shown depth) shown_is (λ r stands. r) (told_keys visits) tells in
-        rw told_are (record {
-          once = distinct_downwards _ told_down;
-          downwards = told_down;
-          within = λ k i. below_one key k (within_all key [] entered (is_listed depth) first others finds.names finds.step none_apart called (Stands contents) (λ j stands. stands) (reaches depth) (reached_all (is_deep depth)) wants enters
-              (depth_down depth) (is_shown depth) shown_is (λ r stands. r) (told_keys visits) tells k i);
-          tells = here_tells;
-          whole = λ all x is stands. here_tells.each x is stands (none_hidden (first ++ others) key x all);
+        let here_reports : AreReached (reaches depth) (Stands contents) (first ++ others) key ((if is_shown depth then key ∷ [] else []) ++ reported_keys visits) =
+        covers_here key [] entered (is_listed depth) first others finds.names finds.step none_apart called (Stands contents) (λ k stands. stands) (reaches depth) (reached_all (is_infinite depth)) wants enters (depth_down depth)
+        (is_shown depth) shown_is (λ r stands. r) (reported_keys visits) reports in
+        rw reported_are (record {
+          once = distinct_downwards _ reported_down;
+          downwards = reported_down;
+          within = λ k i. below_one key k (within_all key [] entered (is_listed depth) first others finds.names finds.step none_apart called (Stands contents) (λ j stands. stands) (reaches depth) (reached_all (is_infinite depth)) wants enters
+              (depth_down depth) (is_shown depth) shown_is (λ r stands. r) (reported_keys visits) reports k i);
+          reports = here_reports;
+          whole = λ all x is stands. here_reports.each x is stands (none_hidden (first ++ others) key x all);
           listed_once = rw listed_are (distinct_downwards _ listed_down);
-          listed_within = λ k i. below_one key k (within_all key [] entered (is_listed depth) first others finds.names finds.step none_apart called (IsDirectory contents) stands_directory (reaches_members depth) (λ x. is_deep depth) wants enters
+          listed_within = λ k i. below_one key k (within_all key [] entered (is_listed depth) first others finds.names finds.step none_apart called (IsDirectory contents) stands_directory (reaches_members depth) (λ x. is_infinite depth) wants enters
               (λ name x. members_down depth) entered entered_is enters (listed_in others) lists k (subst (IsIn k) listed_are i));
           lists = subst (AreReached (reaches_members depth) (IsDirectory contents) (first ++ others) key) (sym listed_are)
-              (covers_here key [] entered (is_listed depth) first others finds.names finds.step none_apart called (IsDirectory contents) stands_directory (reaches_members depth) (λ x. is_deep depth) wants enters (λ name x. members_down depth)
+              (covers_here key [] entered (is_listed depth) first others finds.names finds.step none_apart called (IsDirectory contents) stands_directory (reaches_members depth) (λ x. is_infinite depth) wants enters (λ name x. members_down depth)
               entered entered_is enters (listed_in others) lists);
         })
 
     -- what a PROPFIND reports, whatever the store refuses
-    pub tells_range : (target : Resource) (depth : Depth) (records : List Logged) (visits : List Visit) → VisitsFrom view contents asked target depth records (Some visits) → contents.metas target.path.key ≡ Some target.meta
-        → TellsRange contents depth target.path.key records (told_keys visits)
-    tells_range target depth records visits (begins first others told next members later called visited further is) there = go later further is
+    pub reports_range : (target : Resource) (depth : Depth) (records : List Logged) (visits : List Visit) → VisitsFrom view contents asked target depth records (Some visits) → contents.metas target.path.key ≡ Some target.meta
+        → ReportsRange contents depth target.path.key records (reported_keys visits)
+    reports_range target depth records visits (begins first others reported next members later called visited further is) there = go later further is
       where
-        go : (l : Option (List Visit)) → VisitsAll view contents asked (is_deep depth) members next others l → Some visits ≡ option_map (λ vs. told ++ vs) l → TellsRange contents depth target.path.key records (told_keys visits)
+        go : (l : Option (List Visit)) → VisitsAll view contents asked (member_depth depth) members next others l
+            → Some visits ≡ option_map (λ vs. reported ++ vs) l → ReportsRange contents depth target.path.key records (reported_keys visits)
         go None v p = absurd cc
         go (Some vs) v p =
-            let same : visits ≡ told ++ vs = cc in
-            rw (called, same) (range_of target depth first others told vs next members there visited v)
-    tells_range target depth records visits (breaks part is) there = absurd (let no : Some visits ≡ None = is in cc)
+            let same : visits ≡ reported ++ vs = cc in
+            rw (called, same) (range_of target depth first others reported vs next members there visited v)
+    reports_range target depth records visits (breaks part is) there = absurd (let no : Some visits ≡ None = is in cc)
 
 -- ---- after calls that list nothing
 
@@ -504,14 +513,14 @@ reached_behind Reached Kind first others top keys none are = record {
 }
 
 -- earlier calls that list nothing do not change the range
-pub range_behind : (contents : Contents) (depth : Depth) (top : Key) (first others : List Logged) (told : List Key) → HasNoListing first → TellsRange contents depth top others told → TellsRange contents depth top (first ++ others) told
-range_behind contents depth top first others told none range =
+pub range_behind : (contents : Contents) (depth : Depth) (top : Key) (first others : List Logged) (reported : List Key) → HasNoListing first → ReportsRange contents depth top others reported → ReportsRange contents depth top (first ++ others) reported
+range_behind contents depth top first others reported none range =
     let listed_are : listed_in (first ++ others) ≡ listed_in others = filter_map-append listed_key first others ∙ ap (λ ks. ks ++ listed_in others) (none_listed first none) in
     record {
       once = range.once;
       downwards = range.downwards;
       within = range.within;
-      tells = reached_behind (reaches depth) (Stands contents) first others top told none range.tells;
+      reports = reached_behind (reaches depth) (Stands contents) first others top reported none range.reports;
       whole = λ all. range.whole (λ r i. all r (in_right r first others i));
       listed_once = rw listed_are range.listed_once;
       listed_within = rw listed_are range.listed_within;

@@ -1,5 +1,5 @@
 -- One step of a PROPFIND's walk: which calls report a resource and list its members, and which members it finds. This project's own choice.
-use Rattle.std.proofs.Common.{◌≡◌, ◌≢◌, ◌∙◌, ◌⊎◌, ℕ, Bool, true, false, if◌then◌else◌, List, [], ◌∷◌, ◌++◌, Option, None, Some, Ok, Err, map, filter_map, inl, inr, refl, sym, ap, subst}
+use Rattle.std.proofs.Common.{◌≡◌, ◌≢◌, ◌∙◌, ◌⊎◌, ℕ, Bool, true, false, ◌&&◌, if◌then◌else◌, List, [], ◌∷◌, ◌++◌, Option, None, Some, Ok, Err, map, filter_map, inl, inr, refl, sym, ap, subst}
 use Rattle.std.proofs.lemmas.List.Elements.{filter_map-append}
 use Rattle.dav_resource.specs.Key.{Key}
 use Rattle.dav_resource.specs.PathText.{PathValue}
@@ -10,21 +10,23 @@ use Rattle.dav_resource.specs.declared.record.Op.{Op}
 use Rattle.dav_resource.specs.declared.record.Op.TheVariants.{ReadDir, Entry}
 use Rattle.dav_resource.specs.declared.record.Outcome.{Outcome}
 use Rattle.dav_resource.specs.declared.record.Outcome.TheVariants.{Granted, Refused}
+use Rattle.dav_resource.specs.declared.request.Depth.{Depth}
+use Rattle.dav_resource.specs.declared.request.Depth.TheVariants.{Zero, One, Infinity, Default}
 use Rattle.dav_store.specs.Logged.{Logged, logged}
 use Rattle.dav_store.specs.Members.{IsIn, AreDistinct, Child, IsShownAs, member, names_of, unseen_record}
 use Rattle.dav_store.specs.MemberLaws.{AreDistinct-permuted, IsIn-permuted, members_distinct, there_members}
 use Rattle.dav_store.specs.Store.{Contents}
 use Rattle.dav_live.specs.Names.{is_quota, live_property_of}
 use Rattle.dav_live.specs.declared.property.LiveProperty.{LiveProperty}
-use Rattle.dav_parts.specs.Dialogue.{Dialogue, Asks, Refuses, Passed, ◌>>=◌, LeadsTo}
+use Rattle.dav_messages.specs.Dialogue.{Dialogue, Asks, Refuses, Passed, ◌>>=◌, LeadsTo}
 use Rattle.dav_walks.specs.Listing.{Shown, ListsAt, listed, unlisted, shown_in, AreThere}
 use Rattle.dav_walks.specs.declared.listing.Resource.{Resource}
 use Rattle.dav_find.specs.declared.search.AskedProperty.{AskedProperty}
-use Rattle.dav_find.specs.Finding.{View, QuotaTold, ask_quota, live_told, find_quota, find_live, find_kept, is_looked_up, find_by, find_one, find_each, is_all_sought, find_stored}
+use Rattle.dav_find.specs.Finding.{View, QuotaAnswer, ask_quota, live_result, find_quota, find_live, find_kept, is_looked_up, find_by, find_one, find_each, is_all_sought, find_stored}
 use Rattle.dav_find.specs.Range.{WasDeclined, Stands, is_listing, listed_by, listed_key, listed_in}
 use Rattle.dav_find.specs.RangeKeys.{in_either, more_declined}
 use Rattle.dav_find.specs.Response.{response_rules}
-use Rattle.dav_find.specs.Visiting.{Visit, Shows, FindsMembers, Visits}
+use Rattle.dav_find.specs.Visiting.{Visit, Shows, FindsMembers, Visits, is_shown, is_listed, is_infinite, member_depth}
 
 -- ---- a response lists nothing
 
@@ -55,23 +57,23 @@ leads_to_none (Refuses answer) left (first ∷ records) none leads r i = absurd 
 leads_to_none (Passed a) left (first ∷ records) none leads r i = absurd leads
 
 module _ (view : View) (contents : Contents) where
-  quota_lists_none : (quota : Option QuotaTold) → AsksNoListing (ask_quota contents quota)
+  quota_lists_none : (quota : Option QuotaAnswer) → AsksNoListing (ask_quota contents quota)
   quota_lists_none None = (refl, λ outcome. tt)
-  quota_lists_none (Some told) = tt
+  quota_lists_none (Some reported) = tt
 
-  live_lists_none : (here : Resource) (element : Tree) (property : LiveProperty) (quota : Option QuotaTold) → AsksNoListing (find_live view contents here element property quota)
+  live_lists_none : (here : Resource) (element : Tree) (property : LiveProperty) (quota : Option QuotaAnswer) → AsksNoListing (find_live view contents here element property quota)
   live_lists_none here element property quota =
-      no_listing_if (is_quota property) (find_quota view contents here element property quota) (Passed (live_told view here element property None, quota))
-      (no_listing_then (ask_quota contents quota) _ (quota_lists_none quota) (λ told. tt)) tt
+      no_listing_if (is_quota property) (find_quota view contents here element property quota) (Passed (live_result view here element property None, quota))
+      (no_listing_then (ask_quota contents quota) _ (quota_lists_none quota) (λ reported. tt)) tt
 
   kept_lists_none : (here : Resource) (element : Tree) → AsksNoListing (find_kept view contents here element)
   kept_lists_none here element = no_listing_if (is_looked_up view element) _ (Passed (Err 404)) (refl, λ outcome. tt) tt
 
-  one_lists_none : (here : Resource) (element : Tree) (property : Option LiveProperty) (quota : Option QuotaTold) → AsksNoListing (find_by view contents here element property quota)
-  one_lists_none here element None quota = no_listing_then (find_kept view contents here element) _ (kept_lists_none here element) (λ told. tt)
+  one_lists_none : (here : Resource) (element : Tree) (property : Option LiveProperty) (quota : Option QuotaAnswer) → AsksNoListing (find_by view contents here element property quota)
+  one_lists_none here element None quota = no_listing_then (find_kept view contents here element) _ (kept_lists_none here element) (λ reported. tt)
   one_lists_none here element (Some property) quota = live_lists_none here element property quota
 
-  each_lists_none : (here : Resource) (asked : List AskedProperty) (quota : Option QuotaTold) → AsksNoListing (find_each view contents here asked quota)
+  each_lists_none : (here : Resource) (asked : List AskedProperty) (quota : Option QuotaAnswer) → AsksNoListing (find_each view contents here asked quota)
   unfolding find_each
   each_lists_none here [] quota = tt
   each_lists_none here (asked ∷ more) quota =
@@ -81,7 +83,7 @@ module _ (view : View) (contents : Contents) where
   stored_lists_none : (key : Key) (kept : List Tree) → AsksNoListing (find_stored view contents key kept)
   stored_lists_none key kept = no_listing_if (is_all_sought view) _ (Passed (Ok [])) (refl, λ outcome. tt) tt
 
-  shows_none : (asked : List AskedProperty) (shown : Bool) (here : Resource) (quota next : Option QuotaTold) (records : List Logged) (visits : List Visit) → Shows view contents asked shown here quota records visits next → HasNoListing records
+  shows_none : (asked : List AskedProperty) (shown : Bool) (here : Resource) (quota next : Option QuotaAnswer) (records : List Logged) (visits : List Visit) → Shows view contents asked shown here quota records visits next → HasNoListing records
   shows_none asked true here quota next records visits shows =
       let responds = shows.1 in
       leads_to_none (response_rules view contents asked here quota responds.kept) _ records
@@ -331,23 +333,46 @@ module _ (contents : Contents) where
   finds_step view asked true here records members_found (listing, lists, is) = rw is (lists_step view.shows here.path records listing lists)
   finds_step view asked false here records members_found (none, is) = rw (none, is) (record { names = []; step = unlisted_step here.path.key; found = refl; there = λ r i. absurd i })
 
-  pub visit_step : (view : View) (asked : List AskedProperty) (shown entered : Bool) (here : Resource) (quota : Option QuotaTold) (records : List Logged) (visits : List Visit) (next : Option QuotaTold) (members_found : List Resource)
-      → Visits view contents asked shown entered here quota records visits next members_found → FindsStep contents here.path.key entered records members_found
-  visit_step view asked shown entered here quota records visits next members_found visited =
+  pub visit_step : (view : View) (asked : List AskedProperty) (depth : Depth) (here : Resource) (quota : Option QuotaAnswer) (records : List Logged)
+      (visits : List Visit) (next : Option QuotaAnswer) (members_found : List Resource)
+      → Visits view contents asked depth here quota records visits next members_found
+      → FindsStep contents here.path.key (is_listed depth && here.meta.dir) records members_found
+  visit_step view asked depth here quota records visits next members_found visited =
+      let entered : Bool = is_listed depth && here.meta.dir in
       let finds = finds_step view asked entered here visited.rest members_found visited.finds in
       record {
         names = finds.names;
         step = subst (λ rs. IsStep contents here.path.key entered rs finds.names) (sym visited.cut)
-            (behind_none here.path.key entered visited.first visited.rest finds.names (shows_none view contents asked shown here quota next visited.first visits visited.shows) finds.step);
+            (behind_none here.path.key entered visited.first visited.rest finds.names (shows_none view contents asked (is_shown depth) here quota next visited.first visits visited.shows) finds.step);
         found = finds.found;
         there = finds.there;
       }
 
 -- the keys of the reported resources, in order
-abbrev pub told_keys : List Visit → List Key
-told_keys visits = map (λ (v : Visit). v.path.key) visits
+abbrev pub reported_keys : List Visit → List Key
+reported_keys visits = map (λ (v : Visit). v.path.key) visits
 
-pub shows_keys : (view : View) (contents : Contents) (asked : List AskedProperty) (shown : Bool) (here : Resource) (quota next : Option QuotaTold) (records : List Logged) (visits : List Visit)
-    → Shows view contents asked shown here quota records visits next → told_keys visits ≡ (if shown then here.path.key ∷ [] else [])
-shows_keys view contents asked true here quota next records visits shows = ap told_keys shows.2
-shows_keys view contents asked false here quota next records visits shows = ap told_keys shows.1
+pub shows_keys : (view : View) (contents : Contents) (asked : List AskedProperty) (shown : Bool) (here : Resource) (quota next : Option QuotaAnswer) (records : List Logged) (visits : List Visit)
+    → Shows view contents asked shown here quota records visits next → reported_keys visits ≡ (if shown then here.path.key ∷ [] else [])
+shows_keys view contents asked true here quota next records visits shows = ap reported_keys shows.2
+shows_keys view contents asked false here quota next records visits shows = ap reported_keys shows.1
+
+pub shown_key : (view : View) (contents : Contents) (asked : List AskedProperty) (shown : Bool) (here : Resource) (quota next : Option QuotaAnswer)
+    (records : List Logged) (visits : List Visit)
+    → shown ≡ true → Shows view contents asked shown here quota records visits next → reported_keys visits ≡ here.path.key ∷ []
+shown_key view contents asked true here quota next records visits is shows = ap reported_keys shows.2
+shown_key view contents asked false here quota next records visits is shows = absurd cc
+
+-- ---- the Depth with which each member is visited
+
+pub member_shown : (depth : Depth) → is_shown (member_depth depth) ≡ true
+member_shown Zero = refl
+member_shown One = refl
+member_shown Infinity = refl
+member_shown Default = refl
+
+pub member_listed : (depth : Depth) → is_listed (member_depth depth) ≡ is_infinite depth
+member_listed Zero = refl
+member_listed One = refl
+member_listed Infinity = refl
+member_listed Default = refl

@@ -10,14 +10,14 @@ use Rattle.dav_resource.specs.declared.record.Outcome.{Outcome}
 use Rattle.dav_store.specs.Logged.{Logged}
 use Rattle.dav_store.specs.Members.{IsIn}
 use Rattle.dav_store.specs.Store.{Contents, Node, Directory}
-use Rattle.dav_parts.specs.Dialogue.{LeadsTo, Passed}
-use Rattle.dav_props.specs.Propstat.{Told}
+use Rattle.dav_messages.specs.Dialogue.{LeadsTo, Passed}
+use Rattle.dav_props.specs.Propstat.{PropertyStatus}
 use Rattle.dav_walks.specs.declared.listing.Resource.{Resource}
 use Rattle.dav_find.specs.declared.search.AskedProperty.{AskedProperty}
 use Rattle.dav_find.specs.declared.search.FindKind.{FindKind}
 use Rattle.dav_find.specs.declared.search.FindKind.TheVariants.{Prop}
-use Rattle.dav_find.specs.Finding.{View, QuotaTold, Finding, AreKept, is_all_sought, told_by, quota_pair, find_one}
-use Rattle.dav_find.specs.Telling.{told_of}
+use Rattle.dav_find.specs.Finding.{View, QuotaAnswer, Finding, AreKept, is_all_sought, returned_by, quota_pair, find_one}
+use Rattle.dav_find.specs.Reporting.{report_of}
 use Rattle.dav_find.specs.Visiting.{Visit}
 
 -- ---- paths
@@ -45,7 +45,7 @@ pub record ReturnsStored (contents : Contents) (key : Key) (stored : Result (Lis
   pub kept : List Tree
   pub are : AreKept contents key kept
   pub outcome : Outcome
-  pub is : stored ≡ told_by outcome (Some kept)
+  pub is : stored ≡ returned_by outcome (Some kept)
 
 -- if the store is asked for all its properties, it returns them (`ReturnsStored`); otherwise none are reported
 abbrev pub IsStored : Bool → Contents → Key → Result (List Tree) ℕ → Type 0
@@ -53,43 +53,43 @@ IsStored true contents key stored = ReturnsStored contents key stored
 IsStored false contents key stored = stored ≡ Ok []
 
 -- the store was not asked for its quota yet, or this is what it reported: the quota of the contents, or the status of the failed call
-abbrev pub IsQuotaTold : Contents → Option QuotaTold → Type 0
-IsQuotaTold contents told = (told ≡ None) ⊎ ((outcome : Outcome) × (told ≡ Some (told_by outcome (option_map quota_pair contents.quota))))
+abbrev pub IsQuotaAnswer : Contents → Option QuotaAnswer → Type 0
+IsQuotaAnswer contents answer = (answer ≡ None) ⊎ ((outcome : Outcome) × (answer ≡ Some (returned_by outcome (option_map quota_pair contents.quota))))
 
 -- what was found for a requested property is what its lookup at this resource gives (`find_one`)
 pub record IsFoundAt (view : View) (contents : Contents) (here : Resource) (one : Finding) : Type 0 where
-  pub quota : Option QuotaTold
-  pub reported : IsQuotaTold contents quota
-  pub next : Option QuotaTold
+  pub quota : Option QuotaAnswer
+  pub reported : IsQuotaAnswer contents quota
+  pub next : Option QuotaAnswer
   pub records : List Logged
-  pub leads : LeadsTo (find_one view contents here one.asked.element quota) records (Passed (one.told, next))
+  pub leads : LeadsTo (find_one view contents here one.asked.element quota) records (Passed (one.value, next))
 
 -- For each requested property, in order, there is one finding, which is what its lookup gives. Nothing is reported except these and, if all are
--- requested, the stored properties (`told_of`).
-pub record TellsAsked (view : View) (contents : Contents) (asked : List AskedProperty) (here : Resource) (told : List Told) : Type 0 where
+-- requested, the stored properties (`report_of`).
+pub record ReportsAsked (view : View) (contents : Contents) (asked : List AskedProperty) (here : Resource) (reports : List PropertyStatus) : Type 0 where
   pub found : List Finding
   pub stored : Result (List Tree) ℕ
   pub each : map (λ (one : Finding). one.asked) found ≡ asked
   pub by_lookup : (one : Finding) → IsIn one found → IsFoundAt view contents here one
   pub kept : IsStored (is_all_sought view) contents here.path.key stored
-  pub tells : told ≡ told_of view.kind found stored
+  pub reported : reports ≡ report_of view.kind found stored
 
 -- ---- a reported resource
 
--- it exists at or below the request's path, is reported under its own path (`path_at`), and with the requested properties (`TellsAsked`)
+-- it exists at or below the request's path, is reported under its own path (`path_at`), and with the requested properties (`ReportsAsked`)
 pub record IsReported (view : View) (contents : Contents) (asked : List AskedProperty) (top : PathValue) (visit : Visit) : Type 0 where
   pub below : Key
   pub path : visit.path ≡ path_at contents top below
   pub meta : Meta
   pub there : contents.metas visit.path.key ≡ Some meta
-  pub properties : TellsAsked view contents asked (record { path = visit.path; meta = meta }) visit.told
+  pub properties : ReportsAsked view contents asked (record { path = visit.path; meta = meta }) visit.reported
 
 abbrev pub AreReported : View → Contents → List AskedProperty → PathValue → List Visit → Type 0
 AreReported view contents asked top visits = (visit : Visit) → IsIn visit visits → IsReported view contents asked top visit
 
 -- the local names of a reported and of a requested property
-abbrev pub told_name : Told → List ℕ
-told_name told = told.1.tag.name
+abbrev pub reported_name : PropertyStatus → List ℕ
+reported_name property = property.1.tag.name
 
 abbrev pub asked_name : AskedProperty → List ℕ
 asked_name asked = asked.element.tag.name
@@ -97,4 +97,4 @@ asked_name asked = asked.element.tag.name
 -- with `prop`, each resource is reported with exactly the requested properties by their local names: one each, in the order of the list
 abbrev pub AreNamedAsAsked : FindKind → List AskedProperty → List Visit → Type 0
 AreNamedAsAsked kind asked visits =
-    kind ≡ Prop → (visit : Visit) → IsIn visit visits → map told_name visit.told ≡ map asked_name asked
+    kind ≡ Prop → (visit : Visit) → IsIn visit visits → map reported_name visit.reported ≡ map asked_name asked

@@ -12,21 +12,21 @@ use Rattle.dav_resource.specs.declared.request.Depth.{Depth}
 use Rattle.dav_store.specs.Logged.{Logged}
 use Rattle.dav_store.specs.Members.{IsIn, member}
 use Rattle.dav_store.specs.Store.{Contents, Node, File, Directory, MetaFits, IsWellFormed}
-use Rattle.dav_parts.specs.Dialogue.{Asks, Passed, LeadsTo}
-use Rattle.dav_parts.specs.Dialogues.{LeadsTo-last}
-use Rattle.dav_props.specs.Propstat.{Told}
+use Rattle.dav_messages.specs.Dialogue.{Asks, Passed, LeadsTo}
+use Rattle.dav_messages.specs.Dialogues.{LeadsTo-last}
+use Rattle.dav_props.specs.Propstat.{PropertyStatus}
 use Rattle.dav_live.specs.Names.{is_quota, live_property_of}
 use Rattle.dav_live.specs.declared.property.LiveProperty.{LiveProperty}
 use Rattle.dav_walks.specs.Frames.{path_of_entry}
 use Rattle.dav_walks.specs.Listing.{Shown, shown_in, AreThere}
 use Rattle.dav_walks.specs.declared.listing.Resource.{Resource}
 use Rattle.dav_find.specs.declared.search.AskedProperty.{AskedProperty}
-use Rattle.dav_find.specs.Finding.{View, QuotaTold, Finding, AreKept, props_call, is_all_sought, told_by, ask_quota, live_told, find_quota, find_live, find_kept, find_by, find_one, find_each, find_stored}
+use Rattle.dav_find.specs.Finding.{View, QuotaAnswer, Finding, AreKept, props_call, is_all_sought, returned_by, ask_quota, live_result, find_quota, find_live, find_kept, find_by, find_one, find_each, find_stored}
 use Rattle.dav_find.specs.RangeKeys.{in_either}
 use Rattle.dav_find.specs.RangeSteps.{visit_step}
-use Rattle.dav_find.specs.Reported.{is_directory_node, is_directory_at, path_at, IsStored, IsQuotaTold, IsFoundAt, TellsAsked, IsReported, AreReported}
+use Rattle.dav_find.specs.Reported.{is_directory_node, is_directory_at, path_at, IsStored, IsQuotaAnswer, IsFoundAt, ReportsAsked, IsReported, AreReported}
 use Rattle.dav_find.specs.Response.{Responds}
-use Rattle.dav_find.specs.Visiting.{Visit, VisitsAll, over, more, stops, Shows, FindsMembers, Visits, VisitsFrom, begins, breaks, is_shown, is_listed, is_deep}
+use Rattle.dav_find.specs.Visiting.{Visit, VisitsAll, over, more, stops, Shows, FindsMembers, Visits, VisitsFrom, begins, breaks, is_shown, is_listed, member_depth}
 
 -- a dialogue that has passed is over
 passed_is : {A : Type 0} (a b : A) (records : List Logged) → LeadsTo (Passed a) records (Passed b) → b ≡ a
@@ -36,83 +36,83 @@ passed_is a b (r ∷ records) end = absurd end
 -- ---- the properties of one resource
 
 module _ (view : View) (contents : Contents) (here : Resource) where
-  abbrev Fits : Option QuotaTold → Type 0
-  Fits quota = IsQuotaTold contents quota
+  abbrev Fits : Option QuotaAnswer → Type 0
+  Fits quota = IsQuotaAnswer contents quota
 
-  quota_fits : (quota : Option QuotaTold) (records : List Logged) (told : QuotaTold) → Fits quota → LeadsTo (ask_quota contents quota) records (Passed told) → Fits (Some told)
-  quota_fits (Some known) records told fits led = subst (λ t. Fits (Some t)) (sym (passed_is known told records led)) fits
-  quota_fits None [] told fits led = absurd cc
-  quota_fits None (r ∷ records) told fits led = inr (r.outcome, ap Some (passed_is _ told records led.2))
+  quota_fits : (quota : Option QuotaAnswer) (records : List Logged) (reported : QuotaAnswer) → Fits quota → LeadsTo (ask_quota contents quota) records (Passed reported) → Fits (Some reported)
+  quota_fits (Some known) records reported fits led = subst (λ t. Fits (Some t)) (sym (passed_is known reported records led)) fits
+  quota_fits None [] reported fits led = absurd cc
+  quota_fits None (r ∷ records) reported fits led = inr (r.outcome, ap Some (passed_is _ reported records led.2))
 
-  live_fits : (element : Tree) (p : LiveProperty) (quota : Option QuotaTold) (records : List Logged) (one : Result Tree ℕ × Option QuotaTold) → Fits quota → LeadsTo (find_live view contents here element p quota) records (Passed one) → Fits one.1
+  live_fits : (element : Tree) (p : LiveProperty) (quota : Option QuotaAnswer) (records : List Logged) (one : Result Tree ℕ × Option QuotaAnswer) → Fits quota → LeadsTo (find_live view contents here element p quota) records (Passed one) → Fits one.1
   live_fits element p quota records one fits led = by_quota (is_quota p) led
     where
-      by_quota : (b : Bool) → LeadsTo (if b then find_quota view contents here element p quota else Passed (live_told view here element p None, quota)) records (Passed one) → Fits one.1
+      by_quota : (b : Bool) → LeadsTo (if b then find_quota view contents here element p quota else Passed (live_result view here element p None, quota)) records (Passed one) → Fits one.1
       by_quota true end =
           let q = LeadsTo-last (ask_quota contents quota) _ records one end in
-          subst (λ (o : Result Tree ℕ × Option QuotaTold). Fits o.1) (sym (passed_is _ one q.2 q.4)) (quota_fits quota q.1 q.0 fits q.3)
-      by_quota false end = subst (λ (o : Result Tree ℕ × Option QuotaTold). Fits o.1) (sym (passed_is _ one records end)) fits
+          subst (λ (o : Result Tree ℕ × Option QuotaAnswer). Fits o.1) (sym (passed_is _ one q.2 q.4)) (quota_fits quota q.1 q.0 fits q.3)
+      by_quota false end = subst (λ (o : Result Tree ℕ × Option QuotaAnswer). Fits o.1) (sym (passed_is _ one records end)) fits
 
-  one_fits : (element : Tree) (p : Option LiveProperty) (quota : Option QuotaTold) (records : List Logged) (one : Result Tree ℕ × Option QuotaTold) → Fits quota → LeadsTo (find_by view contents here element p quota) records (Passed one) → Fits one.1
+  one_fits : (element : Tree) (p : Option LiveProperty) (quota : Option QuotaAnswer) (records : List Logged) (one : Result Tree ℕ × Option QuotaAnswer) → Fits quota → LeadsTo (find_by view contents here element p quota) records (Passed one) → Fits one.1
   one_fits element (Some p) quota records one fits led = live_fits element p quota records one fits led
   one_fits element None quota records one fits led =
       let q = LeadsTo-last (find_kept view contents here element) _ records one led in
-      subst (λ (o : Result Tree ℕ × Option QuotaTold). Fits o.1) (sym (passed_is _ one q.2 q.4)) fits
+      subst (λ (o : Result Tree ℕ × Option QuotaAnswer). Fits o.1) (sym (passed_is _ one q.2 q.4)) fits
 
-  each_fits : (asked : List AskedProperty) (quota : Option QuotaTold) (records : List Logged) (found : List Finding × Option QuotaTold) → Fits quota → LeadsTo (find_each view contents here asked quota) records (Passed found) → Fits found.1
+  each_fits : (asked : List AskedProperty) (quota : Option QuotaAnswer) (records : List Logged) (found : List Finding × Option QuotaAnswer) → Fits quota → LeadsTo (find_each view contents here asked quota) records (Passed found) → Fits found.1
   unfolding find_each
-  each_fits [] quota records found fits led = subst (λ (f : List Finding × Option QuotaTold). Fits f.1) (sym (passed_is _ found records led)) fits
+  each_fits [] quota records found fits led = subst (λ (f : List Finding × Option QuotaAnswer). Fits f.1) (sym (passed_is _ found records led)) fits
   each_fits (a ∷ asked) quota records found fits led =
       let p = LeadsTo-last (find_one view contents here a.element quota) _ records found led in
       let q = LeadsTo-last (find_each view contents here asked p.0.1) _ p.2 found p.4 in
-      subst (λ (f : List Finding × Option QuotaTold). Fits f.1) (sym (passed_is _ found q.2 q.4))
+      subst (λ (f : List Finding × Option QuotaAnswer). Fits f.1) (sym (passed_is _ found q.2 q.4))
       (each_fits asked p.0.1 q.1 q.0 (one_fits a.element (live_property_of a.element.tag.namespace a.element.tag.name) quota p.1 p.0 fits p.3) q.3)
 
-  each_asked : (asked : List AskedProperty) (quota : Option QuotaTold) (records : List Logged) (found : List Finding × Option QuotaTold) → LeadsTo (find_each view contents here asked quota) records (Passed found)
+  each_asked : (asked : List AskedProperty) (quota : Option QuotaAnswer) (records : List Logged) (found : List Finding × Option QuotaAnswer) → LeadsTo (find_each view contents here asked quota) records (Passed found)
       → map (λ (one : Finding). one.asked) found.0 ≡ asked
   unfolding find_each
-  each_asked [] quota records found led = ap (λ (f : List Finding × Option QuotaTold). map (λ (one : Finding). one.asked) f.0) (passed_is _ found records led)
+  each_asked [] quota records found led = ap (λ (f : List Finding × Option QuotaAnswer). map (λ (one : Finding). one.asked) f.0) (passed_is _ found records led)
   each_asked (a ∷ asked) quota records found led =
       let p = LeadsTo-last (find_one view contents here a.element quota) _ records found led in
       let q = LeadsTo-last (find_each view contents here asked p.0.1) _ p.2 found p.4 in
-      ap (λ (f : List Finding × Option QuotaTold). map (λ (one : Finding). one.asked) f.0) (passed_is _ found q.2 q.4)
+      ap (λ (f : List Finding × Option QuotaAnswer). map (λ (one : Finding). one.asked) f.0) (passed_is _ found q.2 q.4)
       ∙ ap (λ xs. a ∷ xs) (each_asked asked p.0.1 q.1 q.0 q.3)
 
-  each_found : (asked : List AskedProperty) (quota : Option QuotaTold) (records : List Logged) (found : List Finding × Option QuotaTold) → LeadsTo (find_each view contents here asked quota) records (Passed found)
+  each_found : (asked : List AskedProperty) (quota : Option QuotaAnswer) (records : List Logged) (found : List Finding × Option QuotaAnswer) → LeadsTo (find_each view contents here asked quota) records (Passed found)
       → Fits quota → (one : Finding) → IsIn one found.0 → IsFoundAt view contents here one
   unfolding find_each
-  each_found [] quota records found led fits one i = absurd (subst (λ (f : List Finding × Option QuotaTold). IsIn one f.0) (passed_is _ found records led) i)
+  each_found [] quota records found led fits one i = absurd (subst (λ (f : List Finding × Option QuotaAnswer). IsIn one f.0) (passed_is _ found records led) i)
   each_found (a ∷ asked) quota records found led fits one i =
       let p = LeadsTo-last (find_one view contents here a.element quota) _ records found led in
       let q = LeadsTo-last (find_each view contents here asked p.0.1) _ p.2 found p.4 in
-      which a p.0 p.1 p.3 q.0.0 (λ j. each_found asked p.0.1 q.1 q.0 q.3 (one_fits a.element (live_property_of a.element.tag.namespace a.element.tag.name) quota p.1 p.0 fits p.3) one j) (subst (λ (f : List Finding × Option QuotaTold). IsIn one f.0) (passed_is _ found q.2 q.4) i)
+      which a p.0 p.1 p.3 q.0.0 (λ j. each_found asked p.0.1 q.1 q.0 q.3 (one_fits a.element (live_property_of a.element.tag.namespace a.element.tag.name) quota p.1 p.0 fits p.3) one j) (subst (λ (f : List Finding × Option QuotaAnswer). IsIn one f.0) (passed_is _ found q.2 q.4) i)
     where
-      which : (b : AskedProperty) (first : Result Tree ℕ × Option QuotaTold) (rs : List Logged) → LeadsTo (find_one view contents here b.element quota) rs (Passed first) → (others : List Finding) → (IsIn one others → IsFoundAt view contents here one)
-          → IsIn one (record { asked = b; told = first.0 } ∷ others) → IsFoundAt view contents here one
+      which : (b : AskedProperty) (first : Result Tree ℕ × Option QuotaAnswer) (rs : List Logged) → LeadsTo (find_one view contents here b.element quota) rs (Passed first) → (others : List Finding) → (IsIn one others → IsFoundAt view contents here one)
+          → IsIn one (record { asked = b; value = first.0 } ∷ others) → IsFoundAt view contents here one
       which b first rs led_first others later (inl e) = subst (IsFoundAt view contents here) e (record { quota = quota; reported = fits; next = first.1; records = rs; leads = led_first })
       which b first rs led_first others later (inr j) = later j
 
-  stored_told : (kept : List Tree) (stored : Result (List Tree) ℕ) (records : List Logged) → AreKept contents here.path.key kept → LeadsTo (find_stored view contents here.path.key kept) records (Passed stored) → IsStored (is_all_sought view) contents here.path.key stored
-  stored_told kept stored records are led = by_sought (is_all_sought view) records led
+  stored_reported : (kept : List Tree) (stored : Result (List Tree) ℕ) (records : List Logged) → AreKept contents here.path.key kept → LeadsTo (find_stored view contents here.path.key kept) records (Passed stored) → IsStored (is_all_sought view) contents here.path.key stored
+  stored_reported kept stored records are led = by_sought (is_all_sought view) records led
     where
-      by_sought : (b : Bool) (rs : List Logged) → LeadsTo (if b then Asks (props_call contents here.path.key) (λ outcome. Passed (told_by outcome (Some kept))) else Passed (Ok [])) rs (Passed stored)
+      by_sought : (b : Bool) (rs : List Logged) → LeadsTo (if b then Asks (props_call contents here.path.key) (λ outcome. Passed (returned_by outcome (Some kept))) else Passed (Ok [])) rs (Passed stored)
           → IsStored b contents here.path.key stored
       by_sought true [] end = absurd cc
       by_sought true (r ∷ rs) end = record { kept = kept; are = are; outcome = r.outcome; is = passed_is _ stored rs end.2 }
       by_sought false rs end = passed_is _ stored rs end
 
-  tells_asked : (asked : List AskedProperty) (quota next : Option QuotaTold) (records : List Logged) (told : List Told) → Fits quota → Responds view contents asked here quota records (Some (told, next)) → Fits next × TellsAsked view contents asked here told
-  tells_asked asked quota next records told fits responds =
-      let p = LeadsTo-last (find_each view contents here asked quota) _ records (told, next) responds.comes in
-      let q = LeadsTo-last (find_stored view contents here.path.key responds.kept) _ p.2 (told, next) p.4 in (
-        subst Fits (sym (ap (λ (t : List Told × Option QuotaTold). t.1) (passed_is _ (told, next) q.2 q.4))) (each_fits asked quota p.1 p.0 fits p.3),
+  reports_asked : (asked : List AskedProperty) (quota next : Option QuotaAnswer) (records : List Logged) (reported : List PropertyStatus) → Fits quota → Responds view contents asked here quota records (Some (reported, next)) → Fits next × ReportsAsked view contents asked here reported
+  reports_asked asked quota next records reported fits responds =
+      let p = LeadsTo-last (find_each view contents here asked quota) _ records (reported, next) responds.comes in
+      let q = LeadsTo-last (find_stored view contents here.path.key responds.kept) _ p.2 (reported, next) p.4 in (
+        subst Fits (sym (ap (λ (t : List PropertyStatus × Option QuotaAnswer). t.1) (passed_is _ (reported, next) q.2 q.4))) (each_fits asked quota p.1 p.0 fits p.3),
         record {
           found = p.0.0;
           stored = q.0;
           each = each_asked asked quota p.1 p.0 p.3;
           by_lookup = each_found asked quota p.1 p.0 p.3 fits;
-          kept = stored_told responds.kept q.0 q.1 responds.are q.3;
-          tells = ap (λ (t : List Told × Option QuotaTold). t.0) (passed_is _ (told, next) q.2 q.4);
+          kept = stored_reported responds.kept q.0 q.1 responds.are q.3;
+          reported = ap (λ (t : List PropertyStatus × Option QuotaAnswer). t.0) (passed_is _ (reported, next) q.2 q.4);
         },
       )
 
@@ -178,24 +178,24 @@ module _ (contents : Contents) (formed : IsWellFormed contents) where
           }
       placed_members false here records members placed (none, is) there r i = absurd (subst (IsIn r) is i)
 
-      reported_one : (shown : Bool) (here : Resource) (quota next : Option QuotaTold) (records : List Logged) (visits : List Visit) → IsPlaced here → IsQuotaTold contents quota → Shows view contents asked shown here quota records visits next → IsQuotaTold contents next × AreReported view contents asked top visits
-      reported_one true here quota next records visits placed fits (told, responds, is) = (both.0, λ visit i. by_place visit (subst (IsIn visit) is i))
+      reported_one : (shown : Bool) (here : Resource) (quota next : Option QuotaAnswer) (records : List Logged) (visits : List Visit) → IsPlaced here → IsQuotaAnswer contents quota → Shows view contents asked shown here quota records visits next → IsQuotaAnswer contents next × AreReported view contents asked top visits
+      reported_one true here quota next records visits placed fits (reported, responds, is) = (both.0, λ visit i. by_place visit (subst (IsIn visit) is i))
         where
           one : Visit
-          one = record { path = here.path; told = told }
+          one = record { path = here.path; reported = reported }
 
-          both : IsQuotaTold contents next × TellsAsked view contents asked here told
-          both = tells_asked view contents here asked quota next records told fits responds
+          both : IsQuotaAnswer contents next × ReportsAsked view contents asked here reported
+          both = reports_asked view contents here asked quota next records reported fits responds
 
           by_place : (visit : Visit) → IsIn visit (one ∷ []) → IsReported view contents asked top visit
           by_place visit (inl e) = subst (IsReported view contents asked top) e (record { below = placed.below; path = placed.path; meta = here.meta; there = placed.there; properties = both.1 })
           by_place visit (inr j) = absurd j
-      reported_one false here quota next records visits placed fits (none, is, same) = (subst (IsQuotaTold contents) (sym same) fits, λ visit i. absurd (subst (IsIn visit) is i))
+      reported_one false here quota next records visits placed fits (none, is, same) = (subst (IsQuotaAnswer contents) (sym same) fits, λ visit i. absurd (subst (IsIn visit) is i))
 
-      reported_both : (told visits : List Visit) → AreReported view contents asked top told → AreReported view contents asked top visits → AreReported view contents asked top (told ++ visits)
-      reported_both told visits one others visit i = which (in_either visit told visits i)
+      reported_both : (reported visits : List Visit) → AreReported view contents asked top reported → AreReported view contents asked top visits → AreReported view contents asked top (reported ++ visits)
+      reported_both reported visits one others visit i = which (in_either visit reported visits i)
         where
-          which : IsIn visit told ⊎ IsIn visit visits → IsReported view contents asked top visit
+          which : IsIn visit reported ⊎ IsIn visit visits → IsReported view contents asked top visit
           which (inl j) = one visit j
           which (inr j) = others visit j
 
@@ -209,40 +209,42 @@ module _ (contents : Contents) (formed : IsWellFormed contents) where
           which (inl j) = one r j
           which (inr j) = others r j
 
-      found_placed : (shown entered : Bool) (here : Resource) (quota next : Option QuotaTold) (records : List Logged) (visits : List Visit) (members : List Resource) → IsPlaced here
-          → Visits view contents asked shown entered here quota records visits next members → ArePlaced members
-      found_placed shown entered here quota next records visits members placed visited =
-          placed_members entered here visited.rest members placed visited.finds (visit_step contents view asked shown entered here quota records visits next members visited).there
+      found_placed : (depth : Depth) (here : Resource) (quota next : Option QuotaAnswer) (records : List Logged) (visits : List Visit)
+          (members : List Resource) → IsPlaced here
+          → Visits view contents asked depth here quota records visits next members → ArePlaced members
+      found_placed depth here quota next records visits members placed visited =
+          placed_members (is_listed depth && here.meta.dir) here visited.rest members placed visited.finds (visit_step contents view asked depth here quota records visits next members visited).there
 
-      reported_all : (deep : Bool) (waiting : List Resource) (quota : Option QuotaTold) (records : List Logged) (end : Option (List Visit)) (visits : List Visit) → VisitsAll view contents asked deep waiting quota records end → end ≡ Some visits
-          → ArePlaced waiting → IsQuotaTold contents quota → AreReported view contents asked top visits
-      reported_all deep waiting quota records end visits (over none called is) whole placed fits =
+      reported_all : (depth : Depth) (waiting : List Resource) (quota : Option QuotaAnswer) (records : List Logged) (end : Option (List Visit))
+          (visits : List Visit) → VisitsAll view contents asked depth waiting quota records end → end ≡ Some visits
+          → ArePlaced waiting → IsQuotaAnswer contents quota → AreReported view contents asked top visits
+      reported_all depth waiting quota records end visits (over none called is) whole placed fits =
           let p : Some [] ≡ Some visits = sym is ∙ whole in
           let same : visits ≡ [] = cc in
           λ v i. absurd (subst (IsIn v) same i)
-      reported_all deep waiting quota records end visits (more here rest first others told next members later waits called visited further is) whole placed fits =
-          go later (λ vs e. reported_all deep (members ++ rest) next others later vs further e next_placed one.0) (sym is ∙ whole)
+      reported_all depth waiting quota records end visits (more here rest first others reported next members later waits called visited further is) whole placed fits =
+          go later (λ vs e. reported_all depth (members ++ rest) next others later vs further e next_placed one.0) (sym is ∙ whole)
         where
           here_placed : ArePlaced (here ∷ rest)
           here_placed = subst ArePlaced waits placed
 
-          one : IsQuotaTold contents next × AreReported view contents asked top told
-          one = reported_one true here quota next visited.first told (here_placed here (inl refl)) fits visited.shows
+          one : IsQuotaAnswer contents next × AreReported view contents asked top reported
+          one = reported_one (is_shown depth) here quota next visited.first reported (here_placed here (inl refl)) fits visited.shows
 
           next_placed : ArePlaced (members ++ rest)
-          next_placed = placed_next members rest (found_placed true (deep && here.meta.dir) here quota next first told members (here_placed here (inl refl)) visited) (λ r i. here_placed r (inr i))
+          next_placed = placed_next members rest (found_placed depth here quota next first reported members (here_placed here (inl refl)) visited) (λ r i. here_placed r (inr i))
 
-          go : (l : Option (List Visit)) → ((vs : List Visit) → l ≡ Some vs → AreReported view contents asked top vs) → option_map (λ vs. told ++ vs) l ≡ Some visits → AreReported view contents asked top visits
-          go None reported p = absurd cc
-          go (Some vs) reported p =
-              let same : told ++ vs ≡ visits = cc in
-              subst (AreReported view contents asked top) same (reported_both told vs one.1 (reported vs refl))
-      reported_all deep waiting quota records end visits (stops here rest waits part is) whole placed fits = absurd (let no : None ≡ Some visits = sym is ∙ whole in cc)
+          go : (l : Option (List Visit)) → ((vs : List Visit) → l ≡ Some vs → AreReported view contents asked top vs) → option_map (λ vs. reported ++ vs) l ≡ Some visits → AreReported view contents asked top visits
+          go None others p = absurd cc
+          go (Some vs) others p =
+              let same : reported ++ vs ≡ visits = cc in
+              subst (AreReported view contents asked top) same (reported_both reported vs one.1 (others vs refl))
+      reported_all depth waiting quota records end visits (stops here rest waits part is) whole placed fits = absurd (let no : None ≡ Some visits = sym is ∙ whole in cc)
 
       -- each resource that a PROPFIND reports is reported under its own path, with each requested property
       pub reports_each : (target : Resource) (depth : Depth) (records : List Logged) (visits : List Visit) → VisitsFrom view contents asked target depth records (Some visits) → contents.metas target.path.key ≡ Some target.meta
           → target.path ≡ record top { slash = top.slash || target.meta.dir } → AreReported view contents asked top visits
-      reports_each target depth records visits (begins first others told next members later called visited further is) there at = go later further is
+      reports_each target depth records visits (begins first others reported next members later called visited further is) there at = go later further is
         where
           same_key : target.path.key ≡ top.key
           same_key = ap (λ (p : PathValue). p.key) at
@@ -254,14 +256,15 @@ module _ (contents : Contents) (formed : IsWellFormed contents) where
             path = at ∙ (λ i. record top { slash = top.slash || (directory_of target.path.key target.meta there ∙ ap (is_directory_at contents) same_key) i });
           }
 
-          one : IsQuotaTold contents next × AreReported view contents asked top told
-          one = reported_one (is_shown depth) target None next visited.first told placed (inl refl) visited.shows
+          one : IsQuotaAnswer contents next × AreReported view contents asked top reported
+          one = reported_one (is_shown depth) target None next visited.first reported placed (inl refl) visited.shows
 
-          go : (l : Option (List Visit)) → VisitsAll view contents asked (is_deep depth) members next others l → Some visits ≡ option_map (λ vs. told ++ vs) l → AreReported view contents asked top visits
+          go : (l : Option (List Visit)) → VisitsAll view contents asked (member_depth depth) members next others l
+              → Some visits ≡ option_map (λ vs. reported ++ vs) l → AreReported view contents asked top visits
           go None v p = absurd cc
           go (Some vs) v p =
-              let same : told ++ vs ≡ visits = cc in
+              let same : reported ++ vs ≡ visits = cc in
               subst (AreReported view contents asked top) same
-              (reported_both told vs one.1
-              (reported_all (is_deep depth) members next others (Some vs) vs v refl (found_placed (is_shown depth) (is_listed depth && target.meta.dir) target None next first told members placed visited) one.0))
+              (reported_both reported vs one.1
+              (reported_all (member_depth depth) members next others (Some vs) vs v refl (found_placed depth target None next first reported members placed visited) one.0))
       reports_each target depth records visits (breaks part is) there at = absurd (let no : Some visits ≡ None = is in cc)

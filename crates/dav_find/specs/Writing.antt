@@ -1,5 +1,5 @@
 -- What a writer has written after resources were reported: this project's own choice.
-use Rattle.std.specs.Prelude.{◌≡◌, ◌++◌, ◌<◌, Bool, List, map, Option, Some, None, Result, Ok, Err}
+use Rattle.std.specs.Prelude.{◌≡◌, ◌++◌, ◌<◌, List, map, Option, Some, None, Result, Ok, Err, IfOk}
 use Rattle.std.specs.FinMap.{keys}
 use Rattle.dav_resource.specs.Tree.{Tree}
 use Rattle.dav_resource.specs.declared.error.DavError.{DavError}
@@ -8,7 +8,7 @@ use Rattle.dav_resource.specs.declared.request.Depth.{Depth}
 use Rattle.dav_store.specs.Locks.{Locks}
 use Rattle.dav_store.specs.Logged.{Logged}
 use Rattle.dav_store.specs.Store.{Store, Contents}
-use Rattle.dav_parts.specs.DavElement.{with_elements}
+use Rattle.dav_messages.specs.DavElement.{with_elements}
 use Rattle.dav_props.specs.declared.writer.PropWriter.{PropWriter}
 use Rattle.dav_walks.specs.Counting.{count_below}
 use Rattle.dav_walks.specs.Listing.{AreFewer, in_turn}
@@ -16,8 +16,8 @@ use Rattle.dav_walks.specs.declared.listing.Resource.{Resource}
 use Rattle.dav_find.specs.declared.search.AskedProperty.{AskedProperty}
 use Rattle.dav_find.specs.declared.finding.Finder.{Finder}
 use Rattle.dav_find.specs.Finder.{view_of}
-use Rattle.dav_find.specs.Finding.{View, QuotaTold}
-use Rattle.dav_find.specs.Visiting.{Visit, response_of, Shows, Visits, VisitsInPart, VisitsAll, VisitsFrom}
+use Rattle.dav_find.specs.Finding.{View, QuotaAnswer}
+use Rattle.dav_find.specs.Visiting.{Visit, response_of, Shows, Visits, VisitsInPart, VisitsAll, VisitsFrom, is_shown}
 
 -- the responses of these visits, after what was written before
 abbrev pub written : Tree → List Visit → Tree
@@ -26,29 +26,29 @@ written before visits = with_elements before (map response_of visits)
 -- the store was read over these records, and nothing changed except the log
 pub record IsRead (Over : List Logged → Type 0) (old new : Store) : Type 0 where
   pub records : List Logged
-  pub told : new.log ≡ old.log ++ records
+  pub recorded : new.log ≡ old.log ++ records
   pub same : new.contents ≡ old.contents
   pub fixed : new.facts ≡ old.facts
   pub over : Over records
 
 module _ (view : View) (asked : List AskedProperty) where
-  -- the resource is reported, if it is to be shown, and its response is written
-  pub record IsShown (shown : Bool) (here : Resource) (quota : Option QuotaTold) (before : Tree) (old : Store) (after : PropWriter) (next : Option QuotaTold) (new : Store) : Type 0 where
+  -- the resource is reported, if the Depth includes it, and its response is written
+  pub record IsShown (depth : Depth) (here : Resource) (quota : Option QuotaAnswer) (before : Tree) (old : Store) (after : PropWriter) (next : Option QuotaAnswer) (new : Store) : Type 0 where
     pub visits : List Visit
-    pub read : IsRead (λ records. Shows view old.contents asked shown here quota records visits next) old new
+    pub read : IsRead (λ records. Shows view old.contents asked (is_shown depth) here quota records visits next) old new
     pub tree : after.tree ≡ written before visits
 
   -- the same, and its members become the next pending resources
-  pub record IsVisited (shown listed : Bool) (here : Resource) (quota : Option QuotaTold) (waits : List Resource) (before : Tree) (old : Store) (after : PropWriter) (next : Option QuotaTold) (wait : List Resource) (new : Store) : Type 0 where
+  pub record IsVisited (depth : Depth) (here : Resource) (quota : Option QuotaAnswer) (waits : List Resource) (before : Tree) (old : Store) (after : PropWriter) (next : Option QuotaAnswer) (wait : List Resource) (new : Store) : Type 0 where
     pub visits : List Visit
     pub members : List Resource
-    pub read : IsRead (λ records. Visits view old.contents asked shown listed here quota records visits next members) old new
+    pub read : IsRead (λ records. Visits view old.contents asked depth here quota records visits next members) old new
     pub tree : after.tree ≡ written before visits
     pub added : in_turn wait ≡ members ++ in_turn waits
 
   -- memory ran out
-  abbrev pub IsVisitedInPart : Bool → Bool → Resource → Option QuotaTold → Store → Store → Type 0
-  IsVisitedInPart shown listed here quota old new = IsRead (λ records. VisitsInPart view old.contents asked shown listed here quota records) old new
+  abbrev pub IsVisitedInPart : Depth → Resource → Option QuotaAnswer → Store → Store → Type 0
+  IsVisitedInPart depth here quota old new = IsRead (λ records. VisitsInPart view old.contents asked depth here quota records) old new
 
   -- the visits are written, or memory ran out
   abbrev pub Writes : Tree → Result PropWriter DavError → Option (List Visit) → Type 0
@@ -58,9 +58,9 @@ module _ (view : View) (asked : List AskedProperty) where
   Writes before (Err e) None = e ≡ Memory
 
   -- the walk over all pending resources is written, or memory ran out
-  pub record WritesAll (deep : Bool) (waiting : List Resource) (quota : Option QuotaTold) (before : Tree) (old : Store) (answer : Result PropWriter DavError) (new : Store) : Type 0 where
+  pub record WritesAll (depth : Depth) (waiting : List Resource) (quota : Option QuotaAnswer) (before : Tree) (old : Store) (answer : Result PropWriter DavError) (new : Store) : Type 0 where
     pub end : Option (List Visit)
-    pub read : IsRead (λ records. VisitsAll view old.contents asked deep waiting quota records end) old new
+    pub read : IsRead (λ records. VisitsAll view old.contents asked depth waiting quota records end) old new
     pub writes : Writes before answer end
 
   -- the walk from the target, as far as the Depth reaches, is written, or memory ran out
@@ -72,16 +72,25 @@ module _ (view : View) (asked : List AskedProperty) where
 -- ---- by a finder, over a lock system
 
 module _ {C L : Type 0} (seen : L → Locks) (finder : Finder C L) where
-  abbrev pub ShowsBy : Bool → Resource → Option QuotaTold → Tree → Store → PropWriter × Option QuotaTold → Store → Type 0
-  ShowsBy shown here quota before old told new =
-      IsShown (view_of seen finder old.facts) finder.search.now.asked.items shown here quota before old told.0 told.1 new
+  -- a writer and a quota are returned after the resource was reported
+  abbrev pub ShowsBy : Depth → Resource → Option QuotaAnswer → PropWriter → Store → Result (PropWriter × Option QuotaAnswer) DavError → Store → Type 0
+  ShowsBy depth here quota before old result new =
+      IfOk result (λ after.
+      IsShown (view_of seen finder old.facts) finder.search.now.asked.items depth here quota before.tree old after.0 after.1 new)
 
-  abbrev pub VisitsBy : Bool → Bool → Resource → Option QuotaTold → List Resource → Tree → Store → PropWriter × Option QuotaTold → List Resource → Store → Type 0
-  VisitsBy shown listed here quota waits before old told wait new =
-      IsVisited (view_of seen finder old.facts) finder.search.now.asked.items shown listed here quota waits before old told.0 told.1 wait new
+  -- the same, after its members have become the next pending resources
+  abbrev pub VisitsBy : Depth → Resource → Option QuotaAnswer → List Resource → PropWriter → Store → Result (PropWriter × Option QuotaAnswer) DavError
+      → List Resource → Store → Type 0
+  VisitsBy depth here quota waits before old result wait new =
+      IfOk result (λ after.
+      IsVisited (view_of seen finder old.facts) finder.search.now.asked.items depth here quota waits before.tree old after.0 after.1 wait new)
 
-  abbrev pub StopsBy : Bool → Bool → Resource → Option QuotaTold → Store → Store → Type 0
-  StopsBy shown listed here quota old new = IsVisitedInPart (view_of seen finder old.facts) finder.search.now.asked.items shown listed here quota old new
+  abbrev pub StopsBy : Depth → Resource → Option QuotaAnswer → Store → Store → Type 0
+  StopsBy depth here quota old new = IsVisitedInPart (view_of seen finder old.facts) finder.search.now.asked.items depth here quota old new
+
+  abbrev pub WritesAllBy : Depth → List Resource → Option QuotaAnswer → Tree → Store → Result PropWriter DavError → Store → Type 0
+  WritesAllBy depth waiting quota before old answer new =
+      WritesAll (view_of seen finder old.facts) finder.search.now.asked.items depth waiting quota before old answer new
 
 -- if the resource exists, fewer keys are pending afterwards than before it was taken
 abbrev pub TakesAway : Contents → Resource → List Resource → List Resource → Type 0

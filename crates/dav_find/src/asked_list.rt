@@ -28,14 +28,14 @@ impl<'e> AskedList<'e> {
         }
     }
 
-    /// Appends a copy of the property, unless the list already has one of its namespace and name. `listed`
+    /// Appends a copy of the property, unless the list already has one of its namespace and name. `by_server`
     /// says that the property comes from the server's own list. Fails only if memory runs out.
     pub(crate) fn ask_once(
         self,
         element: &'e Element,
-        listed: bool,
+        by_server: bool,
     ) -> Result<AskedList<'e>, AllocError>
-        ensures { IfOk result (λ all. all.asked.items ≡ ask_once_more self.entry.asked.items (record { element = element.now; listed = listed })) }
+        ensures { IfOk result (λ all. all.asked.items ≡ ask_once_more self.entry.asked.items (record { element = element.now; by_server = by_server })) }
     {
         let AskedList {
             mut asked,
@@ -43,7 +43,7 @@ impl<'e> AskedList<'e> {
         } = self;
         if names.insert(element)? {
             let element = element.clone()?;
-            asked.push(AskedProperty { element, listed })?;
+            asked.push(AskedProperty { element, by_server })?;
         }
         Ok(AskedList { asked, names })
     }

@@ -3,12 +3,12 @@ ghost use Rattle.std.specs.Prelude.{◌≡◌, ◌++◌, filter_map, IfOk, IfErr
 ghost use Rattle.std.specs.Option.{option_to_list};
 ghost use Rattle.dav_resource.specs.declared.error.DavError.TheVariants.{Memory};
 ghost use Rattle.dav_store.specs.Store.{Facts};
-ghost use Rattle.dav_parts.specs.Dialogue.{Judges};
+ghost use Rattle.dav_messages.specs.Dialogue.{Judges};
 ghost use Rattle.dav_find.specs.Finder.{view_of};
-ghost use Rattle.dav_find.specs.Finding.{find_one as rules_of_one, find_quota as rules_of_quota, find_kept as rules_of_kept, ask_quota as rules_of_asking, live_told as told_of_live, is_looked_up as is_looked_up_in, is_all_sought as is_all_sought_in, quota_in as quota_in_told, quota_status as status_of_quota};
+ghost use Rattle.dav_find.specs.Finding.{find_one as rules_of_one, find_quota as rules_of_quota, find_kept as rules_of_kept, ask_quota as rules_of_asking, live_result as live_result_of, is_looked_up as is_looked_up_in, is_all_sought as is_all_sought_in, quota_in as quota_in_answer, quota_status as status_of_quota};
 ghost use Rattle.dav_find.specs.Response.{FindsEach, FindsStored};
 
-use crate::refusal::told_by;
+use crate::refusal::returned_by;
 use crate::search::{AskedProperty, Search};
 use dav_live::{LiveProperty, Viewer, live_element};
 use dav_props::{element_to_davprop, is_kept};
@@ -24,12 +24,12 @@ pub struct Found<'r> {
     /// The requested property.
     pub asked: &'r AskedProperty,
     /// The element to report, or the status that says why there is none.
-    pub told: Result<Element, StatusCode>,
+    pub value: Result<Element, StatusCode>,
 }
 
 /// The quota as the store reported it (the bytes used, and the total if there is a limit), or the status that
 /// says why it did not (RFC 4331).
-pub(crate) type QuotaTold = Result<(u64, Option<u64>), StatusCode>;
+pub(crate) type QuotaAnswer = Result<(u64, Option<u64>), StatusCode>;
 
 /// A search for properties of resources: which properties, for which client, and with which lock system.
 #[derive(Clone, Copy, Debug)]
@@ -61,8 +61,8 @@ impl<'r, C, L: DavLockSystem> Finder<'r, C, L> {
         fs: &mut F,
         here: &Resource,
         element: &Element,
-        quota: Option<QuotaTold>,
-    ) -> DavResult<(Result<Element, StatusCode>, Option<QuotaTold>)>
+        quota: Option<QuotaAnswer>,
+    ) -> DavResult<(Result<Element, StatusCode>, Option<QuotaAnswer>)>
         ensures rules { Judges (rules_of_one (view_of L.seen self.now (F.seen fs.old).facts) (F.seen fs.old).contents here.now element.now quota) (F.seen fs.old) result (F.seen fs.new) }
         ensures err { IfErr result (λ e. e ≡ Memory) }
     {
@@ -70,7 +70,7 @@ impl<'r, C, L: DavLockSystem> Finder<'r, C, L> {
             Some(property) if property.is_quota() => {
                 self.find_quota(fs, here, element, property, quota)
             }
-            Some(property) => Ok((self.live_told(here, element, property, &None)?, quota)),
+            Some(property) => Ok((self.live_result(here, element, property, &None)?, quota)),
             None => Ok((self.find_kept(fs, here, element)?, quota)),
         }
     }
@@ -82,44 +82,44 @@ impl<'r, C, L: DavLockSystem> Finder<'r, C, L> {
         here: &Resource,
         element: &Element,
         property: LiveProperty,
-        quota: Option<QuotaTold>,
-    ) -> DavResult<(Result<Element, StatusCode>, Option<QuotaTold>)>
+        quota: Option<QuotaAnswer>,
+    ) -> DavResult<(Result<Element, StatusCode>, Option<QuotaAnswer>)>
         ensures rules { Judges (rules_of_quota (view_of L.seen self.now (F.seen fs.old).facts) (F.seen fs.old).contents here.now element.now property quota) (F.seen fs.old) result (F.seen fs.new) }
         ensures err { IfErr result (λ e. e ≡ Memory) }
     {
         let quota = Some(self.ask_quota(fs, quota)?);
-        let told = self.live_told(here, element, property, &quota)?;
-        Ok((told, quota))
+        let value = self.live_result(here, element, property, &quota)?;
+        Ok((value, quota))
     }
 
     /// Returns the store's quota. Calls `get_quota` only if `quota` does not hold its result yet.
     fn ask_quota<F: GuardedFileSystem<C>>(
         &self,
         fs: &mut F,
-        quota: Option<QuotaTold>,
-    ) -> DavResult<QuotaTold>
+        quota: Option<QuotaAnswer>,
+    ) -> DavResult<QuotaAnswer>
         ensures rules { Judges (rules_of_asking (F.seen fs.old).contents quota) (F.seen fs.old) result (F.seen fs.new) }
         ensures err { IfErr result (λ e. e ≡ Memory) }
     {
         match quota {
-            Some(told) => Ok(told),
+            Some(answer) => Ok(answer),
             None => {
                 let answer = fs.get_quota(self.credentials);
-                told_by(fs, answer)
+                returned_by(fs, answer)
             }
         }
     }
 
     /// Returns a live property as it is reported. If its value is not known, returns the status in `quota` if
     /// there is one, otherwise 404.
-    fn live_told(
+    fn live_result(
         &self,
         here: &Resource,
         element: &Element,
         property: LiveProperty,
-        quota: &Option<QuotaTold>,
+        quota: &Option<QuotaAnswer>,
     ) -> DavResult<Result<Element, StatusCode>>
-        ensures ok { (facts : Facts) → IfOk result (λ told. told ≡ told_of_live (view_of L.seen self.now facts) here.now element.now property quota.now) }
+        ensures ok { (facts : Facts) → IfOk result (λ value. value ≡ live_result_of (view_of L.seen self.now facts) here.now element.now property quota.now) }
         ensures err { IfErr result (λ e. e ≡ Memory) }
     {
         let viewer = Viewer {
@@ -152,7 +152,7 @@ impl<'r, C, L: DavLockSystem> Finder<'r, C, L> {
         }
         let prop = element_to_davprop(element)?;
         let answer = fs.get_prop(&here.path, &prop, self.credentials);
-        told_by(fs, answer)
+        returned_by(fs, answer)
     }
 
     /// Finds each requested property in order. Also returns the quota as the store reported it so far. The
@@ -161,15 +161,15 @@ impl<'r, C, L: DavLockSystem> Finder<'r, C, L> {
         &self,
         fs: &mut F,
         here: &Resource,
-        mut quota: Option<QuotaTold>,
-    ) -> DavResult<(Items<Found<'r>>, Option<QuotaTold>)>
+        mut quota: Option<QuotaAnswer>,
+    ) -> DavResult<(Items<Found<'r>>, Option<QuotaAnswer>)>
         ensures rules { FindsEach (view_of L.seen self.now (F.seen fs.old).facts) here.now self.now.search.now.asked.items quota (F.seen fs.old) result (F.seen fs.new) }
         ensures err { IfErr result (λ e. e ≡ Memory) }
     {
         let mut found = Vec::new(self.alloc);
         for asked in &self.search.asked {
-            let (told, next) = self.find_one(fs, here, &asked.element, quota)?;
-            found.push(Found { asked, told })?;
+            let (value, next) = self.find_one(fs, here, &asked.element, quota)?;
+            found.push(Found { asked, value })?;
             quota = next;
         }
         Ok((Items::from_vec(found), quota))
@@ -192,7 +192,7 @@ impl<'r, C, L: DavLockSystem> Finder<'r, C, L> {
             return Ok(Ok(Items::from_vec(Vec::new(self.alloc))));
         }
         let answer = fs.get_props(path, self.credentials);
-        match told_by(fs, answer)? {
+        match returned_by(fs, answer)? {
             Ok(props) => Ok(Ok(kept_elements(self.alloc, props)?)),
             Err(status) => Ok(Err(status)),
         }
@@ -216,17 +216,17 @@ impl<'r, C, L: DavLockSystem> Finder<'r, C, L> {
 }
 
 /// Returns the quota, if the store reported it.
-fn quota_in(quota: &Option<QuotaTold>) -> Option<(u64, Option<u64>)>
-    ensures { result ≡ quota_in_told quota.now }
+fn quota_in(quota: &Option<QuotaAnswer>) -> Option<(u64, Option<u64>)>
+    ensures { result ≡ quota_in_answer quota.now }
 {
     match quota {
-        Some(Ok(told)) => Some(*told),
+        Some(Ok(quota)) => Some(*quota),
         Some(Err(_)) | None => None,
     }
 }
 
 /// Returns the status for which the quota was not reported, otherwise 404.
-fn quota_status(quota: &Option<QuotaTold>) -> StatusCode
+fn quota_status(quota: &Option<QuotaAnswer>) -> StatusCode
     ensures { result ≡ status_of_quota quota.now }
 {
     match quota {

@@ -5,12 +5,12 @@
 mod asked_list;
 mod declaring;
 mod finding;
-mod listed;
 mod names;
 mod refusal;
+mod reporting;
 mod responding;
 mod search;
-mod telling;
+mod server_list;
 mod visiting;
 
 pub use declaring::declare_prefixes;

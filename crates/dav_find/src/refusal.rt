@@ -2,7 +2,7 @@
 ghost use Rattle.std.specs.Prelude.{◌≡◌, IfErr};
 ghost use Rattle.dav_resource.specs.declared.error.DavError.TheVariants.{Memory};
 ghost use Rattle.dav_store.specs.Logged.{Logged};
-ghost use Rattle.dav_find.specs.Finder.{TellsAnswer, IsLast, refusal_of};
+ghost use Rattle.dav_find.specs.Finder.{ReturnsAnswer, IsLast, refusal_of};
 
 use dav_resource::{DavError, DavResult, FsError, FsResult, Outcome};
 use dav_store::GuardedFileSystem;
@@ -12,15 +12,15 @@ use http::StatusCode;
 ///
 /// The status comes from the log's last record: that of the error if the store refused the call, 404 if the
 /// call was barred. The only error is `Memory`, if the call failed with `Memory`.
-pub(crate) fn told_by<C, F: GuardedFileSystem<C>, T: Drop>(
+pub(crate) fn returned_by<C, F: GuardedFileSystem<C>, T: Drop>(
     fs: &F,
     answer: FsResult<T>,
 ) -> DavResult<Result<T, StatusCode>>
-    ensures told { TellsAnswer (F.seen fs.now).log answer result }
+    ensures returned { ReturnsAnswer (F.seen fs.now).log answer result }
     ensures err { IfErr result (λ e. e ≡ Memory) }
 {
     match answer {
-        Ok(told) => Ok(Ok(told)),
+        Ok(value) => Ok(Ok(value)),
         Err(error) => match error {
             FsError::Memory => Err(DavError::Memory),
             _ => Ok(Err(refusal_status(fs))),

@@ -4,8 +4,8 @@ ghost use Rattle.dav_resource.specs.declared.error.DavError.TheVariants.{Memory}
 ghost use Rattle.dav_find.specs.Finder.{view_of};
 ghost use Rattle.dav_find.specs.Response.{IsResponse};
 
-use crate::finding::{Finder, QuotaTold};
-use crate::telling::{Told, tell};
+use crate::finding::{Finder, QuotaAnswer};
+use crate::reporting::{PropertyStatus, report};
 use dav_resource::{DavResult, Items};
 use dav_store::{DavLockSystem, GuardedFileSystem};
 use dav_walks::Resource;
@@ -17,14 +17,14 @@ impl<'r, C, L: DavLockSystem> Finder<'r, C, L> {
         &self,
         fs: &mut F,
         here: &Resource,
-        quota: Option<QuotaTold>,
-    ) -> DavResult<(Items<Told>, Option<QuotaTold>)>
+        quota: Option<QuotaAnswer>,
+    ) -> DavResult<(Items<PropertyStatus>, Option<QuotaAnswer>)>
         ensures response { IsResponse (view_of L.seen self.now (F.seen fs.old).facts) self.now.search.now.asked.items here.now quota (F.seen fs.old) result (F.seen fs.new) }
         ensures err { IfErr result (λ e. e ≡ Memory) }
     {
         let (found, quota) = self.find_each(fs, here, quota)?;
         let stored = self.find_stored(fs, &here.path)?;
-        let told = tell(self.alloc, self.search.kind, found.as_slice(), &stored)?;
-        Ok((Items::from_vec(told), quota))
+        let reported = report(self.alloc, self.search.kind, found.as_slice(), &stored)?;
+        Ok((Items::from_vec(reported), quota))
     }
 }

@@ -4,13 +4,13 @@ ghost use Rattle.std.specs.List.{fold, find};
 ghost use Rattle.std.specs.Option.{option_copied};
 ghost use Rattle.dav_resource.specs.Gives.{GivesBy};
 ghost use Rattle.dav_resource.specs.Tree.{elements_of};
-ghost use Rattle.dav_parts.specs.DavElement.{is_named as is_named_tree};
+ghost use Rattle.dav_messages.specs.DavElement.{is_named as is_named_tree};
 ghost use Rattle.dav_find.specs.Asked.{is_of, names_only, named_only, ask_once, asked_by_request, asked_by_server, says_kind as says_kind_tree, is_propfind as is_propfind_tree, named_in, asking, asking_by, asking_in, asking_of};
 ghost use Rattle.dav_find.specs.Searching.{asking_for};
 
 use crate::asked_list::AskedList;
-use crate::listed::server_properties;
-use dav_parts::{is_empty_body, is_named};
+use crate::server_list::server_properties;
+use dav_messages::{is_empty_body, is_named};
 use dav_resource::{DavError, DavResult, Element, ReqBody};
 use dav_store::GuardedFileSystem;
 use std::alloc::{AllocError, Global};
@@ -59,7 +59,7 @@ pub struct AskedProperty {
     /// The element that names it.
     pub element: Element,
     /// Whether only the server's own list names it, and not the request.
-    pub listed: bool,
+    pub by_server: bool,
 }
 
 impl AskedProperty {
@@ -69,7 +69,7 @@ impl AskedProperty {
     {
         Ok(AskedProperty {
             element: self.element.clone()?,
-            listed: self.listed,
+            by_server: self.by_server,
         })
     }
 }
@@ -192,8 +192,8 @@ fn search_for(
 ) -> Result<Search, AllocError>
     ensures { IfOk result (λ search. asking_for search ≡ asking kind (named_in (option_copied own.entry)) (option_copied user_agent.entry)) }
 {
-    let listed = server_properties(alloc, kind, user_agent)?;
-    let asked = ask_listed(ask_own(alloc, own)?, &listed)?;
+    let added = server_properties(alloc, kind, user_agent)?;
+    let asked = ask_added(ask_own(alloc, own)?, &added)?;
     Ok(Search {
         kind,
         asked: asked.into_vec(),
@@ -215,7 +215,7 @@ fn ask_own<'e>(alloc: Global, own: Option<&'e Element>) -> Result<AskedList<'e>,
 }
 
 /// Appends the server's own properties, except those that the list already has.
-fn ask_listed<'e>(
+fn ask_added<'e>(
     mut list: AskedList<'e>,
     elements: &'e [Element],
 ) -> Result<AskedList<'e>, AllocError>

@@ -11,26 +11,26 @@ pub invariant_of-result : goal.invariant_of-result
 invariant_of-result c =
     let asked = c.args.self.asked.items in
     let names = c.insert.new.self.names in
-    let told = c.in_ok-insert.ensures.added (elements_in asked) c.args.self.named in
+    let reported = c.in_ok-insert.ensures.added (elements_in asked) c.args.self.named in
     let are = c.in_ok-insert.ensures.names (elements_in asked) c.args.self.named in
     elim c.if-branch.branch [
       | then-branch+in_ok-element+in_ok-push w ↦ record {
         named = subst (λ (items : List AskedProperty). AreNamesOf names (elements_in items)) (sym (ap (λ v. v.items) w.asked-is ∙ w.in_ok-push.ensures.items))
-            (with_one_more names asked (record { element = w.in_ok-element.element; listed = c.args.listed }) (rw (w.in_ok-element.ensures) are));
+            (with_one_more names asked (record { element = w.in_ok-element.element; by_server = c.args.by_server }) (rw (w.in_ok-element.ensures) are));
       }
       | else-branch w ↦ record {
         named = subst (λ (items : List AskedProperty). AreNamesOf names (elements_in items)) (sym (ap (λ v. v.items) w.asked-is))
-            (as_before names (elements_in asked) c.args.element.now (is_there _ _ told w.if-branch.false) are);
+            (as_before names (elements_in asked) c.args.element.now (is_there _ _ reported w.if-branch.false) are);
       }
     ]
 
 pub returns : goal.returns
 returns c =
     let asked = c.args.self.asked.items in
-    let more : Tree → AskedProperty = λ element. record { element = element; listed = c.args.listed } in
-    let told = c.in_ok-insert.ensures.added (elements_in asked) c.args.self.named in
+    let more : Tree → AskedProperty = λ element. record { element = element; by_server = c.args.by_server } in
+    let reported = c.in_ok-insert.ensures.added (elements_in asked) c.args.self.named in
     elim c.if-branch.branch [
       | then-branch+in_ok-element+in_ok-push w ↦
-          ap (λ v. v.items) w.asked-is ∙ w.in_ok-push.ensures.items ∙ ap (λ element. asked ++ more element ∷ []) w.in_ok-element.ensures ∙ sym (asks asked (more c.args.element.now) true (sym w.if-branch.true ∙ told))
-      | else-branch w ↦ ap (λ v. v.items) w.asked-is ∙ sym (asks asked (more c.args.element.now) false (sym w.if-branch.false ∙ told))
+          ap (λ v. v.items) w.asked-is ∙ w.in_ok-push.ensures.items ∙ ap (λ element. asked ++ more element ∷ []) w.in_ok-element.ensures ∙ sym (asks asked (more c.args.element.now) true (sym w.if-branch.true ∙ reported))
+      | else-branch w ↦ ap (λ v. v.items) w.asked-is ∙ sym (asks asked (more c.args.element.now) false (sym w.if-branch.false ∙ reported))
     ]

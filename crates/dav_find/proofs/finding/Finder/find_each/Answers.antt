@@ -11,14 +11,14 @@ loop-asked-init g c = record {
   held = λ verdict new h. all_left _ _ c.args.here.now c.args.self.now.search.now.asked.items c.args.quota _ new verdict (rw c.new-found.ensures.items at h);
 }
 
-pub returns-in_err-told-clause-rules : goal.returns-in_err-told-clause-rules
-returns-in_err-told-clause-rules g c =
+pub returns-in_err-value-clause-rules : goal.returns-in_err-value-clause-rules
+returns-in_err-value-clause-rules g c =
     let asked = c.args.self.now.search.now.asked.items in
     let loop = c.loop-asked in
     let found = map finding_of loop.found.items in
     let inside : loop.asked-index < length asked = rw c.deref-asked-items.ensures.value at c.loop-asked-test.true in
     let is : c.asked-item.result ≡ get_or asked loop.asked-index c.asked-item.result = rw c.deref-asked-items.ensures.value at c.asked-item.is in
-    let rules = rw (loop.invariant.fixed, loop.invariant.same) at c.in_err-told.ensures.rules in
+    let rules = rw (loop.invariant.fixed, loop.invariant.same) at c.in_err-value.ensures.rules in
     loop.invariant.held _ _ (rw (drop_here asked loop.asked-index c.asked-item.result inside is) (one_stops _ _ c.args.here.now found c.asked-item.result _ loop.quota _ _ _ _ (failed_alike c.from_residual.result _ c.from_residual.ensures.1) rules))
 
 pub returns-in_err-push-clause-rules : goal.returns-in_err-push-clause-rules
@@ -28,7 +28,7 @@ returns-in_err-push-clause-rules g c =
     let found = map finding_of loop.found.items in
     let inside : loop.asked-index < length asked = rw c.deref-asked-items.ensures.value at c.loop-asked-test.true in
     let is : c.asked-item.result ≡ get_or asked loop.asked-index c.asked-item.result = rw c.deref-asked-items.ensures.value at c.asked-item.is in
-    let rules = rw (loop.invariant.fixed, loop.invariant.same) at c.in_ok-told.ensures.rules in
+    let rules = rw (loop.invariant.fixed, loop.invariant.same) at c.in_ok-value.ensures.rules in
     loop.invariant.held _ _ (rw (drop_here asked loop.asked-index c.asked-item.result inside is) (one_lost _ _ c.args.here.now found c.asked-item.result _ loop.quota _ _ _ _ rules (failed_alike c.from_residual-in_err-push.result _ c.from_residual-in_err-push.ensures.1)))
 
 pub loop-asked-preserved : goal.loop-asked-preserved
@@ -38,10 +38,10 @@ loop-asked-preserved g c =
     let found = map finding_of loop.found.items in
     let inside : loop.asked-index < length asked = rw c.deref-asked-items.ensures.value at c.loop-asked-test.true in
     let is : c.asked-item.result ≡ get_or asked loop.asked-index c.asked-item.result = rw c.deref-asked-items.ensures.value at c.asked-item.is in
-    let rules = rw (loop.invariant.fixed, loop.invariant.same) at c.in_ok-told.ensures.rules in
+    let rules = rw (loop.invariant.fixed, loop.invariant.same) at c.in_ok-value.ensures.rules in
     record {
-      same = c.in_ok-told.ensures.rules.same ∙ loop.invariant.same;
-      fixed = c.in_ok-told.ensures.rules.fixed ∙ loop.invariant.fixed;
+      same = c.in_ok-value.ensures.rules.same ∙ loop.invariant.same;
+      fixed = c.in_ok-value.ensures.rules.fixed ∙ loop.invariant.fixed;
       held = λ verdict new h. loop.invariant.held verdict new (rw (drop_here asked loop.asked-index c.asked-item.result inside is) (one_more _ _ c.args.here.now found c.asked-item.result _ loop.quota _ _ _ _ _ rules (rw (c.in_ok-push.ensures.items, map-append) at h)));
     }
 

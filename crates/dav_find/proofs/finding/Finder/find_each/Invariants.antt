@@ -1,7 +1,7 @@
 use Rattle.std.proofs.Common.{◌≡◌, Result, drop, map}
 use Rattle.dav_resource.specs.declared.error.DavError.{DavError}
 use Rattle.dav_store.specs.Store.{Store}
-use Rattle.dav_parts.specs.Dialogue.{Judges}
+use Rattle.dav_messages.specs.Dialogue.{Judges}
 use Rattle.dav_find.specs.Finder.{view_of}
 use Rattle.dav_find.specs.Finding.{find_each, finding_of}
 use Rattle.dav_find.proofs.Each.{Sought, left_of}

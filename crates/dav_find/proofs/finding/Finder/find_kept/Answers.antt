@@ -12,4 +12,4 @@ returns-clause-rules g c =
     let looked : is_looked_up (view_of g.L.DavLockSystem.seen c.args.self.now (g.F.GuardedFileSystem.seen c.args.fs.now).facts) c.args.element.now ≡ true
     = sym (c.is_looked_up.ensures (g.F.GuardedFileSystem.seen c.args.fs.now).facts (sym c.have_props.ensures)) ∙ c.if-not-is_looked_up.false in
     rw looked
-    (judges_answer (get_prop_call (g.F.GuardedFileSystem.seen c.args.fs.now).contents key name) (IsPropertyAt key name) _ _ _ _ _ (λ a effect. (effect.answer, effect.same)) (rw c.in_ok-prop.ensures at c.get_prop-answer.ensures) c.told_by.ensures.told)
+    (judges_answer (get_prop_call (g.F.GuardedFileSystem.seen c.args.fs.now).contents key name) (IsPropertyAt key name) _ _ _ _ _ (λ a effect. (effect.answer, effect.same)) (rw c.in_ok-prop.ensures at c.get_prop-answer.ensures) c.returned_by.ensures.returned)

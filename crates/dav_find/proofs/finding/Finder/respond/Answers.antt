@@ -1,4 +1,4 @@
-use Rattle.dav_find.proofs.Responses.{response_unfound, response_unstored, response_untold, response_told}
+use Rattle.dav_find.proofs.Responses.{response_unfound, response_unstored, response_unreported, response_reported}
 use Rattle.dav_find.proofs.finding.Finder.respond.Goals as goal
 
 pub returns-in_err-found-clause-response : goal.returns-in_err-found-clause-response
@@ -9,12 +9,12 @@ returns-in_err-stored-clause-response g c =
     let found = c.in_ok-found.ensures.rules in
     response_unstored _ _ c.args.here.now c.args.quota _ _ _ _ found _ _ c.from_residual-in_err-stored.ensures.1 (rw found.fixed at c.in_err-stored.ensures.stored)
 
-pub returns-in_err-told-clause-response : goal.returns-in_err-told-clause-response
-returns-in_err-told-clause-response g c =
+pub returns-in_err-reported-clause-response : goal.returns-in_err-reported-clause-response
+returns-in_err-reported-clause-response g c =
     let found = c.in_ok-found.ensures.rules in
-    response_untold _ _ c.args.here.now c.args.quota _ _ _ _ found _ _ c.from_residual-in_err-told.ensures.1 (rw found.fixed at c.in_ok-stored.ensures.stored)
+    response_unreported _ _ c.args.here.now c.args.quota _ _ _ _ found _ _ c.from_residual-in_err-reported.ensures.1 (rw found.fixed at c.in_ok-stored.ensures.stored)
 
 pub returns-clause-response : goal.returns-clause-response
 returns-clause-response g c =
     let found = c.in_ok-found.ensures.rules in
-    rw (c.from_vec.ensures, c.in_ok-told.ensures, c.as_slice.ensures) (response_told _ _ c.args.here.now c.args.quota _ _ _ _ found _ (rw found.fixed at c.in_ok-stored.ensures.stored))
+    rw (c.from_vec.ensures, c.in_ok-reported.ensures, c.as_slice.ensures) (response_reported _ _ c.args.here.now c.args.quota _ _ _ _ found _ (rw found.fixed at c.in_ok-stored.ensures.stored))

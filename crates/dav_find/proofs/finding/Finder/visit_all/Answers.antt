@@ -5,35 +5,35 @@ use Rattle.dav_find.proofs.finding.Finder.visit_all.Goals as goal
 pub returns-in_err-more : goal.returns-in_err-more
 returns-in_err-more g c =
     let walk = c.walk in
-    let part = rw (walk.invariant.fixed, c.is_entered-listed.ensures) at c.in_err-more.ensures.stopped in
-    walk.invariant.held _ _ (rw c.in-Some.ensures.turn (all_stop _ _ c.args.deep c.in-Some.here c.take_next.new.waiting.items walk.quota walk.writer.tree _ _ _ (rw c.in_err-more.ensures.err at c.from_residual.ensures.1) part))
+    let part = rw walk.invariant.fixed at c.in_err-more.ensures.stopped in
+    walk.invariant.held _ _ (rw c.in-Some.ensures.turn (all_stop _ _ c.args.depth c.in-Some.here c.take_next.new.waiting.items walk.quota walk.writer.tree _ _ _ (rw c.in_err-more.ensures.err at c.from_residual.ensures.1) part))
 
 pub walk-preserved : goal.walk-preserved
 walk-preserved g c =
     let walk = c.walk in
-    let visited = rw (walk.invariant.fixed, c.is_entered-listed.ensures) at c.in_ok-more.ensures.visited in
+    let visited = rw walk.invariant.fixed at c.in_ok-more.ensures.ok in
     let there = rw walk.invariant.same at c.in_ok-more.ensures.there in
     record {
-      same = c.in_ok-more.ensures.visited.read.same ∙ walk.invariant.same;
-      fixed = c.in_ok-more.ensures.visited.read.fixed ∙ walk.invariant.fixed;
+      same = c.in_ok-more.ensures.ok.read.same ∙ walk.invariant.same;
+      fixed = c.in_ok-more.ensures.ok.read.fixed ∙ walk.invariant.fixed;
       there = there (c.in-Some.ensures.there (g.F.GuardedFileSystem.seen c.args.fs.now).contents walk.invariant.there).0;
-      held = λ answer new h. walk.invariant.held answer new (rw c.in-Some.ensures.turn (all_more _ _ c.args.deep c.in-Some.here c.take_next.new.waiting.items walk.quota c.in_ok-more.next walk.writer.tree _ _ _ c.in_ok-more.more c.visit.new.waiting.items _ visited h));
+      held = λ answer new h. walk.invariant.held answer new (rw c.in-Some.ensures.turn (all_more _ _ c.args.depth c.in-Some.here c.take_next.new.waiting.items walk.quota c.in_ok-more.next walk.writer.tree _ _ _ c.in_ok-more.more c.visit.new.waiting.items _ visited h));
     }
 
 pub walk-preserved-in_ok-more : goal.walk-preserved-in_ok-more
 walk-preserved-in_ok-more g c =
     let walk = c.walk in
-    let visited = rw (walk.invariant.fixed, c.is_entered-listed.ensures) at c.in_ok-more.ensures.visited in
+    let visited = rw walk.invariant.fixed at c.in_ok-more.ensures.ok in
     let there = rw walk.invariant.same at c.in_ok-more.ensures.there in
     record {
-      same = c.in_ok-more.ensures.visited.read.same ∙ walk.invariant.same;
-      fixed = c.in_ok-more.ensures.visited.read.fixed ∙ walk.invariant.fixed;
+      same = c.in_ok-more.ensures.ok.read.same ∙ walk.invariant.same;
+      fixed = c.in_ok-more.ensures.ok.read.fixed ∙ walk.invariant.fixed;
       there = there (c.in-Some.ensures.there (g.F.GuardedFileSystem.seen c.args.fs.now).contents walk.invariant.there).0;
-      held = λ answer new h. walk.invariant.held answer new (rw c.in-Some.ensures.turn (all_more _ _ c.args.deep c.in-Some.here c.take_next.new.waiting.items walk.quota c.in_ok-more.next walk.writer.tree _ _ _ c.in_ok-more.more c.visit.new.waiting.items _ visited h));
+      held = λ answer new h. walk.invariant.held answer new (rw c.in-Some.ensures.turn (all_more _ _ c.args.depth c.in-Some.here c.take_next.new.waiting.items walk.quota c.in_ok-more.next walk.writer.tree _ _ _ c.in_ok-more.more c.visit.new.waiting.items _ visited h));
     }
 
 pub returns-in_default : goal.returns-in_default
 returns-in_default g c =
     let walk = c.walk in
     let none = rw c.in_default.is at c.take_next.ensures.turn in
-    walk.invariant.held _ _ (rw none (all_over _ _ c.args.deep walk.quota _ walk.writer))
+    walk.invariant.held _ _ (rw none (all_over _ _ c.args.depth walk.quota _ walk.writer))

@@ -14,8 +14,8 @@ invariant-walk g l = record {
   fixed : (g.F.GuardedFileSystem.seen l.fs).facts ≡ (g.F.GuardedFileSystem.seen l.initial.fs).facts;
   there : AreThere (g.F.GuardedFileSystem.seen l.initial.fs).contents l.waiting.items;
   held : (answer : Result PropWriter DavError) (new : Store)
-      → WritesAll (view_of g.L.DavLockSystem.seen l.self (g.F.GuardedFileSystem.seen l.initial.fs).facts) l.self.search.now.asked.items l.deep (in_turn l.waiting.items) l.quota l.writer.tree (g.F.GuardedFileSystem.seen l.fs) answer new
-      → WritesAll (view_of g.L.DavLockSystem.seen l.self (g.F.GuardedFileSystem.seen l.initial.fs).facts) l.self.search.now.asked.items l.deep (in_turn l.initial.waiting.items) l.initial.quota l.initial.writer.tree (g.F.GuardedFileSystem.seen l.initial.fs) answer new;
+      → WritesAll (view_of g.L.DavLockSystem.seen l.self (g.F.GuardedFileSystem.seen l.initial.fs).facts) l.self.search.now.asked.items l.depth (in_turn l.waiting.items) l.quota l.writer.tree (g.F.GuardedFileSystem.seen l.fs) answer new
+      → WritesAll (view_of g.L.DavLockSystem.seen l.self (g.F.GuardedFileSystem.seen l.initial.fs).facts) l.self.search.now.asked.items l.depth (in_turn l.initial.waiting.items) l.initial.quota l.initial.writer.tree (g.F.GuardedFileSystem.seen l.initial.fs) answer new;
 }
 
 -- each that is taken has fewer keys below its members than at and below itself

@@ -5,7 +5,7 @@ ghost use Rattle.dav_props.specs.Property.{bare};
 ghost use Rattle.dav_find.specs.Asked.{is_among};
 ghost use Rattle.dav_find.specs.Finding.{finding_of};
 ghost use Rattle.dav_find.specs.Names.{AreNamesOf};
-ghost use Rattle.dav_find.specs.Telling.{kept_in as kept_of, missing_status as status_of_missing, tell_one as told_of_one, given_in, tell_kept as told_of_kept, told_of};
+ghost use Rattle.dav_find.specs.Reporting.{kept_in as kept_of, missing_status as status_of_missing, report_one as report_of_one, given_in, report_stored as report_of_stored, report_of};
 
 use crate::finding::Found;
 use crate::names::PropertyNames;
@@ -16,36 +16,36 @@ use http::StatusCode;
 use std::alloc::{AllocError, Global};
 
 /// A status, and the property that is reported with it.
-pub(crate) type Told = (StatusCode, Element);
+pub(crate) type PropertyStatus = (StatusCode, Element);
 
 /// Returns what is reported for a resource: first the requested properties, then the stored ones. Fails only
 /// if memory runs out.
-pub(crate) fn tell(
+pub(crate) fn report(
     alloc: Global,
     kind: FindKind,
     found: &[Found<'_>],
     stored: &Result<Items<SharedElement>, StatusCode>,
-) -> Result<Vec<Told>, AllocError>
-    ensures { IfOk result (λ told. told.items ≡ told_of kind (map finding_of found.now) stored.now) }
+) -> Result<Vec<PropertyStatus>, AllocError>
+    ensures { IfOk result (λ reported. reported.items ≡ report_of kind (map finding_of found.now) stored.now) }
 {
-    let told = tell_found(alloc, found, stored)?;
-    tell_kept(alloc, told, kind, found, kept_in(stored))
+    let reported = report_found(alloc, found, stored)?;
+    report_stored(alloc, reported, kind, found, kept_in(stored))
 }
 
 /// Returns what is reported of the requested properties.
-fn tell_found<'e>(
+fn report_found<'e>(
     alloc: Global,
     found: &'e [Found<'_>],
     stored: &'e Result<Items<SharedElement>, StatusCode>,
-) -> Result<Vec<Told>, AllocError>
-    ensures { IfOk result (λ told. told.items ≡ flat_map (told_of_one stored.now) (map finding_of found.now)) }
+) -> Result<Vec<PropertyStatus>, AllocError>
+    ensures { IfOk result (λ reported. reported.items ≡ flat_map (report_of_one stored.now) (map finding_of found.now)) }
 {
     let kept = names_of(alloc, kept_in(stored))?;
-    let mut told = Vec::new(alloc);
+    let mut reported = Vec::new(alloc);
     for one in found {
-        told = tell_one(alloc, told, one, stored, &kept)?;
+        reported = report_one(alloc, reported, one, stored, &kept)?;
     }
-    Ok(told)
+    Ok(reported)
 }
 
 /// Appends what is reported of one requested property. `kept` has the names of the stored properties that the
@@ -53,28 +53,28 @@ fn tell_found<'e>(
 ///
 /// A property that was found is reported with 200. One that was not is reported by its name, with the status
 /// of `missing_status`. It is left out if `kept` has its name, or if only the server's own list names it.
-fn tell_one<'e>(
+fn report_one<'e>(
     alloc: Global,
-    mut told: Vec<Told>,
+    mut reported: Vec<PropertyStatus>,
     one: &'e Found<'_>,
     stored: &Result<Items<SharedElement>, StatusCode>,
     kept: &PropertyNames<'e>,
-) -> Result<Vec<Told>, AllocError>
+) -> Result<Vec<PropertyStatus>, AllocError>
     requires { AreNamesOf kept.now.names (kept_of stored.now) }
-    ensures { IfOk result (λ more. more.items ≡ told.items ++ told_of_one stored.now (finding_of one.now)) }
+    ensures { IfOk result (λ more. more.items ≡ reported.items ++ report_of_one stored.now (finding_of one.now)) }
 {
-    match &one.told {
+    match &one.value {
         Ok(element) => {
-            told.push((StatusCode::OK, element.clone()?))?;
-            Ok(told)
+            reported.push((StatusCode::OK, element.clone()?))?;
+            Ok(reported)
         }
         Err(status) => {
-            if one.asked.listed || kept.has(&one.asked.element) {
-                return Ok(told);
+            if one.asked.by_server || kept.has(&one.asked.element) {
+                return Ok(reported);
             }
             let status = missing_status(stored, &one.asked.element, *status);
-            told.push((status, bare_element(alloc, &one.asked.element)?))?;
-            Ok(told)
+            reported.push((status, bare_element(alloc, &one.asked.element)?))?;
+            Ok(reported)
         }
     }
 }
@@ -105,53 +105,53 @@ fn kept_in(stored: &Result<Items<SharedElement>, StatusCode>) -> &[SharedElement
 }
 
 /// Appends what is reported of the stored properties.
-fn tell_kept(
+fn report_stored(
     alloc: Global,
-    told: Vec<Told>,
+    reported: Vec<PropertyStatus>,
     kind: FindKind,
     found: &[Found<'_>],
     kept: &[SharedElement],
-) -> Result<Vec<Told>, AllocError>
-    ensures { IfOk result (λ more. more.items ≡ told.items ++ told_of_kept kind (map finding_of found.now) kept.now) }
+) -> Result<Vec<PropertyStatus>, AllocError>
+    ensures { IfOk result (λ more. more.items ≡ reported.items ++ report_of_stored kind (map finding_of found.now) kept.now) }
 {
     match kind {
-        FindKind::AllProp => tell_values(alloc, told, found, kept),
-        FindKind::PropName => tell_names(alloc, told, kept),
-        FindKind::Prop => Ok(told),
+        FindKind::AllProp => report_values(alloc, reported, found, kept),
+        FindKind::PropName => report_names(alloc, reported, kept),
+        FindKind::Prop => Ok(reported),
     }
 }
 
 /// Appends each stored property with its value, except those of the name of a requested property that was
 /// found.
-fn tell_values<'e>(
+fn report_values<'e>(
     alloc: Global,
-    mut told: Vec<Told>,
+    mut reported: Vec<PropertyStatus>,
     found: &'e [Found<'_>],
     kept: &'e [SharedElement],
-) -> Result<Vec<Told>, AllocError>
-    ensures { IfOk result (λ more. more.items ≡ told.items ++ map (λ element. (200, element)) (filter (λ element. not (is_among element (given_in (map finding_of found.now)))) kept.now)) }
+) -> Result<Vec<PropertyStatus>, AllocError>
+    ensures { IfOk result (λ more. more.items ≡ reported.items ++ map (λ element. (200, element)) (filter (λ element. not (is_among element (given_in (map finding_of found.now)))) kept.now)) }
 {
     let given = names_given(alloc, found)?;
     for element in kept {
         if !given.has(element.as_element()) {
-            told.push((StatusCode::OK, element.as_element().clone()?))?;
+            reported.push((StatusCode::OK, element.as_element().clone()?))?;
         }
     }
-    Ok(told)
+    Ok(reported)
 }
 
 /// Appends the name of each stored property, also if a live property of that name is already reported.
-fn tell_names(
+fn report_names(
     alloc: Global,
-    mut told: Vec<Told>,
+    mut reported: Vec<PropertyStatus>,
     kept: &[SharedElement],
-) -> Result<Vec<Told>, AllocError>
-    ensures { IfOk result (λ more. more.items ≡ told.items ++ map (λ element. (200, bare element)) kept.now) }
+) -> Result<Vec<PropertyStatus>, AllocError>
+    ensures { IfOk result (λ more. more.items ≡ reported.items ++ map (λ element. (200, bare element)) kept.now) }
 {
     for element in kept {
-        told.push((StatusCode::OK, bare_element(alloc, element.as_element())?))?;
+        reported.push((StatusCode::OK, bare_element(alloc, element.as_element())?))?;
     }
-    Ok(told)
+    Ok(reported)
 }
 
 /// Returns the names of these properties.
@@ -174,7 +174,7 @@ fn names_given<'e>(alloc: Global, found: &'e [Found<'_>]) -> Result<PropertyName
 {
     let mut names = PropertyNames::new(alloc);
     for one in found {
-        if one.told.is_ok() {
+        if one.value.is_ok() {
             names.insert(&one.asked.element)?;
         }
     }

@@ -2,11 +2,11 @@ use Rattle.std.proofs.Common.{◌∙◌, ◌+◌, sym, subst, map, take, List}
 use Rattle.dav_resource.specs.Tree.{Tree}
 use Rattle.dav_find.specs.Finding.{finding_of}
 use Rattle.dav_find.specs.Names.{AreNamesOf}
-use Rattle.dav_find.specs.Telling.{given_in}
+use Rattle.dav_find.specs.Reporting.{given_in}
 use Rattle.dav_find.specs.declared.names.PropertyNames.{PropertyNames}
-use Rattle.dav_find.proofs.Tellings.{one_given, none_given}
-use Rattle.dav_find.proofs.telling.names_given.Goals as goal
-use Rattle.dav_find.proofs.telling.names_given.Goals.{then-is_ok+in_ok-insert, else-is_ok}
+use Rattle.dav_find.proofs.ReportLemmas.{one_given, none_given}
+use Rattle.dav_find.proofs.reporting.names_given.Goals as goal
+use Rattle.dav_find.proofs.reporting.names_given.Goals.{then-is_ok+in_ok-insert, else-is_ok}
 
 -- one more is given where it was found
 pub loop-one-preserved : goal.loop-one-preserved

@@ -1,5 +1,5 @@
 use Rattle.std.proofs.Common.{◌≡◌, ◌++◌}
-use Rattle.dav_find.proofs.listed.joined.Given as goal
+use Rattle.dav_find.proofs.server_list.joined.Given as goal
 
 -- those so far
 abbrev pub invariant-loop-element : goal.invariant-loop-element

@@ -1,6 +1,6 @@
 use Rattle.std.proofs.Common.{take}
 use Rattle.dav_find.specs.Names.{AreNamesOf}
-use Rattle.dav_find.proofs.telling.names_of.Given as goal
+use Rattle.dav_find.proofs.reporting.names_of.Given as goal
 
 -- those so far
 abbrev pub invariant-loop-element : goal.invariant-loop-element

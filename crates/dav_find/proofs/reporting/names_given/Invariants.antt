@@ -1,8 +1,8 @@
 use Rattle.std.proofs.Common.{map, take}
 use Rattle.dav_find.specs.Finding.{finding_of}
 use Rattle.dav_find.specs.Names.{AreNamesOf}
-use Rattle.dav_find.specs.Telling.{given_in}
-use Rattle.dav_find.proofs.telling.names_given.Given as goal
+use Rattle.dav_find.specs.Reporting.{given_in}
+use Rattle.dav_find.proofs.reporting.names_given.Given as goal
 
 -- those so far
 abbrev pub invariant-loop-one : goal.invariant-loop-one
