@@ -19,13 +19,13 @@ use Rattle.dav_headers.specs.declared.range.UpdateRange.{UpdateRange}
 use Rattle.dav_headers.specs.declared.range.UpdateRange.TheVariants.{FromTo, AllFrom, Last, Append}
 use Rattle.dav_headers.specs.declared.range.ContentRange.{ContentRange}
 use Rattle.dav_store.specs.Store.{Store, Bodies, Facts}
-use Rattle.dav_parts.specs.Dialogue.{Judges, refusing, told_by, ◌>>=◌}
-use Rattle.dav_parts.specs.Dialogues.{judges_exit, judges_then}
+use Rattle.dav_messages.specs.Dialogue.{Judges, refusing, map_error, ◌>>=◌}
+use Rattle.dav_messages.specs.Dialogues.{judges_exit, judges_then}
 use Rattle.dav_engine.proofs.Deleting.{judges_known}
 use Rattle.dav_engine.specs.State.{State}
-use Rattle.dav_engine.specs.Rules.{look_closely, path_rules, judged, closing}
+use Rattle.dav_engine.specs.Rules.{look_up_result, path_rules, judged, closing}
 use Rattle.dav_engine.specs.Target.{stated_length, spans, from_to, last_bytes, named_part, update_target, is_update, whole, in_range, within_reach, and_then, first_target, target_of}
-use Rattle.dav_parts.specs.RequestBody.{body_bytes}
+use Rattle.dav_messages.specs.RequestBody.{body_bytes}
 use Rattle.dav_engine.specs.Put.{new_bytes, has_length, body_verdict, as_looked, put_rules}
 use Rattle.dav_engine.specs.declared.target.Target.{Target}
 
@@ -103,7 +103,7 @@ reaches_end held partial headers found t body aimed fits short = by_part t.part 
     by_part true reaches = reaches refl
     by_part false reaches = omega (arith, short)
 
--- ---- a look that was passed over
+-- ---- a lookup that was passed over
 
 last_bytes_looked : (target : Target) (count : ℕ) (e : FsError) (t : Target) → last_bytes target count (Err e) ≡ Ok t → target ≡ t
 last_bytes_looked target count fs_errors.NotFound t is = cc
@@ -126,7 +126,7 @@ first_looked true headers e t is = by_type (is_update (content_type_of headers))
     by_type true is = by_range (stated_length headers) (update_range_of headers) is
     by_type false is = absurd cc
 
--- what was found aims as the look did
+-- what was found aims as the lookup did
 pub aims_as_looked : (partial : Bool) (headers : Entries FieldValue) (looked : Result Meta FsError) (t : Target) → target_of partial headers looked ≡ Ok t → target_of partial headers (as_looked (result_ok looked)) ≡ Ok t
 aims_as_looked partial headers (Ok meta) t is = is
 aims_as_looked partial headers (Err e) t is =
@@ -151,18 +151,18 @@ same_verdict target body found old now fixed = ap (λ (f : Facts). body_verdict 
 
 -- ---- the rules together
 
-module _ (held : Bodies) (partial : Bool) (request : DavRequest) (state : State) (old mid new : Store) (looked : Result Meta FsError) (looks : Judges (look_closely state.contents request.path.key) old (Ok looked) mid) where
+module _ (held : Bodies) (partial : Bool) (request : DavRequest) (state : State) (old mid new : Store) (looked : Result Meta FsError) (looks : Judges (look_up_result state.contents request.path.key) old (Ok looked) mid) where
   -- the headers refuse it, by the exit of a `?`
   pub put_unaimed : (e : DavError) (verdict : Result (Option Meta) DavError) → IsErrAnd verdict (λ d. d ≡ e) → Err e ≡ target_of partial request.headers looked → Judges (put_rules held partial request state) old verdict mid
   put_unaimed e verdict exit is =
-      judges_then _ (look_closely state.contents request.path.key) old mid mid looked verdict looks
+      judges_then _ (look_up_result state.contents request.path.key) old mid mid looked verdict looks
       (judges_exit _ (judged (target_of partial request.headers looked)) mid mid e verdict exit (judges_known _ (Err e) mid (sym is)))
 
   module _ (target : Target) (aimed : Ok target ≡ target_of partial request.headers looked) where
     after_aim : (verdict : Result (Option Meta) DavError)
         → Judges (refusing closing (path_rules request state (result_ok looked)) >>= (λ found. judged (body_verdict held target request.body found))) mid verdict new → Judges (put_rules held partial request state) old verdict new
     after_aim verdict rest =
-        judges_then _ (look_closely state.contents request.path.key) old mid new looked verdict looks
+        judges_then _ (look_up_result state.contents request.path.key) old mid new looked verdict looks
         (judges_then _ (judged (target_of partial request.headers looked)) mid mid new target verdict (judges_known _ (Ok target) mid (sym aimed)) rest)
 
     -- a condition or a lock refuses it
@@ -178,8 +178,8 @@ module _ (held : Bodies) (partial : Bool) (request : DavRequest) (state : State)
         (judges_then _ (refusing closing (path_rules request state (result_ok looked))) mid new new found verdict rules
         (judges_known _ verdict new (sym is)))
 
--- what passes, told in another way, is what passed
-pub closed_found : (change : DavError → DavError) (verdict : Result (Option Meta) DavError) (found looked : Option Meta) → told_by change verdict ≡ Ok found → IfOk verdict (λ passed. passed ≡ looked) → found ≡ looked
+-- what passes, put in another way, is what passed
+pub closed_found : (change : DavError → DavError) (verdict : Result (Option Meta) DavError) (found looked : Option Meta) → map_error change verdict ≡ Ok found → IfOk verdict (λ passed. passed ≡ looked) → found ≡ looked
 closed_found change (Ok passed) found looked is same = let p : passed ≡ found = cc in sym p ∙ same
 closed_found change (Err e) found looked is same = absurd cc
 

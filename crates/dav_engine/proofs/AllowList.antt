@@ -13,7 +13,7 @@ use Rattle.dav_resource.specs.Methods.{contains_method}
 use Rattle.dav_resource.specs.declared.method.DavMethod.{DavMethod}
 use Rattle.dav_resource.specs.declared.method.DavMethod.TheVariants.{Head, Get, Put, Patch, Options, PropFind, PropPatch, MkCol, Copy, Move, Delete, Lock, Unlock}
 use Rattle.dav_resource.specs.declared.method.DavMethodSet.{DavMethodSet}
-use Rattle.dav_engine.specs.Options.{name_of, names_of, is_let, is_told}
+use Rattle.dav_engine.specs.Options.{name_of, names_of, is_let, is_offered}
 
 -- ---- the names
 
@@ -91,15 +91,15 @@ names-more test methods method = rw (filter-append test methods (method ∷ []),
     one true = refl
     one false = refl
 
--- ---- what is told
+-- ---- what is reported
 
 pub is_some-option_map : {X Y : Type 0} (f : X → Y) (o : Option X) → is_some (option_map f o) ≡ is_some o
 is_some-option_map f None = refl
 is_some-option_map f (Some x) = refl
 
--- those of the set, where the set has those that may be told
+-- those of the set, where the set has those that may be reported
 pub told_is : (set : DavMethodSet) (allow : Option DavMethodSet) (locks same_locks : Bool) (own : Option DavMethod) (methods found : List DavMethod)
-    → ((method : DavMethod) → contains_method set method ≡ is_told allow locks own method) → same_locks ≡ locks → methods ≡ found → filter (contains_method set) methods ≡ filter (is_told allow same_locks own) found
+    → ((method : DavMethod) → contains_method set method ≡ is_offered allow locks own method) → same_locks ≡ locks → methods ≡ found → filter (contains_method set) methods ≡ filter (is_offered allow same_locks own) found
 told_is set allow locks same_locks own methods found each same are =
-    let tests : contains_method set ≡ is_told allow locks own = fun_ext each in
-    ap (λ ms. filter (contains_method set) ms) are ∙ ap (λ test. filter test found) tests ∙ ap (λ l. filter (is_told allow l own) found) (sym same)
+    let tests : contains_method set ≡ is_offered allow locks own = fun_ext each in
+    ap (λ ms. filter (contains_method set) ms) are ∙ ap (λ test. filter test found) tests ∙ ap (λ l. filter (is_offered allow l own) found) (sym same)

@@ -14,9 +14,9 @@ use Rattle.dav_store.specs.Below.{is_at_or_below}
 use Rattle.dav_store.specs.Logged.{Logged}
 use Rattle.dav_store.specs.PropertyCalls.{Patch}
 use Rattle.dav_store.specs.declared.lock.DavLock.{DavLock}
-use Rattle.dav_parts.specs.Dialogue.{Passed, LeadsTo}
-use Rattle.dav_parts.specs.Multistatus.{Item}
-use Rattle.dav_parts.specs.Reply.{Answer}
+use Rattle.dav_messages.specs.Dialogue.{Passed, LeadsTo}
+use Rattle.dav_messages.specs.Multistatus.{Item}
+use Rattle.dav_messages.specs.Reply.{Answer}
 use Rattle.dav_walks.specs.CopyLaws.{whole_copy_in_part}
 use Rattle.dav_walks.specs.KeyCall.{standing}
 use Rattle.dav_walks.specs.RemovalLaws.{removes_within, whole_in_part}
@@ -75,7 +75,7 @@ step_keeps If of_rest method keeps settings request old new records answer lawfu
 step_keeps If of_rest method keeps settings request old new records answer lawful (Done h) key holds =
     keeps settings request h.found old new h.head h.rest answer lawful h.passed (inl h.work) key (of_rest settings request h.head h.rest key (subst (λ l. If settings request l key) h.cut holds))
 step_keeps If of_rest method keeps settings request old new records answer lawful (CutInWork h) key holds =
-    keeps settings request h.found old new h.head h.rest answer lawful h.passed (inr (h.told, h.work)) key (of_rest settings request h.head h.rest key (subst (λ l. If settings request l key) h.cut holds))
+    keeps settings request h.found old new h.head h.rest answer lawful h.passed (inr (h.answered, h.work)) key (of_rest settings request h.head h.rest key (subst (λ l. If settings request l key) h.cut holds))
 
 -- the request may not change what is at the key
 abbrev Outside : Option DavMethod → Condition
@@ -191,7 +191,7 @@ lock_keeps settings request found old new head records answer lawful passed (inl
         asked = lock_asked request found work.info
 
         by_end : GrantsLock request found asked old records answer new ⊎ DeniesLock asked old records answer new → standing new.contents key ≡ standing old.contents key
-        by_end (inl granted) = lock_stands request key records old.contents new.contents apart granted.tells.leaves
+        by_end (inl granted) = lock_stands request key records old.contents new.contents apart granted.answers.leaves
         by_end (inr denied) = same_state key old new denied.same
 lock_keeps settings request found old new head records answer lawful passed (inr cut) key apart = lock_cut (is_refresh settings.facts.bodies request.body) cut.1
   where
@@ -208,13 +208,13 @@ unrecorded_lock = unrecorded_at_path lock_method lock_keeps
 proppatch_keeps : Keeps ApartFromPath proppatch_method
 proppatch_keeps settings request found old new head records answer lawful passed done key apart = by_end done
   where
-    stands : (told : Result (List ℕ) FsError) (patches : List Patch) → MakesChanges settings.facts.keeps_properties request.path.key patches old.contents records told new.contents → standing new.contents key ≡ standing old.contents key
-    stands told patches made = patch_stands request.path.key key records old.contents new.contents apart settings.facts.keeps_properties patches told made
+    stands : (recorded : Result (List ℕ) FsError) (patches : List Patch) → MakesChanges settings.facts.keeps_properties request.path.key patches old.contents records recorded new.contents → standing new.contents key ≡ standing old.contents key
+    stands recorded patches made = patch_stands request.path.key key records old.contents new.contents apart settings.facts.keeps_properties patches recorded made
 
     by_end : proppatch_method.Work settings request found old records answer new ⊎ ((answer ≡ Err Memory) × proppatch_method.Cut settings request found old records new) → standing new.contents key ≡ standing old.contents key
-    by_end (inl work) = stands work.0.told _ work.0.stored
-    by_end (inr (told, (inl none, locks))) = same_standing key old.contents new.contents none.same
-    by_end (inr (told, (inr made, locks))) = stands (Ok made.0) _ made.1
+    by_end (inl work) = stands work.0.store_answer _ work.0.stored
+    by_end (inr (recorded, (inl none, locks))) = same_standing key old.contents new.contents none.same
+    by_end (inr (recorded, (inr made, locks))) = stands (Ok made.0) _ made.1
 
 pub elsewhere_proppatch : Elsewhere (Some methods.PropPatch) proppatch_method
 elsewhere_proppatch = elsewhere_at_path proppatch_method proppatch_keeps (Some methods.PropPatch) (λ settings request key. refl)

@@ -21,18 +21,18 @@ use Rattle.dav_store.specs.Store.{Contents, Bodies}
 use Rattle.dav_store.specs.Calls.{Call, IsLawful, error_of, record_of, open_call, create_dir_call}
 use Rattle.dav_store.specs.PropertyCalls.{Patch as Change}
 use Rattle.dav_store.specs.declared.lock.DavLock.{DavLock}
-use Rattle.dav_parts.specs.Dialogue.{Dialogue, Refuses, Passed, LeadsTo, WasGranted, needs}
-use Rattle.dav_parts.specs.Multistatus.{Item, multi_answer}
-use Rattle.dav_parts.specs.Reply.{Answer, Reply}
+use Rattle.dav_messages.specs.Dialogue.{Dialogue, Refuses, Passed, LeadsTo, WasGranted, needs}
+use Rattle.dav_messages.specs.Multistatus.{Item, multi_answer}
+use Rattle.dav_messages.specs.Reply.{Answer, Reply}
 use Rattle.dav_engine.specs.Causes.{write_error, call_error, HasCause}
-use Rattle.dav_engine.specs.Delete.{told_items}
-use Rattle.dav_engine.specs.Locking.{is_refresh, lock_asked, lock_open_error, file_steps, TakesBack, LockWorkBy, NewLockWork, GrantsLock, DeniesLock, RefreshWork, RefreshesTold, FindsNoLock}
+use Rattle.dav_engine.specs.Delete.{reported_items}
+use Rattle.dav_engine.specs.Locking.{is_refresh, lock_asked, lock_open_error, file_steps, TakesBack, LockWorkBy, NewLockWork, GrantsLock, DeniesLock, RefreshWork, RefreshesNamed, FindsNoLock}
 use Rattle.dav_engine.specs.Method.{Method, StepBy, Refused, Done, CutShort, CutInWork}
 use Rattle.dav_engine.specs.Methods.{mkcol_method, write_method, delete_method, copy_method, move_method, lock_method, unlock_method, proppatch_method, options_method, propfind_method}
 use Rattle.dav_engine.specs.Mkcol.{mkcol_error}
 use Rattle.dav_engine.specs.Opening.{making_options, open_error}
 use Rattle.dav_engine.specs.Proppatch.{MakesChanges}
-use Rattle.dav_engine.specs.Put.{on_file, look_by, new_bytes, put_options, put_open_error, put_seek, put_seek_error, put_steps, put_write}
+use Rattle.dav_engine.specs.Put.{on_file, look_up_by, new_bytes, put_options, put_open_error, put_seek, put_seek_error, put_steps, put_write}
 use Rattle.dav_engine.specs.Settings.{Settings}
 use Rattle.dav_engine.specs.State.{State, IsLawfulState, LocksStay}
 use Rattle.dav_engine.specs.Transferring.{transferred_items}
@@ -61,7 +61,7 @@ record Fails (call : Call) (error : FsError → DavError) (records : List Logged
   failed : error_of outcome ≡ Some cause
   lawful : IsLawful call.bar outcome
   is : records ≡ record_of call outcome ∷ []
-  told : e ≡ error cause
+  error_is : e ≡ error cause
 
 -- the call is granted, and what follows ends the request with the error
 record Follows {A : Type 0} (call : Call) (next : Dialogue A) (records : List Logged) (e : DavError) : Type 0 where
@@ -77,7 +77,7 @@ module _ {A : Type 0} (call : Call) (error : FsError → DavError) (next : Dialo
   fails_by : (r : Logged) (records : List Logged) (outcome : Outcome) (cause : FsError) → error_of outcome ≡ Some cause → r ≡ record_of call outcome → IsLawful call.bar outcome
       → (records ≡ []) × (e ≡ error cause) → Fails call error (r ∷ records) e
   fails_by r records outcome cause failed is lawful alone =
-      record { outcome = outcome; cause = cause; failed = failed; lawful = lawful; is = λ i. is i ∷ alone.0 i; told = alone.1 }
+      record { outcome = outcome; cause = cause; failed = failed; lawful = lawful; is = λ i. is i ∷ alone.0 i; error_is = alone.1 }
 
   needs_by : (r : Logged) (records : List Logged) (outcome : Outcome) → r ≡ record_of call outcome → IsLawful call.bar outcome
       → LeadsTo (met (needs call error next) outcome) records (Refuses (Err e)) → Fails call error (r ∷ records) e ⊎ Follows call next (r ∷ records) e
@@ -120,7 +120,7 @@ record EndsFailing (name : Option DavMethod) (request : DavRequest) (records : L
   last : records ≡ before ++ logged op (request.path.key ∷ []) outcome ∷ []
   cause : FsError
   failed : error_of outcome ≡ Some cause
-  told : call_error name request op cause ≡ Some e
+  error : call_error name request op cause ≡ Some e
   others : (other : Logged) → IsIn other before → other.outcome ≡ outcomes.Granted
 
 module _ (name : Option DavMethod) (request : DavRequest) (e : DavError) where
@@ -134,7 +134,7 @@ module _ (name : Option DavMethod) (request : DavRequest) (e : DavError) where
         last = fails.is ∙ ap (λ keys. logged call.op keys fails.outcome ∷ []) place;
         cause = fails.cause;
         failed = fails.failed;
-        told = tells fails.cause ∙ ap Some (sym fails.told);
+        error = tells fails.cause ∙ ap Some (sym fails.error_is);
         others = λ other i. absurd i;
       }
 
@@ -148,7 +148,7 @@ module _ (name : Option DavMethod) (request : DavRequest) (e : DavError) where
         last = ap (λ rs. record_of call outcomes.Granted ∷ rs) h.last;
         cause = h.cause;
         failed = h.failed;
-        told = h.told;
+        error = h.error;
         others = λ other i. by_place other i;
       }
     where
@@ -201,7 +201,7 @@ module _ {name : Option DavMethod} {request : DavRequest} {old : State} {records
         last = cut ∙ ap (λ rs. head ++ rs) h.last ∙ sym (append_assoc head h.before (logged h.op (request.path.key ∷ []) h.outcome ∷ []));
         cause = h.cause;
         failed = h.failed;
-        told = h.told;
+        error = h.error;
         others = λ other i. by_part other (in_either other head h.before i);
         contents = λ none. untouched (λ granted. none (subst (λ rs. WasGranted ops.OpenFile request.path.key rs) (sym cut) (granted_later ops.OpenFile request.path.key head rest granted)));
         locks = locks;
@@ -212,29 +212,29 @@ module _ {name : Option DavMethod} {request : DavRequest} {old : State} {records
       by_part other (inr i) = inr (h.others other i)
 
   caused_memory : {answer : Answer} → answer ≡ Err Memory → answer ≡ Err e → HasCause name request old records e new
-  caused_memory told is = let both : Err Memory ≡ Err e = sym told ∙ is in inr (inl (cc))
+  caused_memory recorded is = let both : Err Memory ≡ Err e = sym recorded ∙ is in inr (inl (cc))
 
 module _ {A : Type 0} {answer : Answer} {e : DavError} where
   -- a reply is no error
   no_error : (reply : Reply) → answer ≡ Ok reply → answer ≡ Err e → A
-  no_error reply told is = absurd (let both : Ok reply ≡ Err e = sym told ∙ is in cc)
+  no_error reply recorded is = absurd (let both : Ok reply ≡ Err e = sym recorded ∙ is in cc)
 
   -- nor is an answer with items
   no_items : (path : PathValue) (item : Item) (items : List Item) → answer ≡ multi_answer path (item ∷ items) → answer ≡ Err e → A
-  no_items path item [] told is = by_key (is_same_key path.key item.0.key) refl
+  no_items path item [] recorded is = by_key (is_same_key path.key item.0.key) refl
     where
       by_key : (b : Bool) → is_same_key path.key item.0.key ≡ b → A
-      by_key true same = no_error _ (rw same at told) is
-      by_key false same = no_error _ (rw same at told) is
-  no_items path item (next ∷ items) told is = no_error _ told is
+      by_key true same = no_error _ (rw same at recorded) is
+      by_key false same = no_error _ (rw same at recorded) is
+  no_items path item (next ∷ items) recorded is = no_error _ recorded is
 
-  deleted_no_error : (path : PathValue) (names : List Item) → answer ≡ multi_answer path (told_items path names) → answer ≡ Err e → A
-  deleted_no_error path [] told is = no_items path _ [] told is
-  deleted_no_error path (item ∷ names) told is = no_items path item names told is
+  deleted_no_error : (path : PathValue) (names : List Item) → answer ≡ multi_answer path (reported_items path names) → answer ≡ Err e → A
+  deleted_no_error path [] recorded is = no_items path _ [] recorded is
+  deleted_no_error path (item ∷ names) recorded is = no_items path item names recorded is
 
   transferred_no_error : (source : PathValue) (there : Option Meta) (names : List Item) → answer ≡ multi_answer source (transferred_items source there names) → answer ≡ Err e → A
-  transferred_no_error source there [] told is = no_items source _ [] told is
-  transferred_no_error source there (item ∷ names) told is = no_items source item names told is
+  transferred_no_error source there [] recorded is = no_items source _ [] recorded is
+  transferred_no_error source there (item ∷ names) recorded is = no_items source item names recorded is
 
 -- ---- a method that is not served
 
@@ -245,8 +245,8 @@ causes_same name request state = caused_same (λ call i. absurd i) refl
 
 pub causes_mkcol : Causes (Some MkCol) mkcol_method
 causes_mkcol settings request old new records answer lawful (Refused h) e is = caused_same (looks_led _ _ records (shallow_looks request old) h.head) h.same
-causes_mkcol settings request old new records answer lawful (CutShort h) e is = caused_memory h.told is
-causes_mkcol settings request old new records answer lawful (CutInWork h) e is = caused_memory h.told is
+causes_mkcol settings request old new records answer lawful (CutShort h) e is = caused_memory h.answered is
+causes_mkcol settings request old new records answer lawful (CutInWork h) e is = caused_memory h.answered is
 causes_mkcol settings request old new records answer lawful (Done h) e is = caused_by_call h.head h.rest h.cut (looks_led _ _ h.head (shallow_looks request old) h.passed) ends (λ none. unmade) (inl h.work.1)
   where
     ends : EndsFailing (Some MkCol) request h.rest e
@@ -284,9 +284,9 @@ module _ (partial : Bool) (request : DavRequest) (e : DavError) where
   abbrev WriteFails : List Logged → Type 0
   WriteFails records = EndsFailing (written_by partial) request records e
 
-  flush_ends : (meta : Option Meta) (records : List Logged) → LeadsTo (needs (on_file ops.Flush request.path.key) from_fs (look_by (on_file ops.FileMetadata request.path.key) meta)) records (Refuses (Err e)) → WriteFails records
+  flush_ends : (meta : Option Meta) (records : List Logged) → LeadsTo (needs (on_file ops.Flush request.path.key) from_fs (look_up_by (on_file ops.FileMetadata request.path.key) meta)) records (Refuses (Err e)) → WriteFails records
   flush_ends meta =
-      needed_ends (written_by partial) request e (on_file ops.Flush request.path.key) from_fs (look_by (on_file ops.FileMetadata request.path.key) meta) refl (tells_write partial request ops.Flush)
+      needed_ends (written_by partial) request e (on_file ops.Flush request.path.key) from_fs (look_up_by (on_file ops.FileMetadata request.path.key) meta) refl (tells_write partial request ops.Flush)
       (λ rest leads. absurd (never (on_file ops.FileMetadata request.path.key) meta rest e leads))
 
   write_ends : {A : Type 0} (bytes : List ℕ) (next : Dialogue A) → ((rest : List Logged) → LeadsTo next rest (Refuses (Err e)) → WriteFails rest)
@@ -304,7 +304,7 @@ module _ (partial : Bool) (request : DavRequest) (e : DavError) where
     opening = open_call old request.path.key (put_options request target)
 
     abbrev last_steps : Dialogue (Option Meta)
-    last_steps = needs (on_file ops.Flush request.path.key) from_fs (look_by (on_file ops.FileMetadata request.path.key) meta)
+    last_steps = needs (on_file ops.Flush request.path.key) from_fs (look_up_by (on_file ops.FileMetadata request.path.key) meta)
 
     abbrev write_steps : Dialogue (Option Meta)
     write_steps = put_write (new_bytes held request.body) request.path.key last_steps
@@ -320,8 +320,8 @@ module _ (partial : Bool) (request : DavRequest) (e : DavError) where
 
 pub causes_put : (partial : Bool) → Causes (Some (if partial then Patch else Put)) (write_method partial)
 causes_put partial settings request old new records answer lawful (Refused h) e is = caused_same (looks_led _ _ records (put_looks request old settings.facts.bodies partial) h.head) h.same
-causes_put partial settings request old new records answer lawful (CutShort h) e is = caused_memory h.told is
-causes_put partial settings request old new records answer lawful (CutInWork h) e is = caused_memory h.told is
+causes_put partial settings request old new records answer lawful (CutShort h) e is = caused_memory h.answered is
+causes_put partial settings request old new records answer lawful (CutInWork h) e is = caused_memory h.answered is
 causes_put partial settings request old new records answer lawful (Done h) e is =
     caused_by_call h.head h.rest h.cut (looks_led _ _ h.head (put_looks request old settings.facts.bodies partial) h.passed)
     (put_ends partial request e settings.facts.bodies h.work.0.target old.contents (new.contents.metas request.path.key) h.rest (rw is at h.work.0.answered)) h.work.0.leaves.untouched (inl h.work.1)
@@ -330,20 +330,20 @@ causes_put partial settings request old new records answer lawful (Done h) e is 
 
 pub causes_delete : Causes (Some Delete) delete_method
 causes_delete settings request old new records answer lawful (Refused h) e is = caused_same (looks_led _ _ records (delete_looks request old) h.head) h.same
-causes_delete settings request old new records answer lawful (CutShort h) e is = caused_memory h.told is
-causes_delete settings request old new records answer lawful (CutInWork h) e is = caused_memory h.told is
+causes_delete settings request old new records answer lawful (CutShort h) e is = caused_memory h.answered is
+causes_delete settings request old new records answer lawful (CutInWork h) e is = caused_memory h.answered is
 causes_delete settings request old new records answer lawful (Done h) e is = deleted_no_error _ h.work.names h.work.answered is
 
 pub causes_copy : Causes (Some Copy) copy_method
 causes_copy settings request old new records answer lawful (Refused h) e is = caused_same (looks_led _ _ records (transfer_looks request old false settings) h.head) h.same
-causes_copy settings request old new records answer lawful (CutShort h) e is = caused_memory h.told is
-causes_copy settings request old new records answer lawful (CutInWork h) e is = caused_memory h.told is
+causes_copy settings request old new records answer lawful (CutShort h) e is = caused_memory h.answered is
+causes_copy settings request old new records answer lawful (CutInWork h) e is = caused_memory h.answered is
 causes_copy settings request old new records answer lawful (Done h) e is = transferred_no_error _ _ h.work.names h.work.answered is
 
 pub causes_move : Causes (Some Move) move_method
 causes_move settings request old new records answer lawful (Refused h) e is = caused_same (looks_led _ _ records (transfer_looks request old true settings) h.head) h.same
-causes_move settings request old new records answer lawful (CutShort h) e is = caused_memory h.told is
-causes_move settings request old new records answer lawful (CutInWork h) e is = caused_memory h.told is
+causes_move settings request old new records answer lawful (CutShort h) e is = caused_memory h.answered is
+causes_move settings request old new records answer lawful (CutInWork h) e is = caused_memory h.answered is
 causes_move settings request old new records answer lawful (Done h) e is = transferred_no_error _ _ h.work.names h.work.answered is
 
 -- ---- LOCK and UNLOCK
@@ -368,7 +368,7 @@ module _ (request : DavRequest) (old : State) (head rest : List Logged) (answer 
 
   granted_caused : (found : Option Meta) (lock : DavLock) → GrantsLock request found lock old rest answer new → LockCaused
   granted_caused found lock g =
-      caused_by_call head rest refl lookups (file_ends found (rw is at g.tells.answered)) (λ none. no_file request found rest old.contents new.contents e (rw is at g.tells.answered) g.tells.leaves)
+      caused_by_call head rest refl lookups (file_ends found (rw is at g.answers.answered)) (λ none. no_file request found rest old.contents new.contents e (rw is at g.answers.answered) g.answers.leaves)
       (taken_back lock (rw is at g.locks))
 
   new_lock_caused : (found : Option Meta) → NewLockWork request found old rest answer new → LockCaused
@@ -381,8 +381,8 @@ module _ (request : DavRequest) (old : State) (head rest : List Logged) (answer 
   refresh_caused : (found : Option Meta) → RefreshWork request found old rest answer new → LockCaused
   refresh_caused found work = by_done work.done
     where
-      by_done : RefreshesTold request found work.token old answer new ⊎ FindsNoLock request work.token old answer new → LockCaused
-      by_done (inl r) = no_error _ r.told is
+      by_done : RefreshesNamed request found work.token old answer new ⊎ FindsNoLock request work.token old answer new → LockCaused
+      by_done (inl r) = no_error _ r.answered is
       by_done (inr n) = rejected work.none work.same n.locks
 
   lock_work_caused : (refresh : Bool) (found : Option Meta) → LockWorkBy refresh request found old rest answer new → LockCaused
@@ -391,34 +391,34 @@ module _ (request : DavRequest) (old : State) (head rest : List Logged) (answer 
 
 pub causes_lock : Causes (Some Lock) lock_method
 causes_lock settings request old new records answer lawful (Refused h) e is = caused_same (looks_led _ _ records (lock_looks request old settings.facts.bodies) h.head) h.same
-causes_lock settings request old new records answer lawful (CutShort h) e is = caused_memory h.told is
-causes_lock settings request old new records answer lawful (CutInWork h) e is = caused_memory h.told is
+causes_lock settings request old new records answer lawful (CutShort h) e is = caused_memory h.answered is
+causes_lock settings request old new records answer lawful (CutInWork h) e is = caused_memory h.answered is
 causes_lock settings request old new records answer lawful (Done h) e is =
     rw (h.cut) (lock_work_caused request old h.head h.rest answer new e is (looks_led _ _ h.head (lock_looks request old settings.facts.bodies) h.passed) (is_refresh settings.facts.bodies request.body) h.found h.work)
 
 pub causes_unlock : Causes (Some Unlock) unlock_method
 causes_unlock settings request old new records answer lawful (Refused h) e is = caused_same (looks_led _ _ records (unlock_looks request old) h.head) h.same
-causes_unlock settings request old new records answer lawful (CutShort h) e is = caused_memory h.told is
-causes_unlock settings request old new records answer lawful (CutInWork h) e is = caused_memory h.told is
+causes_unlock settings request old new records answer lawful (CutShort h) e is = caused_memory h.answered is
+causes_unlock settings request old new records answer lawful (CutInWork h) e is = caused_memory h.answered is
 causes_unlock settings request old new records answer lawful (Done h) e is = by_done h.work.done
   where
     lookups : AreLookups records
     lookups = subst (λ rs. AreLookups rs) (sym (h.cut ∙ ap (λ rs. h.head ++ rs) h.work.none ∙ append-nil h.head)) (looks_led _ _ h.head (unlock_looks request old) h.passed)
 
     by_done : Unlocks request h.found h.work.token old answer new ⊎ UnlocksNothing request h.work.token old answer new → HasCause (Some Unlock) request old records e new
-    by_done (inl u) = no_error _ u.told is
+    by_done (inl u) = no_error _ u.answered is
     by_done (inr n) = caused_still lookups h.work.same n.locks
 
 -- ---- PROPPATCH, OPTIONS and PROPFIND
 
 -- the call of a PROPPATCH fails, which makes no change
-patch_ends : (keeps : Bool) (request : DavRequest) (patches : List Change) (old : Contents) (records : List Logged) (told : Result (List ℕ) FsError) (new : Contents)
-    → MakesChanges keeps request.path.key patches old records told new → (cause : FsError) → told ≡ Err cause
+patch_ends : (keeps : Bool) (request : DavRequest) (patches : List Change) (old : Contents) (records : List Logged) (recorded : Result (List ℕ) FsError) (new : Contents)
+    → MakesChanges keeps request.path.key patches old records recorded new → (cause : FsError) → recorded ≡ Err cause
     → EndsFailing (Some PropPatch) request records (from_fs cause) × (new ≡ old)
-patch_ends keeps request [] old records told new h cause is = absurd (let both : Ok _ ≡ Err cause = sym h.told_none ∙ is in cc)
-patch_ends keeps request (patch ∷ patches) old records told new (inl all) cause is = absurd (let both : Ok _ ≡ Err cause = sym all.told_all ∙ is in cc)
-patch_ends keeps request (patch ∷ patches) old records told new (inr (inl none)) cause is = absurd (let both : Ok _ ≡ Err cause = sym none.told_each ∙ is in cc)
-patch_ends keeps request (patch ∷ patches) old records told new (inr (inr refused)) cause is = (
+patch_ends keeps request [] old records recorded new h cause is = absurd (let both : Ok _ ≡ Err cause = sym h.returns_none ∙ is in cc)
+patch_ends keeps request (patch ∷ patches) old records recorded new (inl all) cause is = absurd (let both : Ok _ ≡ Err cause = sym all.returns_all ∙ is in cc)
+patch_ends keeps request (patch ∷ patches) old records recorded new (inr (inl none)) cause is = absurd (let both : Ok _ ≡ Err cause = sym none.returns_each ∙ is in cc)
+patch_ends keeps request (patch ∷ patches) old records recorded new (inr (inr refused)) cause is = (
   record {
     before = [];
     op = ops.PatchProps;
@@ -426,7 +426,7 @@ patch_ends keeps request (patch ∷ patches) old records told new (inr (inr refu
     last = refused.called;
     cause = refused.error;
     failed = refused.cause;
-    told = (let both : Err refused.error ≡ Err cause = sym refused.told_error ∙ is in let same : refused.error ≡ cause = cc in λ i. Some (from_fs (same i)));
+    error = (let both : Err refused.error ≡ Err cause = sym refused.returns_error ∙ is in let same : refused.error ≡ cause = cc in λ i. Some (from_fs (same i)));
     others = λ other i. absurd i;
   },
   refused.same,
@@ -434,28 +434,28 @@ patch_ends keeps request (patch ∷ patches) old records told new (inr (inr refu
 
 pub causes_proppatch : Causes (Some PropPatch) proppatch_method
 causes_proppatch settings request old new records answer lawful (Refused h) e is = caused_same (looks_led _ _ records (proppatch_looks request old settings.facts.keeps_properties) h.head) h.same
-causes_proppatch settings request old new records answer lawful (CutShort h) e is = caused_memory h.told is
-causes_proppatch settings request old new records answer lawful (CutInWork h) e is = caused_memory h.told is
-causes_proppatch settings request old new records answer lawful (Done h) e is = by_told h.work.0.told refl
+causes_proppatch settings request old new records answer lawful (CutShort h) e is = caused_memory h.answered is
+causes_proppatch settings request old new records answer lawful (CutInWork h) e is = caused_memory h.answered is
+causes_proppatch settings request old new records answer lawful (Done h) e is = by_reported h.work.0.store_answer refl
   where
-    by_told : (told : Result (List ℕ) FsError) → h.work.0.told ≡ told → HasCause (Some PropPatch) request old records e new
-    by_told (Ok statuses) same = no_error _ (rw same at h.work.0.answered) is
-    by_told (Err cause) same =
-        let ends = patch_ends settings.facts.keeps_properties request _ old.contents h.rest h.work.0.told new.contents h.work.0.stored cause same in
-        let told : answer ≡ Err (from_fs cause) = rw same at h.work.0.answered in
-        let both : Err (from_fs cause) ≡ Err e = sym told ∙ is in
+    by_reported : (recorded : Result (List ℕ) FsError) → h.work.0.store_answer ≡ recorded → HasCause (Some PropPatch) request old records e new
+    by_reported (Ok statuses) same = no_error _ (rw same at h.work.0.answered) is
+    by_reported (Err cause) same =
+        let ends = patch_ends settings.facts.keeps_properties request _ old.contents h.rest h.work.0.store_answer new.contents h.work.0.stored cause same in
+        let recorded : answer ≡ Err (from_fs cause) = rw same at h.work.0.answered in
+        let both : Err (from_fs cause) ≡ Err e = sym recorded ∙ is in
         let by : from_fs cause ≡ e = cc in
         caused_by_call h.head h.rest h.cut (looks_led _ _ h.head (proppatch_looks request old settings.facts.keeps_properties) h.passed)
         (subst (λ d. EndsFailing (Some PropPatch) request h.rest d) by ends.0) (λ none. ends.1) (inl h.work.1)
 
 pub causes_options : Causes (Some Options) options_method
 causes_options settings request old new records answer lawful (Refused h) e is = caused_same (looks_led _ _ records (options_looks request old) h.head) h.same
-causes_options settings request old new records answer lawful (CutShort h) e is = caused_memory h.told is
-causes_options settings request old new records answer lawful (CutInWork h) e is = caused_memory h.told is
-causes_options settings request old new records answer lawful (Done h) e is = no_error _ h.work.told is
+causes_options settings request old new records answer lawful (CutShort h) e is = caused_memory h.answered is
+causes_options settings request old new records answer lawful (CutInWork h) e is = caused_memory h.answered is
+causes_options settings request old new records answer lawful (Done h) e is = no_error _ h.work.answered is
 
 pub causes_propfind : Causes (Some PropFind) propfind_method
 causes_propfind settings request old new records answer lawful (Refused h) e is = caused_same (looks_led _ _ records (propfind_looks request old settings.facts.bodies) h.head) h.same
-causes_propfind settings request old new records answer lawful (CutShort h) e is = caused_memory h.told is
-causes_propfind settings request old new records answer lawful (CutInWork h) e is = caused_memory h.told is
+causes_propfind settings request old new records answer lawful (CutShort h) e is = caused_memory h.answered is
+causes_propfind settings request old new records answer lawful (CutInWork h) e is = caused_memory h.answered is
 causes_propfind settings request old new records answer lawful (Done h) e is = no_error _ h.work.answered is

@@ -9,8 +9,8 @@ use Rattle.dav_store.specs.Logged.{Logged}
 use Rattle.dav_store.specs.Locks.{grants, AreCompatible}
 use Rattle.dav_store.specs.LockLaws.{compatible_granted, compatible_without, compatible_with_refreshed, compatible_elsewhere}
 use Rattle.dav_store.specs.declared.lock.DavLock.{DavLock}
-use Rattle.dav_parts.specs.Multistatus.{Item}
-use Rattle.dav_parts.specs.Reply.{Answer}
+use Rattle.dav_messages.specs.Multistatus.{Item}
+use Rattle.dav_messages.specs.Reply.{Answer}
 use Rattle.dav_engine.specs.State.{State, LocksStay, DropsLocks, IsCompatible}
 use Rattle.dav_engine.specs.Delete.{LeavesLocks}
 use Rattle.dav_engine.specs.Transferring.{ClearsIf, ClearsInPart, UnlessNamed, Replaces, ReplacesInPart, source_path}
@@ -18,7 +18,7 @@ use Rattle.dav_resource.specs.declared.request.Depth.{Depth}
 use Rattle.dav_engine.specs.Copy.{replaced, CopiesSource, CopiesSourceInPart, CopyWork, CopyCut}
 use Rattle.dav_engine.specs.Move.{MovesSource, MovesInPart, MoveWork, MoveCut}
 use Rattle.dav_engine.specs.declared.transfer.Transfer.{Transfer}
-use Rattle.dav_engine.specs.Locking.{is_refresh, lock_asked, AddsToLocks, TakesBack, LeavesLock, GrantsLock, DeniesLock, RefreshesAlone, RefreshesTold, FindsNoLock, LockWorkBy, LockCutBy}
+use Rattle.dav_engine.specs.Locking.{is_refresh, lock_asked, AddsToLocks, TakesBack, LeavesLock, GrantsLock, DeniesLock, RefreshesAlone, RefreshesNamed, FindsNoLock, LockWorkBy, LockCutBy}
 use Rattle.dav_engine.specs.Unlocking.{Unlocks, UnlocksNothing}
 use Rattle.dav_engine.specs.Rules.{depth_or_all, fixed_path}
 use Rattle.dav_walks.specs.Deletion.{Removes}
@@ -73,8 +73,8 @@ module _ (request : DavRequest) (found : Option Meta) (old new : State) (records
   locked : (refresh : Bool) → LockWorkBy refresh request found old records answer new → IsCompatible old → IsCompatible new
   locked true work h = by_end work.done
     where
-      by_end : RefreshesTold request found work.token old answer new ⊎ FindsNoLock request work.token old answer new → IsCompatible new
-      by_end (inl told) = refreshed request work.token old new told.locks h
+      by_end : RefreshesNamed request found work.token old answer new ⊎ FindsNoLock request work.token old answer new → IsCompatible new
+      by_end (inl recorded) = refreshed request work.token old new recorded.locks h
       by_end (inr none) = stay old new none.locks h
   locked false work h = by_end work.done
     where
@@ -126,16 +126,16 @@ cleared_in_part false destination old new records none h = compatible_same old n
 module _ (there : Bool) (destination : PathValue) (old new : State) (records : List Logged) where
   replaces : (Follows : State → List Logged → List Item → State → Type 0) (names : List Item) → Replaces Follows there destination old records names new
       → ((mid : State) (rest : List Logged) → Follows mid rest names new → IsCompatible mid → IsCompatible new) → IsCompatible old → IsCompatible new
-  replaces Follows names w further h = by_kept w.kept w.follows (cleared there destination old w.mid w.head w.kept w.cleared h)
+  replaces Follows names w further h = by_left w.left w.follows (cleared there destination old w.between w.removal w.left w.cleared h)
     where
-      by_kept : (kept : List Item) → UnlessNamed Follows kept w.mid w.rest names new → IsCompatible w.mid → IsCompatible new
-      by_kept [] follows mid = further w.mid w.rest follows mid
-      by_kept (item ∷ kept) follows mid = compatible_same w.mid new follows.2 mid
+      by_left : (kept : List Item) → UnlessNamed Follows kept w.between w.after names new → IsCompatible w.between → IsCompatible new
+      by_left [] follows mid = further w.between w.after follows mid
+      by_left (item ∷ kept) follows mid = compatible_same w.between new follows.2 mid
 
   replaces_in_part : (Part : State → List Logged → State → Type 0) → ReplacesInPart Part there destination old records new
       → ((mid : State) (rest : List Logged) → Part mid rest new → IsCompatible mid → IsCompatible new) → IsCompatible old → IsCompatible new
   replaces_in_part Part (inl part) further h = cleared_in_part there destination old new records part h
-  replaces_in_part Part (inr more) further h = further more.mid more.rest more.part (cleared there destination old more.mid more.head [] more.cleared h)
+  replaces_in_part Part (inr more) further h = further more.between more.after more.part (cleared there destination old more.between more.removal [] more.cleared h)
 
 module _ (request : DavRequest) (found : Transfer) (old new : State) (records : List Logged) where
   abbrev source : PathValue

@@ -12,14 +12,14 @@ use Rattle.dav_store.specs.Below.{is_at_or_below}
 use Rattle.dav_store.specs.BelowLaws.{at_or_below-append}
 use Rattle.dav_store.specs.Logged.{Logged}
 use Rattle.dav_store.specs.Store.{IsWellFormed}
-use Rattle.dav_parts.specs.Multistatus.{Item}
+use Rattle.dav_messages.specs.Multistatus.{Item}
 use Rattle.dav_walks.specs.Copying.{HasRoom}
 use Rattle.dav_walks.specs.Copied.{Copying, CopiesOrStops}
 use Rattle.dav_walks.specs.CopyLaws.{whole_copy_in_part, copies_within}
 use Rattle.dav_walks.specs.KeyCall.{standing}
 use Rattle.dav_engine.specs.State.{State, Seen, state_of}
-use Rattle.dav_engine.specs.Rules.{depth_or_all, is_directory}
-use Rattle.dav_engine.specs.Transferring.{is_deep, ClearsIf, Names, NamesBy, source_path}
+use Rattle.dav_engine.specs.Rules.{depth_or_all, is_directory, is_deep}
+use Rattle.dav_engine.specs.Transferring.{ClearsIf, Names, NamesBy, source_path}
 use Rattle.dav_engine.specs.Copy.{replaced, MayCopy, CopiesSource, CopiesSourceInPart, Copies, CopiesSoFar, CopyCut}
 use Rattle.dav_engine.specs.declared.transfer.Transfer.{Transfer}
 use Rattle.dav_engine.proofs.Deleting.{same_facts, same_locks}
@@ -30,7 +30,7 @@ use Rattle.dav_engine.proofs.Replacing.{apart_below, parent_apart, fits_some, cl
 module _ (depth : Depth) (source destination : PathValue) (old mid : Seen) (had has : List Item) where
   pub source_copied : (answer : Result (Unit {0}) DavError) → Copying depth source destination destination.key old.store mid.store had has answer → mid.locks ≡ old.locks
       → Names (CopiesSource depth source destination) (CopiesSourceInPart depth source destination) old had has answer mid
-  source_copied answer h locks = record { records = h.records; told = h.told; fixed = same_facts old mid h.fixed locks; done = by_end h.done }
+  source_copied answer h locks = record { records = h.records; recorded = h.recorded; fixed = same_facts old mid h.fixed locks; done = by_end h.done }
     where
       by_end : CopiesOrStops depth source destination destination.key old.store.contents mid.store.contents h.records had has answer
           → NamesBy (CopiesSource depth source destination) (CopiesSourceInPart depth source destination) (state_of old) h.records had has answer (state_of mid)

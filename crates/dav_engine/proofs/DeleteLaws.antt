@@ -21,14 +21,14 @@ use Rattle.dav_store.specs.Members.{IsIn, member, members, remove_dir_bar, IsRem
 use Rattle.dav_store.specs.Store.{Contents, Node, File, Directory, IsWellFormed}
 use Rattle.dav_store.specs.Locks.{is_at_or_below, at_or_below, elsewhere}
 use Rattle.dav_store.specs.declared.lock.DavLock.{DavLock}
-use Rattle.dav_parts.specs.Conditions.{conditions}
-use Rattle.dav_parts.specs.Multistatus.{Item, multi_answer, multistatus_reply}
-use Rattle.dav_parts.specs.Reply.{Answer, bare_reply}
+use Rattle.dav_messages.specs.Conditions.{conditions}
+use Rattle.dav_messages.specs.Multistatus.{Item, multi_answer, multistatus_reply}
+use Rattle.dav_messages.specs.Reply.{Answer, bare_reply}
 use Rattle.dav_walks.specs.Deletion.{Removes, RemovesAlone, removal_call}
 use Rattle.dav_walks.specs.ClearedLaws.{path_gone, clean_leaves_nothing, names_refused}
 use Rattle.dav_engine.specs.State.{State, LocksStay, DropsLocks, IsLawfulState}
-use Rattle.dav_engine.specs.Rules.{judged, told_by_look, must_find, is_permitted, depth_or_all, depth_verdict, fixed_path}
-use Rattle.dav_engine.specs.Delete.{delete_rules, told_items, LeavesLocks, DeleteWork, DeleteCut}
+use Rattle.dav_engine.specs.Rules.{judged, lookup_result, must_find, is_permitted, depth_or_all, depth_verdict, fixed_path}
+use Rattle.dav_engine.specs.Delete.{delete_rules, reported_items, LeavesLocks, DeleteWork, DeleteCut}
 use Rattle.dav_engine.specs.Laws.{IsNoContent, IsEmptied, IsUnlocked, EmptiesPath, IsGoneWithLocks, KeepsLocksUnlessGone}
 use Rattle.dav_engine.specs.Settings.{Settings}
 use Rattle.dav_engine.specs.Method.{StepBy, Refused, Done, CutShort, CutInWork}
@@ -54,7 +54,7 @@ kind_of_refusal e = λ is. refusal_tells e (sym (from_fs_status e) ∙ is)
 errs_delete : (request : DavRequest) (state : State) → RefusesBy Kind (delete_rules request state)
 errs_delete request state =
     errs_then Kind (judged (depth_verdict (depth_or_all request))) _ (errs_depth Kind kind_of_status (depth_or_all request))
-    (λ _. errs_then Kind (must_find state.contents request.path.key) _ (λ outcome. errs_told Kind kind_of_refusal (told_by_look outcome (state.contents.metas request.path.key)))
+    (λ _. errs_then Kind (must_find state.contents request.path.key) _ (λ outcome. errs_told Kind kind_of_refusal (lookup_result outcome (state.contents.metas request.path.key)))
     (λ meta. errs_then Kind (conditions state.contents state.locks request (Some meta) request.path) _ (errs_conditions Kind kind_of_status state.contents state.locks request (Some meta) request.path)
     (λ _. errs_permitted Kind kind_of_status 423 (omega arith) (is_permitted request state request.path.key true) meta)))
 
@@ -62,16 +62,16 @@ errs_delete request state =
 
 -- nor has a want of memory
 memory_tells : (answer : Answer) → answer ≡ Err Memory → IsNoContent answer → ⊥
-memory_tells answer memory told = let is : 507 ≡ 204 = subst IsNoContent memory told in omega (arith, is)
+memory_tells answer memory recorded = let is : 507 ≡ 204 = subst IsNoContent memory recorded in omega (arith, is)
 
 -- a reply that names something is no 204
 named_tells : (path : PathValue) (item : Item) (names : List Item) → item.1 ≢ 204 → IsNoContent (multi_answer path (item ∷ names)) → ⊥
 named_tells path item [] other = by_key (is_same_key path.key item.0.key)
   where
     by_key : (b : Bool) → IsNoContent (if b then Ok (bare_reply item.1 []) else Ok (multistatus_reply (item ∷ []))) → ⊥
-    by_key true told = other told
-    by_key false told = omega (arith, told)
-named_tells path item (next ∷ names) other = λ told. omega (arith, told)
+    by_key true recorded = other recorded
+    by_key false recorded = omega (arith, recorded)
+named_tells path item (next ∷ names) other = λ recorded. omega (arith, recorded)
 
 -- where nothing is named it is one
 clean_tells : (path : PathValue) → IsNoContent (multi_answer path ((path, 204) ∷ []))
@@ -166,30 +166,30 @@ module _ (request : DavRequest) (old : State) (formed : IsWellFormed old.content
     work_settles : DeleteWork request meta old records answer new → IsSettled request old answer new
     work_settles work = by_names work.names work.removed work.locks work.answered
       where
-        by_names : (names : List Item) → RemovesAs names → LeavesLocks names request.path old new → answer ≡ multi_answer path (told_items path names) → IsSettled request old answer new
-        by_names [] removed dropped answered = inr (record { told = inl (subst IsNoContent (sym answered) (clean_tells path)); emptied = emptied removed; locks = dropped })
+        by_names : (names : List Item) → RemovesAs names → LeavesLocks names request.path old new → answer ≡ multi_answer path (reported_items path names) → IsSettled request old answer new
+        by_names [] removed dropped answered = inr (record { answered = inl (subst IsNoContent (sym answered) (clean_tells path)); emptied = emptied removed; locks = dropped })
         by_names (item ∷ names) removed same answered =
             let refusal = names_refused (depth_or_all request) path old.contents new.contents records (item ∷ names) removed item (inl refl) in
-            inl (same, λ told. named_tells path item names (λ is. refusal_tells refusal.0 (refusal.1 ∙ is)) (subst IsNoContent answered told))
+            inl (same, λ recorded. named_tells path item names (λ is. refusal_tells refusal.0 (refusal.1 ∙ is)) (subst IsNoContent answered recorded))
 
     cut_settles : answer ≡ Err Memory → DeleteCut request meta old records new → IsSettled request old answer new
     cut_settles memory cut = by_locks cut.locks
       where
         by_locks : LocksStay old new ⊎ (RemovesAs [] × DropsLocks request.path.key old new) → IsSettled request old answer new
         by_locks (inl same) = inl (same, memory_tells answer memory)
-        by_locks (inr gone) = inr (record { told = inr memory; emptied = emptied gone.0; locks = gone.1 })
+        by_locks (inr gone) = inr (record { answered = inr memory; emptied = emptied gone.0; locks = gone.1 })
 
   step_settles : (settings : Settings) (records : List Logged) → StepBy delete_method settings request old records answer new → IsSettled request old answer new
   step_settles settings records (Refused h) =
       let refused = errs_led Kind (delete_rules request old) records answer (errs_delete request old) h.head in
-      inl (ap (λ (s : State). s.locks) h.same, λ told. refused.2 (subst IsNoContent refused.1 told))
+      inl (ap (λ (s : State). s.locks) h.same, λ recorded. refused.2 (subst IsNoContent refused.1 recorded))
   step_settles settings records (Done h) = work_settles h.found h.rest h.work
-  step_settles settings records (CutShort h) = inl (ap (λ (s : State). s.locks) h.same, memory_tells answer h.told)
-  step_settles settings records (CutInWork h) = cut_settles h.found h.rest h.told h.work
+  step_settles settings records (CutShort h) = inl (ap (λ (s : State). s.locks) h.same, memory_tells answer h.answered)
+  step_settles settings records (CutInWork h) = cut_settles h.found h.rest h.answered h.work
 
   settled_empties : IsSettled request old answer new → EmptiesPath request old answer new
-  settled_empties (inl kept) told = absurd (kept.1 told)
-  settled_empties (inr gone) told = (gone.emptied, unlocked request old new gone.locks)
+  settled_empties (inl kept) recorded = absurd (kept.1 recorded)
+  settled_empties (inr gone) recorded = (gone.emptied, unlocked request old new gone.locks)
 
   settled_keeps : IsSettled request old answer new → KeepsLocksUnlessGone request old answer new
   settled_keeps (inl kept) = inl kept.0

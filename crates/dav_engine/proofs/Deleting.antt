@@ -20,16 +20,16 @@ use Rattle.dav_resource.specs.declared.request.DavRequest.{DavRequest}
 use Rattle.dav_store.specs.Store.{Store}
 use Rattle.dav_store.specs.Calls.{Grants, Declines, IsLawful, IsMetaAt, metadata_call, record_of, error_of}
 use Rattle.dav_store.specs.Locks.{Locks, all_reliable}
-use Rattle.dav_parts.specs.Dialogue.{Passed, Refuses, LeadsTo, Judges}
-use Rattle.dav_parts.specs.Conditions.{conditions}
-use Rattle.dav_parts.specs.Dialogues.{judges_exit, judges_then, judges_pure, judges_if}
-use Rattle.dav_parts.specs.Multistatus.{Item, multi_answer}
-use Rattle.dav_parts.specs.Reply.{reply_of, Answer, answer_of}
-use Rattle.dav_walks.specs.Deletion.{Removes, RemovesInPart, Removal, RemovesOrStops, told_by_names}
+use Rattle.dav_messages.specs.Dialogue.{Passed, Refuses, LeadsTo, Judges}
+use Rattle.dav_messages.specs.Conditions.{conditions}
+use Rattle.dav_messages.specs.Dialogues.{judges_exit, judges_then, judges_pure, judges_if}
+use Rattle.dav_messages.specs.Multistatus.{Item, multi_answer}
+use Rattle.dav_messages.specs.Reply.{reply_of, Answer, answer_of}
+use Rattle.dav_walks.specs.Deletion.{Removes, RemovesInPart, Removal, RemovesOrStops, first_failure}
 use Rattle.dav_walks.specs.RemovalLaws.{nothing_removed, whole_in_part}
 use Rattle.dav_engine.specs.State.{State, Seen, state_of, facts_of, LocksStay, DropsLocks, DropsSeen}
-use Rattle.dav_engine.specs.Rules.{judged, told_by_look, or_refused, must_find, is_permitted, depth_or_all, depth_verdict, fixed_path}
-use Rattle.dav_engine.specs.Delete.{delete_rules, told_items, LeavesLocks, DeleteWork, DeleteCut}
+use Rattle.dav_engine.specs.Rules.{judged, lookup_result, or_refused, must_find, is_permitted, depth_or_all, depth_verdict, fixed_path}
+use Rattle.dav_engine.specs.Delete.{delete_rules, reported_items, LeavesLocks, DeleteWork, DeleteCut}
 use Rattle.dav_engine.specs.Work.{Performs}
 
 -- ---- the rules
@@ -42,21 +42,21 @@ judges_verdict (Err e) store = judges_pure (Refuses (Err e)) store (Err e) (inl 
 pub judges_known : {A : Type 0} (verdict known : Result A DavError) (store : Store) → verdict ≡ known → Judges (judged verdict) store known store
 judges_known verdict known store is = subst (λ v. Judges (judged verdict) store v store) is (judges_verdict verdict store)
 
--- a look whose refusal refuses the request
+-- a lookup whose refusal refuses the request
 pub finds : (key : Key) (meta : Meta) (old new : Store) → Grants (metadata_call old.contents key) (IsMetaAt key meta) old new → Judges (must_find old.contents key) old (Ok meta) new
 finds key meta old new h = record {
   records = record_of (metadata_call old.contents key) outcomes.Granted ∷ [];
-  told = h.told;
+  recorded = h.recorded;
   same = h.effect.same;
   fixed = h.fixed;
-  ends = (refl, h.allowed, ap (λ found. or_refused (told_by_look outcomes.Granted found)) (sym h.effect.answer));
+  ends = (refl, h.allowed, ap (λ found. or_refused (lookup_result outcomes.Granted found)) (sym h.effect.answer));
 }
 
 pub finds_nothing : (key : Key) (e : FsError) (old new : Store) → ((e ≡ fs_errors.Memory) × (new ≡ old)) ⊎ Declines (metadata_call old.contents key) e old new → Judges (must_find old.contents key) old (Err (from_fs e)) new
 finds_nothing key e old new (inl h) = rw (h.0, h.1) (judges_pure (must_find old.contents key) old (Err Memory) (inr (refl, (must_find old.contents key, refl))))
 finds_nothing key e old new (inr h) = record {
   records = record_of (metadata_call old.contents key) h.outcome ∷ [];
-  told = h.told;
+  recorded = h.recorded;
   same = h.same;
   fixed = h.fixed;
   ends = inl (declined h.outcome h.cause h.lawful);
@@ -95,15 +95,15 @@ answered (Err e) expected (inl given) = inl (sym given)
 answered (Err e) expected (inr memory) = inr (ap Err memory)
 
 -- an answer says whether something is named
-pub none_named : (names : List Item) → Ok tt ≡ told_by_names names → names ≡ []
+pub none_named : (names : List Item) → Ok tt ≡ first_failure names → names ≡ []
 none_named [] is = refl
 none_named (item ∷ names) is = absurd cc
 
-pub no_memory : (names : List Item) → Err Memory ≡ told_by_names names → ⊥
+pub no_memory : (names : List Item) → Err Memory ≡ first_failure names → ⊥
 no_memory [] is = cc
 no_memory (item ∷ names) is = cc
 
-pub some_named : (e : DavError) (names : List Item) → Err e ≡ told_by_names names → names ≢ []
+pub some_named : (e : DavError) (names : List Item) → Err e ≡ first_failure names → names ≢ []
 some_named e [] is = absurd cc
 some_named e (item ∷ names) is = λ none. cc
 
@@ -121,7 +121,7 @@ pub named_locks : (names : List Item) (path : PathValue) (old new : State) → n
 named_locks [] path old new some same = absurd (some refl)
 named_locks (item ∷ names) path old new some same = same
 
-named_told : (names : List Item) (path : PathValue) → names ≢ [] → told_items path names ≡ names
+named_told : (names : List Item) (path : PathValue) → names ≢ [] → reported_items path names ≡ names
 named_told [] path some = absurd (some refl)
 named_told (item ∷ names) path some = refl
 
@@ -139,7 +139,7 @@ module _ (request : DavRequest) (meta : Meta) where
   pub works_unbegun : (seen : Seen) (result : Result (Response Body) DavError) → answer_of result ≡ Err Memory → Deletes seen (answer_of result) seen
   works_unbegun seen result is = record {
     records = [];
-    told = sym (append-nil seen.store.log);
+    recorded = sym (append-nil seen.store.log);
     fixed = refl;
     done = inr (is, record { removed = nothing_removed depth path seen.store.contents; locks = inl refl });
   }
@@ -148,7 +148,7 @@ module _ (request : DavRequest) (meta : Meta) where
   pub works_stopped : (old new : Seen) (had has : List Item) → Removal depth path old.store new.store had has (Err Memory) → new.locks ≡ old.locks → Deletes old (Err Memory) new
   works_stopped old new had has h locks = record {
     records = h.records;
-    told = h.told;
+    recorded = h.recorded;
     fixed = same_facts old new h.fixed locks;
     done = by_end h.done;
   }
@@ -181,7 +181,7 @@ module _ (request : DavRequest) (meta : Meta) where
     let_go = drops request.path.key old mid new locks dropped.dropped
 
     told_so : new.store.log ≡ old.store.log ++ h.records
-    told_so = ap (λ (s : Store). s.log) dropped.store ∙ h.told
+    told_so = ap (λ (s : Store). s.log) dropped.store ∙ h.recorded
 
     fixed_so : facts_of new ≡ facts_of old
     fixed_so = dropped.fixed ∙ same_facts old mid h.fixed locks
@@ -189,7 +189,7 @@ module _ (request : DavRequest) (meta : Meta) where
     pub works_untold : (result : Result (Response Body) DavError) → answer_of result ≡ Err Memory → Deletes old (answer_of result) new
     works_untold result is = record {
       records = h.records;
-      told = told_so;
+      recorded = told_so;
       fixed = fixed_so;
       done = inr (is, record { removed = whole_in_part depth path _ _ _ [] all_gone.0; locks = inr (all_gone.0, let_go) });
     }
@@ -201,7 +201,7 @@ module _ (request : DavRequest) (meta : Meta) where
         by_answer (inr memory) = works_untold result memory
         by_answer (inl is) = record {
           records = h.records;
-          told = told_so;
+          recorded = told_so;
           fixed = fixed_so;
           done = inl (record { names = []; removed = all_gone.0; locks = let_go; answered = is ∙ ap (multi_answer path) (added ∙ ap (λ l. l ++ (path, 204) ∷ []) all_gone.1) });
         }
@@ -212,15 +212,15 @@ module _ (request : DavRequest) (meta : Meta) where
   works_named e old new has result not_memory h locks given = by_end h.done
     where
       whole_answer : (names : List Item) → has ≡ names → Removes depth path old.store.contents new.store.contents h.records names → names ≢ [] → (answer_of result ≡ multi_answer path has) ⊎ (answer_of result ≡ Err Memory) → Deletes old (answer_of result) new
-      whole_answer names is removed some (inl told) = record {
+      whole_answer names is removed some (inl recorded) = record {
         records = h.records;
-        told = h.told;
+        recorded = h.recorded;
         fixed = same_facts old new h.fixed locks;
-        done = inl (record { names = names; removed = removed; locks = named_locks names request.path _ _ some (same_locks old new locks); answered = told ∙ ap (multi_answer path) (is ∙ sym (named_told names path some)) });
+        done = inl (record { names = names; removed = removed; locks = named_locks names request.path _ _ some (same_locks old new locks); answered = recorded ∙ ap (multi_answer path) (is ∙ sym (named_told names path some)) });
       }
       whole_answer names is removed some (inr memory) = record {
         records = h.records;
-        told = h.told;
+        recorded = h.recorded;
         fixed = same_facts old new h.fixed locks;
         done = inr (memory, record { removed = whole_in_part depth path _ _ _ names removed; locks = inl (same_locks old new locks) });
       }

@@ -4,7 +4,7 @@ use Rattle.dav_resource.specs.Key.{Key}
 use Rattle.dav_resource.specs.declared.record.Op.{Op}
 use Rattle.dav_resource.specs.declared.record.Outcome.TheVariants as outcomes
 use Rattle.dav_store.specs.Logged.{Logged, logged}
-use Rattle.dav_parts.specs.Dialogue.{WasGranted}
+use Rattle.dav_messages.specs.Dialogue.{WasGranted}
 
 -- a call that isn't granted is no granted one
 pub not_granted : (op : Op) (key : Key) (r : Logged) → WasGranted op key (r ∷ []) → (r.outcome ≢ outcomes.Granted) → ⊥

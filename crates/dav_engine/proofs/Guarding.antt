@@ -14,16 +14,16 @@ use Rattle.dav_resource.specs.declared.request.DavRequest.{DavRequest}
 use Rattle.dav_store.specs.Logged.{Logged}
 use Rattle.dav_store.specs.PropertyCalls.{Patch, IsPatchedAt}
 use Rattle.dav_store.specs.Store.{Contents, Bodies, Node, File}
-use Rattle.dav_parts.specs.Conditions.{conditions}
-use Rattle.dav_parts.specs.Dialogue.{Passed, LeadsTo, look, refusing}
-use Rattle.dav_parts.specs.Dialogues.{LeadsTo-last, LeadsTo-unrefused}
-use Rattle.dav_parts.specs.Reply.{Answer}
+use Rattle.dav_messages.specs.Conditions.{conditions}
+use Rattle.dav_messages.specs.Dialogue.{Passed, LeadsTo, look_up, refusing}
+use Rattle.dav_messages.specs.Dialogues.{LeadsTo-last, LeadsTo-unrefused}
+use Rattle.dav_messages.specs.Reply.{Answer}
 use Rattle.dav_engine.specs.State.{State}
 use Rattle.dav_store.specs.Locks.{is_at_or_below}
 use Rattle.dav_walks.specs.KeyCall.{standing}
 use Rattle.dav_walks.specs.PutLaws.{put_here, put_elsewhere, put_at_elsewhere}
 use Rattle.dav_walks.specs.RemovalLaws.{removes_within, whole_in_part}
-use Rattle.dav_engine.specs.Rules.{is_permitted, path_rules, shallow_rules, closing, judged, must_find, look_closely, depth_or_all, depth_verdict, fixed_path}
+use Rattle.dav_engine.specs.Rules.{is_permitted, path_rules, shallow_rules, closing, judged, must_find, look_up_result, depth_or_all, depth_verdict, fixed_path}
 use Rattle.dav_engine.specs.Target.{target_of}
 use Rattle.dav_engine.specs.declared.target.Target.{Target}
 use Rattle.dav_engine.specs.Delete.{delete_rules}
@@ -59,12 +59,12 @@ guarded_contents method request old new same key changed = absurd (unchanged key
 
 shallow_passed : (request : DavRequest) (state : State) (head : List Logged) (found : Option Meta) → LeadsTo (shallow_rules request state) head (Passed found) → is_permitted request state request.path.key false ≡ true
 shallow_passed request state head found h =
-    let looked = LeadsTo-last (look state.contents request.path.key) _ head found h in
+    let looked = LeadsTo-last (look_up state.contents request.path.key) _ head found h in
     path_passed request state looked.0 looked.2 found looked.4
 
 put_passed : (held : Bodies) (partial : Bool) (request : DavRequest) (state : State) (head : List Logged) (found : Option Meta) → LeadsTo (put_rules held partial request state) head (Passed found) → is_permitted request state request.path.key false ≡ true
 put_passed held partial request state head found h =
-    let looked = LeadsTo-last (look_closely state.contents request.path.key) _ head found h in
+    let looked = LeadsTo-last (look_up_result state.contents request.path.key) _ head found h in
     let aimed = LeadsTo-last (judged (target_of partial request.headers looked.0)) _ looked.2 found looked.4 in
     let rules = LeadsTo-last (refusing closing (path_rules request state (result_ok looked.0))) _ aimed.2 found aimed.4 in
     path_passed request state (result_ok looked.0) rules.1 rules.0 (LeadsTo-unrefused closing (path_rules request state (result_ok looked.0)) rules.1 rules.0 rules.3)
@@ -96,12 +96,12 @@ patched_elsewhere : (place key : Key) (patches : List Patch) (old new : Contents
 patched_elsewhere place key patches old new made apart (inl other) = other (ap (λ t. get t key) (sym made.tree))
 patched_elsewhere place key patches old new made apart (inr other) = other (sym (ap (λ p. get p key) made.properties ∙ put_at_elsewhere old.properties place key _ apart))
 
-changes_elsewhere : (keeps : Bool) (place key : Key) (patches : List Patch) (old new : Contents) (records : List Logged) (told : Result (List ℕ) FsError)
-    → MakesChanges keeps place patches old records told new → (key ≢ place) → IsChanged key old new → ⊥
-changes_elsewhere keeps place key [] old new records told none apart = unchanged key old new none.same
-changes_elsewhere keeps place key (patch ∷ patches) old new records told (inl all) apart = patched_elsewhere place key (patch ∷ patches) old new all.made apart
-changes_elsewhere keeps place key (patch ∷ patches) old new records told (inr (inl none)) apart = unchanged key old new none.same
-changes_elsewhere keeps place key (patch ∷ patches) old new records told (inr (inr refused)) apart = unchanged key old new refused.same
+changes_elsewhere : (keeps : Bool) (place key : Key) (patches : List Patch) (old new : Contents) (records : List Logged) (recorded : Result (List ℕ) FsError)
+    → MakesChanges keeps place patches old records recorded new → (key ≢ place) → IsChanged key old new → ⊥
+changes_elsewhere keeps place key [] old new records recorded none apart = unchanged key old new none.same
+changes_elsewhere keeps place key (patch ∷ patches) old new records recorded (inl all) apart = patched_elsewhere place key (patch ∷ patches) old new all.made apart
+changes_elsewhere keeps place key (patch ∷ patches) old new records recorded (inr (inl none)) apart = unchanged key old new none.same
+changes_elsewhere keeps place key (patch ∷ patches) old new records recorded (inr (inr refused)) apart = unchanged key old new refused.same
 
 -- ---- together
 
@@ -216,7 +216,7 @@ guards_lock settings request found old new head records answer passed (inl work)
         asked = lock_asked request found work.info
 
         by_end : GrantsLock request found asked old records answer new ⊎ DeniesLock asked old records answer new → IsGuarded (Some Lock) request old new
-        by_end (inl granted) = guarded_file request old new records granted.tells.leaves
+        by_end (inl granted) = guarded_file request old new records granted.answers.leaves
         by_end (inr denied) = guarded_same (Some Lock) request old new denied.same
 guards_lock settings request found old new head records answer passed (inr cut) = lock_cut (is_refresh settings.facts.bodies request.body) cut.1
   where
@@ -259,6 +259,6 @@ guards_proppatch settings request found old new head records answer passed done 
     at_path = guarded_at (Some PropPatch) request old new (update_passed keeps request old head found passed).permitted
 
     by_end : proppatch_method.Work settings request found old records answer new ⊎ ((answer ≡ Err Memory) × proppatch_method.Cut settings request found old records new) → IsGuarded (Some PropPatch) request old new
-    by_end (inl work) = at_path (λ key. changes_elsewhere keeps request.path.key key _ old.contents new.contents records work.0.told work.0.stored)
-    by_end (inr (told, (inl none, locks))) = at_path (λ key apart. unchanged key old.contents new.contents none.same)
-    by_end (inr (told, (inr made, locks))) = at_path (λ key. changes_elsewhere keeps request.path.key key _ old.contents new.contents records (Ok made.0) made.1)
+    by_end (inl work) = at_path (λ key. changes_elsewhere keeps request.path.key key _ old.contents new.contents records work.0.store_answer work.0.stored)
+    by_end (inr (recorded, (inl none, locks))) = at_path (λ key apart. unchanged key old.contents new.contents none.same)
+    by_end (inr (recorded, (inr made, locks))) = at_path (λ key. changes_elsewhere keeps request.path.key key _ old.contents new.contents records (Ok made.0) made.1)

@@ -10,8 +10,8 @@ use Rattle.dav_resource.specs.declared.request.DavRequest.{DavRequest}
 use Rattle.dav_store.specs.Store.{Store, Contents}
 use Rattle.dav_store.specs.Locks.{Locks, all_reliable}
 use Rattle.dav_store.specs.declared.lock.DavLock.{DavLock}
-use Rattle.dav_parts.specs.Conditions.{conditions}
-use Rattle.dav_parts.specs.Dialogue.{Dialogue, Judges}
+use Rattle.dav_messages.specs.Conditions.{conditions}
+use Rattle.dav_messages.specs.Dialogue.{Dialogue, Judges}
 use Rattle.dav_engine.specs.State.{State}
 use Rattle.dav_engine.specs.Rules.{path_rules, found_in}
 

@@ -6,7 +6,7 @@ use Rattle.dav_resource.specs.declared.method.DavMethod.{DavMethod}
 use Rattle.dav_resource.specs.declared.method.DavMethod.TheVariants.{Put, Patch, Options, PropFind, PropPatch, MkCol, Copy, Move, Delete, Lock, Unlock}
 use Rattle.dav_resource.specs.declared.request.DavRequest.{DavRequest}
 use Rattle.dav_store.specs.Logged.{Logged}
-use Rattle.dav_parts.specs.Reply.{Answer}
+use Rattle.dav_messages.specs.Reply.{Answer}
 use Rattle.dav_engine.specs.Causes.{HasCause}
 use Rattle.dav_engine.specs.Law.{Law, MethodLaw}
 use Rattle.dav_engine.specs.Method.{Method, StepBy}
@@ -19,7 +19,7 @@ use Rattle.dav_engine.proofs.OtherLocks.{OtherLocks, other_locks_mkcol, other_lo
 use Rattle.dav_engine.proofs.Causing.{Causes, causes_same, causes_mkcol, causes_put, causes_delete, causes_copy, causes_move, causes_lock, causes_unlock, causes_proppatch, causes_options, causes_propfind}
 use Rattle.dav_engine.proofs.MakingLaws.{mkcol_law, put_law}
 use Rattle.dav_engine.proofs.DeleteLaws.{delete_tells}
-use Rattle.dav_engine.proofs.CopyTells.{copy_tells}
+use Rattle.dav_engine.proofs.CopyLaws.{copy_tells}
 use Rattle.dav_engine.proofs.MoveLaws.{move_tells}
 use Rattle.dav_engine.proofs.Reporting.{delete_reports, copy_reports, move_reports}
 use Rattle.dav_engine.proofs.WriteLaws.{lock_law}
@@ -101,9 +101,9 @@ law_same name settings request state own = record {
     untouched = λ none. refl;
     locks = record { kept = λ lock there other. there; none_new = λ other lock there. there; none_gone = λ is lock there. (lock, there, refl) };
   };
-  cause = λ e is. subst (λ d. HasCause name request state [] d state) (told is) (causes_same name request state);
+  cause = λ e is. subst (λ d. HasCause name request state [] d state) (recorded is) (causes_same name request state);
   own = own;
 }
   where
-    told : {e : DavError} → ◌≡◌ {A = Answer} (Err (Status 501)) (Err e) → Status 501 ≡ e
-    told is = cc
+    recorded : {e : DavError} → ◌≡◌ {A = Answer} (Err (Status 501)) (Err e) → Status 501 ≡ e
+    recorded is = cc

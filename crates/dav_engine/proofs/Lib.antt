@@ -16,7 +16,7 @@ pub mod Putting
 pub mod Refusals
 pub mod Replacing
 pub mod MoveLaws
-pub mod CopyTells
+pub mod CopyLaws
 pub mod Running
 pub mod Transferring
 pub mod Moving
@@ -24,7 +24,7 @@ pub mod Copying
 pub mod Passing
 pub mod Patching
 pub mod PatchLaws
-pub mod PatchTells
+pub mod ChangeStatuses
 pub mod Serving
 pub mod Trees
 pub mod Compatible

@@ -23,14 +23,14 @@ use Rattle.dav_store.specs.Locks.{Locks, all_reliable, grants}
 use Rattle.dav_store.specs.LockCalls.{AddsLock, RemovesLock, RefreshesLock, KeepsNamed, has_named, without_named, is_named, refreshed}
 use Rattle.dav_store.specs.LockLaws.{granted_named, granted_without}
 use Rattle.dav_store.specs.declared.lock.DavLock.{DavLock}
-use Rattle.dav_parts.specs.Conditions.{if_match, submitted_tokens}
-use Rattle.dav_parts.specs.Dialogue.{Dialogue, Passed, Refuses, Judges, ◌>>=◌}
-use Rattle.dav_parts.specs.Dialogues.{judges_exit, judges_then, judges_pure, judges_memory, unlike, needs-declined}
-use Rattle.dav_parts.specs.Reply.{Reply, Answer, reply_of, answer_of}
+use Rattle.dav_messages.specs.Conditions.{if_match, submitted_tokens}
+use Rattle.dav_messages.specs.Dialogue.{Dialogue, Passed, Refuses, Judges, ◌>>=◌}
+use Rattle.dav_messages.specs.Dialogues.{judges_exit, judges_then, judges_pure, judges_memory, unlike, needs-declined}
+use Rattle.dav_messages.specs.Reply.{Reply, Answer, reply_of, answer_of}
 use Rattle.dav_engine.specs.Answered.{Unbegun}
 use Rattle.dav_engine.specs.LockInfo.{lock_info_of, lock_info_verdict}
 use Rattle.dav_engine.specs.LockReply.{granted_reply, refreshed_reply, unlocked_reply}
-use Rattle.dav_engine.specs.Locking.{refresh_rules, new_lock_rules, lock_asked, AddsToLocks, TakesBack, lock_open_error, HasFile, TellsLock, NewLockWork, NewLockCut, refresh_timeout, RefreshWork, RefreshCut, LockWorkBy, LockCutBy, LockWork, LockCut, is_refresh, lock_rules}
+use Rattle.dav_engine.specs.Locking.{refresh_rules, new_lock_rules, lock_asked, AddsToLocks, TakesBack, lock_open_error, HasFile, AnswersLock, NewLockWork, NewLockCut, refresh_timeout, RefreshWork, RefreshCut, LockWorkBy, LockCutBy, LockWork, LockCut, is_refresh, lock_rules}
 use Rattle.dav_engine.specs.Opening.{making_options}
 use Rattle.dav_engine.specs.declared.lock_info.LockInfo.{LockInfo}
 use Rattle.dav_engine.specs.Rules.{judged, holding}
@@ -87,17 +87,17 @@ module _ (lock : DavLock) (old mid : Seen) (h : ChangesLocks (AddsLock lock) old
 
 module _ (request : DavRequest) (found : Option Meta) (lock : DavLock) where
   abbrev Tells : Store → Answer → Store → Type 0
-  Tells = WorksOnStore (TellsLock request found lock) Unbegun
+  Tells = WorksOnStore (AnswersLock request found lock) Unbegun
 
   -- no memory, and nothing happened
   pub tells_unbegun : (store : Store) (result : Result (Response Body) DavError) → answer_of result ≡ Err Memory → Tells store (answer_of result) store
-  tells_unbegun store result is = record { records = []; told = sym (append-nil store.log); fixed = refl; done = inr (is, record { none = refl; same = refl }) }
+  tells_unbegun store result is = record { records = []; recorded = sym (append-nil store.log); fixed = refl; done = inr (is, record { none = refl; same = refl }) }
 
 -- something was found, and no file is made
 pub tells_found : (request : DavRequest) (found : Option Meta) (lock : DavLock) (store : Store) (reply : Reply) → is_some found ≡ true → reply ≡ granted_reply request found lock → Tells request found lock store (Ok reply) store
 tells_found request None lock store reply some is = absurd cc
 tells_found request (Some meta) lock store reply some is =
-    record { records = []; told = sym (append-nil store.log); fixed = refl; done = inl (record { answered = (tt, refl, is); leaves = inr ((λ g. g), refl) }) }
+    record { records = []; recorded = sym (append-nil store.log); fixed = refl; done = inl (record { answered = (tt, refl, is); leaves = inr ((λ g. g), refl) }) }
 
 module _ (request : DavRequest) (lock : DavLock) where
   abbrev call : Contents → Call
@@ -124,7 +124,7 @@ module _ (request : DavRequest) (lock : DavLock) where
   tells_made (Some meta) file old new reply nothing h is = absurd cc
   tells_made None file old new reply nothing h is = record {
     records = record_of (call old.contents) outcomes.Granted ∷ [];
-    told = h.told;
+    recorded = h.recorded;
     fixed = h.fixed;
     done = inl (record { answered = (tt, (refl, h.allowed, refl), is); leaves = inl (inl refl, has_file file old.contents new.contents h.allowed h.effect) });
   }
@@ -132,10 +132,10 @@ module _ (request : DavRequest) (lock : DavLock) where
   pub tells_not : (found : Option Meta) (e : FsError) (old new : Store) → is_some found ≡ false → ((e ≡ fs_errors.Memory) × (new ≡ old)) ⊎ Declines (call old.contents) e old new
       → Tells request found lock old (Err (lock_open_error (making_options request) e)) new
   tells_not (Some meta) e old new nothing h = absurd cc
-  tells_not None e old new nothing (inl h) = rw (h.0, h.1) (record { records = []; told = sym (append-nil old.log); fixed = refl; done = inr (refl, record { none = refl; same = refl }) })
+  tells_not None e old new nothing (inl h) = rw (h.0, h.1) (record { records = []; recorded = sym (append-nil old.log); fixed = refl; done = inr (refl, record { none = refl; same = refl }) })
   tells_not None e old new nothing (inr h) = record {
     records = record_of (call old.contents) h.outcome ∷ [];
-    told = h.told;
+    recorded = h.recorded;
     fixed = h.fixed;
     done = inl (record {
       answered = needs-declined (call old.contents) (lock_open_error (making_options request)) _ e h.outcome h.cause h.lawful;
@@ -156,15 +156,15 @@ module _ (request : DavRequest) (found : Option Meta) (info : LockInfo) (asked :
   pub locks_denied : (e : DavError) (old new : Seen) → ((e ≡ Memory) × (new ≡ old)) ⊎ ((e ≡ Status 423) × KeepsLocks (λ (l : Locks). grants l.list lock ≡ false) old new) → Locks-new old (Err e) new
   locks_denied e old new (inl h) = rw (h.0, h.1) (record {
     records = [];
-    told = sym (append-nil old.store.log);
+    recorded = sym (append-nil old.store.log);
     fixed = refl;
     done = inr (refl, record { info = info; asked = asked; none = refl; same = refl; locks = inl refl });
   })
   locks_denied e old new (inr h) = rw (h.0, h.1.same) (record {
     records = [];
-    told = sym (append-nil old.store.log);
+    recorded = sym (append-nil old.store.log);
     fixed = refl;
-    done = inl (record { info = info; asked = asked; done = inr (record { denied = denied old.locks h.1.cause; told = refl; none = refl; same = refl }) });
+    done = inl (record { info = info; asked = asked; done = inr (record { denied = denied old.locks h.1.cause; answered = refl; none = refl; same = refl }) });
   })
     where
       denied : (locks : Option Locks) → ForSome locks (λ (l : Locks). grants l.list lock ≡ false) → option_map_or (λ list. grants list lock) (option_map (λ (l : Locks). l.list) locks) false ≡ false
@@ -172,22 +172,22 @@ module _ (request : DavRequest) (found : Option Meta) (info : LockInfo) (asked :
       denied (Some l) cause = cause l refl
 
   module _ (old mid far : Seen) (added : ChangesLocks (AddsLock lock) old mid) (same : far.locks ≡ mid.locks) where
-    -- it is told
+    -- it is reported
     pub locks_told : (reply : Reply) → Tells request found lock mid.store (Ok reply) far.store → Locks-new old (Ok reply) far
     locks_told reply h = by_end h.done
       where
-        by_end : TellsLock request found lock mid.store.contents h.records (Ok reply) far.store.contents ⊎ (◌≡◌ {A = Answer} (Ok reply) (Err Memory) × Unbegun mid.store.contents h.records far.store.contents) → Locks-new old (Ok reply) far
+        by_end : AnswersLock request found lock mid.store.contents h.records (Ok reply) far.store.contents ⊎ (◌≡◌ {A = Answer} (Ok reply) (Err Memory) × Unbegun mid.store.contents h.records far.store.contents) → Locks-new old (Ok reply) far
         by_end (inr cut) = absurd (let no : ◌≡◌ {A = Answer} (Ok reply) (Err Memory) = cut.0 in cc)
         by_end (inl tells) = record {
           records = h.records;
-          told = h.told ∙ ap (λ (s : Store). s.log ++ h.records) added.store;
+          recorded = h.recorded ∙ ap (λ (s : Store). s.log ++ h.records) added.store;
           fixed = told_facts;
           done = inl (record {
             info = info;
             asked = asked;
             done = inl (record {
               granted = (adds lock old mid added).granted;
-              tells = subst (λ (s : Store). TellsLock request found lock s.contents h.records (Ok reply) far.store.contents) added.store tells;
+              answers = subst (λ (s : Store). AnswersLock request found lock s.contents h.records (Ok reply) far.store.contents) added.store tells;
               locks = record { granted = (adds lock old mid added).granted; added = ap (option_map (λ (l : Locks). l.list)) same ∙ (adds lock old mid added).added };
             });
           });
@@ -200,7 +200,7 @@ module _ (request : DavRequest) (found : Option Meta) (info : LockInfo) (asked :
     pub locks_untold : (e : DavError) (new : Seen) → Tells request found lock mid.store (Err e) far.store → (new.store ≡ far.store) → TakesBack lock (state_of old) (state_of new) → facts_of new ≡ facts_of (record far { locks = old.locks }) → Locks-new old (Err e) new
     locks_untold e new h store taken facts = record {
       records = h.records;
-      told = ap (λ (s : Store). s.log) store ∙ h.told ∙ ap (λ (s : Store). s.log ++ h.records) added.store;
+      recorded = ap (λ (s : Store). s.log) store ∙ h.recorded ∙ ap (λ (s : Store). s.log ++ h.records) added.store;
       fixed = facts ∙ (λ i. (h.fixed i, option_map (λ (l : Locks). l.reliable) old.locks)) ∙ (λ i. ((added.store i).facts, option_map (λ (l : Locks). l.reliable) old.locks));
       done = by_end h.done;
     }
@@ -208,13 +208,13 @@ module _ (request : DavRequest) (found : Option Meta) (info : LockInfo) (asked :
         Ended : Type 0
         Ended = NewLockWork request found (state_of old) h.records (Err e) (state_of new) ⊎ (◌≡◌ {A = Answer} (Err e) (Err Memory) × NewLockCut request found (state_of old) h.records (state_of new))
 
-        by_end : TellsLock request found lock mid.store.contents h.records (Err e) far.store.contents ⊎ (◌≡◌ {A = Answer} (Err e) (Err Memory) × Unbegun mid.store.contents h.records far.store.contents) → Ended
+        by_end : AnswersLock request found lock mid.store.contents h.records (Err e) far.store.contents ⊎ (◌≡◌ {A = Answer} (Err e) (Err Memory) × Unbegun mid.store.contents h.records far.store.contents) → Ended
         by_end (inl tells) = inl (record {
           info = info;
           asked = asked;
           done = inl (record {
             granted = (adds lock old mid added).granted;
-            tells = subst (λ (s : Store). TellsLock request found lock old.store.contents h.records (Err e) s.contents) (sym store) (subst (λ (s : Store). TellsLock request found lock s.contents h.records (Err e) far.store.contents) added.store tells);
+            answers = subst (λ (s : Store). AnswersLock request found lock old.store.contents h.records (Err e) s.contents) (sym store) (subst (λ (s : Store). AnswersLock request found lock s.contents h.records (Err e) far.store.contents) added.store tells);
             locks = taken;
           });
         })
@@ -229,7 +229,7 @@ module _ (request : DavRequest) (found : Option Meta) (info : LockInfo) (asked :
           },
         )
 
-    -- the lock system is told to remove it
+    -- the lock system is asked to remove it
     pub locks_removed : (e : DavError) (new : Seen) (removed : Bool) → Tells request found lock mid.store (Err e) far.store → (removed ≡ true → ChangesLocks (RemovesLock lock.path.key lock.token) far new) → (removed ≡ false → KeepsLocks (KeepsNamed lock.path.key lock.token) far new)
         → Locks-new old (Err e) new
     locks_removed e new true h gone kept =
@@ -258,39 +258,39 @@ module _ (request : DavRequest) (found : Option Meta) (token : List ℕ) (one : 
   pub refreshes_not : (e : DavError) (old new : Seen) → ((e ≡ Memory) × (new ≡ old)) ⊎ ((e ≡ Status 412) × KeepsLocks (λ (l : Locks). has_named request.path.key token l.list ≡ false) old new) → Refreshes old (Err e) new
   refreshes_not e old new (inl h) = rw (h.0, h.1) (record {
     records = [];
-    told = sym (append-nil old.store.log);
+    recorded = sym (append-nil old.store.log);
     fixed = refl;
     done = inr (refl, record { token = token; one = one; none = refl; same = refl; locks = inl refl });
   })
   refreshes_not e old new (inr h) = rw (h.0, h.1.same) (record {
     records = [];
-    told = sym (append-nil old.store.log);
+    recorded = sym (append-nil old.store.log);
     fixed = refl;
-    done = inl (record { token = token; one = one; none = refl; same = refl; done = inr (record { is = ap (option_map (refreshed (refresh_timeout request) request.now)) (nothing old.locks h.1.cause); told = refl; locks = refl }) });
+    done = inl (record { token = token; one = one; none = refl; same = refl; done = inr (record { is = ap (option_map (refreshed (refresh_timeout request) request.now)) (nothing old.locks h.1.cause); answered = refl; locks = refl }) });
   })
     where
       nothing : (locks : Option Locks) → ForSome locks (λ (l : Locks). has_named request.path.key token l.list ≡ false) → option_map_or (find (is_named request.path.key token)) (option_map (λ (l : Locks). l.list) locks) None ≡ None
       nothing None cause = refl
       nothing (Some l) cause = none_found l.list (cause l refl)
 
-  -- it is refreshed, and told where there is memory
+  -- it is refreshed, and reported where there is memory
   pub refreshes : (lock : DavLock) (old new : Seen) (result : Result (Response Body) DavError) → ChangesLocks (RefreshesLock request.path.key token (refresh_timeout request) request.now lock) old new
       → IfOk result (λ reply. reply_of reply ≡ refreshed_reply request.path found lock) → IfErr result (λ e. e ≡ Memory) → Refreshes old (answer_of result) new
   refreshes lock old new (Ok reply) h is _ = record {
     records = [];
-    told = ap (λ (s : Store). s.log) h.store ∙ sym (append-nil old.store.log);
+    recorded = ap (λ (s : Store). s.log) h.store ∙ sym (append-nil old.store.log);
     fixed = rw (h.was, h.is, h.change.refreshed_alone, h.store) refl;
     done = inl (record {
       token = token;
       one = one;
       none = refl;
       same = ap (λ (s : Store). s.contents) h.store;
-      done = inl (record { lock = lock; is = rw h.was h.change.named; told = ap Ok is; locks = rw (h.was, h.is, h.change.refreshed_alone) refl });
+      done = inl (record { lock = lock; is = rw h.was h.change.named; answered = ap Ok is; locks = rw (h.was, h.is, h.change.refreshed_alone) refl });
     });
   }
   refreshes lock old new (Err e) h _ memory = record {
     records = [];
-    told = ap (λ (s : Store). s.log) h.store ∙ sym (append-nil old.store.log);
+    recorded = ap (λ (s : Store). s.log) h.store ∙ sym (append-nil old.store.log);
     fixed = rw (h.was, h.is, h.change.refreshed_alone, h.store) refl;
     done = inr (ap Err memory, record { token = token; one = one; none = refl; same = ap (λ (s : Store). s.contents) h.store; locks = inr (rw (h.was, h.is, h.change.refreshed_alone) refl) });
   }
@@ -302,28 +302,28 @@ module _ (request : DavRequest) (found : Option Meta) (token : List ℕ) (named 
   Unlocking = Performs (UnlockWork request found) Unbegun
 
   pub unlocks_unbegun : (seen : Seen) (result : Result (Response Body) DavError) → answer_of result ≡ Err Memory → Unlocking seen (answer_of result) seen
-  unlocks_unbegun seen result is = record { records = []; told = sym (append-nil seen.store.log); fixed = refl; done = inr (is, record { none = refl; same = refl }) }
+  unlocks_unbegun seen result is = record { records = []; recorded = sym (append-nil seen.store.log); fixed = refl; done = inr (is, record { none = refl; same = refl }) }
 
   pub unlocks : (old new : Seen) (reply : Reply) → ChangesLocks (RemovesLock request.path.key token) old new → reply ≡ unlocked_reply request.path found → Unlocking old (Ok reply) new
   unlocks old new reply h is = record {
     records = [];
-    told = ap (λ (s : Store). s.log) h.store ∙ sym (append-nil old.store.log);
+    recorded = ap (λ (s : Store). s.log) h.store ∙ sym (append-nil old.store.log);
     fixed = rw (h.was, h.is, h.change.removed, h.store) refl;
     done = inl (record {
       token = token;
       named = named;
       none = refl;
       same = ap (λ (s : Store). s.contents) h.store;
-      done = inl (record { there = rw h.was h.change.named; told = ap Ok is; locks = rw (h.was, h.is, h.change.removed) refl });
+      done = inl (record { there = rw h.was h.change.named; answered = ap Ok is; locks = rw (h.was, h.is, h.change.removed) refl });
     });
   }
 
   pub unlocks_nothing : (old new : Seen) → KeepsLocks (KeepsNamed request.path.key token) old new → Unlocking old (Err (Status 409)) new
   unlocks_nothing old new h = rw h.same (record {
     records = [];
-    told = sym (append-nil old.store.log);
+    recorded = sym (append-nil old.store.log);
     fixed = refl;
-    done = inl (record { token = token; named = named; none = refl; same = refl; done = inr (record { none = kept old.locks h.cause; told = refl; locks = refl }) });
+    done = inl (record { token = token; named = named; none = refl; same = refl; done = inr (record { none = kept old.locks h.cause; answered = refl; locks = refl }) });
   })
     where
       kept : (locks : Option Locks) → ForSome locks (KeepsNamed request.path.key token)

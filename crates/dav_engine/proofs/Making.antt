@@ -7,11 +7,11 @@ use Rattle.dav_resource.specs.declared.error.DavError.TheVariants as dav_errors
 use Rattle.dav_resource.specs.declared.request.DavRequest.{DavRequest}
 use Rattle.dav_store.specs.Store.{Store}
 use Rattle.dav_store.specs.Calls.{record_of, Grants, Declines, create_dir_call, IsMadeAt}
-use Rattle.dav_parts.specs.Reply.{Reply, Answer}
+use Rattle.dav_messages.specs.Reply.{Reply, Answer}
 use Rattle.dav_engine.specs.Answered.{Unbegun}
 use Rattle.dav_engine.specs.Mkcol.{mkcol_error, mkcol_reply, MkcolWork}
 use Rattle.dav_engine.specs.Work.{WorksOnStore}
-use Rattle.dav_parts.specs.Dialogues.{unlike, needs-declined}
+use Rattle.dav_messages.specs.Dialogues.{unlike, needs-declined}
 use Rattle.dav_engine.proofs.Granting.{not_granted}
 
 module _ (request : DavRequest) where
@@ -22,7 +22,7 @@ module _ (request : DavRequest) where
   pub works_cut : (store : Store) → MakesCollection store (Err dav_errors.Memory) store
   works_cut store = record {
     records = [];
-    told = sym (append-nil store.log);
+    recorded = sym (append-nil store.log);
     fixed = refl;
     done = inr (refl, record { none = refl; same = refl });
   }
@@ -33,7 +33,7 @@ module _ (request : DavRequest) where
   works_declined e old new (inl h) = rw (h.0, h.1) (works_cut old)
   works_declined e old new (inr h) = record {
     records = record_of (create_dir_call old.contents request.path.key) h.outcome ∷ [];
-    told = h.told;
+    recorded = h.recorded;
     fixed = h.fixed;
     done = inl (record {
       answered = needs-declined (create_dir_call old.contents request.path.key) mkcol_error _ e h.outcome h.cause h.lawful;
@@ -46,7 +46,7 @@ module _ (request : DavRequest) where
       → MakesCollection old (Ok reply) new
   works_made old new reply h is = record {
     records = record_of (create_dir_call old.contents request.path.key) outcomes.Granted ∷ [];
-    told = h.told;
+    recorded = h.recorded;
     fixed = h.fixed;
     done = inl (record { answered = (tt, (refl, h.allowed, refl), is); leaves = record { made = λ _. h.effect; untouched = λ none. absurd (none (inl refl)) } });
   }

@@ -20,21 +20,21 @@ use Rattle.dav_store.specs.Below.{is_at_or_below}
 use Rattle.dav_store.specs.Calls.{Call, record_of, IsLawful, create_dir_bar, create_dir_call, IsMadeAt, open_call, bytes_at, written_at}
 use Rattle.dav_store.specs.Logged.{Logged}
 use Rattle.dav_store.specs.Store.{Contents, Bodies, Node, File, Directory, IsWellFormed}
-use Rattle.dav_parts.specs.Conditions.{conditions}
-use Rattle.dav_parts.specs.Dialogue.{Dialogue, Refuses, Passed, needs, look, refusing, LeadsTo, WasGranted}
-use Rattle.dav_parts.specs.Dialogues.{LeadsTo-last, LeadsTo-unrefused}
-use Rattle.dav_parts.specs.Reply.{Reply, Answer}
-use Rattle.dav_parts.specs.RequestBody.{body_bytes}
+use Rattle.dav_messages.specs.Conditions.{conditions}
+use Rattle.dav_messages.specs.Dialogue.{Dialogue, Refuses, Passed, needs, look_up, refusing, LeadsTo, WasGranted}
+use Rattle.dav_messages.specs.Dialogues.{LeadsTo-last, LeadsTo-unrefused}
+use Rattle.dav_messages.specs.Reply.{Reply, Answer}
+use Rattle.dav_messages.specs.RequestBody.{body_bytes}
 use Rattle.dav_walks.specs.PutLaws.{put_here, put_elsewhere}
 use Rattle.dav_engine.specs.Answered.{IsAnswered}
-use Rattle.dav_engine.specs.Laws.{ChangesNothing, tells_created, IsNewDirectory, MkcolLaw, tells_transferred, HasFileAtPath, ReplacesWhole, WritesFile, IsWholeOrEmpty, PutLaw}
+use Rattle.dav_engine.specs.Laws.{ChangesNothing, is_created, IsNewDirectory, MkcolLaw, is_transferred, HasFileAtPath, ReplacesWhole, WritesFile, IsWholeOrEmpty, PutLaw}
 use Rattle.dav_engine.specs.Method.{StepBy, Refused, Done, CutShort, CutInWork}
 use Rattle.dav_engine.specs.Methods.{mkcol_method, write_method}
 use Rattle.dav_engine.specs.Mkcol.{mkcol_error, mkcol_steps, MkcolWork}
 use Rattle.dav_engine.specs.Opening.{IsFileAt}
 use Rattle.dav_engine.specs.Put.{new_bytes, has_length, body_verdict, put_rules, put_options, put_open_error, on_file, put_seek_error, put_seek, put_write, put_steps, opened_bytes, final_bytes, PutLeaves, as_looked, PutWork}
 use Rattle.dav_engine.specs.PutReply.{put_reply}
-use Rattle.dav_engine.specs.Rules.{judged, told_by_look, look_closely, closing, is_permitted, path_rules, shallow_rules}
+use Rattle.dav_engine.specs.Rules.{judged, lookup_result, look_up_result, closing, is_permitted, path_rules, shallow_rules}
 use Rattle.dav_engine.specs.Settings.{Settings}
 use Rattle.dav_engine.specs.State.{State, IsLawfulState}
 use Rattle.dav_engine.specs.Target.{whole, in_range, within_reach, and_then, target_of}
@@ -53,11 +53,11 @@ errs_path request state found =
     (λ _. errs_permitted AnyError (λ s least. tt) 423 (omega arith) (is_permitted request state request.path.key false) found)
 
 errs_shallow : (request : DavRequest) (state : State) → RefusesBy AnyError (shallow_rules request state)
-errs_shallow request state = errs_then AnyError (look state.contents request.path.key) _ (λ outcome. tt) (λ found. errs_path request state found)
+errs_shallow request state = errs_then AnyError (look_up state.contents request.path.key) _ (λ outcome. tt) (λ found. errs_path request state found)
 
 errs_put : (held : Bodies) (partial : Bool) (request : DavRequest) (state : State) → RefusesBy AnyError (put_rules held partial request state)
 errs_put held partial request state =
-    errs_then AnyError (look_closely state.contents request.path.key) _ (λ outcome. tt)
+    errs_then AnyError (look_up_result state.contents request.path.key) _ (λ outcome. tt)
     (λ looked. errs_then AnyError (judged (target_of partial request.headers looked)) _ (errs_judged (target_of partial request.headers looked))
     (λ target. errs_then AnyError (refusing closing (path_rules request state (result_ok looked))) _ (errs_refusing closing (path_rules request state (result_ok looked)) (errs_path request state (result_ok looked)))
     (λ found. errs_judged (body_verdict held target request.body found))))
@@ -119,10 +119,10 @@ denied request old (r ∷ records) e h granted =
 
 module _ {request : DavRequest} {old new : State} where
   -- an answer by which nothing is made
-  unmade : (answer : Answer) → tells_created answer ≡ false → ChangesNothing old new → MkcolLaw request old answer new
-  unmade answer untold same = record { made = λ told. absurd (let no : true ≡ false = sym told ∙ untold in cc); unmade = λ _. same }
+  unmade : (answer : Answer) → is_created answer ≡ false → ChangesNothing old new → MkcolLaw request old answer new
+  unmade answer untold same = record { made = λ recorded. absurd (let no : true ≡ false = sym recorded ∙ untold in cc); unmade = λ _. same }
 
-  unmade_same : (answer : Answer) → tells_created answer ≡ false → new ≡ old → MkcolLaw request old answer new
+  unmade_same : (answer : Answer) → is_created answer ≡ false → new ≡ old → MkcolLaw request old answer new
   unmade_same answer untold same = unmade answer untold (record { contents = ap (λ (s : State). s.contents) same; locks = ap (λ (s : State). s.locks) same })
 
   mkcol_works : (records : List Logged) (answer : Answer) → IsWellFormed old.contents → new.locks ≡ old.locks → MkcolWork request old.contents records answer new.contents → MkcolLaw request old answer new
@@ -132,22 +132,22 @@ module _ {request : DavRequest} {old new : State} where
       let call : Call = create_dir_call old.contents request.path.key in
       let done = needs_passed call mkcol_error (Passed tt) records work.answered.0 work.answered.1 in
       let granted : WasGranted CreateDir request.path.key records = subst (WasGranted CreateDir request.path.key) (sym done.1) (inl refl) in
-      let told : tells_created (Ok reply) ≡ true = ap (λ (r : Reply). tells_created (Ok r)) work.answered.2 in
+      let recorded : is_created (Ok reply) ≡ true = ap (λ (r : Reply). is_created (Ok r)) work.answered.2 in
       record {
         made = λ _. new_directory request.path.key old.contents new.contents formed (nothing_there (get old.contents.tree request.path.key) _ done.2) (work.leaves.made granted);
-        unmade = λ untold. absurd (let no : true ≡ false = sym told ∙ untold in cc);
+        unmade = λ untold. absurd (let no : true ≡ false = sym recorded ∙ untold in cc);
       }
 
   pub mkcol_law : {settings : Settings} {records : List Logged} {answer : Answer} → IsLawfulState old → StepBy mkcol_method settings request old records answer new → MkcolLaw request old answer new
-  mkcol_law {settings} {records} {answer} lawful (Refused h) = unmade_same answer (ap tells_created (errs_led AnyError (shallow_rules request old) records answer (errs_shallow request old) h.head).1) h.same
+  mkcol_law {settings} {records} {answer} lawful (Refused h) = unmade_same answer (ap is_created (errs_led AnyError (shallow_rules request old) records answer (errs_shallow request old) h.head).1) h.same
   mkcol_law {settings} {records} {answer} lawful (Done h) = mkcol_works h.rest answer lawful.contents h.work.1 h.work.0
-  mkcol_law {settings} {records} {answer} lawful (CutShort h) = unmade_same answer (ap tells_created h.told) h.same
-  mkcol_law {settings} {records} {answer} lawful (CutInWork h) = unmade answer (ap tells_created h.told) (record { contents = h.work.0.same; locks = h.work.1 })
+  mkcol_law {settings} {records} {answer} lawful (CutShort h) = unmade_same answer (ap is_created h.answered) h.same
+  mkcol_law {settings} {records} {answer} lawful (CutInWork h) = unmade answer (ap is_created h.answered) (record { contents = h.work.0.same; locks = h.work.1 })
 
 -- ---- PUT and PATCH: what the rules passed
 
--- metadata that a lookup told is that of the contents
-told_known : (outcome : Outcome) (known : Option Meta) (meta : Meta) → result_ok (told_by_look outcome known) ≡ Some meta → known ≡ Some meta
+-- metadata that a lookup reports is that of the contents
+told_known : (outcome : Outcome) (known : Option Meta) (meta : Meta) → result_ok (lookup_result outcome known) ≡ Some meta → known ≡ Some meta
 told_known outcomes.Granted (Some m) meta is = is
 told_known outcomes.Granted None meta is = absurd cc
 told_known (outcomes.Barred e) known meta is = absurd cc
@@ -163,7 +163,7 @@ body_value held target body passed found = by_test (is_some (body_bytes held bod
 
 put_known : (held : Bodies) (partial : Bool) (request : DavRequest) (state : State) (head : List Logged) (found : Option Meta) → LeadsTo (put_rules held partial request state) head (Passed found) → ForSome found (λ meta. state.contents.metas request.path.key ≡ Some meta)
 put_known held partial request state head found h meta is =
-    let looked = LeadsTo-last (look_closely state.contents request.path.key) _ head found h in
+    let looked = LeadsTo-last (look_up_result state.contents request.path.key) _ head found h in
     let aimed = LeadsTo-last (judged (target_of partial request.headers looked.0)) _ looked.2 found looked.4 in
     let rules = LeadsTo-last (refusing closing (path_rules request state (result_ok looked.0))) _ aimed.2 found aimed.4 in
     let seen = closely_passed state.contents request.path.key looked.0 looked.1 looked.3 in
@@ -278,21 +278,21 @@ module _ (partial : Bool) (settings : Settings) (request : DavRequest) (old new 
   bodies = settings.facts.bodies
 
   -- an answer that tells of no transfer
-  untransferred : {A : Type 0} → tells_transferred answer ≡ false → tells_transferred answer ≡ true → A
-  untransferred untold told = absurd (let no : true ≡ false = sym told ∙ untold in cc)
+  untransferred : {A : Type 0} → is_transferred answer ≡ false → is_transferred answer ≡ true → A
+  untransferred untold recorded = absurd (let no : true ≡ false = sym recorded ∙ untold in cc)
 
-  put_writes : StepBy (write_method partial) settings request old records answer new → tells_transferred answer ≡ true → WritesFile bodies partial request old new
-  put_writes (Refused h) = untransferred (ap tells_transferred (errs_led AnyError (put_rules bodies partial request old) records answer (errs_put bodies partial request old) h.head).1)
-  put_writes (CutShort h) = untransferred (ap tells_transferred h.told)
-  put_writes (CutInWork h) = untransferred (ap tells_transferred h.told)
+  put_writes : StepBy (write_method partial) settings request old records answer new → is_transferred answer ≡ true → WritesFile bodies partial request old new
+  put_writes (Refused h) = untransferred (ap is_transferred (errs_led AnyError (put_rules bodies partial request old) records answer (errs_put bodies partial request old) h.head).1)
+  put_writes (CutShort h) = untransferred (ap is_transferred h.answered)
+  put_writes (CutInWork h) = untransferred (ap is_transferred h.answered)
   put_writes (Done h) = by_answer answer h.work.0.answered
     where
       work : PutWork bodies partial request h.found old.contents h.rest answer new.contents
       work = h.work.0
 
-      by_answer : (told : Answer) → IsAnswered (put_steps bodies request work.target old.contents (new.contents.metas request.path.key)) (λ meta reply. reply ≡ put_reply h.found meta) h.rest told → tells_transferred told ≡ true → WritesFile bodies partial request old new
-      by_answer (Err e) answered told = absurd cc
-      by_answer (Ok reply) answered told =
+      by_answer : (recorded : Answer) → IsAnswered (put_steps bodies request work.target old.contents (new.contents.metas request.path.key)) (λ meta reply. reply ≡ put_reply h.found meta) h.rest recorded → is_transferred recorded ≡ true → WritesFile bodies partial request old new
+      by_answer (Err e) answered recorded = absurd cc
+      by_answer (Ok reply) answered recorded =
           let calls = put_calls bodies request work.target old.contents (new.contents.metas request.path.key) answered.0 h.rest answered.1 in
           record {
             found = h.found;
@@ -318,6 +318,6 @@ pub put_law : (partial : Bool) {settings : Settings} {request : DavRequest} {old
 put_law partial {settings} {request} {old} {new} {records} {answer} lawful step = record {
   alone = alone_step request old new partial settings records answer step;
   written = put_writes partial settings request old new records answer step;
-  whole = λ told. put_whole partial settings request old new records answer (put_writes partial settings request old new records answer step told);
+  whole = λ recorded. put_whole partial settings request old new records answer (put_writes partial settings request old new records answer step recorded);
   never_part = put_parts partial settings request old new records answer step;
 }

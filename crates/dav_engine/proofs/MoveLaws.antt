@@ -20,17 +20,17 @@ use Rattle.dav_store.specs.Logged.{Logged}
 use Rattle.dav_store.specs.Members.{IsIn}
 use Rattle.dav_store.specs.Store.{IsWellFormed}
 use Rattle.dav_store.specs.Transfers.{IsRenamedTo}
-use Rattle.dav_parts.specs.Conditions.{conditions, submitted_tokens}
-use Rattle.dav_parts.specs.Dialogue.{look}
-use Rattle.dav_parts.specs.Multistatus.{Item, multi_answer, multistatus_reply}
-use Rattle.dav_parts.specs.Reply.{Answer, bare_reply}
+use Rattle.dav_messages.specs.Conditions.{conditions, submitted_tokens}
+use Rattle.dav_messages.specs.Dialogue.{look_up}
+use Rattle.dav_messages.specs.Multistatus.{Item, multi_answer, multistatus_reply}
+use Rattle.dav_messages.specs.Reply.{Answer, bare_reply}
 use Rattle.dav_walks.specs.KeyCall.{standing}
 use Rattle.dav_engine.specs.State.{State, DropsLocks, HasSameSystem, IsLawfulState}
 use Rattle.dav_engine.specs.Settings.{Settings}
-use Rattle.dav_engine.specs.Rules.{judged, told_by_look, must_find, look_closely, depth_or_all, fixed_path}
+use Rattle.dav_engine.specs.Rules.{judged, lookup_result, must_find, look_up_result, depth_or_all, fixed_path}
 use Rattle.dav_engine.specs.Transferring.{where_reached, asked_destination, reach_verdict, parent_verdict, must_have_parent, found_or_absent, see_destination, place_verdict, permits_transfer, transfer_rules, ClearsIf, UnlessNamed, transferred_items}
 use Rattle.dav_engine.specs.Move.{MovesSource, Moves, MoveWork}
-use Rattle.dav_engine.specs.Laws.{tells_transferred, MovesWhole, KeepsSource}
+use Rattle.dav_engine.specs.Laws.{is_transferred, MovesWhole, KeepsSource}
 use Rattle.dav_engine.specs.Method.{StepBy, Refused as ByRules, Done, CutShort, CutInWork}
 use Rattle.dav_engine.specs.Methods.{move_method}
 use Rattle.dav_engine.specs.declared.transfer.Transfer.{Transfer}
@@ -44,11 +44,11 @@ use Rattle.dav_engine.proofs.Refusals.{refusal_from_300, AnyError, RefusesBy, er
 pub errs_transfer : (moving : Bool) (settings : Settings) (request : DavRequest) (state : State) → RefusesBy AnyError (transfer_rules moving settings request state)
 errs_transfer moving settings request state =
     errs_then AnyError (judged (asked_destination moving settings request)) _ (errs_judged (asked_destination moving settings request))
-    (λ destination. errs_then AnyError (must_find state.contents request.path.key) _ (λ outcome. errs_told AnyError (λ e. tt) (told_by_look outcome (state.contents.metas request.path.key)))
+    (λ destination. errs_then AnyError (must_find state.contents request.path.key) _ (λ outcome. errs_told AnyError (λ e. tt) (lookup_result outcome (state.contents.metas request.path.key)))
     (λ meta. errs_then AnyError (see_destination state.contents destination.key) _
     (errs_then AnyError (must_have_parent state.contents destination.key) _
-    (errs_then AnyError (look state.contents (parent destination.key)) _ (λ outcome. tt) (λ above. errs_judged (parent_verdict above)))
-    (λ above. errs_then AnyError (look_closely state.contents destination.key) _ (λ outcome. tt) (λ told. errs_judged (found_or_absent told))))
+    (errs_then AnyError (look_up state.contents (parent destination.key)) _ (λ outcome. tt) (λ above. errs_judged (parent_verdict above)))
+    (λ above. errs_then AnyError (look_up_result state.contents destination.key) _ (λ outcome. tt) (λ recorded. errs_judged (found_or_absent recorded))))
     (λ there. errs_then AnyError (judged (place_verdict moving request destination.key there)) _ (errs_judged (place_verdict moving request destination.key there))
     (λ placed. errs_then AnyError (conditions state.contents state.locks request (Some meta) request.path) _ (errs_conditions AnyError (λ s least. tt) state.contents state.locks request (Some meta) request.path)
     (λ tokens. errs_permitted AnyError (λ s least. tt) 423 (omega arith) (permits_transfer moving state.locks request (submitted_tokens request) destination.key) (record { meta = meta; destination = destination; there = there }))))))
@@ -126,35 +126,35 @@ module _ (source : PathValue) (found : Transfer) (old new : State) (records : Li
 
     -- where nothing is named all has gone
     moves_whole : Moves source found old records [] new → IsRenamedTo source.key found.destination.key old.contents new.contents × ((mid : State) × HasSameSystem old mid × DropsLocks source.key mid new)
-    moves_whole w = by_kept w.kept w.cleared w.follows
+    moves_whole w = by_left w.left w.cleared w.follows
       where
-        by_kept : (kept : List Item) → ClearsIf (is_some found.there) found.destination old w.head kept w.mid → UnlessNamed (MovesSource source found.destination) kept w.mid w.rest [] new
+        by_left : (kept : List Item) → ClearsIf (is_some found.there) found.destination old w.removal kept w.between → UnlessNamed (MovesSource source found.destination) kept w.between w.after [] new
             → IsRenamedTo source.key found.destination.key old.contents new.contents × ((mid : State) × HasSameSystem old mid × DropsLocks source.key mid new)
-        by_kept [] cleared follows =
-            let renamed = unnamed_renamed follows.renamed.outcome source found.destination w.mid new (follows.renamed.granted, follows.renamed.refused) in
-            let at_source = kept_source w.mid w.head [] cleared in
-            let outside : (key : Key) → is_at_or_below key found.destination.key ≡ false → standing w.mid.contents key ≡ standing old.contents key =
-            λ key apart. clear_outside (is_some found.there) found.destination old w.mid w.head [] cleared key (apart_below key found.destination.key apart) in (
+        by_left [] cleared follows =
+            let renamed = unnamed_renamed follows.renamed.outcome source found.destination w.between new (follows.renamed.granted, follows.renamed.refused) in
+            let at_source = kept_source w.between w.removal [] cleared in
+            let outside : (key : Key) → is_at_or_below key found.destination.key ≡ false → standing w.between.contents key ≡ standing old.contents key =
+            λ key apart. clear_outside (is_some found.there) found.destination old w.between w.removal [] cleared key (apart_below key found.destination.key apart) in (
               record {
                 tree = record { moved = λ x. renamed.tree.moved x ∙ ap (λ s. s.0) (at_source x); gone = renamed.tree.gone; rest = λ key a b. renamed.tree.rest key a b ∙ ap (λ s. s.0) (outside key b) };
                 properties = record { moved = λ x. renamed.properties.moved x ∙ ap (λ s. s.1) (at_source x); gone = renamed.properties.gone; rest = λ key a b. renamed.properties.rest key a b ∙ ap (λ s. s.1) (outside key b) };
-                limit = renamed.limit ∙ clear_limit (is_some found.there) found.destination old w.mid w.head [] cleared;
+                limit = renamed.limit ∙ clear_limit (is_some found.there) found.destination old w.between w.removal [] cleared;
               },
-              (w.mid, clear_system (is_some found.there) found.destination old w.mid w.head [] cleared, follows.locks),
+              (w.between, clear_system (is_some found.there) found.destination old w.between w.removal [] cleared, follows.locks),
             )
-        by_kept (item ∷ kept) cleared follows = absurd (let none : [] ≡ item ∷ kept = follows.1 in cc)
+        by_left (item ∷ kept) cleared follows = absurd (let none : [] ≡ item ∷ kept = follows.1 in cc)
 
     -- where something is named all stays at the source
     moves_none : (item : Item) (names : List Item) → Moves source found old records (item ∷ names) new → (x : Key) → standing new.contents (source.key ++ x) ≡ standing old.contents (source.key ++ x)
-    moves_none item names w x = by_kept w.kept w.cleared w.follows
+    moves_none item names w x = by_left w.left w.cleared w.follows
       where
-        by_kept : (kept : List Item) → ClearsIf (is_some found.there) found.destination old w.head kept w.mid → UnlessNamed (MovesSource source found.destination) kept w.mid w.rest (item ∷ names) new
+        by_left : (kept : List Item) → ClearsIf (is_some found.there) found.destination old w.removal kept w.between → UnlessNamed (MovesSource source found.destination) kept w.between w.after (item ∷ names) new
             → standing new.contents (source.key ++ x) ≡ standing old.contents (source.key ++ x)
-        by_kept [] cleared follows =
-            ap (λ c. standing c (source.key ++ x)) (named_stays follows.renamed.outcome source found.destination w.mid new item names (follows.renamed.granted, follows.renamed.refused)) ∙ kept_source w.mid w.head [] cleared x
-        by_kept (first ∷ kept) cleared follows = ap (λ (s : State). standing s.contents (source.key ++ x)) follows.2 ∙ kept_source w.mid w.head (first ∷ kept) cleared x
+        by_left [] cleared follows =
+            ap (λ c. standing c (source.key ++ x)) (named_stays follows.renamed.outcome source found.destination w.between new item names (follows.renamed.granted, follows.renamed.refused)) ∙ kept_source w.between w.removal [] cleared x
+        by_left (first ∷ kept) cleared follows = ap (λ (s : State). standing s.contents (source.key ++ x)) follows.2 ∙ kept_source w.between w.removal (first ∷ kept) cleared x
 
--- ---- what is told
+-- ---- what is reported
 
 refusal_untold : (e : FsError) (status : ℕ) → fs_status e ≡ status → (nat_eq status 201 || nat_eq status 204) ≡ false
 refusal_untold e status is = by_tests (nat_eq status 201) refl (nat_eq status 204) refl
@@ -165,18 +165,18 @@ refusal_untold e status is = by_tests (nat_eq status 201) refl (nat_eq status 20
     by_tests false at false other = rw (at, other) refl
 
 -- a reply that names refusals doesn't tell a move
-pub named_untold : (path : PathValue) (item : Item) (names : List Item) → AreRefusals (item ∷ names) → tells_transferred (multi_answer path (item ∷ names)) ≡ false
+pub named_untold : (path : PathValue) (item : Item) (names : List Item) → AreRefusals (item ∷ names) → is_transferred (multi_answer path (item ∷ names)) ≡ false
 named_untold path item [] refusals = by_key (is_same_key path.key item.0.key)
   where
-    by_key : (b : Bool) → tells_transferred (if b then Ok (bare_reply item.1 []) else Ok (multistatus_reply (item ∷ []))) ≡ false
+    by_key : (b : Bool) → is_transferred (if b then Ok (bare_reply item.1 []) else Ok (multistatus_reply (item ∷ []))) ≡ false
     by_key true = let refusal = refusals item (inl refl) in refusal_untold refusal.0 item.1 refusal.1
     by_key false = refl
 named_untold path item (next ∷ names) refusals = refl
 
 -- one that names nothing does
-pub clean_told : (path : PathValue) (there : Option Meta) → tells_transferred (multi_answer path (transferred_items path there [])) ≡ true
+pub clean_told : (path : PathValue) (there : Option Meta) → is_transferred (multi_answer path (transferred_items path there [])) ≡ true
 clean_told path there =
-    subst (λ b. tells_transferred (if b then Ok (bare_reply (if is_some there then 204 else 201) []) else Ok (multistatus_reply ((path, if is_some there then 204 else 201) ∷ []))) ≡ true)
+    subst (λ b. is_transferred (if b then Ok (bare_reply (if is_some there then 204 else 201) []) else Ok (multistatus_reply ((path, if is_some there then 204 else 201) ∷ []))) ≡ true)
     (sym ((same_key_decides path.key path.key).1 refl)) (by_there (is_some there))
   where
     by_there : (b : Bool) → (nat_eq (if b then 204 else 201) 201 || nat_eq (if b then 204 else 201) 204) ≡ true
@@ -191,7 +191,7 @@ module _ (settings : Settings) (request : DavRequest) (old : State) (answer : An
 
   -- an error that isn't a want of memory has changed nothing
   error_tells : (e : DavError) → answer ≡ Err e → (new ≡ old) ⊎ (e ≡ Memory) → MoveTells
-  error_tells e is same = ((λ told. absurd (let no : false ≡ true = sym (ap tells_transferred is) ∙ told in cc)), (λ told other key below. by_end same other key))
+  error_tells e is same = ((λ recorded. absurd (let no : false ≡ true = sym (ap is_transferred is) ∙ recorded in cc)), (λ recorded other key below. by_end same other key))
     where
       by_end : (new ≡ old) ⊎ (e ≡ Memory) → answer ≢ Err Memory → (key : Key) → standing new.contents key ≡ standing old.contents key
       by_end (inl kept) other key = ap (λ (s : State). standing s.contents key) kept
@@ -211,18 +211,18 @@ module _ (settings : Settings) (request : DavRequest) (old : State) (answer : An
         by_names : (names : List Item) → Moves path found old records names new → answer ≡ multi_answer path (transferred_items path found.there names) → MoveTells
         by_names [] moved answered =
             let whole = moves_whole path found old new records apart moved in (
-              (λ told. record {
+              (λ recorded. record {
                 destination = found.destination;
                 named = asked_so (reach_verdict true (depth_or_all request)) rules.asked;
                 renamed = whole.0;
                 unlocked = λ reliable. unlocked request whole.1.0 new whole.1.2 (ap (λ (r : Reliable). r.delete) whole.1.1.reliable ∙ reliable);
               }),
-              (λ told other key below. absurd (let no : true ≡ false = sym (ap tells_transferred answered ∙ clean_told path found.there) ∙ told in cc)),
+              (λ recorded other key below. absurd (let no : true ≡ false = sym (ap is_transferred answered ∙ clean_told path found.there) ∙ recorded in cc)),
             )
         by_names (item ∷ names) moved answered =
             let refusals : AreRefusals (item ∷ names) = moves_refused path found old new records (item ∷ names) moved in (
-              (λ told. absurd (let no : false ≡ true = sym (ap tells_transferred answered ∙ named_untold path item names refusals) ∙ told in cc)),
-              (λ told other key below.
+              (λ recorded. absurd (let no : false ≡ true = sym (ap is_transferred answered ∙ named_untold path item names refusals) ∙ recorded in cc)),
+              (λ recorded other key below.
                   let tail = at_or_below-tail request.path.key key below in
                   subst (λ k. standing new.contents k ≡ standing old.contents k) (sym tail.1) (moves_none path found old new records apart item names moved tail.0)),
             )
@@ -234,8 +234,8 @@ module _ (settings : Settings) (request : DavRequest) (old : State) (answer : An
   step_tells formed records (Done h) =
       let rules = move_passed settings request old h.head h.found h.passed in
       work_tells h.found rules (rules.may formed).apart h.rest h.work
-  step_tells formed records (CutShort h) = error_tells Memory h.told (inl h.same)
-  step_tells formed records (CutInWork h) = error_tells Memory h.told (inr refl)
+  step_tells formed records (CutShort h) = error_tells Memory h.answered (inl h.same)
+  step_tells formed records (CutInWork h) = error_tells Memory h.answered (inr refl)
 
 pub move_tells : {settings : Settings} {request : DavRequest} {old new : State} {records : List Logged} {answer : Answer} → IsLawfulState old → StepBy move_method settings request old records answer new
     → MovesWhole settings request old answer new × KeepsSource request old answer new

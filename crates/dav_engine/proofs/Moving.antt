@@ -18,8 +18,8 @@ use Rattle.dav_store.specs.Locks.{Locks, all_reliable}
 use Rattle.dav_store.specs.Logged.{Logged}
 use Rattle.dav_store.specs.Store.{Store, Node, Directory, IsWellFormed}
 use Rattle.dav_store.specs.Transfers.{rename_call, rename_bar, IsRenamedTo}
-use Rattle.dav_parts.specs.Dialogues.{unlike}
-use Rattle.dav_parts.specs.Multistatus.{Item}
+use Rattle.dav_messages.specs.Dialogues.{unlike}
+use Rattle.dav_messages.specs.Multistatus.{Item}
 use Rattle.dav_walks.specs.KeyCall.{standing}
 use Rattle.dav_engine.specs.State.{State, Seen, state_of, DropsSeen}
 use Rattle.dav_engine.specs.Transferring.{ClearsIf, Names, NamesBy, source_path}
@@ -46,7 +46,7 @@ module _ (source destination : PathValue) (old new : Store) where
   pub renames : (had : List Item) → Grants call (IsRenamedTo source.key destination.key) old new → Renaming source destination old new had had (Ok tt)
   renames had g = record {
     records = record_of call Granted ∷ [];
-    told = g.told;
+    recorded = g.recorded;
     fixed = g.fixed;
     done = inl (
       [],
@@ -67,7 +67,7 @@ module _ (source destination : PathValue) (old new : Store) where
   renames_unbegun had (inr d) = absurd (d.not_memory refl)
   renames_unbegun had (inl (memory, same)) = record {
     records = [];
-    told = ap (λ (s : Store). s.log) same ∙ sym (append-nil old.log);
+    recorded = ap (λ (s : Store). s.log) same ∙ sym (append-nil old.log);
     fixed = ap (λ (s : Store). s.facts) same;
     done = inr (refl, (ap (λ (s : Store). s.contents) same, inl refl), refl);
   }
@@ -78,7 +78,7 @@ module _ (source destination : PathValue) (old new : Store) where
     renames_unnamed (inl lacking) kept = absurd (other lacking.0)
     renames_unnamed (inr d) kept = record {
       records = record_of call d.outcome ∷ [];
-      told = d.told;
+      recorded = d.recorded;
       fixed = d.fixed;
       done = inr (refl, (d.same, inr ((source, fs_status error), alone_declined error d)), kept);
     }
@@ -88,7 +88,7 @@ module _ (source destination : PathValue) (old new : Store) where
     renames_named (inl lacking) named = absurd (other lacking.0)
     renames_named (inr d) named = record {
       records = record_of call d.outcome ∷ [];
-      told = d.told;
+      recorded = d.recorded;
       fixed = d.fixed;
       done = inl ((source, fs_status error) ∷ [], named, alone_declined error d, refl);
     }
@@ -106,7 +106,7 @@ module _ (source destination : PathValue) (old mid : Seen) (had has : List Item)
   pub source_named : (e : DavError) → Renaming source destination old.store mid.store had has (Err e) → mid.locks ≡ old.locks → Moved mid (Err e)
   source_named e h locks = record {
     records = h.records;
-    told = h.told;
+    recorded = h.recorded;
     fixed = same_facts old mid h.fixed locks;
     done = by_end h.done;
   }
@@ -123,7 +123,7 @@ module _ (source destination : PathValue) (old mid : Seen) (had has : List Item)
   pub source_moved : (new : Seen) → Renaming source destination old.store mid.store had has (Ok tt) → mid.locks ≡ old.locks → DropsSeen source.key mid new → Moved new (Ok tt)
   source_moved new h locks dropped = record {
     records = h.records;
-    told = ap (λ (s : Store). s.log) dropped.store ∙ h.told;
+    recorded = ap (λ (s : Store). s.log) dropped.store ∙ h.recorded;
     fixed = dropped.fixed ∙ same_facts old mid h.fixed locks;
     done = by_end h.done;
   }

@@ -16,16 +16,16 @@ use Rattle.dav_store.specs.Locks.{is_at_or_below, at_or_below, covering, is_subm
 use Rattle.dav_store.specs.Logged.{Logged}
 use Rattle.dav_store.specs.Members.{IsIn}
 use Rattle.dav_store.specs.declared.lock.DavLock.{DavLock}
-use Rattle.dav_parts.specs.Conditions.{submitted_tokens}
-use Rattle.dav_parts.specs.Dialogue.{Passed, LeadsTo}
-use Rattle.dav_parts.specs.Multistatus.{Item}
-use Rattle.dav_parts.specs.Reply.{Answer}
+use Rattle.dav_messages.specs.Conditions.{submitted_tokens}
+use Rattle.dav_messages.specs.Dialogue.{Passed, LeadsTo}
+use Rattle.dav_messages.specs.Multistatus.{Item}
+use Rattle.dav_messages.specs.Reply.{Answer}
 use Rattle.dav_walks.specs.Deletion.{Removes}
 use Rattle.dav_find.specs.RangeKeys.{in_left, in_map}
 use Rattle.dav_engine.specs.Bounds.{is_within, is_at_destination, HasLock, may_change_lock, untimed, KeepsOtherLocks}
 use Rattle.dav_engine.specs.Copy.{replaced, CopiesSource, CopiesSourceInPart, CopyWork, CopyCut}
 use Rattle.dav_engine.specs.Delete.{LeavesLocks, DeleteWork, DeleteCut}
-use Rattle.dav_engine.specs.Locking.{is_refresh, lock_asked, refresh_timeout, AddsToLocks, TakesBack, LeavesLock, GrantsLock, DeniesLock, RefreshesAlone, RefreshesTold, FindsNoLock, LockWorkBy, LockCutBy}
+use Rattle.dav_engine.specs.Locking.{is_refresh, lock_asked, refresh_timeout, AddsToLocks, TakesBack, LeavesLock, GrantsLock, DeniesLock, RefreshesAlone, RefreshesNamed, FindsNoLock, LockWorkBy, LockCutBy}
 use Rattle.dav_engine.specs.Method.{Method, StepBy, Refused, Done, CutShort, CutInWork}
 use Rattle.dav_engine.specs.Methods.{Step, mkcol_method, write_method, delete_method, copy_method, move_method, lock_method, unlock_method, proppatch_method, options_method, propfind_method}
 use Rattle.dav_engine.specs.Move.{MovesSource, MovesInPart, MoveWork, MoveCut}
@@ -133,23 +133,23 @@ module _ (may : DavLock → Bool) where
   loses_replaced : (there : Bool) (destination : PathValue) (old new : State) (records : List Logged) → IsFree may destination.key old
       → (Follows : State → List Logged → List Item → State → Type 0) (names : List Item) → Replaces Follows there destination old records names new
       → ((mid : State) (rest : List Logged) → LosesOnly may old mid → Follows mid rest names new → LosesOnly may mid new) → LosesOnly may old new
-  loses_replaced there destination old new records free Follows names w further = loses_then old w.mid new first (by_kept w.kept w.follows)
+  loses_replaced there destination old new records free Follows names w further = loses_then old w.between new first (by_left w.left w.follows)
     where
-      first : LosesOnly may old w.mid
-      first = loses_cleared there destination old w.mid w.head w.kept free w.cleared
+      first : LosesOnly may old w.between
+      first = loses_cleared there destination old w.between w.removal w.left free w.cleared
 
-      by_kept : (kept : List Item) → UnlessNamed Follows kept w.mid w.rest names new → LosesOnly may w.mid new
-      by_kept [] follows = further w.mid w.rest first follows
-      by_kept (item ∷ kept) follows = loses_none w.mid new follows.2
+      by_left : (kept : List Item) → UnlessNamed Follows kept w.between w.after names new → LosesOnly may w.between new
+      by_left [] follows = further w.between w.after first follows
+      by_left (item ∷ kept) follows = loses_none w.between new follows.2
 
   loses_replaced_in_part : (there : Bool) (destination : PathValue) (old new : State) (records : List Logged) → IsFree may destination.key old
       → (Part : State → List Logged → State → Type 0) → ReplacesInPart Part there destination old records new
       → ((mid : State) (rest : List Logged) → LosesOnly may old mid → Part mid rest new → LosesOnly may mid new) → LosesOnly may old new
   loses_replaced_in_part there destination old new records free Part (inl part) further = loses_cleared_in_part there destination old new records part
-  loses_replaced_in_part there destination old new records free Part (inr more) further = loses_then old more.mid new first (further more.mid more.rest first more.part)
+  loses_replaced_in_part there destination old new records free Part (inr more) further = loses_then old more.between new first (further more.between more.after first more.part)
     where
-      first : LosesOnly may old more.mid
-      first = loses_cleared there destination old more.mid more.head [] free more.cleared
+      first : LosesOnly may old more.between
+      first = loses_cleared there destination old more.between more.removal [] free more.cleared
 
 -- ---- where the locks permit the request
 
@@ -421,8 +421,8 @@ module _ (settings : Settings) (request : DavRequest) (old new : State) where
   locks_by_work : (found : Option Meta) (records : List Logged) (answer : Answer) (refresh : Bool) → is_refresh settings.facts.bodies request.body ≡ refresh → LockWorkBy refresh request found old records answer new → Law
   locks_by_work found records answer true is work = by_end work.done
     where
-      by_end : RefreshesTold request found work.token old answer new ⊎ FindsNoLock request work.token old answer new → Law
-      by_end (inl told) = locks_refreshed work.token is work.one told.locks
+      by_end : RefreshesNamed request found work.token old answer new ⊎ FindsNoLock request work.token old answer new → Law
+      by_end (inl recorded) = locks_refreshed work.token is work.one recorded.locks
       by_end (inr none) = other_locks_stay (Some Lock) settings request old new none.locks
   locks_by_work found records answer false is work = by_end work.done
     where

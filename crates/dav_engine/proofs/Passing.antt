@@ -17,13 +17,13 @@ use Rattle.dav_store.specs.Below.{is_at_or_below, AreApart}
 use Rattle.dav_store.specs.Calls.{IsLawful, metadata_bar}
 use Rattle.dav_store.specs.Logged.{Logged}
 use Rattle.dav_store.specs.Store.{Contents, Node, Directory, File, MetaFits, IsWellFormed}
-use Rattle.dav_parts.specs.Conditions.{submitted_tokens}
-use Rattle.dav_parts.specs.Dialogue.{Passed, LeadsTo, look, if_granted}
-use Rattle.dav_parts.specs.Dialogues.{LeadsTo-last}
+use Rattle.dav_messages.specs.Conditions.{submitted_tokens}
+use Rattle.dav_messages.specs.Dialogue.{Passed, LeadsTo, look_up, if_granted}
+use Rattle.dav_messages.specs.Dialogues.{LeadsTo-last}
 use Rattle.dav_engine.specs.State.{State}
 use Rattle.dav_engine.specs.Settings.{Settings}
-use Rattle.dav_engine.specs.Rules.{judged, told_by_look, or_refused, must_find, look_closely, own_conditions, is_permitted, where_permitted, path_rules, depth_or_all, is_directory}
-use Rattle.dav_engine.specs.Transferring.{where_reached, asked_destination, reach_verdict, parent_verdict, must_have_parent, found_or_absent, look_there, see_destination, may_overwrite, is_deep, is_misplaced, place_verdict, permits_transfer, transfer_rules}
+use Rattle.dav_engine.specs.Rules.{judged, lookup_result, or_refused, must_find, look_up_result, own_conditions, is_permitted, where_permitted, path_rules, depth_or_all, is_directory, is_deep}
+use Rattle.dav_engine.specs.Transferring.{where_reached, asked_destination, reach_verdict, parent_verdict, must_have_parent, found_or_absent, look_up_destination, see_destination, may_overwrite, is_misplaced, place_verdict, permits_transfer, transfer_rules}
 use Rattle.dav_engine.specs.Move.{MayMove}
 use Rattle.dav_engine.specs.Copy.{MayCopy}
 use Rattle.dav_engine.specs.declared.transfer.Transfer.{Transfer}
@@ -62,7 +62,7 @@ path_passed request state looked head found h =
 
 -- ---- the looks
 
-told_passed : (outcome : Outcome) (known : Option Meta) (meta : Meta) (records : List Logged) → LeadsTo (or_refused (told_by_look outcome known)) records (Passed meta) → known ≡ Some meta
+told_passed : (outcome : Outcome) (known : Option Meta) (meta : Meta) (records : List Logged) → LeadsTo (or_refused (lookup_result outcome known)) records (Passed meta) → known ≡ Some meta
 told_passed Granted (Some m) meta [] h = let same : meta ≡ m = cc in ap Some (sym same)
 told_passed Granted (Some m) meta (r ∷ records) h = absurd h
 told_passed Granted None meta [] h = absurd cc
@@ -77,8 +77,8 @@ pub found_passed : (contents : Contents) (key : Key) (meta : Meta) (records : Li
 found_passed contents key meta [] h = absurd cc
 found_passed contents key meta (r ∷ records) h = told_passed r.outcome (contents.metas key) meta records h.2
 
--- a look whose refusal is passed over
-looked_passed : (contents : Contents) (key : Key) (found : Option Meta) (records : List Logged) → LeadsTo (look contents key) records (Passed found) → (outcome : Outcome) × (found ≡ if_granted outcome (contents.metas key))
+-- a lookup whose refusal is passed over
+pub looked_passed : (contents : Contents) (key : Key) (found : Option Meta) (records : List Logged) → LeadsTo (look_up contents key) records (Passed found) → (outcome : Outcome) × (found ≡ if_granted outcome (contents.metas key))
 looked_passed contents key found [] h = absurd cc
 looked_passed contents key found (r ∷ []) h = (r.outcome, let end = h.2 in cc)
 looked_passed contents key found (r ∷ s ∷ records) h = absurd h.2
@@ -105,10 +105,10 @@ verdict_directory above = by_test (is_directory above)
 -- a directory is above the destination
 above_passed : (contents : Contents) (destination : Key) (records : List Logged) → IsWellFormed contents → LeadsTo (must_have_parent contents destination) records (Passed tt) → get contents.tree (parent destination) ≡ Some Directory
 above_passed contents destination records formed h =
-    let looked = LeadsTo-last (look contents (parent destination)) _ records tt h in
-    let told = looked_passed contents (parent destination) looked.0 looked.1 looked.3 in
+    let looked = LeadsTo-last (look_up contents (parent destination)) _ records tt h in
+    let recorded = looked_passed contents (parent destination) looked.0 looked.1 looked.3 in
     let directory = verdict_directory looked.0 (judged_passed (parent_verdict looked.0) tt looked.2 looked.4) in
-    let known = directory_known told.0 (contents.metas (parent destination)) looked.0 told.1 directory in
+    let known = directory_known recorded.0 (contents.metas (parent destination)) looked.0 recorded.1 directory in
     directory_there (get contents.tree (parent destination)) (contents.metas (parent destination)) known.0 (formed.metas (parent destination)) known.1 known.2
 
 -- only that nothing is there is no refusal
@@ -120,25 +120,25 @@ barred_absent : (it : Option Node) (known : Option Meta) (e : FsError) → MetaF
 barred_absent None known e fits bar = fits
 barred_absent (Some node) known e fits bar = absurd cc
 
-known_there : (outcome : Outcome) (it : Option Node) (known there : Option Meta) → MetaFits it known → IsLawful (metadata_bar it) outcome → found_or_absent (told_by_look outcome known) ≡ Ok there → known ≡ there
+known_there : (outcome : Outcome) (it : Option Node) (known there : Option Meta) → MetaFits it known → IsLawful (metadata_bar it) outcome → found_or_absent (lookup_result outcome known) ≡ Ok there → known ≡ there
 known_there Granted it (Some meta) there fits lawful is = cc
 known_there Granted it None there fits lawful is = cc
 known_there (Barred e) it known there fits lawful is = barred_absent it known e fits lawful ∙ sym (absent_told e there is).1
 known_there (Refused e) it known there fits lawful is = absurd (lawful.not_missing (absent_told e there is).0)
 
--- a look whose result is passed on
-pub closely_passed : (contents : Contents) (key : Key) (told : Result Meta FsError) (records : List Logged) → LeadsTo (look_closely contents key) records (Passed told) → (outcome : Outcome) × IsLawful (metadata_bar (get contents.tree key)) outcome × (told ≡ told_by_look outcome (contents.metas key))
-closely_passed contents key told [] h = absurd cc
-closely_passed contents key told (r ∷ []) h = (r.outcome, h.1, let end = h.2 in cc)
-closely_passed contents key told (r ∷ s ∷ records) h = absurd h.2
+-- a lookup whose result is passed on
+pub closely_passed : (contents : Contents) (key : Key) (recorded : Result Meta FsError) (records : List Logged) → LeadsTo (look_up_result contents key) records (Passed recorded) → (outcome : Outcome) × IsLawful (metadata_bar (get contents.tree key)) outcome × (recorded ≡ lookup_result outcome (contents.metas key))
+closely_passed contents key recorded [] h = absurd cc
+closely_passed contents key recorded (r ∷ []) h = (r.outcome, h.1, let end = h.2 in cc)
+closely_passed contents key recorded (r ∷ s ∷ records) h = absurd h.2
 
 -- it is known what stands at the destination
-there_passed : (contents : Contents) (destination : Key) (there : Option Meta) (records : List Logged) → IsWellFormed contents → LeadsTo (look_there contents destination) records (Passed there) → contents.metas destination ≡ there
+there_passed : (contents : Contents) (destination : Key) (there : Option Meta) (records : List Logged) → IsWellFormed contents → LeadsTo (look_up_destination contents destination) records (Passed there) → contents.metas destination ≡ there
 there_passed contents destination there records formed h =
-    let looked = LeadsTo-last (look_closely contents destination) _ records there h in
-    let told = closely_passed contents destination looked.0 looked.1 looked.3 in
+    let looked = LeadsTo-last (look_up_result contents destination) _ records there h in
+    let recorded = closely_passed contents destination looked.0 looked.1 looked.3 in
     let is = judged_passed (found_or_absent looked.0) there looked.2 looked.4 in
-    known_there told.0 (get contents.tree destination) (contents.metas destination) there (formed.metas destination) told.1 (sym (ap found_or_absent told.2) ∙ is)
+    known_there recorded.0 (get contents.tree destination) (contents.metas destination) there (formed.metas destination) recorded.1 (sym (ap found_or_absent recorded.2) ∙ is)
 
 -- ---- where it goes
 

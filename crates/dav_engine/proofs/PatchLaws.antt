@@ -9,21 +9,21 @@ use Rattle.dav_resource.specs.declared.request.DavRequest.{DavRequest}
 use Rattle.dav_store.specs.Logged.{Logged}
 use Rattle.dav_store.specs.PropertyCalls.{Patch, IsPatchedAt, patched, properties_at, some_properties}
 use Rattle.dav_store.specs.Store.{Contents, PropertyMap}
-use Rattle.dav_parts.specs.Conditions.{conditions}
-use Rattle.dav_parts.specs.Dialogue.{Dialogue, Asks, Refuses, Passed, LeadsTo, ◌>>=◌}
-use Rattle.dav_parts.specs.Reply.{Reply, Answer}
+use Rattle.dav_messages.specs.Conditions.{conditions}
+use Rattle.dav_messages.specs.Dialogue.{Dialogue, Asks, Refuses, Passed, LeadsTo, ◌>>=◌}
+use Rattle.dav_messages.specs.Reply.{Reply, Answer}
 use Rattle.dav_props.specs.Propstat.{grouped}
-use Rattle.dav_props.specs.Update.{Change, update_verdict, some_refused, live_first, patches_of, told_failed, told_made}
+use Rattle.dav_props.specs.Update.{Change, update_verdict, some_refused, live_first, patches_of, failed_report, made_report}
 use Rattle.dav_walks.specs.PutLaws.{put_at_here, put_at_elsewhere}
-use Rattle.dav_engine.specs.Laws.{status_beside_refused, statuses_of, returned, all_ok, ChangesNothing, AreStored, StoresAllOrNothing, TellsStored, KeepsUnlessTold, StoresNothingBesideRefused, ProppatchLaw}
+use Rattle.dav_engine.specs.Laws.{status_beside_refused, statuses_of, returned, all_ok, ChangesNothing, AreStored, StoresAllOrNothing, ReportsStored, KeepsUnlessReported, StoresNothingBesideRefused, ProppatchLaw}
 use Rattle.dav_engine.specs.Method.{StepBy, Refused, Done, CutShort, CutInWork}
 use Rattle.dav_engine.specs.Methods.{proppatch_method}
-use Rattle.dav_engine.specs.Proppatch.{Update, found_rules, unless_some_refused, proppatch_rules, proppatch_reply, told_by_store, MakesChanges}
-use Rattle.dav_engine.specs.Rules.{judged, told_by_look, must_find, is_permitted}
+use Rattle.dav_engine.specs.Proppatch.{Update, found_rules, unless_some_refused, proppatch_rules, proppatch_reply, stored_answer, MakesChanges}
+use Rattle.dav_engine.specs.Rules.{judged, lookup_result, must_find, is_permitted}
 use Rattle.dav_engine.specs.Settings.{Settings}
 use Rattle.dav_engine.specs.State.{State, LocksStay, IsLawfulState}
 use Rattle.dav_engine.proofs.Patching.{UpdatePassed, found_known, update_passed}
-use Rattle.dav_engine.proofs.PatchTells.{all_200, status_of, ok_statuses, beside_not_ok, ok_returned, ok_each, each_ok, failed_names, made_names, failed_statuses, made_statuses, passed, none_returned, work_returned, both_returned}
+use Rattle.dav_engine.proofs.ChangeStatuses.{all_200, status_of, ok_statuses, beside_not_ok, ok_returned, ok_each, each_ok, failed_names, made_names, failed_statuses, made_statuses, passed, none_returned, work_returned, both_returned}
 use Rattle.dav_engine.proofs.Passing.{judged_passed}
 use Rattle.dav_engine.proofs.Refusals.{AnyError, RefusesBy, errs_then, errs_led, errs_judged, errs_told, errs_conditions, errs_permitted}
 
@@ -81,7 +81,7 @@ led_refused (Passed a) after (logged ∷ records) answer h = inr (a, [], logged 
 
 errs_found : (request : DavRequest) (state : State) → RefusesBy AnyError (found_rules request state)
 errs_found request state =
-    errs_then AnyError (must_find state.contents request.path.key) _ (λ outcome. errs_told AnyError (λ e. tt) (told_by_look outcome (state.contents.metas request.path.key)))
+    errs_then AnyError (must_find state.contents request.path.key) _ (λ outcome. errs_told AnyError (λ e. tt) (lookup_result outcome (state.contents.metas request.path.key)))
     (λ meta. errs_then AnyError (conditions state.contents state.locks request (Some meta) request.path) _ (errs_conditions AnyError (λ s least. tt) state.contents state.locks request (Some meta) request.path)
     (λ _. errs_permitted AnyError (λ s least. tt) 423 (omega arith) (is_permitted request state request.path.key false) (Some meta)))
 
@@ -98,7 +98,7 @@ record RepliesRefused (keeps : Bool) (request : DavRequest) (state : State) (rep
   changes : List Change
   asked : update_verdict keeps request.body ≡ Ok changes
   refused : some_refused changes ≡ true
-  shown : reply ≡ proppatch_reply request.path (state.contents.metas request.path.key) (grouped (told_failed changes))
+  shown : reply ≡ proppatch_reply request.path (state.contents.metas request.path.key) (grouped (failed_report changes))
 
 module _ (keeps : Bool) (request : DavRequest) (state : State) (reply : Reply) where
   by_changes : (found : Option Meta) (records : List Logged) → found ≡ state.contents.metas request.path.key → LeadsTo (judged (update_verdict keeps request.body) >>= unless_some_refused request found) records (Refuses (Ok reply)) → RepliesRefused keeps request state reply
@@ -108,8 +108,8 @@ module _ (keeps : Bool) (request : DavRequest) (state : State) (reply : Reply) w
       by_read (inl unread) = absurd (no_reply (judged (update_verdict keeps request.body)) records reply (errs_judged (update_verdict keeps request.body)) unread)
       by_read (inr (changes, head, rest, read, end)) =
           let is = decided (some_refused changes) _ (Ok reply) (found, changes) rest end in
-          let shown : reply ≡ proppatch_reply request.path found (grouped (told_failed changes)) = let same = is.1 in cc in
-          record { changes = changes; asked = judged_passed (update_verdict keeps request.body) changes head read; refused = is.0; shown = shown ∙ ap (λ m. proppatch_reply request.path m (grouped (told_failed changes))) known }
+          let shown : reply ≡ proppatch_reply request.path found (grouped (failed_report changes)) = let same = is.1 in cc in
+          record { changes = changes; asked = judged_passed (update_verdict keeps request.body) changes head read; refused = is.0; shown = shown ∙ ap (λ m. proppatch_reply request.path m (grouped (failed_report changes))) known }
 
   replies_refused : (records : List Logged) → LeadsTo (proppatch_rules keeps request state) records (Refuses (Ok reply)) → RepliesRefused keeps request state reply
   replies_refused records led = by_found (led_refused (found_rules request state) _ records (Ok reply) led)
@@ -132,79 +132,79 @@ module _ (settings : Settings) (request : DavRequest) (old : State) (records : L
   statuses_by changes refused is = ap (λ b. if b then map status_beside_refused (live_first changes) else passed changes ++ here) is
 
   module _ (update : Update) (new : State) (seen : UpdatePassed keeps request old update) (locks : LocksStay old new) (rest : List Logged) (statuses : List ℕ) (reply : Reply)
-      (shown : reply ≡ proppatch_reply request.path update.0 (grouped (told_made update.1 statuses))) (is_returned : here ≡ statuses) where
+      (shown : reply ≡ proppatch_reply request.path update.0 (grouped (made_report update.1 statuses))) (is_returned : here ≡ statuses) where
     tells : length statuses ≡ length (patches_of update.1) → (all_200 statuses ≡ true → AreStored request update.1 old new) → (all_200 statuses ≡ false → ChangesNothing old new) → StoresAllOrNothing settings request old records reply new
     tells count stored unstored = record {
       changes = update.1;
       asked = seen.read;
-      told = told_made update.1 statuses;
+      reported = made_report update.1 statuses;
       each = made_names update.1 statuses count;
       own = own ∙ ap (λ more. passed update.1 ++ more) (sym is_returned) ∙ sym (statuses_by update.1 false seen.none_refused);
-      shown = shown ∙ ap (λ m. proppatch_reply request.path m (grouped (told_made update.1 statuses))) seen.known;
+      shown = shown ∙ ap (λ m. proppatch_reply request.path m (grouped (made_report update.1 statuses))) seen.known;
       stored = λ ok. stored (sym is_ok ∙ ok);
       unstored = λ not_ok. unstored (sym is_ok ∙ not_ok);
     }
       where
-        own : map status_of (told_made update.1 statuses) ≡ passed update.1 ++ statuses
+        own : map status_of (made_report update.1 statuses) ≡ passed update.1 ++ statuses
         own = made_statuses update.1 statuses seen.none_refused count
 
-        is_ok : all_ok (told_made update.1 statuses) ≡ all_200 statuses
-        is_ok = ok_statuses (told_made update.1 statuses) ∙ ap all_200 own ∙ ok_returned update.1 statuses
+        is_ok : all_ok (made_report update.1 statuses) ≡ all_200 statuses
+        is_ok = ok_statuses (made_report update.1 statuses) ∙ ap all_200 own ∙ ok_returned update.1 statuses
 
     tells_changes : (patches : List Patch) → patches_of update.1 ≡ patches → MakesChanges keeps request.path.key patches old.contents rest (Ok statuses) new.contents → StoresAllOrNothing settings request old records reply new
     tells_changes [] none asks =
-        let told : statuses ≡ [] = let h = asks.told_none in cc in
-        tells (ap length told ∙ ap length (sym none)) (λ ok. stored_none request update.1 old new locks none asks.same) (λ not_ok. record { contents = asks.same; locks = locks })
+        let recorded : statuses ≡ [] = let h = asks.returns_none in cc in
+        tells (ap length recorded ∙ ap length (sym none)) (λ ok. stored_none request update.1 old new locks none asks.same) (λ not_ok. record { contents = asks.same; locks = locks })
     tells_changes (patch ∷ patches) is (inl all) =
-        let told : statuses ≡ replicate (length (patch ∷ patches)) 200 = let h = all.told_all in cc in
-        tells (ap length told ∙ length-replicate (length (patch ∷ patches)) 200 ∙ ap length (sym is)) (λ ok. stored_all request update.1 old new locks (rw is all.made))
-        (λ not_ok. let no : false ≡ true = sym not_ok ∙ ap all_200 told ∙ ok_each (length (patch ∷ patches)) in absurd cc)
+        let recorded : statuses ≡ replicate (length (patch ∷ patches)) 200 = let h = all.returns_all in cc in
+        tells (ap length recorded ∙ length-replicate (length (patch ∷ patches)) 200 ∙ ap length (sym is)) (λ ok. stored_all request update.1 old new locks (rw is all.made))
+        (λ not_ok. let no : false ≡ true = sym not_ok ∙ ap all_200 recorded ∙ ok_each (length (patch ∷ patches)) in absurd cc)
     tells_changes (patch ∷ patches) is (inr (inl none)) =
-        let told : statuses ≡ none.statuses = let h = none.told_each in cc in
-        tells (ap length told ∙ none.each ∙ ap length (sym is))
-        (λ ok. absurd (none.not_all (sym told ∙ each_ok statuses ok ∙ ap (λ count. replicate count 200) (ap length told ∙ none.each))))
+        let recorded : statuses ≡ none.statuses = let h = none.returns_each in cc in
+        tells (ap length recorded ∙ none.each ∙ ap length (sym is))
+        (λ ok. absurd (none.not_all (sym recorded ∙ each_ok statuses ok ∙ ap (λ count. replicate count 200) (ap length recorded ∙ none.each))))
         (λ not_ok. record { contents = none.same; locks = locks })
-    tells_changes (patch ∷ patches) is (inr (inr refused)) = let no = refused.told_error in absurd cc
+    tells_changes (patch ∷ patches) is (inr (inr refused)) = let no = refused.returns_error in absurd cc
 
-  patch_tells : (answer : Answer) (new : State) → StepBy proppatch_method settings request old records answer new → TellsStored settings request old records answer new
+  patch_tells : (answer : Answer) (new : State) → StepBy proppatch_method settings request old records answer new → ReportsStored settings request old records answer new
   patch_tells answer new (Refused h) reply is =
       let r = replies_refused keeps request old reply records (subst (λ a. LeadsTo (proppatch_rules keeps request old) records (Refuses a)) is h.head) in
       record {
         changes = r.changes;
         asked = r.asked;
-        told = told_failed r.changes;
+        reported = failed_report r.changes;
         each = failed_names r.changes;
         own = failed_statuses r.changes ∙ sym (statuses_by r.changes true r.refused);
         shown = r.shown;
-        stored = λ ok. absurd (beside_not_ok r.changes r.refused (sym (ok_statuses (told_failed r.changes) ∙ ap all_200 (failed_statuses r.changes)) ∙ ok));
+        stored = λ ok. absurd (beside_not_ok r.changes r.refused (sym (ok_statuses (failed_report r.changes) ∙ ap all_200 (failed_statuses r.changes)) ∙ ok));
         unstored = λ not_ok. same_state old new h.same;
       }
-  patch_tells answer new (Done h) reply is = by_told h.work.0.told h.work.0.stored h.work.0.answered
+  patch_tells answer new (Done h) reply is = by_reported h.work.0.store_answer h.work.0.stored h.work.0.answered
     where
       seen : UpdatePassed keeps request old h.found
       seen = update_passed keeps request old h.head h.found h.passed
 
-      by_told : (told : Result (List ℕ) FsError) → MakesChanges keeps request.path.key (patches_of h.found.1) old.contents h.rest told new.contents → answer ≡ told_by_store request h.found told → StoresAllOrNothing settings request old records reply new
-      by_told (Ok statuses) made answered =
+      by_reported : (recorded : Result (List ℕ) FsError) → MakesChanges keeps request.path.key (patches_of h.found.1) old.contents h.rest recorded new.contents → answer ≡ stored_answer request h.found recorded → StoresAllOrNothing settings request old records reply new
+      by_reported (Ok statuses) made answered =
           tells_changes h.found new seen h.work.1 h.rest statuses reply (let same = sym is ∙ answered in cc)
           (both_returned request.path.key records h.head h.rest h.cut (none_returned request.path.key (proppatch_rules keeps request old) h.head (Passed h.found) h.passed) ∙ work_returned keeps request.path.key (patches_of h.found.1) old.contents h.rest statuses new.contents made)
           (patches_of h.found.1) refl made
-      by_told (Err e) made answered = let no = sym is ∙ answered in absurd cc
-  patch_tells answer new (CutShort h) reply is = let no = sym is ∙ h.told in absurd cc
-  patch_tells answer new (CutInWork h) reply is = let no = sym is ∙ h.told in absurd cc
+      by_reported (Err e) made answered = let no = sym is ∙ answered in absurd cc
+  patch_tells answer new (CutShort h) reply is = let no = sym is ∙ h.answered in absurd cc
+  patch_tells answer new (CutInWork h) reply is = let no = sym is ∙ h.answered in absurd cc
 
-  patch_kept : (answer : Answer) (new : State) → StepBy proppatch_method settings request old records answer new → KeepsUnlessTold old answer new
+  patch_kept : (answer : Answer) (new : State) → StepBy proppatch_method settings request old records answer new → KeepsUnlessReported old answer new
   patch_kept answer new (Refused h) e is other = same_state old new h.same
-  patch_kept answer new (Done h) e is other = by_told h.work.0.told (patches_of h.found.1) h.work.0.stored h.work.0.answered
+  patch_kept answer new (Done h) e is other = by_reported h.work.0.store_answer (patches_of h.found.1) h.work.0.stored h.work.0.answered
     where
-      by_told : (told : Result (List ℕ) FsError) (patches : List Patch) → MakesChanges keeps request.path.key patches old.contents h.rest told new.contents → answer ≡ told_by_store request h.found told → ChangesNothing old new
-      by_told (Ok statuses) patches made answered = let no = sym is ∙ answered in absurd cc
-      by_told (Err cause) [] none answered = record { contents = none.same; locks = h.work.1 }
-      by_told (Err cause) (patch ∷ patches) (inl all) answered = let no = all.told_all in absurd cc
-      by_told (Err cause) (patch ∷ patches) (inr (inl none)) answered = record { contents = none.same; locks = h.work.1 }
-      by_told (Err cause) (patch ∷ patches) (inr (inr refused)) answered = record { contents = refused.same; locks = h.work.1 }
+      by_reported : (recorded : Result (List ℕ) FsError) (patches : List Patch) → MakesChanges keeps request.path.key patches old.contents h.rest recorded new.contents → answer ≡ stored_answer request h.found recorded → ChangesNothing old new
+      by_reported (Ok statuses) patches made answered = let no = sym is ∙ answered in absurd cc
+      by_reported (Err cause) [] none answered = record { contents = none.same; locks = h.work.1 }
+      by_reported (Err cause) (patch ∷ patches) (inl all) answered = let no = all.returns_all in absurd cc
+      by_reported (Err cause) (patch ∷ patches) (inr (inl none)) answered = record { contents = none.same; locks = h.work.1 }
+      by_reported (Err cause) (patch ∷ patches) (inr (inr refused)) answered = record { contents = refused.same; locks = h.work.1 }
   patch_kept answer new (CutShort h) e is other = same_state old new h.same
-  patch_kept answer new (CutInWork h) e is other = absurd (other (let same = sym is ∙ h.told in cc))
+  patch_kept answer new (CutInWork h) e is other = absurd (other (let same = sym is ∙ h.answered in cc))
 
   -- where all rules are passed, no change is refused
   unrefused : (update : Update) (head : List Logged) → LeadsTo (proppatch_rules keeps request old) head (Passed update) → (changes : List Change) → update_verdict keeps request.body ≡ Ok changes → some_refused changes ≡ true → ⊥

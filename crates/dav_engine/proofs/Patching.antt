@@ -15,14 +15,14 @@ use Rattle.dav_store.specs.Calls.{Declines, record_of}
 use Rattle.dav_store.specs.Logged.{Logged}
 use Rattle.dav_store.specs.PropertyCalls.{Patch, IsWhole, Patches, DropsPatches, patch_props_call, patch_record}
 use Rattle.dav_store.specs.Store.{Store}
-use Rattle.dav_parts.specs.Dialogue.{Dialogue, Passed, Refuses, LeadsTo, Judges, Reaches, ◌>>=◌}
-use Rattle.dav_parts.specs.Dialogues.{LeadsTo-last, judges_exit, judges_then, judges_left, judges_pure, judges_memory, reaches_none, reaches_then}
-use Rattle.dav_parts.specs.Reply.{Answer}
-use Rattle.dav_props.specs.Update.{Change, update_verdict, some_refused, patch_of, patches_of, is_dead, told_failed}
+use Rattle.dav_messages.specs.Dialogue.{Dialogue, Passed, Refuses, LeadsTo, Judges, Reaches, ◌>>=◌}
+use Rattle.dav_messages.specs.Dialogues.{LeadsTo-last, judges_exit, judges_then, judges_left, judges_pure, judges_memory, reaches_none, reaches_then}
+use Rattle.dav_messages.specs.Reply.{Answer}
+use Rattle.dav_props.specs.Update.{Change, update_verdict, some_refused, patch_of, patches_of, is_dead, failed_report}
 use Rattle.dav_props.specs.Property.{prop_named}
 use Rattle.dav_props.specs.Propstat.{grouped}
 use Rattle.dav_engine.specs.Patching.{StoresChanges, IsUnmade, Patching}
-use Rattle.dav_engine.specs.Proppatch.{Update, proppatch_reply, found_rules, unless_some_refused, proppatch_rules, told_by_store}
+use Rattle.dav_engine.specs.Proppatch.{Update, proppatch_reply, found_rules, unless_some_refused, proppatch_rules, stored_answer}
 use Rattle.dav_engine.specs.Rules.{judged, must_find, is_permitted}
 use Rattle.dav_engine.specs.State.{State}
 use Rattle.dav_engine.proofs.Deleting.{judges_known}
@@ -89,7 +89,7 @@ module _ (keeps : Bool) (request : DavRequest) (state : State) (old mid : Store)
       judges_untold = judges_left _ (unless_some_refused request found changes) old mid mid (Err Memory) reached (judges_memory (unless_some_refused request found changes) mid (Err Memory) refl)
 
       -- a change is refused
-      pub reaches_refusal : some_refused changes ≡ true → Reaches (proppatch_rules keeps request state) old (Refuses (Ok (proppatch_reply request.path found (grouped (told_failed changes))))) mid
+      pub reaches_refusal : some_refused changes ≡ true → Reaches (proppatch_rules keeps request state) old (Refuses (Ok (proppatch_reply request.path found (grouped (failed_report changes))))) mid
       reaches_refusal refused = rw refused at reached
 
       -- none is
@@ -112,22 +112,22 @@ all_whole changes = All-map IsWhole patch_of (filter is_dead changes) (each (fil
 module _ (key : Key) where
   -- there is nothing to ask for
   pub stores_nothing : (patches : List Patch) (store : Store) → patches ≡ [] → StoresChanges key patches store (Ok []) store
-  stores_nothing patches store none = rw none (record { records = []; logged = sym (append-nil store.log); fixed = refl; stored = record { none = refl; told_none = refl; same = refl } })
+  stores_nothing patches store none = rw none (record { records = []; logged = sym (append-nil store.log); fixed = refl; stored = record { none = refl; returns_none = refl; same = refl } })
 
   -- it has answered a status for each
   pub stores : (patches : List Patch) (old new : Store) (statuses : List ℕ) → patches ≢ [] → Patches key patches statuses old new ⊎ DropsPatches key patches statuses old new → StoresChanges key patches old (Ok statuses) new
   stores [] old new statuses some h = absurd (some refl)
   stores (patch ∷ patches) old new statuses some (inl h) = record {
     records = patch_record key Granted statuses ∷ [];
-    logged = h.told;
+    logged = h.recorded;
     fixed = h.fixed;
-    stored = inl (record { allowed = h.allowed; called = ap (λ s. patch_record key Granted s ∷ []) h.answered; told_all = ap Ok h.answered; made = h.effect });
+    stored = inl (record { allowed = h.allowed; called = ap (λ s. patch_record key Granted s ∷ []) h.answered; returns_all = ap Ok h.answered; made = h.effect });
   }
   stores (patch ∷ patches) old new statuses some (inr h) = record {
     records = patch_record key (Refused fs_errors.GeneralFailure) statuses ∷ [];
-    logged = h.told;
+    logged = h.recorded;
     fixed = h.fixed;
-    stored = inr (inl (record { statuses = statuses; each = h.answered; not_all = h.not_all; called = refl; told_each = refl; same = h.same }));
+    stored = inr (inl (record { statuses = statuses; each = h.answered; not_all = h.not_all; called = refl; returns_each = refl; same = h.same }));
   }
 
   -- it has refused the call, or had no memory for it
@@ -139,9 +139,9 @@ module _ (key : Key) where
     refl,
     record {
       records = record_of (patch_props_call old key) h.outcome ∷ [];
-      logged = h.told;
+      logged = h.recorded;
       fixed = h.fixed;
-      stored = inr (inr (record { error = e; outcome = h.outcome; cause = h.cause; lawful = h.lawful; called = refl; told_error = refl; same = h.same }));
+      stored = inr (inr (record { error = e; outcome = h.outcome; cause = h.cause; lawful = h.lawful; called = refl; returns_error = refl; same = h.same }));
     },
   )
 
@@ -150,23 +150,23 @@ module _ (key : Key) where
 module _ (request : DavRequest) (update : Update) where
   -- memory ran out before the store was asked
   pub patch_unbegun : (store : Store) (answer : Answer) → answer ≡ Err Memory → Patching request update store answer store
-  patch_unbegun store answer is = record { records = []; told = sym (append-nil store.log); fixed = refl; done = inr (is, inl (record { none = refl; same = refl })) }
+  patch_unbegun store answer is = record { records = []; recorded = sym (append-nil store.log); fixed = refl; done = inr (is, inl (record { none = refl; same = refl })) }
 
   -- the store made nothing
   pub patch_unmade : (old new : Store) (e : DavError) (answer : Answer) → answer ≡ Err e → IsUnmade request.path.key (patches_of update.1) old e new → Patching request update old answer new
   patch_unmade old new e answer is (inl h) = rw h.1 (patch_unbegun old answer (is ∙ ap Err h.0))
   patch_unmade old new e answer is (inr (cause, error, h)) = record {
     records = h.records;
-    told = h.logged;
+    recorded = h.logged;
     fixed = h.fixed;
-    done = inl (record { told = Err cause; stored = h.stored; answered = is ∙ ap Err error });
+    done = inl (record { store_answer = Err cause; stored = h.stored; answered = is ∙ ap Err error });
   }
 
   module _ (old new : Store) (statuses : List ℕ) (h : StoresChanges request.path.key (patches_of update.1) old (Ok statuses) new) (answer : Answer) where
     -- it has answered, and memory ran out behind that
     pub patch_untold : answer ≡ Err Memory → Patching request update old answer new
-    patch_untold is = record { records = h.records; told = h.logged; fixed = h.fixed; done = inr (is, inr (statuses, h.stored)) }
+    patch_untold is = record { records = h.records; recorded = h.logged; fixed = h.fixed; done = inr (is, inr (statuses, h.stored)) }
 
-    -- it has answered, and that is told
-    pub patch_told : answer ≡ told_by_store request update (Ok statuses) → Patching request update old answer new
-    patch_told is = record { records = h.records; told = h.logged; fixed = h.fixed; done = inl (record { told = Ok statuses; stored = h.stored; answered = is }) }
+    -- it has answered, and that is reported
+    pub patch_told : answer ≡ stored_answer request update (Ok statuses) → Patching request update old answer new
+    patch_told is = record { records = h.records; recorded = h.logged; fixed = h.fixed; done = inl (record { store_answer = Ok statuses; stored = h.stored; answered = is }) }

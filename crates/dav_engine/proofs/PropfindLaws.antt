@@ -9,24 +9,24 @@ use Rattle.dav_headers.specs.Client.{user_agent_of}
 use Rattle.dav_store.specs.Logged.{Logged}
 use Rattle.dav_store.specs.Members.{IsIn}
 use Rattle.dav_store.specs.Store.{Bodies, IsWellFormed}
-use Rattle.dav_parts.specs.Dialogue.{Dialogue, Passed, Refuses, LeadsTo, ◌>>=◌}
-use Rattle.dav_parts.specs.Dialogues.{LeadsTo-last}
-use Rattle.dav_parts.specs.Reply.{Reply, Answer}
+use Rattle.dav_messages.specs.Dialogue.{Dialogue, Passed, Refuses, LeadsTo, ◌>>=◌}
+use Rattle.dav_messages.specs.Dialogues.{LeadsTo-last}
+use Rattle.dav_messages.specs.Reply.{Reply, Answer}
 use Rattle.dav_find.specs.Asked.{Asking, asking_of}
 use Rattle.dav_find.specs.AskedOnceLaws.{asks_each_once, prop_unlisted}
 use Rattle.dav_find.specs.NamedLaws.{reports_named}
 use Rattle.dav_find.specs.OrderedLaws.{reports_in_order}
-use Rattle.dav_find.specs.Range.{TellsRange}
+use Rattle.dav_find.specs.Range.{ReportsRange}
 use Rattle.dav_find.specs.RangeKeys.{in_right}
-use Rattle.dav_find.specs.RangeLaws.{tells_range, range_behind}
-use Rattle.dav_find.specs.RangeSteps.{HasNoListing, AsksNoListing, no_listing_then, leads_to_none, told_keys}
+use Rattle.dav_find.specs.RangeLaws.{reports_range, range_behind}
+use Rattle.dav_find.specs.RangeSteps.{HasNoListing, AsksNoListing, no_listing_then, leads_to_none, reported_keys}
 use Rattle.dav_find.specs.Reported.{AreReported}
 use Rattle.dav_find.specs.ReportedLaws.{reports_each}
-use Rattle.dav_engine.specs.Laws.{TellsItsRange, PropfindLaw}
+use Rattle.dav_engine.specs.Laws.{ReportsItsRange, PropfindLaw}
 use Rattle.dav_engine.specs.Method.{StepBy, Refused, Done, CutShort, CutInWork}
 use Rattle.dav_engine.specs.Methods.{propfind_method}
 use Rattle.dav_engine.specs.Propfind.{is_too_deep, finite_depth_reply, propfind_reply, propfind_rules, sought_rules, view_in, target_at, depth_or_default}
-use Rattle.dav_engine.specs.Rules.{judged, told_by_look, or_refused, must_find}
+use Rattle.dav_engine.specs.Rules.{judged, lookup_result, or_refused, must_find}
 use Rattle.dav_engine.specs.Settings.{Settings}
 use Rattle.dav_engine.specs.State.{State, IsLawfulState}
 use Rattle.dav_engine.proofs.Passing.{found_passed}
@@ -39,7 +39,7 @@ judged_lists_none : {A : Type 0} (verdict : Result A DavError) → AsksNoListing
 judged_lists_none (Ok a) = tt
 judged_lists_none (Err e) = tt
 
-refused_lists_none : {A : Type 0} (told : Result A FsError) → AsksNoListing (or_refused told)
+refused_lists_none : {A : Type 0} (recorded : Result A FsError) → AsksNoListing (or_refused recorded)
 refused_lists_none (Ok a) = tt
 refused_lists_none (Err e) = tt
 
@@ -49,12 +49,12 @@ module _ (held : Bodies) (request : DavRequest) (state : State) where
 
   sought_lists_none : AsksNoListing (sought_rules held request state)
   sought_lists_none =
-      no_listing_then (must_find state.contents request.path.key) wanted (refl, λ outcome. refused_lists_none (told_by_look outcome (state.contents.metas request.path.key)))
+      no_listing_then (must_find state.contents request.path.key) wanted (refl, λ outcome. refused_lists_none (lookup_result outcome (state.contents.metas request.path.key)))
       (λ meta. no_listing_then (judged (asking_of held request.body (user_agent_of request.headers))) _ (judged_lists_none (asking_of held request.body (user_agent_of request.headers))) (λ asking. tt))
 
   errs_sought : RefusesBy AnyError (sought_rules held request state)
   errs_sought =
-      errs_then AnyError (must_find state.contents request.path.key) wanted (λ outcome. errs_told AnyError (λ e. tt) (told_by_look outcome (state.contents.metas request.path.key)))
+      errs_then AnyError (must_find state.contents request.path.key) wanted (λ outcome. errs_told AnyError (λ e. tt) (lookup_result outcome (state.contents.metas request.path.key)))
       (λ meta. errs_then AnyError (judged (asking_of held request.body (user_agent_of request.headers))) _ (errs_judged (asking_of held request.body (user_agent_of request.headers))) (λ asking. tt))
 
   -- what the rules pass is what is there
@@ -116,23 +116,23 @@ not_both : (status : ℕ) → status ≡ 501 → status ≡ 207 → ⊥
 not_both status one other = omega (arith, one, other)
 
 module _ (settings : Settings) (request : DavRequest) (old new : State) (formed : IsWellFormed old.contents) where
-  step_tells : (records : List Logged) (answer : Answer) → StepBy propfind_method settings request old records answer new → TellsItsRange settings request old records answer
-  step_tells records answer (Refused h) reply is told =
+  step_tells : (records : List Logged) (answer : Answer) → StepBy propfind_method settings request old records answer new → ReportsItsRange settings request old records answer
+  step_tells records answer (Refused h) reply is recorded =
       let finite : reply ≡ finite_depth_reply = refused_rules settings.facts.bodies request old records reply (subst (λ a. LeadsTo (propfind_rules settings.facts.bodies request old) records (Refuses a)) is h.head) in
-      absurd (not_both reply.status (ap (λ (r : Reply). r.status) finite) told)
-  step_tells records answer (Done h) reply is told =
+      absurd (not_both reply.status (ap (λ (r : Reply). r.status) finite) recorded)
+  step_tells records answer (Done h) reply is recorded =
       let passed = passed_rules settings.facts.bodies request old h.head h.found h.passed in
       let each : AreReported (view_in settings request old h.found.1.kind) old.contents h.found.1.asked request.path h.work.visits =
-      reports_each old.contents formed request.path (view_in settings request old h.found.1.kind) h.found.1.asked (target_at request h.found.0) (depth_or_default request) h.rest h.work.visits h.work.tells passed.there refl in
+      reports_each old.contents formed request.path (view_in settings request old h.found.1.kind) h.found.1.asked (target_at request h.found.0) (depth_or_default request) h.rest h.work.visits h.work.searches passed.there refl in
       record {
         found = h.found;
         visits = h.work.visits;
         shown = let same : Ok reply ≡ Ok (propfind_reply request h.found h.work.visits) = sym is ∙ h.work.answered in cc;
-        range = subst (λ rs. TellsRange old.contents (depth_or_default request) request.path.key rs (told_keys h.work.visits)) (sym h.cut)
-            (range_behind old.contents (depth_or_default request) request.path.key h.head h.rest (told_keys h.work.visits) passed.none
-            (tells_range old.contents formed (view_in settings request old h.found.1.kind) h.found.1.asked (target_at request h.found.0) (depth_or_default request) h.rest h.work.visits h.work.tells passed.there));
+        range = subst (λ rs. ReportsRange old.contents (depth_or_default request) request.path.key rs (reported_keys h.work.visits)) (sym h.cut)
+            (range_behind old.contents (depth_or_default request) request.path.key h.head h.rest (reported_keys h.work.visits) passed.none
+            (reports_range old.contents formed (view_in settings request old h.found.1.kind) h.found.1.asked (target_at request h.found.0) (depth_or_default request) h.rest h.work.visits h.work.searches passed.there));
         there = passed.there;
-        order = reports_in_order (view_in settings request old h.found.1.kind) old.contents h.found.1.asked records (target_at request h.found.0) (depth_or_default request) h.rest h.work.visits h.work.tells
+        order = reports_in_order (view_in settings request old h.found.1.kind) old.contents h.found.1.asked records (target_at request h.found.0) (depth_or_default request) h.rest h.work.visits h.work.searches
             (λ r i. subst (IsIn r) (sym h.cut) (in_right r h.head h.rest i));
         each = each;
         named = reports_named (view_in settings request old h.found.1.kind) old.contents h.found.1.asked request.path h.work.visits formed
@@ -140,8 +140,8 @@ module _ (settings : Settings) (request : DavRequest) (old new : State) (formed 
         wanted = passed.asked;
         asked = asks_each_once settings.facts.bodies (user_agent_of request.headers) request.body h.found.1 passed.asked;
       }
-  step_tells records answer (CutShort h) reply is told = absurd (let no : Ok reply ≡ Err Memory = sym is ∙ h.told in cc)
-  step_tells records answer (CutInWork h) reply is told = absurd (let no : Ok reply ≡ Err Memory = sym is ∙ h.told in cc)
+  step_tells records answer (CutShort h) reply is recorded = absurd (let no : Ok reply ≡ Err Memory = sym is ∙ h.answered in cc)
+  step_tells records answer (CutInWork h) reply is recorded = absurd (let no : Ok reply ≡ Err Memory = sym is ∙ h.answered in cc)
 
 pub propfind_law : {settings : Settings} {request : DavRequest} {old new : State} {records : List Logged} {answer : Answer} → IsLawfulState old → StepBy propfind_method settings request old records answer new → PropfindLaw settings request old records answer new
 propfind_law {settings} {request} {old} {new} {records} {answer} lawful step = record {

@@ -13,8 +13,8 @@ use Rattle.dav_resource.specs.declared.request.DavRequest.{DavRequest}
 use Rattle.dav_headers.specs.Client.{user_agent_of}
 use Rattle.dav_store.specs.Locks.{Locks}
 use Rattle.dav_store.specs.Store.{Store}
-use Rattle.dav_parts.specs.Conditions.{locks_in}
-use Rattle.dav_parts.specs.Reply.{Reply, Answer, bare_reply, answer_of}
+use Rattle.dav_messages.specs.Conditions.{locks_in}
+use Rattle.dav_messages.specs.Reply.{Reply, Answer, bare_reply, answer_of}
 use Rattle.dav_props.specs.Propstat.{property_multistatus}
 use Rattle.dav_props.specs.declared.writer.PropWriter.{PropWriter}
 use Rattle.dav_find.specs.Asked.{Asking}
@@ -24,7 +24,7 @@ use Rattle.dav_find.specs.Visiting.{Visit}
 use Rattle.dav_find.specs.Writing.{WritesFrom, Writes}
 use Rattle.dav_find.specs.declared.finding.Finder.{Finder}
 use Rattle.dav_engine.specs.Location.{location_fields}
-use Rattle.dav_engine.specs.Propfind.{view_in, target_at, depth_or_default, propfind_fields, Tells, PropfindWork, PropfindCut}
+use Rattle.dav_engine.specs.Propfind.{view_in, target_at, depth_or_default, propfind_fields, Searches, PropfindWork, PropfindCut}
 use Rattle.dav_engine.specs.Settings.{Settings}
 use Rattle.dav_engine.specs.State.{State, state_of}
 use Rattle.dav_engine.specs.Work.{Performs}
@@ -48,7 +48,7 @@ view_is seen finder settings request state locks principal agent =
 module _ (settings : Settings) (request : DavRequest) (meta : Meta) (asking : Asking) (locks : Option Locks) where
   -- memory ran out before anything was asked
   pub performs_unbegun : (store : Store) → Performs (PropfindWork settings request (meta, asking)) (PropfindCut settings request (meta, asking)) (over store locks) (Err Memory) (over store locks)
-  performs_unbegun store = record { records = []; told = sym (append-nil store.log); fixed = refl; done = inr (refl, record { tells = inl refl; same = refl }) }
+  performs_unbegun store = record { records = []; recorded = sym (append-nil store.log); fixed = refl; done = inr (refl, record { searches = inl refl; same = refl }) }
 
   pub performs_lacking : (store : Store) (result : Result (Response Body) DavError) → IsErrAnd result (λ d. d ≡ Memory)
       → Performs (PropfindWork settings request (meta, asking)) (PropfindCut settings request (meta, asking)) (over store locks) (answer_of result) (over store locks)
@@ -58,42 +58,42 @@ module _ (settings : Settings) (request : DavRequest) (meta : Meta) (asking : As
     abbrev pub WritesAt : Tree → Result PropWriter DavError → Type 0
     WritesAt before answer = WritesFrom (view_in settings request (state_of (over old locks)) asking.kind) asking.asked (target_at request meta) (depth_or_default request) before old answer new
 
-    -- the resources are told
+    -- the resources are reported
     pub performs_told : (writer : PropWriter) (reply : Reply) → WritesAt (with_prefixes asking.asked (property_multistatus [])) (Ok writer)
         → reply ≡ record (bare_reply 207 (propfind_fields ++ location_fields request.path (Some meta))) { body = Body.Tree writer.tree }
         → Performs (PropfindWork settings request (meta, asking)) (PropfindCut settings request (meta, asking)) (over old locks) (Ok reply) (over new locks)
     performs_told writer reply h is = record {
       records = h.read.records;
-      told = h.read.told;
+      recorded = h.read.recorded;
       fixed = same_facts locks old new h.read.fixed;
       done = inl (work h.end h.read.over h.writes);
     }
       where
-        work : (end : Option (List Visit)) → Tells settings request (meta, asking) (state_of (over old locks)) h.read.records end
+        work : (end : Option (List Visit)) → Searches settings request (meta, asking) (state_of (over old locks)) h.read.records end
             → Writes (view_in settings request (state_of (over old locks)) asking.kind) asking.asked (with_prefixes asking.asked (property_multistatus [])) (Ok writer) end
             → PropfindWork settings request (meta, asking) (state_of (over old locks)) h.read.records (Ok reply) (state_of (over new locks))
-        work (Some visits) tells wrote = record {
+        work (Some visits) searches wrote = record {
           visits = visits;
-          tells = tells;
+          searches = searches;
           answered = ap Ok (is ∙ ap (λ (tree : Tree). record (bare_reply 207 (propfind_fields ++ location_fields request.path (Some meta))) { body = Body.Tree tree }) wrote);
           same = same_state locks old new h.read.same;
         }
-        work None tells wrote = absurd wrote
+        work None searches wrote = absurd wrote
 
     -- memory ran out
     pub performs_stopped : (before : Tree) (e : DavError) → WritesAt before (Err e) → Performs (PropfindWork settings request (meta, asking)) (PropfindCut settings request (meta, asking)) (over old locks) (Err e) (over new locks)
     performs_stopped before e h = record {
       records = h.read.records;
-      told = h.read.told;
+      recorded = h.read.recorded;
       fixed = same_facts locks old new h.read.fixed;
       done = inr (cut h.end h.read.over h.writes);
     }
       where
-        cut : (end : Option (List Visit)) → Tells settings request (meta, asking) (state_of (over old locks)) h.read.records end
+        cut : (end : Option (List Visit)) → Searches settings request (meta, asking) (state_of (over old locks)) h.read.records end
             → Writes (view_in settings request (state_of (over old locks)) asking.kind) asking.asked before (Err e) end
             → (failed e ≡ Err Memory) × PropfindCut settings request (meta, asking) (state_of (over old locks)) h.read.records (state_of (over new locks))
-        cut (Some visits) tells wrote = absurd wrote
-        cut None tells wrote = (ap Err wrote, record { tells = inr tells; same = same_state locks old new h.read.same })
+        cut (Some visits) searches wrote = absurd wrote
+        cut None searches wrote = (ap Err wrote, record { searches = inr searches; same = same_state locks old new h.read.same })
 
     pub performs_broken : (before : Tree) (e : DavError) (result : Result (Response Body) DavError) → IsErrAnd result (λ d. d ≡ e) → WritesAt before (Err e)
         → Performs (PropfindWork settings request (meta, asking)) (PropfindCut settings request (meta, asking)) (over old locks) (answer_of result) (over new locks)

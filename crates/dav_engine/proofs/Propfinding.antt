@@ -7,9 +7,9 @@ use Rattle.dav_resource.specs.declared.request.DavRequest.{DavRequest}
 use Rattle.dav_headers.specs.Client.{user_agent_of}
 use Rattle.dav_store.specs.Logged.{Logged}
 use Rattle.dav_store.specs.Store.{Store, Bodies}
-use Rattle.dav_parts.specs.Dialogue.{Refuses, Judges, Reaches}
-use Rattle.dav_parts.specs.Dialogues.{judges_exit, judges_then, judges_pure, judges_memory}
-use Rattle.dav_parts.specs.Reply.{Answer}
+use Rattle.dav_messages.specs.Dialogue.{Refuses, Judges, Reaches}
+use Rattle.dav_messages.specs.Dialogues.{judges_exit, judges_then, judges_pure, judges_memory}
+use Rattle.dav_messages.specs.Reply.{Answer}
 use Rattle.dav_find.specs.Asked.{Asking, asking_of}
 use Rattle.dav_engine.specs.Laws.{ChangesNothing}
 use Rattle.dav_engine.specs.Method.{StepBy, Refused, Done, CutShort, CutInWork}
@@ -27,7 +27,7 @@ use Rattle.dav_engine.proofs.Passing.{found_passed}
 module _ (held : Bodies) (request : DavRequest) (state : State) where
   -- a Depth of infinity is refused
   pub reaches_finite : (store : Store) → is_too_deep request ≡ true → Reaches (propfind_rules held request state) store (Refuses (Ok finite_depth_reply)) store
-  reaches_finite store deep = rw deep (record { records = []; told = sym (append-nil store.log); same = refl; fixed = refl; leads = refl })
+  reaches_finite store deep = rw deep (record { records = []; recorded = sym (append-nil store.log); same = refl; fixed = refl; leads = refl })
 
   pub judges_lacking : (store : Store) → Judges (propfind_rules held request state) store (Err Memory) store
   judges_lacking store = judges_memory _ store (Err Memory) refl

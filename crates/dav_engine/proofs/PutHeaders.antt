@@ -7,8 +7,8 @@ use Rattle.http_header.specs.HeaderMap.{Entries}
 use Rattle.dav_resource.specs.declared.meta.Meta.{Meta}
 use Rattle.dav_dates.specs.Moment.{last_shown}
 use Rattle.dav_dates.specs.HttpDate.{http_date_text}
-use Rattle.dav_parts.specs.Reply.{field}
-use Rattle.dav_parts.specs.ReplyHeader.{optional_field}
+use Rattle.dav_messages.specs.Reply.{field}
+use Rattle.dav_messages.specs.ReplyHeader.{optional_field}
 use Rattle.dav_engine.specs.PutReply.{known_headers, put_headers, shown_change, shown_tag, empty_length, quoted}
 
 -- a moment that is known and can be shown

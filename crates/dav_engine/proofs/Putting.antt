@@ -21,17 +21,17 @@ use Rattle.dav_resource.specs.declared.meta.OpenOptions.{OpenOptions}
 use Rattle.std.proofs.Math.Seq.{drop-nil, take-length, drop-append-add}
 use Rattle.http.specs.declared.response.Response.{Response}
 use Rattle.dav_resource.specs.declared.request.Body.{Body}
-use Rattle.dav_parts.specs.Reply.{Answer, reply_of, answer_of}
+use Rattle.dav_messages.specs.Reply.{Answer, reply_of, answer_of}
 use Rattle.dav_walks.specs.PutLaws.{put_here}
 use Rattle.dav_engine.specs.PutReply.{put_reply}
-use Rattle.dav_parts.specs.Dialogue.{Dialogue, Refuses, Passed, GoesOn, needs, if_granted, LeadsTo, EndsIn, Judges, WasGranted}
+use Rattle.dav_messages.specs.Dialogue.{Dialogue, Refuses, Passed, GoesOn, needs, if_granted, LeadsTo, EndsIn, Judges, WasGranted}
 use Rattle.dav_engine.specs.Target.{target_of}
 use Rattle.dav_engine.specs.declared.target.Target.{Target}
 use Rattle.dav_engine.specs.Opening.{IsFileAt}
-use Rattle.dav_engine.specs.Put.{new_bytes, put_options, put_open_error, put_seek_error, on_file, put_seek, put_write, look_by, put_steps, opened_bytes, final_bytes, as_looked, PutLeaves, PutWork, PutCut, SeeksIf, SeeksPlace, WritesBody, look_at_file}
+use Rattle.dav_engine.specs.Put.{new_bytes, put_options, put_open_error, put_seek_error, on_file, put_seek, put_write, look_up_by, put_steps, opened_bytes, final_bytes, as_looked, PutLeaves, PutWork, PutCut, SeeksIf, SeeksPlace, WritesBody, look_up_file}
 use Rattle.dav_engine.specs.Work.{WorksOnStore}
 use Rattle.dav_engine.proofs.Granting.{not_granted, not_this_op, WasGranted-first, WasGranted-last, WasGranted-either}
-use Rattle.dav_parts.specs.Dialogues.{LeadsTo-more, unlike, needs-declined}
+use Rattle.dav_messages.specs.Dialogues.{LeadsTo-more, unlike, needs-declined}
 use Rattle.dav_engine.proofs.Trees.{insert-inserted}
 
 -- ---- the work
@@ -76,7 +76,7 @@ module _ (held : Bodies) (request : DavRequest) (target : Target) where
 
   -- what is left to be asked after the write, and before it
   abbrev last_steps : Option Meta → Dialogue (Option Meta)
-  last_steps meta = needs (on_file Flush place) from_fs (look_by (on_file FileMetadata place) meta)
+  last_steps meta = needs (on_file Flush place) from_fs (look_up_by (on_file FileMetadata place) meta)
 
   abbrev write_steps : Option Meta → Dialogue (Option Meta)
   write_steps meta = put_write (new_bytes held request.body) place (last_steps meta)
@@ -91,7 +91,7 @@ module _ (held : Bodies) (request : DavRequest) (target : Target) where
   -- the work so far: its records are the first calls, these are left, and the file is there
   pub record Reached (old now : Store) (left : Option Meta → Dialogue (Option Meta)) : Type 0 where
     pub records : List Logged
-    pub told : now.log ≡ old.log ++ records
+    pub recorded : now.log ≡ old.log ++ records
     pub fixed : now.facts ≡ old.facts
     pub calls : (meta : Option Meta) → LeadsTo (put_steps held request target old.contents meta) records (left meta)
     pub leaves : PutLeaves held request target records old.contents now.contents
@@ -108,7 +108,7 @@ module _ (held : Bodies) (request : DavRequest) (target : Target) where
   -- the work, all calls asked
   pub record Looked (old now : Store) (meta : Option Meta) : Type 0 where
     pub records : List Logged
-    pub told : now.log ≡ old.log ++ records
+    pub recorded : now.log ≡ old.log ++ records
     pub fixed : now.facts ≡ old.facts
     pub calls : LeadsTo (put_steps held request target old.contents (now.contents.metas place)) records (Passed meta)
     pub leaves : PutLeaves held request target records old.contents now.contents
@@ -140,7 +140,7 @@ module _ (held : Bodies) (request : DavRequest) (target : Target) where
       record {
         reached = record {
           records = record_of (open_call old.contents place options) outcomes.Granted ∷ [];
-          told = h.told;
+          recorded = h.recorded;
           fixed = h.fixed;
           calls = λ meta. (refl, h.allowed, refl);
           leaves = record {
@@ -177,7 +177,7 @@ module _ (held : Bodies) (request : DavRequest) (target : Target) where
           record {
             reached = record {
               records = asked.reached.records ++ r ∷ [];
-              told = rw (g.told, asked.reached.told, append_assoc);
+              recorded = rw (g.recorded, asked.reached.recorded, append_assoc);
               fixed = rw (g.fixed, asked.reached.fixed);
               calls = λ meta. LeadsTo-more _ _ _ asked.reached.records (r ∷ []) (asked.reached.calls meta) (refl, refl, refl);
               leaves = leaves_more asked.reached.records r _ _ _ asked.reached.leaves g.effect no_open no_write;
@@ -218,7 +218,7 @@ module _ (held : Bodies) (request : DavRequest) (target : Target) where
       (λ meta. subst (λ body. LeadsTo (put_steps held request target old.contents meta) h.reached.records (put_write body place (last_steps meta))) is (h.reached.calls meta)) in
       record {
         records = h.reached.records ++ r ∷ [];
-        told = rw (g.told, h.reached.told, append_assoc);
+        recorded = rw (g.recorded, h.reached.recorded, append_assoc);
         fixed = rw (g.fixed, h.reached.fixed);
         calls = λ meta. LeadsTo-more _ _ _ h.reached.records (r ∷ []) (asked meta) (refl, refl, refl);
         leaves = record {
@@ -231,12 +231,12 @@ module _ (held : Bodies) (request : DavRequest) (target : Target) where
       }
 
   -- the writing is ended
-  pub flushed : (old mid now : Store) → Reached old mid last_steps → Flushes mid place (Ok tt) now → Reached old now (look_by (on_file FileMetadata place))
+  pub flushed : (old mid now : Store) → Reached old mid last_steps → Flushes mid place (Ok tt) now → Reached old now (look_up_by (on_file FileMetadata place))
   flushed old mid now h w =
       let r = record_of (on_file Flush place) outcomes.Granted in
       record {
         records = h.records ++ r ∷ [];
-        told = rw (w.granted.told, h.told, append_assoc);
+        recorded = rw (w.granted.recorded, h.recorded, append_assoc);
         fixed = rw (w.granted.fixed, h.fixed);
         calls = λ meta. LeadsTo-more _ _ _ h.records (r ∷ []) (h.calls meta) (refl, refl, refl);
         leaves = leaves_more h.records r _ _ _ h.leaves w.granted.effect (λ g. not_this_op OpenFile place r g (λ x. cc)) (λ g. not_this_op WriteBytes place r g (λ x. cc));
@@ -244,38 +244,38 @@ module _ (held : Bodies) (request : DavRequest) (target : Target) where
         there = rw w.granted.effect h.there;
       }
 
-  -- ---- the last look
+  -- ---- the last lookup
 
-  -- the look as the work has it
-  as_steps : (mid : Contents) (bytes : List ℕ) → get mid.tree place ≡ Some (File bytes) → look_at_file mid place ≡ look_by (on_file FileMetadata place) (mid.metas place)
-  as_steps mid bytes there = ap (λ call. look_by call (mid.metas place)) (at_file FileMetadata mid place bytes there)
+  -- the lookup as the work has it
+  as_steps : (mid : Contents) (bytes : List ℕ) → get mid.tree place ≡ Some (File bytes) → look_up_file mid place ≡ look_up_by (on_file FileMetadata place) (mid.metas place)
+  as_steps mid bytes there = ap (λ call. look_up_by call (mid.metas place)) (at_file FileMetadata mid place bytes there)
 
   -- its one record is of no change
   leaves_looked : (records more : List Logged) (old mid new : Contents) (left : Dialogue (Option Meta)) → PutLeaves held request target records old mid → new ≡ mid
-      → LeadsTo (look_by (on_file FileMetadata place) (mid.metas place)) more left → PutLeaves held request target (records ++ more) old new
+      → LeadsTo (look_up_by (on_file FileMetadata place) (mid.metas place)) more left → PutLeaves held request target (records ++ more) old new
   leaves_looked records [] old mid new left leaves same h = rw (append-nil records, same) leaves
   leaves_looked records (r ∷ []) old mid new left leaves same h =
       let other : (op : Op) → FileMetadata ≢ op → r.op ≢ op = λ op apart e. apart (sym (ap (λ (l : Logged). l.op) h.0) ∙ e) in
       leaves_more records r old mid new leaves same (λ g. not_this_op OpenFile place r g (other OpenFile (λ x. cc))) (λ g. not_this_op WriteBytes place r g (other WriteBytes (λ x. cc)))
   leaves_looked records (r ∷ s ∷ more) old mid new left leaves same h = absurd h.2
 
-  pub looked : (old mid now : Store) (meta : Option Meta) → Reached old mid (look_by (on_file FileMetadata place)) → Judges (look_at_file mid.contents place) mid (Ok meta) now → Looked old now meta
+  pub looked : (old mid now : Store) (meta : Option Meta) → Reached old mid (look_up_by (on_file FileMetadata place)) → Judges (look_up_file mid.contents place) mid (Ok meta) now → Looked old now meta
   looked old mid now meta h j =
       let asked = subst (λ d. LeadsTo d j.records (Passed meta)) (as_steps mid.contents h.bytes h.there) j.ends in
       record {
         records = h.records ++ j.records;
-        told = rw (j.told, h.told, append_assoc);
+        recorded = rw (j.recorded, h.recorded, append_assoc);
         fixed = rw (j.fixed, h.fixed);
         calls = rw j.same (LeadsTo-more _ _ _ h.records j.records (h.calls (mid.contents.metas place)) asked);
         leaves = leaves_looked h.records j.records _ _ _ _ h.leaves j.same asked;
       }
 
-pub never : (call : Call) (meta : Option Meta) (records : List Logged) (e : DavError) → LeadsTo (look_by call meta) records (Refuses (Err e)) → ⊥
+pub never : (call : Call) (meta : Option Meta) (records : List Logged) (e : DavError) → LeadsTo (look_up_by call meta) records (Refuses (Err e)) → ⊥
 never call meta [] e h = absurd cc
 never call meta (r ∷ []) e h = absurd (let p : Refuses (Err e) ≡ Passed (if_granted r.outcome meta) = h.2 in cc)
 never call meta (r ∷ s ∷ records) e h = absurd h.2
 
-goes : (call : Call) (meta : Option Meta) (records : List Logged) (left : Dialogue (Option Meta)) → LeadsTo (look_by call meta) records left → GoesOn left
+goes : (call : Call) (meta : Option Meta) (records : List Logged) (left : Dialogue (Option Meta)) → LeadsTo (look_up_by call meta) records left → GoesOn left
 goes call meta [] left h = subst (λ d. GoesOn d) (sym h) tt
 goes call meta (r ∷ []) left h = subst (λ d. GoesOn d) (sym h.2) tt
 goes call meta (r ∷ s ∷ records) left h = absurd h.2
@@ -293,7 +293,7 @@ module _ (held : Bodies) (partial : Bool) (request : DavRequest) (found : Option
   pub works_unopened : (store : Store) → PutWorks store (Err dav_errors.Memory) store
   works_unopened store = record {
     records = [];
-    told = sym (append-nil store.log);
+    recorded = sym (append-nil store.log);
     fixed = refl;
     done = inr (
       refl,
@@ -314,7 +314,7 @@ module _ (held : Bodies) (partial : Bool) (request : DavRequest) (found : Option
   works_declined e old new (inl h) = rw (h.0, h.1) (works_unopened old)
   works_declined e old new (inr h) = record {
     records = record_of (open_call old.contents at_key (put_options request target)) h.outcome ∷ [];
-    told = h.told;
+    recorded = h.recorded;
     fixed = h.fixed;
     done = inl (record {
       target = target;
@@ -328,7 +328,7 @@ module _ (held : Bodies) (partial : Bool) (request : DavRequest) (found : Option
   pub works_cut : (old now : Store) (left : Option Meta → Dialogue (Option Meta)) → ((meta : Option Meta) → GoesOn (left meta)) → Reached held request target old now left → PutWorks old (Err dav_errors.Memory) now
   works_cut old now left goes_on h = record {
     records = h.records;
-    told = h.told;
+    recorded = h.recorded;
     fixed = h.fixed;
     done = inr (refl, record { target = target; aimed = aimed; left = left (now.contents.metas at_key); calls = h.calls (now.contents.metas at_key); goes_on = goes_on (now.contents.metas at_key); leaves = h.leaves });
   }
@@ -342,7 +342,7 @@ module _ (held : Bodies) (partial : Bool) (request : DavRequest) (found : Option
       let lawful = subst (λ call. IsLawful call.bar d.outcome) there d.lawful in
       record {
         records = h.records ++ record_of (on_file op at_key) d.outcome ∷ [];
-        told = rw (d.told, h.told, append_assoc);
+        recorded = rw (d.recorded, h.recorded, append_assoc);
         fixed = rw (d.fixed, h.fixed);
         done = inl (record {
           target = target;
@@ -372,18 +372,18 @@ module _ (held : Bodies) (partial : Bool) (request : DavRequest) (found : Option
       (subst (λ bytes. Reached held request target old mid (λ meta. put_write bytes at_key (last_steps held request target meta))) is h.reached)
       (rw at at w.declined)
 
-  -- the last look had no memory
-  pub works_unlooked : (old mid now : Store) (e : DavError) → Reached held request target old mid (look_by (on_file FileMetadata at_key)) → Judges (look_at_file mid.contents at_key) mid (Err e) now
+  -- the last lookup had no memory
+  pub works_unlooked : (old mid now : Store) (e : DavError) → Reached held request target old mid (look_up_by (on_file FileMetadata at_key)) → Judges (look_up_file mid.contents at_key) mid (Err e) now
       → PutWorks old (Err e) now
   works_unlooked old mid now e h j = ends j.ends
     where
-      ends : EndsIn (look_at_file mid.contents at_key) j.records (Err e) → PutWorks old (Err e) now
+      ends : EndsIn (look_up_file mid.contents at_key) j.records (Err e) → PutWorks old (Err e) now
       ends (inl r) = absurd (never _ _ j.records e r)
       ends (inr m) =
           let asked = subst (λ d. LeadsTo d j.records m.1.0) (as_steps held request target mid.contents h.bytes h.there) m.1.1 in
           rw m.0 (record {
             records = h.records ++ j.records;
-            told = rw (j.told, h.told, append_assoc);
+            recorded = rw (j.recorded, h.recorded, append_assoc);
             fixed = rw (j.fixed, h.fixed);
             done = inr (
               refl,
@@ -403,13 +403,13 @@ module _ (held : Bodies) (partial : Bool) (request : DavRequest) (found : Option
       → PutWorks old (answer_of result) now
   works_replied meta old now (Ok reply) h is _ = record {
     records = h.records;
-    told = h.told;
+    recorded = h.recorded;
     fixed = h.fixed;
     done = inl (record { target = target; aimed = aimed; answered = (meta, h.calls, is); leaves = h.leaves });
   }
   works_replied meta old now (Err e) h _ memory = rw memory (record {
     records = h.records;
-    told = h.told;
+    recorded = h.recorded;
     fixed = h.fixed;
     done = inr (refl, record { target = target; aimed = aimed; left = Passed meta; calls = h.calls; goes_on = tt; leaves = h.leaves });
   })

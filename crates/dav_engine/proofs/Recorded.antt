@@ -21,8 +21,8 @@ use Rattle.dav_store.specs.Members.{IsIn, IsRemovedAt}
 use Rattle.dav_store.specs.PropertyCalls.{Patch, patch_record}
 use Rattle.dav_store.specs.Store.{Contents, Node, File, Directory, IsWellFormed, Bodies}
 use Rattle.dav_store.specs.Transfers.{IsCopiedTo, rename_call}
-use Rattle.dav_parts.specs.Dialogue.{WasGranted}
-use Rattle.dav_parts.specs.Multistatus.{Item}
+use Rattle.dav_messages.specs.Dialogue.{WasGranted}
+use Rattle.dav_messages.specs.Multistatus.{Item}
 use Rattle.dav_walks.specs.Copied.{placing_call, IsPlaced, EndsAlone, CopiesAlone, CopiesInPart}
 use Rattle.dav_walks.specs.Copying.{CopyStep, logged_step, IsMade, IsLawfulCopy}
 use Rattle.dav_walks.specs.Deletion.{IsRemoval, IsLawfulRemoval, RemovesAlone, RemovesInPart, removal_call}
@@ -121,11 +121,11 @@ is_make ops.CreateDir = inl refl
 is_make op = inr (λ e. cc)
 
 module _ (place key : Key) (records : List Logged) (old new : Contents) (apart : IsApart records place key) where
-  pub patch_stands : (keeps : Bool) (patches : List Patch) (told : Result (List ℕ) FsError) → MakesChanges keeps place patches old records told new → standing new key ≡ standing old key
-  patch_stands keeps [] told none = same_standing key old new none.same
-  patch_stands keeps (patch ∷ patches) told (inr (inl none)) = same_standing key old new none.same
-  patch_stands keeps (patch ∷ patches) told (inr (inr refused)) = same_standing key old new refused.same
-  patch_stands keeps (patch ∷ patches) told (inl all) =
+  pub patch_stands : (keeps : Bool) (patches : List Patch) (recorded : Result (List ℕ) FsError) → MakesChanges keeps place patches old records recorded new → standing new key ≡ standing old key
+  patch_stands keeps [] recorded none = same_standing key old new none.same
+  patch_stands keeps (patch ∷ patches) recorded (inr (inl none)) = same_standing key old new none.same
+  patch_stands keeps (patch ∷ patches) recorded (inr (inr refused)) = same_standing key old new refused.same
+  patch_stands keeps (patch ∷ patches) recorded (inl all) =
       let done = patch_record place Granted (all_made (patch ∷ patches)) in
       let other : key ≢ place = apart done (subst (λ l. IsIn done l) (sym all.called) (inl refl)) (itself place) in
       λ i. (ap (λ t. get t key) all.made.tree i, (ap (λ p. get p key) all.made.properties ∙ put_at_elsewhere old.properties place key _ other) i)
@@ -175,10 +175,10 @@ called_in (call ∷ calls) key op outcome i = by_test (same_key call.key key) re
     Here : List (Op × Outcome) → Type 0
     Here = IsIn {X = Op × Outcome} (op, outcome)
 
-    Told : List Logged → Type 0
-    Told = IsIn (logged op (key ∷ []) outcome)
+    PropertyStatus : List Logged → Type 0
+    PropertyStatus = IsIn (logged op (key ∷ []) outcome)
 
-    by_test : (b : Bool) → same_key call.key key ≡ b → Here (cond b ((call.op, call.outcome) ∷ calls_at calls key) (calls_at calls key)) → (Here (calls_at calls key) → Told (map logged_call calls)) → Told (logged_call call ∷ map logged_call calls)
+    by_test : (b : Bool) → same_key call.key key ≡ b → Here (cond b ((call.op, call.outcome) ∷ calls_at calls key) (calls_at calls key)) → (Here (calls_at calls key) → PropertyStatus (map logged_call calls)) → PropertyStatus (logged_call call ∷ map logged_call calls)
     by_test true same (inl is) later =
         let here : call.key ≡ key = (tied_decides call.key key).0 same in
         inl (λ j. logged (ap (λ (c : Op × Outcome). c.0) is j) (here j ∷ []) (ap (λ (c : Op × Outcome). c.1) is j))
@@ -321,14 +321,14 @@ module _ (there : Bool) (destination : PathValue) (old new : State) (records : L
 
   pub replaced_unrecorded : (Follows : State → List Logged → List Item → State → Type 0) (names : List Item) → Replaces Follows there destination old records names new
       → ((mid : State) (rest : List Logged) → Follows mid rest names new → list_any (changes_at key) rest ≡ false → standing new.contents key ≡ standing mid.contents key) → standing new.contents key ≡ standing old.contents key
-  replaced_unrecorded Follows names w same = by_kept w.kept w.follows ∙ cleared_unrecorded there destination old w.mid w.head w.kept key formed w.cleared (parts w.head w.rest w.cut).0
+  replaced_unrecorded Follows names w same = by_left w.left w.follows ∙ cleared_unrecorded there destination old w.between w.removal w.left key formed w.cleared (parts w.removal w.after w.cut).0
     where
-      by_kept : (kept : List Item) → UnlessNamed Follows kept w.mid w.rest names new → standing new.contents key ≡ standing w.mid.contents key
-      by_kept [] follows = same w.mid w.rest follows (parts w.head w.rest w.cut).1
-      by_kept (item ∷ kept) follows = ap (λ (s : State). standing s.contents key) follows.2
+      by_left : (kept : List Item) → UnlessNamed Follows kept w.between w.after names new → standing new.contents key ≡ standing w.between.contents key
+      by_left [] follows = same w.between w.after follows (parts w.removal w.after w.cut).1
+      by_left (item ∷ kept) follows = ap (λ (s : State). standing s.contents key) follows.2
 
   pub replaced_part_unrecorded : (Part : State → List Logged → State → Type 0) → ReplacesInPart Part there destination old records new
       → ((mid : State) (rest : List Logged) → Part mid rest new → list_any (changes_at key) rest ≡ false → standing new.contents key ≡ standing mid.contents key) → standing new.contents key ≡ standing old.contents key
   replaced_part_unrecorded Part (inl part) same = cleared_part_unrecorded there destination old new records key formed part none
   replaced_part_unrecorded Part (inr more) same =
-      same more.mid more.rest more.part (parts more.head more.rest more.cut).1 ∙ cleared_unrecorded there destination old more.mid more.head [] key formed more.cleared (parts more.head more.rest more.cut).0
+      same more.between more.after more.part (parts more.removal more.after more.cut).1 ∙ cleared_unrecorded there destination old more.between more.removal [] key formed more.cleared (parts more.removal more.after more.cut).0

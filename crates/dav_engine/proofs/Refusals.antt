@@ -24,9 +24,9 @@ use Rattle.dav_headers.specs.TagList.{if_match_of, if_none_match_of}
 use Rattle.dav_store.specs.Logged.{Logged}
 use Rattle.dav_store.specs.Store.{Contents}
 use Rattle.dav_store.specs.declared.lock.DavLock.{DavLock}
-use Rattle.dav_parts.specs.Conditions.{item_holds_at, condition_holds, all_hold, key_of_list, conditions_hold, any_holds, lists_hold, if_holds, while_true, until_true, unless_refused, tokens_where, http_verdict, if_match_fails, if_none_match_fails, none_match_status, none_match_verdict, current_tag, dav_if_match, conditions}
-use Rattle.dav_parts.specs.Dialogue.{Dialogue, Asks, Refuses, Passed, LeadsTo, look, ◌>>=◌, refusing}
-use Rattle.dav_parts.specs.Reply.{Answer}
+use Rattle.dav_messages.specs.Conditions.{item_holds_at, condition_holds, all_hold, key_of_list, conditions_hold, any_holds, lists_hold, if_holds, while_true, until_true, unless_refused, tokens_where, http_verdict, if_match_fails, if_none_match_fails, none_match_status, none_match_verdict, current_tag, dav_if_match, conditions}
+use Rattle.dav_messages.specs.Dialogue.{Dialogue, Asks, Refuses, Passed, LeadsTo, look_up, ◌>>=◌, refusing}
+use Rattle.dav_messages.specs.Reply.{Answer}
 use Rattle.dav_engine.specs.Rules.{judged, or_refused, where_permitted, depth_verdict}
 
 -- ---- the store's refusals
@@ -104,7 +104,7 @@ module _ (Kind : DavError → Type 0) where
   errs_led (Refuses other) (logged ∷ records) answer h leads = absurd leads
   errs_led (Passed a) (logged ∷ records) answer h leads = absurd leads
 
-  pub errs_told : ((e : FsError) → Kind (from_fs e)) → {A : Type 0} (told : Result A FsError) → RefusesBy (or_refused told)
+  pub errs_told : ((e : FsError) → Kind (from_fs e)) → {A : Type 0} (recorded : Result A FsError) → RefusesBy (or_refused recorded)
   errs_told refusal (Ok a) = tt
   errs_told refusal (Err e) = refusal e
 
@@ -114,7 +114,7 @@ module _ (Kind : DavError → Type 0) where
       errs_item : (key : Option Key) (item : IfItem) → RefusesBy (item_holds_at contents locks key item)
       errs_item None item = tt
       errs_item (Some key) (StateToken token) = tt
-      errs_item (Some key) (EntityTag tag) = errs_then (look contents key) _ (λ outcome. tt) (λ found. tt)
+      errs_item (Some key) (EntityTag tag) = errs_then (look_up contents key) _ (λ outcome. tt) (λ found. tt)
 
       errs_while : (holds : Bool) (rest : Dialogue Bool) → RefusesBy rest → RefusesBy (while_true holds rest)
       errs_while true rest h = h
@@ -149,8 +149,8 @@ module _ (Kind : DavError → Type 0) where
       errs_unless None next least h = h
       errs_unless (Some s) next least h = status s (least s refl)
 
-      errs_tokens : (told : Bool × List (List ℕ)) → RefusesBy (tokens_where told)
-      errs_tokens told = elim (told.0) as (λ b. RefusesBy (if b then Passed told.1 else Refuses (Err (Status 412)))) [ true ↦ tt | false ↦ status 412 (omega arith) ]
+      errs_tokens : (recorded : Bool × List (List ℕ)) → RefusesBy (tokens_where recorded)
+      errs_tokens recorded = elim (recorded.0) as (λ b. RefusesBy (if b then Passed recorded.1 else Refuses (Err (Status 412)))) [ true ↦ tt | false ↦ status 412 (omega arith) ]
 
       pub errs_conditions : (request : DavRequest) (found : Option Meta) (path : PathValue) → RefusesBy (conditions contents locks request found path)
       errs_conditions request found path =

@@ -1,4 +1,4 @@
--- What a COPY and a MOVE share: what follows where the destination is cleared, and what is told of it.
+-- What a COPY and a MOVE share: what follows where the destination is cleared, and what is reported of it.
 use Rattle.std.proofs.Common.{◌≡◌, ◌≢◌, ◌⊎◌, ◌∙◌, Bool, true, false, if◌then◌else◌, List, [], ◌∷◌, ◌++◌, length, ◌-◌, Option, Some, None, is_some, Result, Ok, Err, inl, inr, refl, sym, ap, subst, append-nil, append_assoc, length-append, arith}
 use Rattle.std.specs.FinMap.{get}
 use Rattle.std.proofs.lemmas.List.{length-take}
@@ -18,8 +18,8 @@ use Rattle.dav_store.specs.BelowLaws.{at_or_below-append}
 use Rattle.dav_store.specs.Logged.{Logged}
 use Rattle.dav_store.specs.Members.{IsIn}
 use Rattle.dav_store.specs.Store.{Node, MetaFits, IsWellFormed}
-use Rattle.dav_parts.specs.Multistatus.{Item, multi_answer}
-use Rattle.dav_parts.specs.Reply.{Answer, reply_of, answer_of}
+use Rattle.dav_messages.specs.Multistatus.{Item, multi_answer}
+use Rattle.dav_messages.specs.Reply.{Answer, reply_of, answer_of}
 use Rattle.dav_walks.specs.ClearedLaws.{path_gone, names_refused}
 use Rattle.dav_walks.specs.KeyCall.{standing}
 use Rattle.dav_walks.specs.RemovalLaws.{nothing_removed, whole_in_part, removes_within}
@@ -102,11 +102,11 @@ module _ {Done : State → List Logged → List Item → State → Type 0} {Cut 
 
   -- nothing was begun
   pub transfer_unbegun : (seen : Seen) (result : Result (Response Body) DavError) → answer_of result ≡ Err Memory → Works seen (answer_of result) seen
-  transfer_unbegun seen result is = record { records = []; told = sym (append-nil seen.store.log); fixed = refl; done = inr (is, work.unbegun (state_of seen)) }
+  transfer_unbegun seen result is = record { records = []; recorded = sym (append-nil seen.store.log); fixed = refl; done = inr (is, work.unbegun (state_of seen)) }
 
   -- memory ran out in it
   pub transfer_stopped : (old new : Seen) (had has : List Item) → Names Done Cut old had has (Err Memory) new → Works old (Err Memory) new
-  transfer_stopped old new had has h = record { records = h.records; told = h.told; fixed = h.fixed; done = by_end h.done }
+  transfer_stopped old new had has h = record { records = h.records; recorded = h.recorded; fixed = h.fixed; done = by_end h.done }
     where
       Same : Type 0
       Same = ◌≡◌ {A = Answer} (Err Memory) (Err Memory)
@@ -119,39 +119,39 @@ module _ {Done : State → List Logged → List Item → State → Type 0} {Cut 
     abbrev Ends : List Logged → Type 0
     Ends records = TransferWork Done path there (state_of old) records (answer_of result) (state_of new) ⊎ ((answer_of result ≡ Err Memory) × Cut (state_of old) records (state_of new))
 
-    -- it ended with these names, and they are told, or memory ran out behind it
-    told : (records : List Logged) (names : List Item) → Done (state_of old) records names (state_of new) → (answer_of result ≡ multi_answer path (transferred_items path there names)) ⊎ (answer_of result ≡ Err Memory) → Ends records
-    told records names done (inl is) = inl (record { names = names; done = done; answered = is })
-    told records names done (inr memory) = inr (memory, work.so_far (state_of old) (state_of new) records names done)
+    -- it ended with these names, and they are reported, or memory ran out behind it
+    recorded : (records : List Logged) (names : List Item) → Done (state_of old) records names (state_of new) → (answer_of result ≡ multi_answer path (transferred_items path there names)) ⊎ (answer_of result ≡ Err Memory) → Ends records
+    recorded records names done (inl is) = inl (record { names = names; done = done; answered = is })
+    recorded records names done (inr memory) = inr (memory, work.so_far (state_of old) (state_of new) records names done)
 
     -- nothing is named, and memory was lacking for the status
     pub transfer_untold : Names Done Cut old [] has (Ok tt) new → answer_of result ≡ Err Memory → Works old (answer_of result) new
-    transfer_untold h memory = record { records = h.records; told = h.told; fixed = h.fixed; done = by_end h.done }
+    transfer_untold h memory = record { records = h.records; recorded = h.recorded; fixed = h.fixed; done = by_end h.done }
       where
         by_end : NamesBy Done Cut (state_of old) h.records [] has (Ok tt) (state_of new) → Ends h.records
-        by_end (inl whole) = told h.records whole.0 whole.2 (inr memory)
+        by_end (inl whole) = recorded h.records whole.0 whole.2 (inr memory)
         by_end (inr part) = absurd cc
 
-    -- nothing is named, and that is told
+    -- nothing is named, and that is reported
     pub transfer_done : Names Done Cut old [] has (Ok tt) new → (items : List Item) → items ≡ has ++ (path, if is_some there then 204 else 201) ∷ [] → GivesBy reply_of result (multi_answer path items) → Works old (answer_of result) new
-    transfer_done h items added given = record { records = h.records; told = h.told; fixed = h.fixed; done = by_end h.done }
+    transfer_done h items added given = record { records = h.records; recorded = h.recorded; fixed = h.fixed; done = by_end h.done }
       where
         by_end : NamesBy Done Cut (state_of old) h.records [] has (Ok tt) (state_of new) → Ends h.records
         by_end (inl whole) =
             let none = none_named whole.0 whole.3 in
             let all : items ≡ transferred_items path there whole.0 =
             added ∙ ap (λ l. l ++ (path, if is_some there then 204 else 201) ∷ []) (whole.1 ∙ none) ∙ sym (ap (transferred_items path there) none) in
-            told h.records whole.0 whole.2 (answered result _ (subst (λ l. GivesBy reply_of result (multi_answer path l)) all given))
+            recorded h.records whole.0 whole.2 (answered result _ (subst (λ l. GivesBy reply_of result (multi_answer path l)) all given))
         by_end (inr part) = absurd cc
 
     -- something is named
     pub transfer_named : (e : DavError) → e ≢ Memory → Names Done Cut old [] has (Err e) new → GivesBy reply_of result (multi_answer path has) → Works old (answer_of result) new
-    transfer_named e other h given = record { records = h.records; told = h.told; fixed = h.fixed; done = by_end h.done }
+    transfer_named e other h given = record { records = h.records; recorded = h.recorded; fixed = h.fixed; done = by_end h.done }
       where
         by_end : NamesBy Done Cut (state_of old) h.records [] has (Err e) (state_of new) → Ends h.records
         by_end (inl whole) =
             let all : has ≡ transferred_items path there whole.0 = whole.1 ∙ sym (named_told whole.0 path there (some_named e whole.0 whole.3)) in
-            told h.records whole.0 whole.2 (answered result _ (subst (λ l. GivesBy reply_of result (multi_answer path l)) all given))
+            recorded h.records whole.0 whole.2 (answered result _ (subst (λ l. GivesBy reply_of result (multi_answer path l)) all given))
         by_end (inr part) = absurd (other (let same : e ≡ Memory = cc in same))
 
 -- ---- what follows where the destination is cleared
@@ -172,11 +172,11 @@ module _ (Follows : State → List Logged → List Item → State → Type 0) (P
 
   -- something at the destination is named, or memory ran out there
   pub replaces_uncleared : (old new : Seen) (had has : List Item) (e : DavError) → Clearing there destination old had has (Err e) new → Replacing old had has (Err e) new
-  replaces_uncleared old new had has e h = record { records = h.records; told = h.told; fixed = h.fixed; done = by_end h.done }
+  replaces_uncleared old new had has e h = record { records = h.records; recorded = h.recorded; fixed = h.fixed; done = by_end h.done }
     where
       stuck : (names : List Item) → ClearsIf there destination (state_of old) h.records names (state_of new) → names ≢ [] → Replaces Follows there destination (state_of old) h.records names (state_of new)
       stuck [] cleared some = absurd (some refl)
-      stuck (item ∷ kept) cleared some = record { head = h.records; rest = []; cut = sym (append-nil h.records); kept = item ∷ kept; mid = state_of new; cleared = cleared; follows = (refl, refl, refl) }
+      stuck (item ∷ kept) cleared some = record { removal = h.records; after = []; cut = sym (append-nil h.records); left = item ∷ kept; between = state_of new; cleared = cleared; follows = (refl, refl, refl) }
 
       by_end : NamesBy (ClearsIf there destination) (ClearsInPart there destination) (state_of old) h.records had has (Err e) (state_of new)
           → NamesBy (Replaces Follows there destination) (ReplacesInPart Part there destination) (state_of old) h.records had has (Err e) (state_of new)
@@ -185,7 +185,7 @@ module _ (Follows : State → List Logged → List Item → State → Type 0) (P
 
   -- and the rest is done
   pub replaces_on : (old mid : Seen) (had has : List Item) → Clearing there destination old had has (Ok tt) mid → (new : Seen) (all : List Item) (answer : Result (Unit {0}) DavError) → Names Follows Part mid has all answer new → Replacing old had all answer new
-  replaces_on old mid had has h new all answer k = record { records = h.records ++ k.records; told = rw (k.told, h.told, append_assoc); fixed = k.fixed ∙ h.fixed; done = by_end k.done }
+  replaces_on old mid had has h new all answer k = record { records = h.records ++ k.records; recorded = rw (k.recorded, h.recorded, append_assoc); fixed = k.fixed ∙ h.fixed; done = by_end k.done }
     where
       cleared : ClearsIf there destination (state_of old) h.records [] (state_of mid) × (has ≡ had)
       cleared = cleared_so there destination old mid had has h
@@ -193,28 +193,28 @@ module _ (Follows : State → List Logged → List Item → State → Type 0) (P
       by_end : NamesBy Follows Part (state_of mid) k.records has all answer (state_of new)
           → NamesBy (Replaces Follows there destination) (ReplacesInPart Part there destination) (state_of old) (h.records ++ k.records) had all answer (state_of new)
       by_end (inl whole) =
-          inl (whole.0, whole.1 ∙ ap (λ l. l ++ whole.0) cleared.1, record { head = h.records; rest = k.records; cut = refl; kept = []; mid = state_of mid; cleared = cleared.0; follows = whole.2 }, whole.3)
-      by_end (inr part) = inr (part.0, inr (record { head = h.records; rest = k.records; cut = refl; mid = state_of mid; cleared = cleared.0; part = part.1 }))
+          inl (whole.0, whole.1 ∙ ap (λ l. l ++ whole.0) cleared.1, record { removal = h.records; after = k.records; cut = refl; left = []; between = state_of mid; cleared = cleared.0; follows = whole.2 }, whole.3)
+      by_end (inr part) = inr (part.0, inr (record { removal = h.records; after = k.records; cut = refl; between = state_of mid; cleared = cleared.0; part = part.1 }))
 
   -- both are work where the rest is
   pub replacing_is_work : ((old new : State) (records : List Logged) (names : List Item) → Follows old records names new → Part old records new) → IsWork (Replaces Follows there destination) (ReplacesInPart Part there destination)
-  replacing_is_work so_far = record { so_far = λ old new records names w. by_kept old new records names w w.kept w.cleared w.follows; unbegun = λ state. inl (nothing_cleared there destination state) }
+  replacing_is_work so_far = record { so_far = λ old new records names w. by_left old new records names w w.left w.cleared w.follows; unbegun = λ state. inl (nothing_cleared there destination state) }
     where
-      by_kept : (old new : State) (records : List Logged) (names : List Item) (w : Replaces Follows there destination old records names new) (kept : List Item) → ClearsIf there destination old w.head kept w.mid → UnlessNamed Follows kept w.mid w.rest names new
+      by_left : (old new : State) (records : List Logged) (names : List Item) (w : Replaces Follows there destination old records names new) (kept : List Item) → ClearsIf there destination old w.removal kept w.between → UnlessNamed Follows kept w.between w.after names new
           → ReplacesInPart Part there destination old records new
-      by_kept old new records names w [] cleared follows = inr (record { head = w.head; rest = w.rest; cut = w.cut; mid = w.mid; cleared = cleared; part = so_far w.mid new w.rest names follows })
-      by_kept old new records names w (item ∷ kept) cleared follows =
-          let all : records ≡ w.head = w.cut ∙ ap (λ l. w.head ++ l) follows.0 ∙ append-nil w.head in
-          inl (subst (λ l. ClearsInPart there destination old l new) (sym all) (subst (λ s. ClearsInPart there destination old w.head s) (sym follows.2) (clear_in_part there destination old w.mid w.head item kept cleared)))
+      by_left old new records names w [] cleared follows = inr (record { removal = w.removal; after = w.after; cut = w.cut; between = w.between; cleared = cleared; part = so_far w.between new w.after names follows })
+      by_left old new records names w (item ∷ kept) cleared follows =
+          let all : records ≡ w.removal = w.cut ∙ ap (λ l. w.removal ++ l) follows.0 ∙ append-nil w.removal in
+          inl (subst (λ l. ClearsInPart there destination old l new) (sym all) (subst (λ s. ClearsInPart there destination old w.removal s) (sym follows.2) (clear_in_part there destination old w.between w.removal item kept cleared)))
 
 -- each name is a refusal's
 pub replaced_refused : (Follows : State → List Logged → List Item → State → Type 0) (there : Bool) (destination : PathValue) (old new : State) (records : List Logged) (names : List Item) → Replaces Follows there destination old records names new
     → ((mid : State) (rest : List Logged) → Follows mid rest names new → AreRefusals names) → AreRefusals names
-replaced_refused Follows there destination old new records names w refused = by_kept w.kept w.cleared w.follows
+replaced_refused Follows there destination old new records names w refused = by_left w.left w.cleared w.follows
   where
-    by_kept : (kept : List Item) → ClearsIf there destination old w.head kept w.mid → UnlessNamed Follows kept w.mid w.rest names new → AreRefusals names
-    by_kept [] cleared follows = refused w.mid w.rest follows
-    by_kept (item ∷ kept) cleared follows = subst AreRefusals (sym follows.1) (clear_refused there destination old w.mid w.head (item ∷ kept) cleared)
+    by_left : (kept : List Item) → ClearsIf there destination old w.removal kept w.between → UnlessNamed Follows kept w.between w.after names new → AreRefusals names
+    by_left [] cleared follows = refused w.between w.after follows
+    by_left (item ∷ kept) cleared follows = subst AreRefusals (sym follows.1) (clear_refused there destination old w.between w.removal (item ∷ kept) cleared)
 
 -- ---- a key outside the destination at which the rest changes nothing
 
@@ -224,13 +224,13 @@ module _ (there : Bool) (destination : PathValue) (old new : State) (records : L
 
   pub replaced_outside : (Follows : State → List Logged → List Item → State → Type 0) (names : List Item) → Replaces Follows there destination old records names new
       → ((mid : State) (rest : List Logged) → Follows mid rest names new → standing new.contents q ≡ standing mid.contents q) → standing new.contents q ≡ standing old.contents q
-  replaced_outside Follows names w same = by_kept w.kept w.follows ∙ clear_outside there destination old w.mid w.head w.kept w.cleared q away
+  replaced_outside Follows names w same = by_left w.left w.follows ∙ clear_outside there destination old w.between w.removal w.left w.cleared q away
     where
-      by_kept : (kept : List Item) → UnlessNamed Follows kept w.mid w.rest names new → standing new.contents q ≡ standing w.mid.contents q
-      by_kept [] follows = same w.mid w.rest follows
-      by_kept (item ∷ kept) follows = ap (λ (s : State). standing s.contents q) follows.2
+      by_left : (kept : List Item) → UnlessNamed Follows kept w.between w.after names new → standing new.contents q ≡ standing w.between.contents q
+      by_left [] follows = same w.between w.after follows
+      by_left (item ∷ kept) follows = ap (λ (s : State). standing s.contents q) follows.2
 
   pub replaced_part_outside : (Part : State → List Logged → State → Type 0) → ReplacesInPart Part there destination old records new
       → ((mid : State) (rest : List Logged) → Part mid rest new → standing new.contents q ≡ standing mid.contents q) → standing new.contents q ≡ standing old.contents q
   replaced_part_outside Part (inl part) same = clear_part_outside there destination old new records part q away
-  replaced_part_outside Part (inr more) same = same more.mid more.rest more.part ∙ clear_outside there destination old more.mid more.head [] more.cleared q away
+  replaced_part_outside Part (inr more) same = same more.between more.after more.part ∙ clear_outside there destination old more.between more.removal [] more.cleared q away

@@ -27,23 +27,23 @@ use Rattle.dav_store.specs.Logged.{Logged, logged}
 use Rattle.dav_store.specs.Members.{IsIn}
 use Rattle.dav_store.specs.MemberLaws.{parent-member}
 use Rattle.dav_store.specs.Store.{Contents, Node, File, Directory, Tree}
-use Rattle.dav_parts.specs.Conditions.{conditions}
-use Rattle.dav_parts.specs.Dialogue.{Passed, LeadsTo}
-use Rattle.dav_parts.specs.Dialogues.{LeadsTo-last}
-use Rattle.dav_parts.specs.Multistatus.{Item}
-use Rattle.dav_parts.specs.Reply.{Reply, Answer}
+use Rattle.dav_messages.specs.Conditions.{conditions}
+use Rattle.dav_messages.specs.Dialogue.{Passed, LeadsTo}
+use Rattle.dav_messages.specs.Dialogues.{LeadsTo-last}
+use Rattle.dav_messages.specs.Multistatus.{Item}
+use Rattle.dav_messages.specs.Reply.{Reply, Answer}
 use Rattle.dav_walks.specs.Copied.{CopiesAll, CopiesAlone, EndsAlone, refusal_names, placing_call}
 use Rattle.dav_walks.specs.Copying.{CopyStep, logged_step, snapshot, IsCalledFor, IsLawfulCopy, is_directory_node, named_once, names_behind, names_of_copy}
-use Rattle.dav_walks.specs.Deletion.{Look, Fits, path_at, named_path, named_by, named_in, removal_call, is_call, IsLawfulRemoval, Deletes, Removes}
+use Rattle.dav_walks.specs.Deletion.{Subtree, Fits, path_at, named_path, named_by, named_in, removal_call, is_call, IsLawfulRemoval, Deletes, Removes}
 use Rattle.dav_walks.specs.KeyCall.{KeyCall, logged_call, same_key, calls_at}
 use Rattle.dav_walks.specs.Trace.{HasKind}
 use Rattle.dav_engine.specs.Copy.{replaced, CopiesSource, Copies, CopyWork}
-use Rattle.dav_engine.specs.Delete.{delete_rules, told_items, DeleteWork}
+use Rattle.dav_engine.specs.Delete.{delete_rules, reported_items, DeleteWork}
 use Rattle.dav_engine.specs.Method.{StepBy, Refused as ByRules, Done, CutShort, CutInWork}
 use Rattle.dav_engine.specs.Methods.{delete_method, copy_method, move_method}
 use Rattle.dav_engine.specs.Move.{MovesSource, MoveWork, RenamesAlone}
 use Rattle.dav_engine.specs.Reports.{first_key, failure, Reports, is_lookup, removal_item, DeleteReports, is_rename, move_item, MoveReports, reported_key, is_unlisted, is_excused, copy_path, copy_item, copy_items, CopyReports}
-use Rattle.dav_engine.specs.Rules.{judged, told_by_look, must_find, own_conditions, is_permitted, where_permitted, depth_or_all, depth_verdict, fixed_path}
+use Rattle.dav_engine.specs.Rules.{judged, lookup_result, must_find, own_conditions, is_permitted, where_permitted, depth_or_all, depth_verdict, fixed_path}
 use Rattle.dav_engine.specs.Settings.{Settings}
 use Rattle.dav_engine.specs.State.{State, IsLawfulState}
 use Rattle.dav_engine.specs.Transferring.{where_reached, reach_verdict, transfer_rules, ClearsIf, UnlessNamed, Replaces, source_path, transferred_items}
@@ -78,7 +78,7 @@ module _ {X Y : Type 0} where
 errs_delete : (request : DavRequest) (state : State) → RefusesBy AnyError (delete_rules request state)
 errs_delete request state =
     errs_then AnyError (judged (depth_verdict (depth_or_all request))) _ (errs_depth AnyError (λ s least. tt) (depth_or_all request))
-    (λ _. errs_then AnyError (must_find state.contents request.path.key) _ (λ outcome. errs_told AnyError (λ e. tt) (told_by_look outcome (state.contents.metas request.path.key)))
+    (λ _. errs_then AnyError (must_find state.contents request.path.key) _ (λ outcome. errs_told AnyError (λ e. tt) (lookup_result outcome (state.contents.metas request.path.key)))
     (λ meta. errs_then AnyError (conditions state.contents state.locks request (Some meta) request.path) _ (errs_conditions AnyError (λ s least. tt) state.contents state.locks request (Some meta) request.path)
     (λ _. errs_permitted AnyError (λ s least. tt) 423 (omega arith) (is_permitted request state request.path.key true) meta)))
 
@@ -190,10 +190,10 @@ module _ (settings : Settings) (request : DavRequest) (old : State) (records : L
 
     deleted : DeleteWork request meta old rest answer new → DeleteReports request old records answer
     deleted work reply replied =
-        subst (λ p. Reports p (filter_map (removal_item p) records) (told_items p) reply) (ap (fixed_path request.path) (sym (delete_finds request old head meta passed))) (record {
+        subst (λ p. Reports p (filter_map (removal_item p) records) (reported_items p) reply) (ap (fixed_path request.path) (sym (delete_finds request old head meta passed))) (record {
           names = work.names;
           each = subst (λ l. IsPermutation l work.names) (sym removal_alone) (removal_named path old.contents new.contents rest work.names (depth_or_all request) work.removed);
-          told = sym work.answered ∙ replied;
+          answered = sym work.answered ∙ replied;
         })
 
   delete_answered : StepBy delete_method settings request old records answer new → DeleteReports request old records answer
@@ -201,8 +201,8 @@ module _ (settings : Settings) (request : DavRequest) (old : State) (records : L
       let refused = errs_led AnyError (delete_rules request old) records answer (errs_delete request old) h.head in
       no_response answer refused.0 reply refused.1 replied
   delete_answered (Done h) reply replied = deleted h.head h.rest h.found h.cut h.passed h.work reply replied
-  delete_answered (CutShort h) reply replied = no_response answer Memory reply h.told replied
-  delete_answered (CutInWork h) reply replied = no_response answer Memory reply h.told replied
+  delete_answered (CutShort h) reply replied = no_response answer Memory reply h.answered replied
+  delete_answered (CutInWork h) reply replied = no_response answer Memory reply h.answered replied
 
 -- ---- what is removed at a destination first
 
@@ -213,15 +213,15 @@ module _ (h : Logged → Option Item) (destination : PathValue) (agrees : (call 
 
   replaces_named : (Follows : State → List Logged → List Item → State → Type 0) (there : Bool) (old new : State) (records : List Logged) (names : List Item) → Replaces Follows there destination old records names new
       → ((mid : State) (rest : List Logged) → Follows mid rest names new → IsPermutation (filter_map h rest) names) → IsPermutation (filter_map h records) names
-  replaces_named Follows there old new records names w further = by_kept w.kept w.cleared w.follows
+  replaces_named Follows there old new records names w further = by_left w.left w.cleared w.follows
     where
-      by_kept : (kept : List Item) → ClearsIf there destination old w.head kept w.mid → UnlessNamed Follows kept w.mid w.rest names new → IsPermutation (filter_map h records) names
-      by_kept [] cleared follows =
-          subst (λ l. IsPermutation l names) (sym (ap (filter_map h) w.cut ∙ filter_map-append h w.head w.rest))
-          (IsPermutation-append (filter_map h w.head) [] (filter_map h w.rest) names (clears_named there old w.mid w.head [] cleared) (further w.mid w.rest follows))
-      by_kept (item ∷ kept) cleared follows =
-          subst (λ l. IsPermutation l names) (sym (ap (filter_map h) (w.cut ∙ ap (λ l. w.head ++ l) follows.0 ∙ append-nil w.head)))
-          (subst (IsPermutation (filter_map h w.head)) (sym follows.1) (clears_named there old w.mid w.head (item ∷ kept) cleared))
+      by_left : (kept : List Item) → ClearsIf there destination old w.removal kept w.between → UnlessNamed Follows kept w.between w.after names new → IsPermutation (filter_map h records) names
+      by_left [] cleared follows =
+          subst (λ l. IsPermutation l names) (sym (ap (filter_map h) w.cut ∙ filter_map-append h w.removal w.after))
+          (IsPermutation-append (filter_map h w.removal) [] (filter_map h w.after) names (clears_named there old w.between w.removal [] cleared) (further w.between w.after follows))
+      by_left (item ∷ kept) cleared follows =
+          subst (λ l. IsPermutation l names) (sym (ap (filter_map h) (w.cut ∙ ap (λ l. w.removal ++ l) follows.0 ∙ append-nil w.removal)))
+          (subst (IsPermutation (filter_map h w.removal)) (sym follows.1) (clears_named there old w.between w.removal (item ∷ kept) cleared))
 
 -- the destination is that of the header
 asked_so : (settings : Settings) (request : DavRequest) (destination : PathValue) (verdict : Result (Unit {0}) DavError) → where_reached verdict settings request ≡ Ok destination → destination_of request.headers settings.prefix ≡ Ok destination
@@ -253,7 +253,7 @@ module _ (settings : Settings) (request : DavRequest) (old : State) (lawful : Is
         replaces_named (move_item move_path found.destination) found.destination (move_is_named move_path found.destination) (MovesSource move_path found.destination) (is_some found.there) old new rest work.names work.done
         (λ mid more follows. renames_named move_path found.destination mid.contents new.contents more work.names follows.renamed) in
         let reports : Reports move_path (filter_map (move_item move_path found.destination) records) (transferred_items move_path found.there) reply =
-        record { names = work.names; each = subst (λ l. IsPermutation l work.names) (sym move_alone) each; told = sym work.answered ∙ replied } in
+        record { names = work.names; each = subst (λ l. IsPermutation l work.names) (sym move_alone) each; answered = sym work.answered ∙ replied } in
         record {
           destination = found.destination;
           named = asked_so settings request found.destination (reach_verdict true (depth_or_all request)) rules.asked;
@@ -266,8 +266,8 @@ module _ (settings : Settings) (request : DavRequest) (old : State) (lawful : Is
       let refused = errs_led AnyError (transfer_rules true settings request old) records answer (errs_transfer true settings request old) h.head in
       no_response answer refused.0 reply refused.1 replied
   move_answered (Done h) reply replied = moved h.head h.rest h.found h.cut h.passed h.work reply replied
-  move_answered (CutShort h) reply replied = no_response answer Memory reply h.told replied
-  move_answered (CutInWork h) reply replied = no_response answer Memory reply h.told replied
+  move_answered (CutShort h) reply replied = no_response answer Memory reply h.answered replied
+  move_answered (CutInWork h) reply replied = no_response answer Memory reply h.answered replied
 
 -- ---- COPY: the removal
 
@@ -313,7 +313,7 @@ module _ (depth : Depth) (source destination : PathValue) (tree : Tree) where
   cleared_copied (call ∷ calls) all rest =
       let these = all call (inl refl) in
       let first = removal_copied call.op call.key call.outcome these.0 these.1 in
-      ap (λ told. cons_option (copy_item depth source destination tree false (logged_call call)) (copy_items depth source destination tree told (map logged_call calls ++ rest))) first.1
+      ap (λ after_unlisted. cons_option (copy_item depth source destination tree false (logged_call call)) (copy_items depth source destination tree after_unlisted (map logged_call calls ++ rest))) first.1
       ∙ ap (λ o. cons_option o (copy_items depth source destination tree false (map logged_call calls ++ rest))) first.0
       ∙ ap (λ l. cons_option (named_by destination call) l) (cleared_copied calls (λ c i. all c (inr i)) rest)
       ∙ given_after (named_by destination call) (named_in destination calls) (copy_items depth source destination tree false rest)
@@ -397,7 +397,7 @@ module _ (source destination : PathValue) (tree : Tree) (old new : Contents) whe
 module _ (depth : Depth) (deep : (cause : Option FsError) → is_excused CreateDir depth cause ≡ false) (source destination : PathValue) (tree : Tree) (old new : Contents)
     (same : (key : Key) → is_at_or_below key destination.key ≡ false → get tree key ≡ get old.tree key)
     (steps : List CopyStep) (lawful : IsLawfulCopy source.key destination.key destination.key old new steps) where
-  abbrev snap : Look
+  abbrev snap : Subtree
   snap = snapshot old.tree source.key destination.key
 
   record StandsAt (x : Key) : Type 0 where
@@ -417,31 +417,31 @@ module _ (depth : Depth) (deep : (cause : Option FsError) → is_excused CreateD
   directory_there : (x : Key) → HasKind true (snap x) → snap x ≢ None
   directory_there x is none = let no : Some Directory ≡ None = sym is ∙ none in cc
 
-  record SameStep (told : Bool) (step : CopyStep) : Type 0 where
-    item : copy_item depth source destination tree told (logged_step source.key destination.key step) ≡ named_once source destination snap told step
+  record SameStep (after_unlisted : Bool) (step : CopyStep) : Type 0 where
+    item : copy_item depth source destination tree after_unlisted (logged_step source.key destination.key step) ≡ named_once source destination snap after_unlisted step
     next : is_unlisted destination (logged_step source.key destination.key step) ≡ not (is_call step.op)
 
-  by_node_at : (told : Bool) (outcome : Outcome) (x : Key) → StandsAt x
-      → (if told && false then None else failure (path_at source (is_directory_node (get tree (source.key ++ x))) (source.key ++ x)) outcome) ≡ (if told && false then None else failure (path_at source (is_directory_node (snap x)) (source.key ++ x)) outcome)
-  by_node_at told outcome x at = ap (λ it. if told && false then None else failure (path_at source (is_directory_node it) (source.key ++ x)) outcome) at.node_is
+  by_node_at : (after_unlisted : Bool) (outcome : Outcome) (x : Key) → StandsAt x
+      → (if after_unlisted && false then None else failure (path_at source (is_directory_node (get tree (source.key ++ x))) (source.key ++ x)) outcome) ≡ (if after_unlisted && false then None else failure (path_at source (is_directory_node (snap x)) (source.key ++ x)) outcome)
+  by_node_at after_unlisted outcome x at = ap (λ it. if after_unlisted && false then None else failure (path_at source (is_directory_node it) (source.key ++ x)) outcome) at.node_is
 
-  same_step : (told : Bool) (op : Op) (x : Key) (outcome : Outcome) → IsCalledFor snap op x steps → SameStep told (record { at = x; op = op; outcome = outcome })
-  same_step told Metadata x outcome called = record { item = by_node_at told outcome x (stands x called.0); next = refl }
-  same_step told Copy x outcome called = record { item = by_node_at told outcome x (stands x (file_there x called.0)); next = refl }
-  same_step told ReadDir x outcome called =
+  same_step : (after_unlisted : Bool) (op : Op) (x : Key) (outcome : Outcome) → IsCalledFor snap op x steps → SameStep after_unlisted (record { at = x; op = op; outcome = outcome })
+  same_step after_unlisted Metadata x outcome called = record { item = by_node_at after_unlisted outcome x (stands x called.0); next = refl }
+  same_step after_unlisted Copy x outcome called = record { item = by_node_at after_unlisted outcome x (stands x (file_there x called.0)); next = refl }
+  same_step after_unlisted ReadDir x outcome called =
       let at = stands x (directory_there x called.0) in
       record {
-        item = ap (λ b. if told && false then None else failure (if b then named_path destination ReadDir (source.key ++ x) else path_at source (is_directory_node (get tree (source.key ++ x))) (source.key ++ x)) outcome) at.outside
-            ∙ by_node_at told outcome x at;
+        item = ap (λ b. if after_unlisted && false then None else failure (if b then named_path destination ReadDir (source.key ++ x) else path_at source (is_directory_node (get tree (source.key ++ x))) (source.key ++ x)) outcome) at.outside
+            ∙ by_node_at after_unlisted outcome x at;
         next = refl;
       }
-  same_step told CreateDir x outcome called = record {
+  same_step after_unlisted CreateDir x outcome called = record {
     item =
-        ap (λ b. if b || (told && false) then None else failure (copy_path depth source destination tree CreateDir (destination.key ++ x)) outcome) (deep (error_of outcome))
-        ∙ ap (λ b. if told && false then None else failure (if b then named_path destination CreateDir (destination.key ++ x) else path_at source (is_directory_node (get tree (destination.key ++ x))) (destination.key ++ x)) outcome) (at_or_below-append destination.key x);
+        ap (λ b. if b || (after_unlisted && false) then None else failure (copy_path depth source destination tree CreateDir (destination.key ++ x)) outcome) (deep (error_of outcome))
+        ∙ ap (λ b. if after_unlisted && false then None else failure (if b then named_path destination CreateDir (destination.key ++ x) else path_at source (is_directory_node (get tree (destination.key ++ x))) (destination.key ++ x)) outcome) (at_or_below-append destination.key x);
     next = refl;
   }
-  same_step told Entry x outcome called =
+  same_step after_unlisted Entry x outcome called =
       let above = called.0 in
       let name = called.1 in
       let listed = lawful.called_for (record { at = above; op = ReadDir; outcome = Granted }) called.3 in
@@ -450,22 +450,22 @@ module _ (depth : Depth) (deep : (cause : Option FsError) → is_excused CreateD
       let back : parent x ≡ above = ap parent called.2 ∙ parent-member above name in
       record {
         item =
-            ap (λ k. if told && not (is_at_or_below k destination.key) then None else failure (if is_at_or_below k destination.key then path_at destination true k else path_at source (is_directory_node (get tree k)) k) outcome) up
-            ∙ ap (λ b. if told && not b then None else failure (if b then path_at destination true (source.key ++ above) else path_at source (is_directory_node (get tree (source.key ++ above))) (source.key ++ above)) outcome) at.outside
-            ∙ ap (λ it. if told && true then None else failure (path_at source (is_directory_node it) (source.key ++ above)) outcome) (at.node_is ∙ listed.0)
-            ∙ ap (λ y. if told && true then None else failure (path_at source true (source.key ++ y)) outcome) (sym back);
+            ap (λ k. if after_unlisted && not (is_at_or_below k destination.key) then None else failure (if is_at_or_below k destination.key then path_at destination true k else path_at source (is_directory_node (get tree k)) k) outcome) up
+            ∙ ap (λ b. if after_unlisted && not b then None else failure (if b then path_at destination true (source.key ++ above) else path_at source (is_directory_node (get tree (source.key ++ above))) (source.key ++ above)) outcome) at.outside
+            ∙ ap (λ it. if after_unlisted && true then None else failure (path_at source (is_directory_node it) (source.key ++ above)) outcome) (at.node_is ∙ listed.0)
+            ∙ ap (λ y. if after_unlisted && true then None else failure (path_at source true (source.key ++ y)) outcome) (sym back);
         next = ap (λ k. not (is_at_or_below k destination.key)) up ∙ ap (λ b. not b) at.outside;
       }
-  same_step told op x outcome called = absurd called
+  same_step after_unlisted op x outcome called = absurd called
 
-  same_steps : (told : Bool) (some : List CopyStep) → ((step : CopyStep) → IsIn step some → IsCalledFor snap step.op step.at steps)
-      → copy_items depth source destination tree told (map (logged_step source.key destination.key) some) ≡ names_behind source destination snap told some
-  same_steps told [] called = refl
-  same_steps told (step ∷ some) called =
-      let first = same_step told step.op step.at step.outcome (called step (inl refl)) in
+  same_steps : (after_unlisted : Bool) (some : List CopyStep) → ((step : CopyStep) → IsIn step some → IsCalledFor snap step.op step.at steps)
+      → copy_items depth source destination tree after_unlisted (map (logged_step source.key destination.key) some) ≡ names_behind source destination snap after_unlisted some
+  same_steps after_unlisted [] called = refl
+  same_steps after_unlisted (step ∷ some) called =
+      let first = same_step after_unlisted step.op step.at step.outcome (called step (inl refl)) in
       ap (λ o. cons_option o (copy_items depth source destination tree (is_unlisted destination (logged_step source.key destination.key step)) (map (logged_step source.key destination.key) some))) first.item
-      ∙ ap (λ t. cons_option (named_once source destination snap told step) (copy_items depth source destination tree t (map (logged_step source.key destination.key) some))) first.next
-      ∙ ap (λ l. cons_option (named_once source destination snap told step) l) (same_steps (not (is_call step.op)) some (λ s i. called s (inr i)))
+      ∙ ap (λ t. cons_option (named_once source destination snap after_unlisted step) (copy_items depth source destination tree t (map (logged_step source.key destination.key) some))) first.next
+      ∙ ap (λ l. cons_option (named_once source destination snap after_unlisted step) l) (same_steps (not (is_call step.op)) some (λ s i. called s (inr i)))
 
   deep_copied : (records : List Logged) (names : List Item) → records ≡ map (logged_step source.key destination.key) steps → IsPermutation (names_of_copy source destination snap steps) names
       → IsPermutation (copy_items depth source destination tree false records) names
@@ -483,20 +483,20 @@ module _ (source destination : PathValue) (tree : Tree) (old new : Contents) (sa
 
 module _ (depth : Depth) (source : PathValue) (found : Transfer) (old new : State) (rest : List Logged) (names : List Item) where
   copies_named : Copies depth source found old rest names new → IsPermutation (copy_items depth source found.destination old.contents.tree false rest) names
-  copies_named w = by_kept w.kept w.cleared w.follows
+  copies_named w = by_left w.left w.cleared w.follows
     where
-      by_kept : (kept : List Item) → ClearsIf (is_some (replaced depth found.there)) found.destination old w.head kept w.mid → UnlessNamed (CopiesSource depth source found.destination) kept w.mid w.rest names new
+      by_left : (kept : List Item) → ClearsIf (is_some (replaced depth found.there)) found.destination old w.removal kept w.between → UnlessNamed (CopiesSource depth source found.destination) kept w.between w.after names new
           → IsPermutation (copy_items depth source found.destination old.contents.tree false rest) names
-      by_kept [] cleared follows =
-          let first = clears_copied depth source found.destination old.contents.tree (is_some (replaced depth found.there)) old w.mid w.head w.rest [] cleared in
-          let same : (key : Key) → is_at_or_below key found.destination.key ≡ false → get old.contents.tree key ≡ get w.mid.contents.tree key =
-          λ key apart. sym (ap (λ s. s.0) (clear_outside (is_some (replaced depth found.there)) found.destination old w.mid w.head [] cleared key (apart_below key found.destination.key apart))) in
+      by_left [] cleared follows =
+          let first = clears_copied depth source found.destination old.contents.tree (is_some (replaced depth found.there)) old w.between w.removal w.after [] cleared in
+          let same : (key : Key) → is_at_or_below key found.destination.key ≡ false → get old.contents.tree key ≡ get w.between.contents.tree key =
+          λ key apart. sym (ap (λ s. s.0) (clear_outside (is_some (replaced depth found.there)) found.destination old w.between w.removal [] cleared key (apart_below key found.destination.key apart))) in
           subst (λ l. IsPermutation l names) (sym (ap (copy_items depth source found.destination old.contents.tree false) w.cut ∙ first.first))
-          (IsPermutation-append first.items [] (copy_items depth source found.destination old.contents.tree false w.rest) names first.each
-          (all_copied source found.destination old.contents.tree w.mid.contents new.contents same w.rest names depth follows.copied))
-      by_kept (item ∷ kept) cleared follows =
-          let first = clears_copied depth source found.destination old.contents.tree (is_some (replaced depth found.there)) old w.mid w.head [] (item ∷ kept) cleared in
-          let all = ap (copy_items depth source found.destination old.contents.tree false) (w.cut ∙ ap (λ l. w.head ++ l) follows.0) ∙ first.first ∙ append-nil first.items in
+          (IsPermutation-append first.items [] (copy_items depth source found.destination old.contents.tree false w.after) names first.each
+          (all_copied source found.destination old.contents.tree w.between.contents new.contents same w.after names depth follows.copied))
+      by_left (item ∷ kept) cleared follows =
+          let first = clears_copied depth source found.destination old.contents.tree (is_some (replaced depth found.there)) old w.between w.removal [] (item ∷ kept) cleared in
+          let all = ap (copy_items depth source found.destination old.contents.tree false) (w.cut ∙ ap (λ l. w.removal ++ l) follows.0) ∙ first.first ∙ append-nil first.items in
           subst (λ l. IsPermutation l names) (sym all) (subst (IsPermutation first.items) (sym follows.1) first.each)
 
 module _ (settings : Settings) (request : DavRequest) (old : State) (lawful : IsLawfulState old) (records : List Logged) (answer : Answer) (new : State) where
@@ -512,7 +512,7 @@ module _ (settings : Settings) (request : DavRequest) (old : State) (lawful : Is
         let rules = copy_passed settings request old head found passed in
         let may = rules.may lawful.contents in
         let reports : Reports from (ItemsOf from) (transferred_items from found.there) reply =
-        record { names = work.names; each = copies_named (depth_or_all request) from found old new rest work.names work.done; told = sym work.answered ∙ replied } in
+        record { names = work.names; each = copies_named (depth_or_all request) from found old new rest work.names work.done; answered = sym work.answered ∙ replied } in
         record {
           head = head;
           rest = rest;
@@ -529,8 +529,8 @@ module _ (settings : Settings) (request : DavRequest) (old : State) (lawful : Is
       let refused = errs_led AnyError (transfer_rules false settings request old) records answer (errs_transfer false settings request old) h.head in
       no_response answer refused.0 reply refused.1 replied
   copy_answered (Done h) reply replied = copied_so h.head h.rest h.found h.cut h.passed h.work reply replied
-  copy_answered (CutShort h) reply replied = no_response answer Memory reply h.told replied
-  copy_answered (CutInWork h) reply replied = no_response answer Memory reply h.told replied
+  copy_answered (CutShort h) reply replied = no_response answer Memory reply h.answered replied
+  copy_answered (CutInWork h) reply replied = no_response answer Memory reply h.answered replied
 
 -- ---- of a step
 

@@ -12,9 +12,9 @@ use Rattle.dav_store.specs.Logged.{Logged}
 use Rattle.dav_store.specs.Store.{Store, Facts, IsWellFormed}
 use Rattle.dav_store.specs.Locks.{Locks, Reliable, all_reliable}
 use Rattle.dav_store.specs.LockCalls.{HasDistinctTokens}
-use Rattle.dav_parts.specs.Reply.{Answer, answer_of}
+use Rattle.dav_messages.specs.Reply.{Answer, answer_of}
 use Rattle.dav_engine.specs.State.{State, Seen, state_of, facts_of, IsLawfulState, HasSameSystem}
-use Rattle.dav_engine.specs.DavInner.{lent, lent_locks, frame, seen_by, settings_by}
+use Rattle.dav_engine.specs.DavInner.{lent, lent_locks, fixed_parts, seen_by, settings_by}
 use Rattle.dav_engine.specs.Settings.{Settings}
 use Rattle.dav_engine.specs.declared.inner.DavInner.{DavInner}
 use Rattle.dav_engine.specs.Step.{Serves, RunsOne, Run, Runs}
@@ -54,7 +54,7 @@ module _ (settings : Settings) where
       → Runs settings old requests answers mid → Serves (method_of request.method) settings mid request answer new → IsLawfulState (state_of new) → Runs settings old (requests ++ request ∷ []) (answers ++ answer ∷ []) new
   Runs-more old mid new requests answers request answer runs serves fits = record {
     records = runs.records ++ serves.records;
-    told = rw (serves.told, runs.told, append_assoc);
+    recorded = rw (serves.recorded, runs.recorded, append_assoc);
     fixed = rw (serves.fixed, runs.fixed);
     run = Run-more requests answers _ _ _ _ _ request answer runs.run (record { step = serves.step; guarded = serves.guarded; law = serves.law; lawful = fits; system = same_system mid new serves.fixed });
     compatible = λ h. serves.compatible (runs.compatible h);
@@ -69,10 +69,10 @@ module _ (settings : Settings) where
 
   -- nothing was served yet
   pub runs_none : (seen : Seen) → Runs settings seen [] [] seen
-  runs_none seen = record { records = []; told = rw append-nil; fixed = refl; run = (refl, refl); compatible = λ h. h }
+  runs_none seen = record { records = []; recorded = rw append-nil; fixed = refl; run = (refl, refl); compatible = λ h. h }
 
 -- an engine keeps its settings
-pub same_settings : {C F L : Type 0} (see_store : F → Store) (see_locks : L → Locks) (old new : DavInner C F L) → frame new ≡ frame old → facts_of (seen_by see_store see_locks new) ≡ facts_of (seen_by see_store see_locks old)
+pub same_settings : {C F L : Type 0} (see_store : F → Store) (see_locks : L → Locks) (old new : DavInner C F L) → fixed_parts new ≡ fixed_parts old → facts_of (seen_by see_store see_locks new) ≡ facts_of (seen_by see_store see_locks old)
     → settings_by see_store new ≡ settings_by see_store old
 same_settings see_store see_locks old new same fixed = λ i. record { prefix = (same i).1.0; allow = (same i).1.1; facts = (fixed i).0 }
 

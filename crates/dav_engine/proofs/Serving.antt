@@ -13,8 +13,8 @@ use Rattle.dav_resource.specs.declared.request.DavRequest.{DavRequest}
 use Rattle.dav_store.specs.Logged.{Logged}
 use Rattle.dav_store.specs.Store.{Store, Contents}
 use Rattle.dav_store.specs.Locks.{Locks, all_reliable}
-use Rattle.dav_parts.specs.Dialogue.{Refuses, EndsIn, Judges, Reaches}
-use Rattle.dav_parts.specs.Reply.{Reply, Answer, answer_of, reply_of}
+use Rattle.dav_messages.specs.Dialogue.{Refuses, EndsIn, Judges, Reaches}
+use Rattle.dav_messages.specs.Reply.{Reply, Answer, answer_of, reply_of}
 use Rattle.dav_engine.specs.Law.{Law}
 use Rattle.dav_engine.specs.State.{State, Seen, state_of, facts_of, IsLawfulState}
 use Rattle.dav_engine.specs.Settings.{Settings}
@@ -79,11 +79,11 @@ module _ {name : Option DavMethod} (method : Method) (sound : IsSound name metho
   -- the rules end it, by the exit of a `?`
   pub serves_exit : (old new : Store) (e : DavError) (result : Result (Response Body) DavError) → IsLawfulState (state_of (over old locks)) → IsErrAnd result (λ d. d ≡ e)
       → Judges (method.rules settings request (state_of (over old locks))) old (Err e) new → Serves name settings (over old locks) request (answer_of result) (over new locks)
-  serves_exit old new e result lawful told h =
-      let p = err_from_is_err_and result told in
+  serves_exit old new e result lawful recorded h =
+      let p = err_from_is_err_and result recorded in
       rw (p.1, p.2) (record {
         records = h.records;
-        told = h.told;
+        recorded = h.recorded;
         fixed = same_facts locks old new h.fixed;
         step = sound.named (step h.ends);
         law = sound.obeys settings request _ _ _ _ lawful (step h.ends);
@@ -93,13 +93,13 @@ module _ {name : Option DavMethod} (method : Method) (sound : IsSound name metho
     where
       step : EndsIn (method.rules settings request (state_of (over old locks))) h.records (Err e) → StepBy method settings request (state_of (over old locks)) h.records (Err e) (state_of (over new locks))
       step (inl refuses) = Refused (record { head = refuses; same = same_state locks old new h.same })
-      step (inr memory) = CutShort (record { left = memory.1.0; head = memory.1.1; told = rw memory.0; same = same_state locks old new h.same })
+      step (inr memory) = CutShort (record { left = memory.1.0; head = memory.1.1; answered = rw memory.0; same = same_state locks old new h.same })
 
   -- the rules end it, by a reply
   pub serves_reply : (old new : Store) (reply : Reply) → IsLawfulState (state_of (over old locks)) → Reaches (method.rules settings request (state_of (over old locks))) old (Refuses (Ok reply)) new → Serves name settings (over old locks) request (Ok reply) (over new locks)
   serves_reply old new reply lawful h = record {
     records = h.records;
-    told = h.told;
+    recorded = h.recorded;
     fixed = same_facts locks old new h.fixed;
     step = sound.named (Refused (record { head = h.leads; same = same_state locks old new h.same }));
     law = sound.obeys settings request _ _ _ _ lawful (Refused (record { head = h.leads; same = same_state locks old new h.same }));
@@ -111,8 +111,8 @@ module _ {name : Option DavMethod} (method : Method) (sound : IsSound name metho
   pub serves_told : (old new : Store) (reply : Reply) (result : Result (Response Body) DavError) → IsLawfulState (state_of (over old locks)) → IfOk result (λ response. reply_of response ≡ reply) → IfErr result (λ e. e ≡ Memory)
       → Reaches (method.rules settings request (state_of (over old locks))) old (Refuses (Ok reply)) new → Judges (method.rules settings request (state_of (over old locks))) old (Err Memory) new
       → Serves name settings (over old locks) request (answer_of result) (over new locks)
-  serves_told old new reply (Ok response) lawful told memory h g = rw told (serves_reply old new reply lawful h)
-  serves_told old new reply (Err e) lawful told memory h g = serves_exit old new Memory (Err e) lawful memory g
+  serves_told old new reply (Ok response) lawful recorded memory h g = rw recorded (serves_reply old new reply lawful h)
+  serves_told old new reply (Err e) lawful recorded memory h g = serves_exit old new Memory (Err e) lawful memory g
 
   -- the rules are passed, and the work follows
   pub serves_work : (found : method.Found) (old mid : Store) (new : Seen) (answer : Answer) → IsLawfulState (state_of (over old locks)) → Judges (method.rules settings request (state_of (over old locks))) old (Ok found) mid
@@ -121,7 +121,7 @@ module _ {name : Option DavMethod} (method : Method) (sound : IsSound name metho
       let done = rw (same_state locks old mid h.same) at works.done in
       record {
         records = h.records ++ works.records;
-        told = rw (works.told, h.told, append_assoc);
+        recorded = rw (works.recorded, h.recorded, append_assoc);
         fixed = rw (works.fixed, same_facts locks old mid h.fixed);
         step = sound.named (step done);
         law = sound.obeys settings request _ _ _ _ lawful (step done);
@@ -132,20 +132,20 @@ module _ {name : Option DavMethod} (method : Method) (sound : IsSound name metho
       step : method.Work settings request found (state_of (over old locks)) works.records answer (state_of new) ⊎ ((answer ≡ Err Memory) × method.Cut settings request found (state_of (over old locks)) works.records (state_of new))
           → StepBy method settings request (state_of (over old locks)) (h.records ++ works.records) answer (state_of new)
       step (inl work) = Done (record { head = h.records; rest = works.records; cut = refl; found = found; passed = h.ends; work = work })
-      step (inr cut) = CutInWork (record { head = h.records; rest = works.records; cut = refl; found = found; passed = h.ends; told = cut.0; work = cut.1 })
+      step (inr cut) = CutInWork (record { head = h.records; rest = works.records; cut = refl; found = found; passed = h.ends; answered = cut.0; work = cut.1 })
 
 -- no call, 501, and nothing changes
 abbrev pub IsUnservedAs : Option DavMethod → Settings → DavRequest → State → Type 0
 IsUnservedAs method settings request state = Step method settings request state [] (Err (Status 501)) state × Law method settings request state [] (Err (Status 501)) state
 
 pub unserved_unknown : (settings : Settings) (request : DavRequest) (state : State) → IsUnservedAs None settings request state
-unserved_unknown settings request state = (record { none = refl; told = refl; same = refl }, law_same None settings request state (record { contents = refl; locks = refl }))
+unserved_unknown settings request state = (record { none = refl; answered = refl; same = refl }, law_same None settings request state (record { contents = refl; locks = refl }))
 
 -- a method that isn't served
 pub serves_none : (method : Option DavMethod) (settings : Settings) (request : DavRequest) (seen : Seen) → ((state : State) → IsUnservedAs method settings request state) → Serves method settings seen request (Err (Status 501)) seen
 serves_none method settings request seen unserved = record {
   records = [];
-  told = sym (append-nil seen.store.log);
+  recorded = sym (append-nil seen.store.log);
   fixed = refl;
   step = (unserved (state_of seen)).0;
   guarded = guarded_same method request (state_of seen) (state_of seen) refl;
@@ -159,8 +159,8 @@ serves_as read method settings old request answer new is served = subst (λ m. S
 
 -- the methods that aren't served
 pub unserved : (settings : Settings) (request : DavRequest) (method : DavMethod) → ((method ≡ MkCol) → ⊥) → ((method ≡ Put) → ⊥) → ((method ≡ Patch) → ⊥) → ((method ≡ Delete) → ⊥) → ((method ≡ Copy) → ⊥) → ((method ≡ Move) → ⊥) → ((method ≡ Lock) → ⊥) → ((method ≡ Unlock) → ⊥) → ((method ≡ PropPatch) → ⊥) → ((method ≡ Options) → ⊥) → ((method ≡ PropFind) → ⊥) → (state : State) → IsUnservedAs (Some method) settings request state
-unserved settings request Head a b p d c m l u r o f state = (record { none = refl; told = refl; same = refl }, law_same (Some Head) settings request state (record { contents = refl; locks = refl }))
-unserved settings request Get a b p d c m l u r o f state = (record { none = refl; told = refl; same = refl }, law_same (Some Get) settings request state (record { contents = refl; locks = refl }))
+unserved settings request Head a b p d c m l u r o f state = (record { none = refl; answered = refl; same = refl }, law_same (Some Head) settings request state (record { contents = refl; locks = refl }))
+unserved settings request Get a b p d c m l u r o f state = (record { none = refl; answered = refl; same = refl }, law_same (Some Get) settings request state (record { contents = refl; locks = refl }))
 unserved settings request Put a b p d c m l u r o f state = absurd (b refl)
 unserved settings request Patch a b p d c m l u r o f state = absurd (p refl)
 unserved settings request Options a b p d c m l u r o f state = absurd (o refl)
@@ -175,7 +175,7 @@ unserved settings request Unlock a b p d c m l u r o f state = absurd (u refl)
 
 -- work that knows the store alone leaves the locks
 pub performs_on_store : {Work : Contents → List Logged → Answer → Contents → Type 0} {Cut : Contents → List Logged → Contents → Type 0} (locks : Option Locks) (old new : Store) (answer : Answer) → WorksOnStore Work Cut old answer new → Performs (OnStore Work) (CutOnStore Cut) (over old locks) answer (over new locks)
-performs_on_store {Work = Work} {Cut} locks old new answer h = record { records = h.records; told = h.told; fixed = same_facts locks old new h.fixed; done = done h.done }
+performs_on_store {Work = Work} {Cut} locks old new answer h = record { records = h.records; recorded = h.recorded; fixed = same_facts locks old new h.fixed; done = done h.done }
   where
     done : Work old.contents h.records answer new.contents ⊎ ((answer ≡ Err Memory) × Cut old.contents h.records new.contents)
         → OnStore Work (state_of (over old locks)) h.records answer (state_of (over new locks)) ⊎ ((answer ≡ Err Memory) × CutOnStore Cut (state_of (over old locks)) h.records (state_of (over new locks)))

@@ -12,15 +12,15 @@ use Rattle.dav_resource.specs.declared.request.DavRequest.{DavRequest}
 use Rattle.dav_resource.specs.declared.request.Depth.TheVariants.{Infinity}
 use Rattle.dav_store.specs.Logged.{Logged}
 use Rattle.dav_store.specs.Store.{Store, Contents}
-use Rattle.dav_parts.specs.Conditions.{submitted_tokens}
-use Rattle.dav_parts.specs.Dialogue.{Dialogue, Judges, Reaches, ◌>>=◌}
-use Rattle.dav_parts.specs.Dialogues.{judges_exit, judges_left, judges_pure, judges_if, reaches_none, reaches_then}
-use Rattle.dav_parts.specs.Multistatus.{Item}
+use Rattle.dav_messages.specs.Conditions.{submitted_tokens}
+use Rattle.dav_messages.specs.Dialogue.{Dialogue, Judges, Reaches, ◌>>=◌}
+use Rattle.dav_messages.specs.Dialogues.{judges_exit, judges_left, judges_pure, judges_if, reaches_none, reaches_then}
+use Rattle.dav_messages.specs.Multistatus.{Item}
 use Rattle.dav_walks.specs.Deletion.{Removes, Removal, RemovesOrStops}
 use Rattle.dav_engine.specs.State.{State, Seen, state_of, facts_of, DropsSeen}
 use Rattle.dav_engine.specs.Settings.{Settings}
 use Rattle.dav_engine.specs.Rules.{judged, must_find, own_conditions, where_permitted}
-use Rattle.dav_engine.specs.Transferring.{asked_destination, look_there, see_destination, place_verdict, permits_transfer, transfer_rules, Clears, ClearsInPart, NamesBy, Names}
+use Rattle.dav_engine.specs.Transferring.{asked_destination, look_up_destination, see_destination, place_verdict, permits_transfer, transfer_rules, Clears, ClearsInPart, NamesBy, Names}
 use Rattle.dav_engine.specs.declared.transfer.Transfer.{Transfer}
 use Rattle.dav_engine.proofs.Deleting.{judges_known, none_named, some_named, same_facts, same_locks, drops, named_locks}
 use Rattle.dav_engine.proofs.Running.{same_system}
@@ -36,8 +36,8 @@ judges_giving expected store e (inr memory) = rw memory (judges_pure (judged exp
 pub same_seeing : (contents now : Contents) (key : Key) (mid new : Store) (verdict : Result (Option Meta) DavError) → now ≡ contents → Judges (see_destination now key) mid verdict new → Judges (see_destination contents key) mid verdict new
 same_seeing contents now key mid new verdict same h = subst (λ c. Judges (see_destination c key) mid verdict new) same h
 
-pub same_look_there : (contents now : Contents) (key : Key) (mid new : Store) (verdict : Result (Option Meta) DavError) → now ≡ contents → Judges (look_there now key) mid verdict new → Judges (look_there contents key) mid verdict new
-same_look_there contents now key mid new verdict same h = subst (λ c. Judges (look_there c key) mid verdict new) same h
+pub same_destination : (contents now : Contents) (key : Key) (mid new : Store) (verdict : Result (Option Meta) DavError) → now ≡ contents → Judges (look_up_destination now key) mid verdict new → Judges (look_up_destination contents key) mid verdict new
+same_destination contents now key mid new verdict same h = subst (λ c. Judges (look_up_destination c key) mid verdict new) same h
 
 -- the rules so far, and a part that ends them
 pub reached_exit : {A B : Type 0} (rules : Dialogue B) (next : Dialogue A) (after : A → Dialogue B) (old mid new : Store) (e : DavError) (verdict : Result B DavError)
@@ -131,7 +131,7 @@ module _ (destination : PathValue) (old mid : Seen) (had has : List Item) where
   pub clears_named : (e : DavError) → Removal Infinity destination old.store mid.store had has (Err e) → mid.locks ≡ old.locks → Cleared mid (Err e)
   clears_named e h locks = record {
     records = h.records;
-    told = h.told;
+    recorded = h.recorded;
     fixed = same_facts old mid h.fixed locks;
     done = by_end h.done;
   }
@@ -153,7 +153,7 @@ module _ (destination : PathValue) (old mid : Seen) (had has : List Item) where
   pub clears_all : (new : Seen) → Removal Infinity destination old.store mid.store had has (Ok tt) → mid.locks ≡ old.locks → DropsSeen destination.key mid new → Cleared new (Ok tt)
   clears_all new h locks dropped = record {
     records = h.records;
-    told = ap (λ (s : Store). s.log) dropped.store ∙ h.told;
+    recorded = ap (λ (s : Store). s.log) dropped.store ∙ h.recorded;
     fixed = fixed_so;
     done = by_end h.done;
   }

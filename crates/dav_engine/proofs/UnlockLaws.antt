@@ -8,7 +8,7 @@ use Rattle.dav_resource.specs.declared.meta.Meta.{Meta}
 use Rattle.dav_resource.specs.declared.request.DavRequest.{DavRequest}
 use Rattle.dav_headers.specs.LockToken.{lock_token_of}
 use Rattle.dav_store.specs.Logged.{Logged}
-use Rattle.dav_parts.specs.Reply.{Answer}
+use Rattle.dav_messages.specs.Reply.{Answer}
 use Rattle.dav_engine.specs.Laws.{IsNoContent, IsUnlockedBy, UnlockLaw}
 use Rattle.dav_engine.specs.Locking.{locks_verdict}
 use Rattle.dav_engine.specs.Method.{StepBy, Refused, Done, CutShort, CutInWork}
@@ -45,26 +45,26 @@ errs_unlock request state =
 module _ (request : DavRequest) (old new : State) (answer : Answer) where
   -- an answer that is no 204 leaves all as it was
   unlock_same : (IsNoContent answer → ⊥) → new ≡ old → UnlockLaw request old answer new
-  unlock_same other same = record { contents = ap (λ (s : State). s.contents) same; removed = λ told. absurd (other told); kept = λ untold. ap (λ (s : State). s.locks) same }
+  unlock_same other same = record { contents = ap (λ (s : State). s.contents) same; removed = λ recorded. absurd (other recorded); kept = λ untold. ap (λ (s : State). s.locks) same }
 
   unlock_lacking : answer ≡ Err Memory → new ≡ old → UnlockLaw request old answer new
-  unlock_lacking memory same = unlock_same (λ told. let no : 507 ≡ 204 = subst IsNoContent memory told in omega (arith, no)) same
+  unlock_lacking memory same = unlock_same (λ recorded. let no : 507 ≡ 204 = subst IsNoContent memory recorded in omega (arith, no)) same
 
   unlock_work : (found : Option Meta) (records : List Logged) → UnlockWork request found old records answer new → UnlockLaw request old answer new
   unlock_work found records work = record { contents = work.same; removed = gone work.done; kept = stays work.done }
     where
       gone : Unlocks request found work.token old answer new ⊎ UnlocksNothing request work.token old answer new → IsNoContent answer → IsUnlockedBy request old new
-      gone (inl unlocks) told = record { token = work.token; named = work.named; removed = unlocks.locks }
-      gone (inr none) told = absurd (let no : 409 ≡ 204 = subst IsNoContent none.told told in omega (arith, no))
+      gone (inl unlocks) recorded = record { token = work.token; named = work.named; removed = unlocks.locks }
+      gone (inr none) recorded = absurd (let no : 409 ≡ 204 = subst IsNoContent none.answered recorded in omega (arith, no))
 
       stays : Unlocks request found work.token old answer new ⊎ UnlocksNothing request work.token old answer new → (IsNoContent answer → ⊥) → LocksStay old new
-      stays (inl unlocks) untold = absurd (untold (subst IsNoContent (sym unlocks.told) refl))
+      stays (inl unlocks) untold = absurd (untold (subst IsNoContent (sym unlocks.answered) refl))
       stays (inr none) untold = none.locks
 
 pub unlock_law : {settings : Settings} {request : DavRequest} {old new : State} {records : List Logged} {answer : Answer} → IsLawfulState old → StepBy unlock_method settings request old records answer new → UnlockLaw request old answer new
 unlock_law {settings} {request} {old} {new} {records} {answer} lawful (Refused h) =
     let refused = errs_led OtherError (unlock_rules request old) records answer (errs_unlock request old) h.head in
-    unlock_same request old new answer (λ told. refused.2 (subst IsNoContent refused.1 told)) h.same
+    unlock_same request old new answer (λ recorded. refused.2 (subst IsNoContent refused.1 recorded)) h.same
 unlock_law {settings} {request} {old} {new} {records} {answer} lawful (Done h) = unlock_work request old new answer h.found h.rest h.work
-unlock_law {settings} {request} {old} {new} {records} {answer} lawful (CutShort h) = unlock_lacking request old new answer h.told h.same
-unlock_law {settings} {request} {old} {new} {records} {answer} lawful (CutInWork h) = unlock_lacking request old new answer h.told h.work.same
+unlock_law {settings} {request} {old} {new} {records} {answer} lawful (CutShort h) = unlock_lacking request old new answer h.answered h.same
+unlock_law {settings} {request} {old} {new} {records} {answer} lawful (CutInWork h) = unlock_lacking request old new answer h.answered h.work.same

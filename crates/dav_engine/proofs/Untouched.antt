@@ -20,9 +20,9 @@ use Rattle.dav_store.specs.PropertyCalls.{Patch, patch_record}
 use Rattle.dav_store.specs.Store.{Contents, Node, File, Directory}
 use Rattle.dav_store.specs.Transfers.{rename_call}
 use Rattle.dav_store.specs.declared.lock.DavLock.{DavLock}
-use Rattle.dav_parts.specs.Dialogue.{WasGranted}
-use Rattle.dav_parts.specs.Multistatus.{Item}
-use Rattle.dav_parts.specs.Reply.{Answer}
+use Rattle.dav_messages.specs.Dialogue.{WasGranted}
+use Rattle.dav_messages.specs.Multistatus.{Item}
+use Rattle.dav_messages.specs.Reply.{Answer}
 use Rattle.dav_walks.specs.Copied.{placing_call, EndsAlone, CopiesAlone, CopiesInPart}
 use Rattle.dav_walks.specs.Copying.{CopyStep, logged_step, IsMade, NothingMade, IsLawfulCopy}
 use Rattle.dav_walks.specs.CopyLaws.{whole_copy_in_part}
@@ -73,7 +73,7 @@ step_untouched method leaves settings request old new records answer lawful (Ref
 step_untouched method leaves settings request old new records answer lawful (CutShort h) none = same_contents old new h.same
 step_untouched method leaves settings request old new records answer lawful (Done h) none = leaves settings request h.found old new h.rest answer (inl h.work) (none_in_parts h.head h.rest records h.cut none).1
 step_untouched method leaves settings request old new records answer lawful (CutInWork h) none =
-    leaves settings request h.found old new h.rest answer (inr (h.told, h.work)) (none_in_parts h.head h.rest records h.cut none).1
+    leaves settings request h.found old new h.rest answer (inr (h.answered, h.work)) (none_in_parts h.head h.rest records h.cut none).1
 
 -- ---- one call
 
@@ -143,7 +143,7 @@ untouched_lock = step_untouched lock_method leaves
     leaves settings request found old new records answer done none = by_end (is_refresh settings.facts.bodies request.body) done
       where
         asks : (asked : DavLock) → GrantsLock request found asked old records answer new ⊎ DeniesLock asked old records answer new → new.contents ≡ old.contents
-        asks asked (inl granted) = file_untouched request records old.contents new.contents none granted.tells.leaves
+        asks asked (inl granted) = file_untouched request records old.contents new.contents none granted.answers.leaves
         asks asked (inr denied) = same_contents old new denied.same
 
         by_end : (refresh : Bool) → LockWorkBy refresh request found old records answer new ⊎ ((answer ≡ Err Memory) × LockCutBy refresh request found old records new) → new.contents ≡ old.contents
@@ -152,19 +152,19 @@ untouched_lock = step_untouched lock_method leaves
         by_end false (inl work) = asks (lock_asked request found work.info) work.done
         by_end false (inr cut) = cut.1.same
 
-patch_untouched : (keeps : Bool) (key : Key) (patches : List Patch) (old new : Contents) (records : List Logged) (told : Result (List ℕ) FsError) → MadeNone records → MakesChanges keeps key patches old records told new → new ≡ old
-patch_untouched keeps key [] old new records told none asks = asks.same
-patch_untouched keeps key (patch ∷ patches) old new records told none (inl all) = absurd (unmade_last records none [] (patch_record key Granted (all_made (patch ∷ patches))) all.called refl refl)
-patch_untouched keeps key (patch ∷ patches) old new records told none (inr (inl dropped)) = dropped.same
-patch_untouched keeps key (patch ∷ patches) old new records told none (inr (inr refused)) = refused.same
+patch_untouched : (keeps : Bool) (key : Key) (patches : List Patch) (old new : Contents) (records : List Logged) (recorded : Result (List ℕ) FsError) → MadeNone records → MakesChanges keeps key patches old records recorded new → new ≡ old
+patch_untouched keeps key [] old new records recorded none asks = asks.same
+patch_untouched keeps key (patch ∷ patches) old new records recorded none (inl all) = absurd (unmade_last records none [] (patch_record key Granted (all_made (patch ∷ patches))) all.called refl refl)
+patch_untouched keeps key (patch ∷ patches) old new records recorded none (inr (inl dropped)) = dropped.same
+patch_untouched keeps key (patch ∷ patches) old new records recorded none (inr (inr refused)) = refused.same
 
 pub untouched_proppatch : Untouched proppatch_method
 untouched_proppatch = step_untouched proppatch_method leaves
   where
     leaves : LeavesUntouched proppatch_method
-    leaves settings request found old new records answer (inl work) none = patch_untouched settings.facts.keeps_properties request.path.key _ old.contents new.contents records work.0.told none work.0.stored
-    leaves settings request found old new records answer (inr (told, (inl unbegun, locks))) none = unbegun.same
-    leaves settings request found old new records answer (inr (told, (inr made, locks))) none = patch_untouched settings.facts.keeps_properties request.path.key _ old.contents new.contents records (Ok made.0) none made.1
+    leaves settings request found old new records answer (inl work) none = patch_untouched settings.facts.keeps_properties request.path.key _ old.contents new.contents records work.0.store_answer none work.0.stored
+    leaves settings request found old new records answer (inr (recorded, (inl unbegun, locks))) none = unbegun.same
+    leaves settings request found old new records answer (inr (recorded, (inr made, locks))) none = patch_untouched settings.facts.keeps_properties request.path.key _ old.contents new.contents records (Ok made.0) none made.1
 
 -- ---- a removal
 
@@ -273,18 +273,18 @@ cleared_part_untouched false destination old new records none part = same_conten
 module _ (there : Bool) (destination : PathValue) (old new : State) (records : List Logged) (none : MadeNone records) where
   replaced_untouched : (Follows : State → List Logged → List Item → State → Type 0) (names : List Item) → ((mid : State) (rest : List Logged) → Follows mid rest names new → IsUntouched rest mid new)
       → Replaces Follows there destination old records names new → new.contents ≡ old.contents
-  replaced_untouched Follows names same w = by_kept w.kept w.follows ∙ cleared_untouched there destination old w.mid w.head w.kept (none_in_parts w.head w.rest records w.cut none).0 w.cleared
+  replaced_untouched Follows names same w = by_left w.left w.follows ∙ cleared_untouched there destination old w.between w.removal w.left (none_in_parts w.removal w.after records w.cut none).0 w.cleared
     where
-      by_kept : (kept : List Item) → UnlessNamed Follows kept w.mid w.rest names new → new.contents ≡ w.mid.contents
-      by_kept [] follows = same w.mid w.rest follows (none_in_parts w.head w.rest records w.cut none).1
-      by_kept (item ∷ kept) follows = same_contents w.mid new follows.2
+      by_left : (kept : List Item) → UnlessNamed Follows kept w.between w.after names new → new.contents ≡ w.between.contents
+      by_left [] follows = same w.between w.after follows (none_in_parts w.removal w.after records w.cut none).1
+      by_left (item ∷ kept) follows = same_contents w.between new follows.2
 
   replaced_part_untouched : (Part : State → List Logged → State → Type 0) → ((mid : State) (rest : List Logged) → Part mid rest new → IsUntouched rest mid new)
       → ReplacesInPart Part there destination old records new → new.contents ≡ old.contents
   replaced_part_untouched Part same (inl part) = cleared_part_untouched there destination old new records none part
   replaced_part_untouched Part same (inr more) =
-      let parts = none_in_parts more.head more.rest records more.cut none in
-      same more.mid more.rest more.part parts.1 ∙ cleared_untouched there destination old more.mid more.head [] parts.0 more.cleared
+      let parts = none_in_parts more.removal more.after records more.cut none in
+      same more.between more.after more.part parts.1 ∙ cleared_untouched there destination old more.between more.removal [] parts.0 more.cleared
 
 -- ---- COPY and MOVE
 

@@ -2,6 +2,7 @@
 use Rattle.std.proofs.Common.{◌≡◌, ◌≢◌, ◌⊎◌, ◌∙◌, inl, inr, refl, sym, ap, subst, ℕ, Bool, true, false, if◌then◌else◌, List, [], ◌∷◌, map, Option, Some, None, option_map, Ok, Err}
 use Rattle.std.specs.Ordering.{eq_by_cmp}
 use Rattle.std.specs.FinMap.{get}
+use Rattle.std.specs.Option.{ForSome}
 use Rattle.dav_resource.specs.Key.{Key, key_cmp, tied_decides}
 use Rattle.dav_resource.specs.declared.error.DavError.{DavError}
 use Rattle.dav_resource.specs.declared.error.DavError.TheVariants.{Memory, Status}
@@ -18,15 +19,16 @@ use Rattle.dav_store.specs.LockCalls.{is_named, refreshed, with_refreshed}
 use Rattle.dav_store.specs.Logged.{Logged, logged}
 use Rattle.dav_store.specs.Store.{Contents, Bodies, File}
 use Rattle.dav_store.specs.declared.lock.DavLock.{DavLock}
-use Rattle.dav_parts.specs.Conditions.{if_holds, unless_refused}
-use Rattle.dav_parts.specs.Dialogue.{Dialogue, Asks, Refuses, Passed, needs, LeadsTo, WasGranted}
-use Rattle.dav_parts.specs.Reply.{Reply, Answer}
+use Rattle.dav_messages.specs.Conditions.{if_holds, unless_refused}
+use Rattle.dav_messages.specs.Dialogue.{Dialogue, Asks, Refuses, Passed, needs, if_granted, LeadsTo, WasGranted}
+use Rattle.dav_messages.specs.Dialogues.{LeadsTo-last}
+use Rattle.dav_messages.specs.Reply.{Reply, Answer}
 use Rattle.dav_walks.specs.PutLaws.{put_elsewhere}
 use Rattle.dav_engine.specs.Bounds.{untimed}
-use Rattle.dav_engine.specs.Laws.{ChangesPathAlone, tells_lock, untimed_locks, MayHaveRefreshed, MakesNothing, MakesNothingUnlessLocked, IsLocked, LockLaw}
+use Rattle.dav_engine.specs.Laws.{ChangesPathAlone, is_lock_granted, untimed_locks, MayHaveRefreshed, MakesNothing, MakesNothingUnlessLocked, IsLocked, LockLaw}
 use Rattle.dav_engine.specs.LockInfo.{lock_info_verdict}
 use Rattle.dav_engine.specs.LockReply.{granted_reply, refreshed_reply}
-use Rattle.dav_engine.specs.Locking.{is_refresh, locks_verdict, look_to_lock, refresh_rules, new_lock_rules, lock_open_error, file_steps, FileLeaves, TakesBack, LeavesLock, GrantsLock, DeniesLock, NewLockWork, RefreshesAlone, RefreshesTold, FindsNoLock, lock_asked, refresh_timeout, LockWorkBy, LockCutBy}
+use Rattle.dav_engine.specs.Locking.{is_refresh, locks_verdict, look_up_to_lock, refresh_rules, new_lock_rules, lock_open_error, file_steps, FileLeaves, TakesBack, LeavesLock, GrantsLock, DeniesLock, NewLockWork, RefreshWork, RefreshesAlone, RefreshesNamed, FindsNoLock, lock_asked, refresh_timeout, LockWorkBy, LockCutBy}
 use Rattle.dav_engine.specs.Method.{StepBy, Refused, Done, CutShort, CutInWork}
 use Rattle.dav_engine.specs.Methods.{write_method, lock_method}
 use Rattle.dav_engine.specs.Opening.{making_options, IsFileAt}
@@ -36,6 +38,7 @@ use Rattle.dav_engine.specs.Settings.{Settings}
 use Rattle.dav_engine.specs.State.{State, LocksStay, IsLawfulState}
 use Rattle.dav_engine.specs.declared.target.Target.{Target}
 use Rattle.dav_engine.proofs.Granting.{not_granted}
+use Rattle.dav_engine.proofs.Passing.{looked_passed}
 use Rattle.dav_engine.proofs.Refusals.{AnyError, RefusesBy, errs_then, errs_led, errs_lists, errs_judged}
 
 -- ---- a call was granted, or it wasn't
@@ -142,13 +145,13 @@ no_file request None (r ∷ records) old new e h (inl made) =
     let by = refused_by {A = Unit {0}} tt (open_call old request.path.key (making_options request)) (lock_open_error (making_options request)) r.outcome records e h.2 in
     absurd (not_granted OpenFile request.path.key r (rw by.1 at made.0) by.0)
 
--- a lock is told by 200 or 201
-granted_told : (request : DavRequest) (found : Option Meta) (lock : DavLock) → tells_lock (Ok (granted_reply request found lock)) ≡ true
+-- a lock is reported by 200 or 201
+granted_told : (request : DavRequest) (found : Option Meta) (lock : DavLock) → is_lock_granted (Ok (granted_reply request found lock)) ≡ true
 granted_told request (Some meta) lock = refl
 granted_told request None lock = refl
 
-untold : {A : Type 0} (answer : Answer) (reply : Reply) → answer ≡ Ok reply → tells_lock (Ok reply) ≡ true → tells_lock answer ≡ false → A
-untold answer reply is told otherwise = absurd (let e : true ≡ false = sym told ∙ ap tells_lock (sym is) ∙ otherwise in cc)
+untold : {A : Type 0} (answer : Answer) (reply : Reply) → answer ≡ Ok reply → is_lock_granted (Ok reply) ≡ true → is_lock_granted answer ≡ false → A
+untold answer reply is recorded otherwise = absurd (let e : true ≡ false = sym recorded ∙ ap is_lock_granted (sym is) ∙ otherwise in cc)
 
 -- a lock that is refreshed has another timeout, and all else stays
 untimed_refreshed : (key : Key) (token : List ℕ) (timeout : Option ℕ) (now : ℕ) (locks : List DavLock) → map untimed (with_refreshed key token timeout now locks) ≡ map untimed locks
@@ -176,8 +179,8 @@ module _ (settings : Settings) (request : DavRequest) (old new : State) where
   gone lock (inr kept) reliable = absurd (let no : true ≡ false = sym reliable ∙ kept.0 in cc)
 
   ungranted_new : (found : Option Meta) (lock : DavLock) (records : List Logged) (answer : Answer) → GrantsLock request found lock old records answer new → MakesNothingUnlessLocked settings request answer old new
-  ungranted_new found lock records (Ok reply) h otherwise = untold (Ok reply) (granted_reply request found lock) (ap Ok h.tells.answered.2) (granted_told request found lock) otherwise
-  ungranted_new found lock records (Err e) h otherwise = record { contents = no_file request found records old.contents new.contents e h.tells.answered h.tells.leaves; locks = λ reliable. inl (gone lock h.locks reliable) }
+  ungranted_new found lock records (Ok reply) h otherwise = untold (Ok reply) (granted_reply request found lock) (ap Ok h.answers.answered.2) (granted_told request found lock) otherwise
+  ungranted_new found lock records (Err e) h otherwise = record { contents = no_file request found records old.contents new.contents e h.answers.answered h.answers.leaves; locks = λ reliable. inl (gone lock h.locks reliable) }
 
   ungranted_work : (found : Option Meta) (records : List Logged) (answer : Answer) (refresh : Bool) → LockWorkBy refresh request found old records answer new → MakesNothingUnlessLocked settings request answer old new
   ungranted_work found records answer false work otherwise = by_end work.done
@@ -190,8 +193,8 @@ module _ (settings : Settings) (request : DavRequest) (old new : State) where
       by_end (inr denied) = nothing_same answer denied.same
   ungranted_work found records answer true work otherwise = by_end work.done
     where
-      by_end : RefreshesTold request found work.token old answer new ⊎ FindsNoLock request work.token old answer new → MakesNothing settings request answer old new
-      by_end (inl told) = untold answer (refreshed_reply request.path found told.lock) told.told refl otherwise
+      by_end : RefreshesNamed request found work.token old answer new ⊎ FindsNoLock request work.token old answer new → MakesNothing settings request answer old new
+      by_end (inl recorded) = untold answer (refreshed_reply request.path found recorded.lock) recorded.answered refl otherwise
       by_end (inr none) = record { contents = work.same; locks = λ _. inl none.locks }
 
   ungranted_cut : (found : Option Meta) (records : List Logged) (answer : Answer) → answer ≡ Err Memory → (refresh : Bool) → is_refresh settings.facts.bodies request.body ≡ refresh → LockCutBy refresh request found old records new → MakesNothing settings request answer old new
@@ -200,15 +203,15 @@ module _ (settings : Settings) (request : DavRequest) (old new : State) where
     where
       by_end : LocksStay old new ⊎ RefreshesAlone request cut.token old new → LocksStay old new ⊎ MayHaveRefreshed settings request answer old new
       by_end (inl same) = inl same
-      by_end (inr alone) = inr (record { refresh = is; told = memory; same = refreshed_alone request cut.token old new alone })
+      by_end (inr alone) = inr (record { refresh = is; answered = memory; same = refreshed_alone request cut.token old new alone })
 
   ungranted_step : (records : List Logged) (answer : Answer) → StepBy lock_method settings request old records answer new → MakesNothingUnlessLocked settings request answer old new
   ungranted_step records answer (Refused h) otherwise = nothing_same answer h.same
   ungranted_step records answer (Done h) otherwise = ungranted_work h.found h.rest answer (is_refresh settings.facts.bodies request.body) h.work otherwise
   ungranted_step records answer (CutShort h) otherwise = nothing_same answer h.same
-  ungranted_step records answer (CutInWork h) otherwise = ungranted_cut h.found h.rest answer h.told (is_refresh settings.facts.bodies request.body) refl h.work
+  ungranted_step records answer (CutInWork h) otherwise = ungranted_cut h.found h.rest answer h.answered (is_refresh settings.facts.bodies request.body) refl h.work
 
--- ---- a LOCK that is told of is granted
+-- ---- a LOCK that is reported of is granted
 
 -- the rules of a new lock refuse by errors
 errs_unless : (refusal : Option ℕ) → RefusesBy AnyError (unless_refused {A = Unit {0}} refusal (Passed tt))
@@ -223,41 +226,81 @@ module _ (request : DavRequest) (state : State) where
 
   errs_new_lock : RefusesBy AnyError (new_lock_rules request state)
   errs_new_lock =
-      errs_then AnyError (look_to_lock request state) _ (errs_then AnyError (judged (locks_verdict state)) _ (errs_judged (locks_verdict state)) (λ there outcome. tt))
+      errs_then AnyError (look_up_to_lock request state) _ (errs_then AnyError (judged (locks_verdict state)) _ (errs_judged (locks_verdict state)) (λ there outcome. tt))
       (λ found. errs_then AnyError (judged (depth_verdict (depth_or_all request))) _ (errs_judged (depth_verdict (depth_or_all request)))
       (λ reached. errs_then AnyError (holding request state found) _ (errs_holding found)
       (λ held. errs_then AnyError (judged (lock_info_verdict request.body)) _ (errs_judged (lock_info_verdict request.body)) (λ info. tt))))
 
--- an error tells no lock
-error_untold : (answer : Answer) (e : DavError) → answer ≡ Err e → tells_lock answer ≡ true → ⊥
-error_untold answer e is told = let no : false ≡ true = sym (ap tells_lock is) ∙ told in cc
+-- what a new lock is granted on is what is there
+passed_same : {A : Type 0} (a b : A) (records : List Logged) → LeadsTo (Passed a) records (Passed b) → a ≡ b
+passed_same a b [] h = cc
+passed_same a b (r ∷ records) h = absurd h
 
-module _ (settings : Settings) (request : DavRequest) (old new : State) (records : List Logged) (answer : Answer) (told : tells_lock answer ≡ true) (made : is_refresh settings.facts.bodies request.body ≡ false) where
-  locked_work : (found : Option Meta) (rest : List Logged) → NewLockWork request found old rest answer new → IsLocked request old new
-  locked_work found rest work = by_end work.done
+lookup_known : (outcome : Outcome) (known found : Option Meta) (meta : Meta) → found ≡ if_granted outcome known → found ≡ Some meta → known ≡ Some meta
+lookup_known outcomes.Granted known found meta is some = sym is ∙ some
+lookup_known (outcomes.Barred e) known found meta is some = absurd (let no : None ≡ Some meta = sym is ∙ some in cc)
+lookup_known (outcomes.Refused e) known found meta is some = absurd (let no : None ≡ Some meta = sym is ∙ some in cc)
+
+new_lock_known : (request : DavRequest) (state : State) (head : List Logged) (found : Option Meta) → LeadsTo (new_lock_rules request state) head (Passed found)
+    → ForSome found (λ meta. state.contents.metas request.path.key ≡ Some meta)
+new_lock_known request state head found h meta is =
+    let looked = LeadsTo-last (look_up_to_lock request state) _ head found h in
+    let seen = LeadsTo-last (judged (locks_verdict state)) _ looked.1 looked.0 looked.3 in
+    let there = looked_passed state.contents request.path.key looked.0 seen.2 seen.4 in
+    let reached = LeadsTo-last (judged (depth_verdict (depth_or_all request))) _ looked.2 found looked.4 in
+    let held = LeadsTo-last (holding request state looked.0) _ reached.2 found reached.4 in
+    let info = LeadsTo-last (judged (lock_info_verdict request.body)) _ held.2 found held.4 in
+    lookup_known there.0 (state.contents.metas request.path.key) looked.0 meta there.1 (passed_same looked.0 found info.2 info.4 ∙ is)
+
+-- an error tells no lock
+error_untold : (answer : Answer) (e : DavError) → answer ≡ Err e → is_lock_granted answer ≡ true → ⊥
+error_untold answer e is recorded = let no : false ≡ true = sym (ap is_lock_granted is) ∙ recorded in cc
+
+module _ (settings : Settings) (request : DavRequest) (old new : State) (records : List Logged) (answer : Answer) (recorded : is_lock_granted answer ≡ true) (made : is_refresh settings.facts.bodies request.body ≡ false) where
+  locked_work : (found : Option Meta) (rest : List Logged) → ForSome found (λ meta. old.contents.metas request.path.key ≡ Some meta) → NewLockWork request found old rest answer new → IsLocked request old new
+  locked_work found rest known work = by_end work.done
     where
       asked : DavLock
       asked = lock_asked request found work.info
 
       by_answer : (given : Answer) → answer ≡ given → LeavesLock asked given old new → IsLocked request old new
-      by_answer (Ok reply) is added = record { found = found; info = work.info; asked = work.asked; added = added }
-      by_answer (Err e) is taken = absurd (error_untold answer e is told)
+      by_answer (Ok reply) is added = record { found = found; known = known; info = work.info; asked = work.asked; added = added }
+      by_answer (Err e) is taken = absurd (error_untold answer e is recorded)
 
       by_end : GrantsLock request found asked old rest answer new ⊎ DeniesLock asked old rest answer new → IsLocked request old new
       by_end (inl granted) = by_answer answer refl granted.locks
-      by_end (inr denied) = absurd (error_untold answer (Status 423) denied.told told)
+      by_end (inr denied) = absurd (error_untold answer (Status 423) denied.answered recorded)
 
   locked_step : StepBy lock_method settings request old records answer new → IsLocked request old new
   locked_step (Refused h) =
       let led = subst (λ b. LeadsTo (if b then refresh_rules request old else new_lock_rules request old) records (Refuses answer)) made h.head in
       let refused = errs_led AnyError (new_lock_rules request old) records answer (errs_new_lock request old) led in
-      absurd (error_untold answer refused.0 refused.1 told)
-  locked_step (Done h) = locked_work h.found h.rest (subst (λ b. LockWorkBy b request h.found old h.rest answer new) made h.work)
-  locked_step (CutShort h) = absurd (error_untold answer Memory h.told told)
-  locked_step (CutInWork h) = absurd (error_untold answer Memory h.told told)
+      absurd (error_untold answer refused.0 refused.1 recorded)
+  locked_step (Done h) =
+      let passed = subst (λ b. LeadsTo (if b then refresh_rules request old else new_lock_rules request old) h.head (Passed h.found)) made h.passed in
+      locked_work h.found h.rest (new_lock_known request old h.head h.found passed) (subst (λ b. LockWorkBy b request h.found old h.rest answer new) made h.work)
+  locked_step (CutShort h) = absurd (error_untold answer Memory h.answered recorded)
+  locked_step (CutInWork h) = absurd (error_untold answer Memory h.answered recorded)
+
+-- ---- a refresh that is granted changes timeouts alone
+
+module _ (settings : Settings) (request : DavRequest) (old new : State) (records : List Logged) (answer : Answer) (recorded : is_lock_granted answer ≡ true) (refresh : is_refresh settings.facts.bodies request.body ≡ true) where
+  refreshed_work : (found : Option Meta) (rest : List Logged) → RefreshWork request found old rest answer new → untimed_locks new ≡ untimed_locks old
+  refreshed_work found rest work = by_end work.done
+    where
+      by_end : RefreshesNamed request found work.token old answer new ⊎ FindsNoLock request work.token old answer new → untimed_locks new ≡ untimed_locks old
+      by_end (inl refreshes) = refreshed_alone request work.token old new refreshes.locks
+      by_end (inr none) = absurd (error_untold answer (Status 412) none.answered recorded)
+
+  refreshed_step : StepBy lock_method settings request old records answer new → untimed_locks new ≡ untimed_locks old
+  refreshed_step (Refused h) = ap untimed_locks h.same
+  refreshed_step (Done h) = refreshed_work h.found h.rest (subst (λ b. LockWorkBy b request h.found old h.rest answer new) refresh h.work)
+  refreshed_step (CutShort h) = absurd (error_untold answer Memory h.answered recorded)
+  refreshed_step (CutInWork h) = absurd (error_untold answer Memory h.answered recorded)
 
 pub lock_law : {settings : Settings} {request : DavRequest} {old new : State} {records : List Logged} {answer : Answer} → IsLawfulState old → StepBy lock_method settings request old records answer new → LockLaw settings request old answer new
 lock_law {settings} {request} {old} {new} {records} {answer} lawful step = record {
-  locked = λ told made. locked_step settings request old new records answer told made step;
+  locked = λ recorded made. locked_step settings request old new records answer recorded made step;
+  refreshed = λ recorded refresh. refreshed_step settings request old new records answer recorded refresh step;
   unlocked = ungranted_step settings request old new records answer step;
 }

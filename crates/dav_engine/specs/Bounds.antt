@@ -20,7 +20,7 @@ use Rattle.dav_store.specs.LockCalls.{is_named}
 use Rattle.dav_store.specs.Logged.{Logged}
 use Rattle.dav_store.specs.Members.{IsIn}
 use Rattle.dav_store.specs.declared.lock.DavLock.{DavLock}
-use Rattle.dav_parts.specs.Conditions.{submitted_tokens}
+use Rattle.dav_messages.specs.Conditions.{submitted_tokens}
 use Rattle.dav_walks.specs.KeyCall.{standing}
 use Rattle.dav_engine.specs.Locking.{is_refresh}
 use Rattle.dav_engine.specs.Settings.{Settings}

@@ -14,7 +14,7 @@ use Rattle.dav_resource.specs.declared.request.DavRequest.{DavRequest}
 use Rattle.dav_store.specs.Calls.{error_of}
 use Rattle.dav_store.specs.Logged.{Logged, logged}
 use Rattle.dav_store.specs.Members.{IsIn}
-use Rattle.dav_parts.specs.Dialogue.{WasGranted}
+use Rattle.dav_messages.specs.Dialogue.{WasGranted}
 use Rattle.dav_engine.specs.Mkcol.{mkcol_error}
 use Rattle.dav_engine.specs.Opening.{making_options, open_error}
 use Rattle.dav_engine.specs.Put.{put_seek_error}
@@ -49,7 +49,7 @@ pub record AnswersFailure (method : Option DavMethod) (request : DavRequest) (ol
   pub last : records ≡ before ++ logged op (request.path.key ∷ []) outcome ∷ []
   pub cause : FsError
   pub failed : error_of outcome ≡ Some cause
-  pub told : call_error method request op cause ≡ Some e
+  pub error : call_error method request op cause ≡ Some e
   pub others : (other : Logged) → IsIn other before → (other.op ≡ ops.Metadata) ⊎ (other.outcome ≡ Granted)
   pub contents : ¬ (WasGranted ops.OpenFile request.path.key records) → new.contents ≡ old.contents
   pub locks : LocksStay old new ⊎ ((method ≡ Some Lock) × (old.reliable.unlock ≡ false))

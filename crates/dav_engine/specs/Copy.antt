@@ -9,12 +9,12 @@ use Rattle.dav_resource.specs.declared.request.DavRequest.{DavRequest}
 use Rattle.dav_store.specs.Below.{is_at_or_below}
 use Rattle.dav_store.specs.Logged.{Logged}
 use Rattle.dav_store.specs.Store.{Contents, Directory}
-use Rattle.dav_parts.specs.Multistatus.{Item}
-use Rattle.dav_parts.specs.Reply.{Answer}
+use Rattle.dav_messages.specs.Multistatus.{Item}
+use Rattle.dav_messages.specs.Reply.{Answer}
 use Rattle.dav_walks.specs.Copied.{CopiesAll, CopiesInPart}
 use Rattle.dav_engine.specs.State.{State, LocksStay}
-use Rattle.dav_engine.specs.Rules.{depth_or_all, is_directory}
-use Rattle.dav_engine.specs.Transferring.{is_deep, Replaces, ReplacesInPart, source_path, TransferWork}
+use Rattle.dav_engine.specs.Rules.{depth_or_all, is_directory, is_deep}
+use Rattle.dav_engine.specs.Transferring.{Replaces, ReplacesInPart, source_path, TransferWork}
 use Rattle.dav_engine.specs.declared.transfer.Transfer.{Transfer}
 
 -- what is removed first: everything at the destination, but with Depth 0 no directory, which may stay

@@ -1,5 +1,5 @@
 -- What a contract sees of an engine: the store and the lock system that it borrows, and what it was created with.
-use Rattle.std.specs.Prelude.{ℕ, List, Option, option_map, string_bytes}
+use Rattle.std.specs.Prelude.{ℕ, Bool, List, Option, is_some, option_map, string_bytes}
 use Rattle.std.specs.Borrow.{GName}
 use Rattle.dav_resource.specs.declared.method.DavMethodSet.{DavMethodSet}
 use Rattle.dav_store.specs.Store.{Store, Bodies}
@@ -17,6 +17,10 @@ module _ {C F L : Type 0} where
   abbrev pub lent_locks : DavInner C F L → Option L
   lent_locks engine = option_map (λ ls. ls.now) engine.ls
 
+  -- there is a lock system
+  abbrev pub has_locks : DavInner C F L → Bool
+  has_locks engine = is_some (lent_locks engine)
+
   -- which borrows these are
   abbrev pub loans : DavInner C F L → GName × Option GName
   loans engine = (engine.fs.ghost_name, option_map (λ ls. ls.ghost_name) engine.ls)
@@ -26,8 +30,8 @@ module _ {C F L : Type 0} where
   made_with engine = (string_bytes engine.prefix, engine.allow, engine.credentials)
 
   -- what no call changes of the engine itself: which borrows it has, and what it was created with
-  abbrev pub frame : DavInner C F L → (GName × Option GName) × (List ℕ × Option DavMethodSet × C)
-  frame engine = (loans engine, made_with engine)
+  abbrev pub fixed_parts : DavInner C F L → (GName × Option GName) × (List ℕ × Option DavMethodSet × C)
+  fixed_parts engine = (loans engine, made_with engine)
 
   -- the store and the lock system, as contracts see them
   abbrev pub seen_by : (F → Store) → (L → Locks) → DavInner C F L → Seen

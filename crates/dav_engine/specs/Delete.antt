@@ -4,9 +4,9 @@ use Rattle.dav_resource.specs.PathText.{PathValue}
 use Rattle.dav_resource.specs.declared.meta.Meta.{Meta}
 use Rattle.dav_resource.specs.declared.request.DavRequest.{DavRequest}
 use Rattle.dav_store.specs.Logged.{Logged}
-use Rattle.dav_parts.specs.Dialogue.{Dialogue, ◌>>=◌}
-use Rattle.dav_parts.specs.Multistatus.{Item, multi_answer}
-use Rattle.dav_parts.specs.Reply.{Answer}
+use Rattle.dav_messages.specs.Dialogue.{Dialogue, ◌>>=◌}
+use Rattle.dav_messages.specs.Multistatus.{Item, multi_answer}
+use Rattle.dav_messages.specs.Reply.{Answer}
 use Rattle.dav_walks.specs.Deletion.{Removes, RemovesInPart}
 use Rattle.dav_engine.specs.State.{State, LocksStay, DropsLocks}
 use Rattle.dav_engine.specs.Rules.{judged, must_find, own_conditions, is_permitted, where_permitted, depth_or_all, depth_verdict, fixed_path}
@@ -24,9 +24,9 @@ delete_rules request state =
 -- ---- the work
 
 -- what the result reports: the reported failures or, if there are none, 204 for the path
-abbrev pub told_items : PathValue → List Item → List Item
-told_items path [] = (path, 204) ∷ []
-told_items path (item ∷ names) = item ∷ names
+abbrev pub reported_items : PathValue → List Item → List Item
+reported_items path [] = (path, 204) ∷ []
+reported_items path (item ∷ names) = item ∷ names
 
 -- if no failure is reported, the locks at or below the path are removed (`DropsLocks`); otherwise the locks are unchanged
 abbrev pub LeavesLocks : List Item → PathValue → State → State → Type 0
@@ -39,7 +39,7 @@ pub record DeleteWork (request : DavRequest) (meta : Meta) (old : State) (record
   pub names : List Item
   pub removed : Removes (depth_or_all request) (fixed_path request.path (Some meta)) old.contents new.contents records names
   pub locks : LeavesLocks names request.path old new
-  pub answered : answer ≡ multi_answer (fixed_path request.path (Some meta)) (told_items (fixed_path request.path (Some meta)) names)
+  pub answered : answer ≡ multi_answer (fixed_path request.path (Some meta)) (reported_items (fixed_path request.path (Some meta)) names)
 
 -- Memory ran out: what was removed stays removed. The locks are unchanged; or the whole removal was done without a failure, and the locks at or below
 -- the path are removed too (`DropsLocks`).

@@ -5,7 +5,7 @@ use Rattle.dav_resource.specs.declared.method.DavMethod.{DavMethod}
 use Rattle.dav_resource.specs.declared.method.DavMethod.TheVariants.{Put, Patch, PropFind, PropPatch, MkCol, Copy, Move, Delete, Lock, Unlock}
 use Rattle.dav_resource.specs.declared.request.DavRequest.{DavRequest}
 use Rattle.dav_store.specs.Logged.{Logged}
-use Rattle.dav_parts.specs.Reply.{Answer}
+use Rattle.dav_messages.specs.Reply.{Answer}
 use Rattle.dav_engine.specs.Bounds.{IsBounded}
 use Rattle.dav_engine.specs.Causes.{HasCause}
 use Rattle.dav_engine.specs.Laws.{ChangesNothing, MkcolLaw, PutLaw, DeleteLaw, CopyLaw, MoveLaw, LockLaw, UnlockLaw, ProppatchLaw, PropfindLaw}

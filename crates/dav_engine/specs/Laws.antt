@@ -27,14 +27,14 @@ use Rattle.dav_store.specs.PropertyCalls.{properties_at, patched}
 use Rattle.dav_store.specs.Store.{Contents, Bodies, File, Directory, property_key}
 use Rattle.dav_store.specs.Transfers.{IsRenamedTo}
 use Rattle.dav_store.specs.declared.lock.DavLock.{DavLock}
-use Rattle.dav_parts.specs.Reply.{Reply, Answer}
-use Rattle.dav_props.specs.Propstat.{Told, grouped}
+use Rattle.dav_messages.specs.Reply.{Reply, Answer}
+use Rattle.dav_props.specs.Propstat.{PropertyStatus, grouped}
 use Rattle.dav_props.specs.Update.{Change, update_verdict, is_refused, some_refused, live_first, patches_of}
 use Rattle.dav_find.specs.Asked.{Asking, asking_of}
 use Rattle.dav_find.specs.AskedOnce.{AsksEachOnce}
 use Rattle.dav_find.specs.Ordered.{IsDepthFirst}
-use Rattle.dav_find.specs.Range.{TellsRange}
-use Rattle.dav_find.specs.RangeSteps.{told_keys}
+use Rattle.dav_find.specs.Range.{ReportsRange}
+use Rattle.dav_find.specs.RangeSteps.{reported_keys}
 use Rattle.dav_find.specs.Reported.{AreReported, AreNamedAsAsked}
 use Rattle.dav_find.specs.Visiting.{Visit}
 use Rattle.dav_walks.specs.Copying.{snapshot, copied}
@@ -49,8 +49,7 @@ use Rattle.dav_engine.specs.declared.target.Target.{Target}
 use Rattle.dav_engine.specs.declared.lock_info.LockInfo.{LockInfo}
 use Rattle.dav_engine.specs.Proppatch.{proppatch_reply}
 use Rattle.dav_engine.specs.Reports.{DeleteReports, CopyReports, MoveReports}
-use Rattle.dav_engine.specs.Rules.{depth_or_all}
-use Rattle.dav_engine.specs.Transferring.{is_deep}
+use Rattle.dav_engine.specs.Rules.{depth_or_all, is_deep}
 use Rattle.dav_engine.specs.Settings.{Settings}
 use Rattle.dav_engine.specs.State.{State, LocksStay, DropsLocks}
 
@@ -83,7 +82,7 @@ EmptiesPath request old answer new = IsNoContent answer → IsEmptied request ne
 -- Nothing is left at the path (`IsEmptied`), and the locks at or below it are removed, and no others (a lock system whose `delete` is not reliable
 -- may keep all locks). The status is 204, or the result is `Memory`.
 pub record IsGoneWithLocks (request : DavRequest) (old : State) (answer : Answer) (new : State) : Type 0 where
-  pub told : IsNoContent answer ⊎ (answer ≡ Err Memory)
+  pub answered : IsNoContent answer ⊎ (answer ≡ Err Memory)
   pub emptied : IsEmptied request new
   pub locks : DropsLocks request.path.key old new
 
@@ -100,9 +99,9 @@ pub record DeleteLaw (request : DavRequest) (old : State) (records : List Logged
 -- ---- MKCOL
 
 -- the result is a response with status 201
-abbrev pub tells_created : Answer → Bool
-tells_created (Ok reply) = nat_eq reply.status 201
-tells_created (Err e) = false
+abbrev pub is_created : Answer → Bool
+is_created (Ok reply) = nat_eq reply.status 201
+is_created (Err e) = false
 
 -- nothing existed at the key, and now a directory does, without members and dead properties
 pub record IsNewDirectory (key : Key) (old new : Contents) : Type 0 where
@@ -113,8 +112,8 @@ pub record IsNewDirectory (key : Key) (old new : Contents) : Type 0 where
 
 -- after a 201 an empty collection exists at the path; after any other result nothing has changed
 pub record MkcolLaw (request : DavRequest) (old : State) (answer : Answer) (new : State) : Type 0 where
-  pub made : tells_created answer ≡ true → IsNewDirectory request.path.key old.contents new.contents
-  pub unmade : tells_created answer ≡ false → ChangesNothing old new
+  pub made : is_created answer ≡ true → IsNewDirectory request.path.key old.contents new.contents
+  pub unmade : is_created answer ≡ false → ChangesNothing old new
 
 -- ---- PUT and PATCH
 
@@ -124,9 +123,9 @@ pub record ChangesPathAlone (request : DavRequest) (old new : State) : Type 0 wh
   pub properties : new.contents.properties ≡ old.contents.properties
 
 -- the result is a response with status 201 or 204
-abbrev pub tells_transferred : Answer → Bool
-tells_transferred (Ok reply) = nat_eq reply.status 201 || nat_eq reply.status 204
-tells_transferred (Err e) = false
+abbrev pub is_transferred : Answer → Bool
+is_transferred (Ok reply) = nat_eq reply.status 201 || nat_eq reply.status 204
+is_transferred (Err e) = false
 
 -- a file with these bytes exists at the request's path
 abbrev pub HasFileAtPath : DavRequest → State → List ℕ → Type 0
@@ -157,8 +156,8 @@ IsWholeOrEmpty held request old new =
 -- the body. Whatever the result of a whole PUT is, the file never has a part of the body (`IsWholeOrEmpty`).
 pub record PutLaw (held : Bodies) (partial : Bool) (request : DavRequest) (old : State) (answer : Answer) (new : State) : Type 0 where
   pub alone : ChangesPathAlone request old new
-  pub written : tells_transferred answer ≡ true → WritesFile held partial request old new
-  pub whole : tells_transferred answer ≡ true → ReplacesWhole partial request → HasFileAtPath request new (new_bytes held request.body)
+  pub written : is_transferred answer ≡ true → WritesFile held partial request old new
+  pub whole : is_transferred answer ≡ true → ReplacesWhole partial request → HasFileAtPath request new (new_bytes held request.body)
   pub never_part : ReplacesWhole partial request → IsWholeOrEmpty held request old new
 
 -- ---- MOVE
@@ -174,12 +173,12 @@ pub record IsMovedWhole (settings : Settings) (request : DavRequest) (old new : 
 
 -- after a 201 or 204 everything has moved (`IsMovedWhole`)
 abbrev pub MovesWhole : Settings → DavRequest → State → Answer → State → Type 0
-MovesWhole settings request old answer new = tells_transferred answer ≡ true → IsMovedWhole settings request old new
+MovesWhole settings request old answer new = is_transferred answer ≡ true → IsMovedWhole settings request old new
 
 -- unless the result is a 201, a 204 or `Memory`, the files, directories and dead properties at the path and below it are unchanged
 abbrev pub KeepsSource : DavRequest → State → Answer → State → Type 0
 KeepsSource request old answer new =
-    tells_transferred answer ≡ false → answer ≢ Err Memory → (key : Key) → is_at_or_below key request.path.key ≡ true
+    is_transferred answer ≡ false → answer ≢ Err Memory → (key : Key) → is_at_or_below key request.path.key ≡ true
     → standing new.contents key ≡ standing old.contents key
 
 -- what a MOVE leaves and reports, by its result
@@ -191,9 +190,9 @@ pub record MoveLaw (settings : Settings) (request : DavRequest) (old : State) (r
 -- ---- LOCK
 
 -- the result is a response with status 200 or 201
-abbrev pub tells_lock : Answer → Bool
-tells_lock (Ok reply) = nat_eq reply.status 200 || nat_eq reply.status 201
-tells_lock (Err e) = false
+abbrev pub is_lock_granted : Answer → Bool
+is_lock_granted (Ok reply) = nat_eq reply.status 200 || nat_eq reply.status 201
+is_lock_granted (Err e) = false
 
 -- the locks without their timeouts
 abbrev pub untimed_locks : State → Option (List DavLock)
@@ -202,7 +201,7 @@ untimed_locks state = option_map (map untimed) state.locks
 -- the request is a refresh, the result is `Memory`, and the locks are the same except for their timeouts
 pub record MayHaveRefreshed (settings : Settings) (request : DavRequest) (answer : Answer) (old new : State) : Type 0 where
   pub refresh : is_refresh settings.facts.bodies request.body ≡ true
-  pub told : answer ≡ Err Memory
+  pub answered : answer ≡ Err Memory
   pub same : untimed_locks new ≡ untimed_locks old
 
 -- The contents of the store are unchanged. If the lock system's `unlock` is reliable, the locks are unchanged too, except that after a refresh with
@@ -213,18 +212,20 @@ pub record MakesNothing (settings : Settings) (request : DavRequest) (answer : A
 
 -- after any result other than a 200 or 201, no file and, if the lock system's `unlock` is reliable, no lock is created (`MakesNothing`)
 abbrev pub MakesNothingUnlessLocked : Settings → DavRequest → Answer → State → State → Type 0
-MakesNothingUnlessLocked settings request answer old new = tells_lock answer ≡ false → MakesNothing settings request answer old new
+MakesNothingUnlessLocked settings request answer old new = is_lock_granted answer ≡ false → MakesNothing settings request answer old new
 
--- the lock that the request asks for was granted, and is now the last one
+-- the lock that the request asks for was granted, on what was found at the path (`None`: nothing, or the lookup failed), and is now the last one
 pub record IsLocked (request : DavRequest) (old new : State) : Type 0 where
   pub found : Option Meta
+  pub known : ForSome found (λ meta. old.contents.metas request.path.key ≡ Some meta)
   pub info : LockInfo
   pub asked : lock_info_of request.body ≡ Some info
   pub added : AddsToLocks (lock_asked request found info) old new
 
--- what a LOCK leaves, by its result: after a 200 or 201 to a new lock this lock exists
+-- what a LOCK leaves, by its result: after a 200 or 201 to a new lock this lock exists, and after a 200 to a refresh only timeouts may differ
 pub record LockLaw (settings : Settings) (request : DavRequest) (old : State) (answer : Answer) (new : State) : Type 0 where
-  pub locked : tells_lock answer ≡ true → is_refresh settings.facts.bodies request.body ≡ false → IsLocked request old new
+  pub locked : is_lock_granted answer ≡ true → is_refresh settings.facts.bodies request.body ≡ false → IsLocked request old new
+  pub refreshed : is_lock_granted answer ≡ true → is_refresh settings.facts.bodies request.body ≡ true → untimed_locks new ≡ untimed_locks old
   pub unlocked : MakesNothingUnlessLocked settings request answer old new
 
 -- ---- UNLOCK
@@ -258,7 +259,7 @@ pub record IsDuplicated (settings : Settings) (request : DavRequest) (old new : 
 -- after a 201 or 204 to a COPY whose Depth is not 0, everything is copied (`IsDuplicated`)
 abbrev pub DuplicatesWhole : Settings → DavRequest → State → Answer → State → Type 0
 DuplicatesWhole settings request old answer new =
-    tells_transferred answer ≡ true → is_deep (depth_or_all request) ≡ true → IsDuplicated settings request old new
+    is_transferred answer ≡ true → is_deep (depth_or_all request) ≡ true → IsDuplicated settings request old new
 
 -- what a COPY leaves and reports, by its result
 pub record CopyLaw (settings : Settings) (request : DavRequest) (old : State) (records : List Logged) (answer : Answer) (new : State) : Type 0 where
@@ -305,16 +306,16 @@ abbrev pub property_of : Tree → Key
 property_of element = property_key element.tag.namespace element.tag.name
 
 -- each change is reported once, by the name of its property, in the order of `live_first`
-abbrev pub TellsEach : List Change → List Told → Type 0
-TellsEach changes told = map (λ (t : Told). property_of t.1) told ≡ map (λ change. property_of change.element) (live_first changes)
+abbrev pub ReportsEach : List Change → List PropertyStatus → Type 0
+ReportsEach changes reported = map (λ (t : PropertyStatus). property_of t.1) reported ≡ map (λ change. property_of change.element) (live_first changes)
 
 -- each change is reported with its own status (`statuses_of`)
-abbrev pub TellsOwn : DavRequest → List Logged → List Change → List Told → Type 0
-TellsOwn request records changes told = map (λ (t : Told). t.0) told ≡ statuses_of changes (returned request.path.key records)
+abbrev pub ReportsOwn : DavRequest → List Logged → List Change → List PropertyStatus → Type 0
+ReportsOwn request records changes reported = map (λ (t : PropertyStatus). t.0) reported ≡ statuses_of changes (returned request.path.key records)
 
 -- each reported status is 200
-abbrev pub all_ok : List Told → Bool
-all_ok told = list_all (λ (t : Told). nat_eq t.0 200) told
+abbrev pub all_ok : List PropertyStatus → Bool
+all_ok reported = list_all (λ (t : PropertyStatus). nat_eq t.0 200) reported
 
 -- the body requests these changes
 abbrev pub AreAsked : Settings → DavRequest → List Change → Type 0
@@ -326,21 +327,21 @@ pub record StoresAllOrNothing (settings : Settings) (request : DavRequest) (old 
     : Type 0 where
   pub changes : List Change
   pub asked : AreAsked settings request changes
-  pub told : List Told
-  pub each : TellsEach changes told
-  pub own : TellsOwn request records changes told
-  pub shown : reply ≡ proppatch_reply request.path (old.contents.metas request.path.key) (grouped told)
-  pub stored : all_ok told ≡ true → AreStored request changes old new
-  pub unstored : all_ok told ≡ false → ChangesNothing old new
+  pub reported : List PropertyStatus
+  pub each : ReportsEach changes reported
+  pub own : ReportsOwn request records changes reported
+  pub shown : reply ≡ proppatch_reply request.path (old.contents.metas request.path.key) (grouped reported)
+  pub stored : all_ok reported ≡ true → AreStored request changes old new
+  pub unstored : all_ok reported ≡ false → ChangesNothing old new
 
 -- if the result is a response, `StoresAllOrNothing` holds of it
-abbrev pub TellsStored : Settings → DavRequest → State → List Logged → Answer → State → Type 0
-TellsStored settings request old records answer new =
+abbrev pub ReportsStored : Settings → DavRequest → State → List Logged → Answer → State → Type 0
+ReportsStored settings request old records answer new =
     (reply : Reply) → answer ≡ Ok reply → StoresAllOrNothing settings request old records reply new
 
 -- an error other than `Memory` changes nothing
-abbrev pub KeepsUnlessTold : State → Answer → State → Type 0
-KeepsUnlessTold old answer new = (e : DavError) → answer ≡ Err e → e ≢ Memory → ChangesNothing old new
+abbrev pub KeepsUnlessReported : State → Answer → State → Type 0
+KeepsUnlessReported old answer new = (e : DavError) → answer ≡ Err e → e ≢ Memory → ChangesNothing old new
 
 -- a body in which some change is rejected before the store is asked (`some_refused`) changes nothing
 abbrev pub StoresNothingBesideRefused : Settings → DavRequest → State → State → Type 0
@@ -350,14 +351,14 @@ StoresNothingBesideRefused settings request old new =
 -- what a PROPPATCH stores and reports, by its result
 pub record ProppatchLaw (settings : Settings) (request : DavRequest) (old : State) (records : List Logged) (answer : Answer) (new : State)
     : Type 0 where
-  pub stored : TellsStored settings request old records answer new
-  pub kept : KeepsUnlessTold old answer new
+  pub stored : ReportsStored settings request old records answer new
+  pub kept : KeepsUnlessReported old answer new
   pub refused : StoresNothingBesideRefused settings request old new
 
 -- ---- PROPFIND
 
 -- The response reports some list of resources. Their keys are those that the Depth reaches, except members hidden by a listing that was not granted
--- or did not show them (`TellsRange`), in the order of the listings, depth first (`IsDepthFirst`). Each is reported under its own path and with the
+-- or did not show them (`ReportsRange`), in the order of the listings, depth first (`IsDepthFirst`). Each is reported under its own path and with the
 -- requested properties (`AreReported`), which are those of the body and those that the server adds, each once (`AsksEachOnce`). With `prop` these
 -- are all that is reported (`AreNamedAsAsked`).
 pub record ShowsRange (settings : Settings) (request : DavRequest) (old : State) (records : List Logged) (reply : Reply) : Type 0 where
@@ -365,20 +366,20 @@ pub record ShowsRange (settings : Settings) (request : DavRequest) (old : State)
   pub visits : List Visit
   pub shown : reply ≡ propfind_reply request found visits
   pub there : old.contents.metas request.path.key ≡ Some found.0
-  pub range : TellsRange old.contents (depth_or_default request) request.path.key records (told_keys visits)
-  pub order : IsDepthFirst settings.facts.shows old.contents records (depth_or_default request) request.path.key (told_keys visits)
+  pub range : ReportsRange old.contents (depth_or_default request) request.path.key records (reported_keys visits)
+  pub order : IsDepthFirst settings.facts.shows old.contents records (depth_or_default request) request.path.key (reported_keys visits)
   pub each : AreReported (view_in settings request old found.1.kind) old.contents found.1.asked request.path visits
   pub named : AreNamedAsAsked found.1.kind found.1.asked visits
   pub wanted : asking_of settings.facts.bodies request.body (user_agent_of request.headers) ≡ Ok found.1
   pub asked : AsksEachOnce settings.facts.bodies request.body (user_agent_of request.headers) found.1
 
 -- `ShowsRange` holds of each 207 response
-abbrev pub TellsItsRange : Settings → DavRequest → State → List Logged → Answer → Type 0
-TellsItsRange settings request old records answer =
+abbrev pub ReportsItsRange : Settings → DavRequest → State → List Logged → Answer → Type 0
+ReportsItsRange settings request old records answer =
     (reply : Reply) → answer ≡ Ok reply → reply.status ≡ 207 → ShowsRange settings request old records reply
 
 -- nothing changes, and the response reports the resources that the Depth reaches, each with the requested properties
 pub record PropfindLaw (settings : Settings) (request : DavRequest) (old : State) (records : List Logged) (answer : Answer) (new : State)
     : Type 0 where
   pub unchanged : ChangesNothing old new
-  pub range : TellsItsRange settings request old records answer
+  pub range : ReportsItsRange settings request old records answer

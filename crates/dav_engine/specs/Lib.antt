@@ -24,7 +24,6 @@ pub mod Unlocking
 pub mod LockReply
 pub mod Location
 pub mod Propfind
-pub mod Finding
 pub mod Proppatch
 pub mod Patching
 pub mod Laws
@@ -32,4 +31,5 @@ pub mod Bounds
 pub mod Law
 pub mod Causes
 pub mod Work
+pub mod ByEngine
 pub mod Reports

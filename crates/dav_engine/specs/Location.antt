@@ -5,7 +5,7 @@ use Rattle.http_header.specs.FieldValue.{FieldValue, plain_value}
 use Rattle.dav_resource.specs.PathText.{PathValue, url_text}
 use Rattle.dav_resource.specs.PathForms.{is_collection, prefixed}
 use Rattle.dav_resource.specs.declared.meta.Meta.{Meta}
-use Rattle.dav_parts.specs.ReplyHeader.{optional_field}
+use Rattle.dav_messages.specs.ReplyHeader.{optional_field}
 use Rattle.dav_engine.specs.Rules.{is_directory, fixed_path}
 
 -- the path with the prefix and a trailing slash, if a directory was found and the request's path has no trailing slash and is not the root

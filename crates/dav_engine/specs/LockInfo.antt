@@ -7,7 +7,7 @@ use Rattle.dav_resource.specs.declared.error.DavError.{DavError}
 use Rattle.dav_resource.specs.declared.error.DavError.TheVariants.{XmlParseError}
 use Rattle.dav_resource.specs.declared.request.ReqBody.{ReqBody}
 use Rattle.dav_resource.specs.declared.request.ReqBody.TheVariants as bodies
-use Rattle.dav_parts.specs.DavElement.{is_named}
+use Rattle.dav_messages.specs.DavElement.{is_named}
 use Rattle.dav_engine.specs.declared.lock_info.LockInfo.{LockInfo}
 
 -- the first of these elements has this name

@@ -9,9 +9,9 @@ use Rattle.dav_resource.specs.declared.meta.Meta.{Meta}
 use Rattle.dav_resource.specs.declared.request.Body.{Body}
 use Rattle.dav_resource.specs.declared.request.DavRequest.{DavRequest}
 use Rattle.dav_store.specs.declared.lock.DavLock.{DavLock}
-use Rattle.dav_parts.specs.LockTree.{lock_prop}
-use Rattle.dav_parts.specs.Multistatus.{xml_type}
-use Rattle.dav_parts.specs.Reply.{Reply, bare_reply, field}
+use Rattle.dav_messages.specs.LockTree.{lock_prop}
+use Rattle.dav_messages.specs.Multistatus.{xml_type}
+use Rattle.dav_messages.specs.Reply.{Reply, bare_reply, field}
 use Rattle.dav_engine.specs.Location.{location_fields}
 
 -- a response whose body is a `prop` with the `lockdiscovery` of this lock

@@ -11,8 +11,6 @@ use Rattle.dav_resource.specs.declared.error.FsError.{FsError}
 use Rattle.dav_resource.specs.declared.error.DavError.{DavError}
 use Rattle.dav_resource.specs.declared.error.DavError.TheVariants.{Status}
 use Rattle.dav_resource.specs.declared.error.DavError.TheVariants as dav_errors
-use Rattle.dav_resource.specs.declared.request.Depth.{Depth}
-use Rattle.dav_resource.specs.declared.request.Depth.TheVariants.{Zero}
 use Rattle.dav_resource.specs.declared.request.ReqBody.{ReqBody}
 use Rattle.dav_resource.specs.declared.request.DavRequest.{DavRequest}
 use Rattle.dav_headers.specs.Timeout.{timeout_of}
@@ -26,15 +24,15 @@ use Rattle.dav_store.specs.LockCalls.{asked_lock, is_named, has_named, refreshed
 use Rattle.dav_store.specs.declared.lock.DavLock.{DavLock}
 use Rattle.dav_store.specs.declared.lock.LockError.{LockError}
 use Rattle.dav_store.specs.declared.lock.LockError.TheVariants as lock_errors
-use Rattle.dav_parts.specs.Conditions.{submitted_tokens}
-use Rattle.dav_parts.specs.Dialogue.{Dialogue, Passed, needs, look, ◌>>=◌, WasGranted}
-use Rattle.dav_parts.specs.Reply.{Answer}
-use Rattle.dav_parts.specs.RequestBody.{is_empty_body}
+use Rattle.dav_messages.specs.Conditions.{submitted_tokens}
+use Rattle.dav_messages.specs.Dialogue.{Dialogue, Passed, needs, look_up, ◌>>=◌, WasGranted}
+use Rattle.dav_messages.specs.Reply.{Answer}
+use Rattle.dav_messages.specs.RequestBody.{is_empty_body}
 use Rattle.dav_engine.specs.Answered.{IsAnswered}
 use Rattle.dav_engine.specs.LockInfo.{lock_info_of, lock_info_verdict}
 use Rattle.dav_engine.specs.LockReply.{granted_reply, refreshed_reply}
 use Rattle.dav_engine.specs.Opening.{making_options, open_error, IsFileAt}
-use Rattle.dav_engine.specs.Rules.{judged, own_if, holding, depth_or_all, depth_verdict, fixed_path, is_permitted, where_permitted}
+use Rattle.dav_engine.specs.Rules.{judged, own_if, holding, depth_or_all, depth_verdict, fixed_path, is_permitted, where_permitted, is_deep}
 use Rattle.dav_engine.specs.State.{State, LocksStay}
 use Rattle.dav_engine.specs.declared.lock_info.LockInfo.{LockInfo}
 
@@ -59,8 +57,8 @@ abbrev pub locks_verdict : State → Result (Unit {0}) DavError
 locks_verdict state = if is_some state.locks then Ok tt else Err (Status 405)
 
 -- a lookup of the path, if there is a lock system; a failed lookup counts as finding nothing
-abbrev pub look_to_lock : DavRequest → State → Dialogue (Option Meta)
-look_to_lock request state = judged (locks_verdict state) >>= λ _. look state.contents request.path.key
+abbrev pub look_up_to_lock : DavRequest → State → Dialogue (Option Meta)
+look_up_to_lock request state = judged (locks_verdict state) >>= λ _. look_up state.contents request.path.key
 
 -- the request is a refresh: it has no body, or one of no bytes
 abbrev pub is_refresh : Bodies → ReqBody → Bool
@@ -75,15 +73,15 @@ one_token _ = Err (Status 400)
 -- locks that cover the path, which must permit the request to write there (412).
 abbrev pub refresh_rules : DavRequest → State → Dialogue (Option Meta)
 refresh_rules request state =
-    look_to_lock request state >>= λ found.
-    own_if request state >>= λ told.
-    judged (one_token told.1) >>= λ _.
+    look_up_to_lock request state >>= λ found.
+    own_if request state >>= λ held.
+    judged (one_token held.1) >>= λ _.
     where_permitted 412 (is_permitted request state request.path.key false) found
 
 -- the rules of a new lock: a lookup of the path, the Depth, the conditions, and the body
 abbrev pub new_lock_rules : DavRequest → State → Dialogue (Option Meta)
 new_lock_rules request state =
-    look_to_lock request state >>= λ found.
+    look_up_to_lock request state >>= λ found.
     judged (depth_verdict (depth_or_all request)) >>= λ _.
     holding request state found >>= λ _.
     judged (lock_info_verdict request.body) >>= λ _.
@@ -94,12 +92,7 @@ lock_rules held request state = if is_refresh held request.body then refresh_rul
 
 -- ---- a new lock
 
--- a lock of Depth 0 covers only the resource itself, any other also everything below it
-abbrev pub is_deep : Depth → Bool
-is_deep Zero = false
-is_deep _ = true
-
--- the requested lock
+-- The requested lock. One of Depth 0 covers only the resource itself, any other also everything below it.
 abbrev pub lock_asked : DavRequest → Option Meta → LockInfo → DavLock
 lock_asked request found info =
     asked_lock (fixed_path request.path found) request.principal info.owner (timeout_for (timeout_of request.headers) false info.shared) info.shared (is_deep (depth_or_all request))
@@ -151,21 +144,21 @@ FileLeaves request records old new =
     (WasGranted OpenFile request.path.key records × HasFile request.path.key old new) ⊎ (¬ (WasGranted OpenFile request.path.key records) × (new ≡ old))
 
 -- the file is opened if nothing was found; the result is a response that reports the lock, or that call's error; the contents are as in `FileLeaves`
-pub record TellsLock (request : DavRequest) (found : Option Meta) (lock : DavLock) (old : Contents) (records : List Logged) (answer : Answer) (new : Contents) : Type 0 where
+pub record AnswersLock (request : DavRequest) (found : Option Meta) (lock : DavLock) (old : Contents) (records : List Logged) (answer : Answer) (new : Contents) : Type 0 where
   pub answered : IsAnswered (file_steps request found old) (λ _ reply. reply ≡ granted_reply request found lock) records answer
   pub leaves : FileLeaves request records old new
 
 -- the locks do not grant it: 423, no call is made, and nothing changes
 pub record DeniesLock (lock : DavLock) (old : State) (records : List Logged) (answer : Answer) (new : State) : Type 0 where
   pub denied : is_granted old lock ≡ false
-  pub told : answer ≡ Err (Status 423)
+  pub answered : answer ≡ Err (Status 423)
   pub none : records ≡ []
   pub same : new ≡ old
 
--- the locks grant it, the file is opened if nothing was found (`TellsLock`), and the lock is kept or removed again by the result (`LeavesLock`)
+-- the locks grant it, the file is opened if nothing was found (`AnswersLock`), and the lock is kept or removed again by the result (`LeavesLock`)
 pub record GrantsLock (request : DavRequest) (found : Option Meta) (lock : DavLock) (old : State) (records : List Logged) (answer : Answer) (new : State) : Type 0 where
   pub granted : is_granted old lock ≡ true
-  pub tells : TellsLock request found lock old.contents records answer new.contents
+  pub answers : AnswersLock request found lock old.contents records answer new.contents
   pub locks : LeavesLock lock answer old new
 
 pub record NewLockWork (request : DavRequest) (found : Option Meta) (old : State) (records : List Logged) (answer : Answer) (new : State) : Type 0 where
@@ -206,16 +199,16 @@ abbrev pub RefreshesAlone : DavRequest → List ℕ → State → State → Type
 RefreshesAlone request token old new = new.locks ≡ option_map (with_refreshed request.path.key token (refresh_timeout request) request.now) old.locks
 
 -- there is such a lock: it is refreshed, and the response reports it
-pub record RefreshesTold (request : DavRequest) (found : Option Meta) (token : List ℕ) (old : State) (answer : Answer) (new : State) : Type 0 where
+pub record RefreshesNamed (request : DavRequest) (found : Option Meta) (token : List ℕ) (old : State) (answer : Answer) (new : State) : Type 0 where
   pub lock : DavLock
   pub is : lock_refreshed request token old ≡ Some lock
-  pub told : answer ≡ Ok (refreshed_reply request.path found lock)
+  pub answered : answer ≡ Ok (refreshed_reply request.path found lock)
   pub locks : RefreshesAlone request token old new
 
 -- there is none: 412, and the locks are unchanged
 pub record FindsNoLock (request : DavRequest) (token : List ℕ) (old : State) (answer : Answer) (new : State) : Type 0 where
   pub is : lock_refreshed request token old ≡ None
-  pub told : answer ≡ Err (Status 412)
+  pub answered : answer ≡ Err (Status 412)
   pub locks : LocksStay old new
 
 pub record RefreshWork (request : DavRequest) (found : Option Meta) (old : State) (records : List Logged) (answer : Answer) (new : State) : Type 0 where
@@ -223,7 +216,7 @@ pub record RefreshWork (request : DavRequest) (found : Option Meta) (old : State
   pub one : submitted_tokens request ≡ token ∷ []
   pub none : records ≡ []
   pub same : new.contents ≡ old.contents
-  pub done : RefreshesTold request found token old answer new ⊎ FindsNoLock request token old answer new
+  pub done : RefreshesNamed request found token old answer new ⊎ FindsNoLock request token old answer new
 
 -- memory ran out before or after the refresh: no call was made, the contents are unchanged, and the locks are unchanged or refreshed
 pub record RefreshCut (request : DavRequest) (old : State) (records : List Logged) (new : State) : Type 0 where

@@ -4,8 +4,8 @@ use Rattle.dav_resource.specs.declared.error.DavError.TheVariants.{Memory}
 use Rattle.dav_resource.specs.declared.request.DavRequest.{DavRequest}
 use Rattle.dav_store.specs.Logged.{Logged}
 use Rattle.dav_store.specs.Store.{Contents}
-use Rattle.dav_parts.specs.Reply.{Answer}
-use Rattle.dav_parts.specs.Dialogue.{Dialogue, Refuses, Passed, LeadsTo}
+use Rattle.dav_messages.specs.Reply.{Answer}
+use Rattle.dav_messages.specs.Dialogue.{Dialogue, Refuses, Passed, LeadsTo}
 use Rattle.dav_engine.specs.Settings.{Settings}
 use Rattle.dav_engine.specs.State.{State, LocksStay}
 
@@ -37,7 +37,7 @@ module _ (method : Method) (settings : Settings) (request : DavRequest) (old : S
   pub record IsCutShort : Type 0 where
     pub left : Dialogue method.Found
     pub head : LeadsTo (method.rules settings request old) records left
-    pub told : answer ≡ Err Memory
+    pub answered : answer ≡ Err Memory
     pub same : new ≡ old
 
   -- all rules pass over the first records (`head`), memory ran out in the work over the others (`rest`), and the result is `Memory`
@@ -47,7 +47,7 @@ module _ (method : Method) (settings : Settings) (request : DavRequest) (old : S
     pub cut : records ≡ head ++ rest
     pub found : method.Found
     pub passed : LeadsTo (method.rules settings request old) head (Passed found)
-    pub told : answer ≡ Err Memory
+    pub answered : answer ≡ Err Memory
     pub work : method.Cut settings request found old rest new
 
   -- one of these four: a rule rejected the request, the work was done, or memory ran out, in the rules or in the work

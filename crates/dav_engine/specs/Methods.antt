@@ -6,7 +6,7 @@ use Rattle.dav_resource.specs.declared.method.DavMethod.TheVariants.{Put, Patch,
 use Rattle.dav_resource.specs.declared.error.DavError.TheVariants.{Status}
 use Rattle.dav_resource.specs.declared.request.DavRequest.{DavRequest}
 use Rattle.dav_store.specs.Logged.{Logged}
-use Rattle.dav_parts.specs.Reply.{Answer}
+use Rattle.dav_messages.specs.Reply.{Answer}
 use Rattle.dav_engine.specs.Settings.{Settings}
 use Rattle.dav_engine.specs.State.{State}
 use Rattle.dav_engine.specs.Method.{Method, StepBy, OnStore, CutOnStore}
@@ -84,7 +84,7 @@ propfind_method = record { Found = Meta × Asking; rules = λ settings. propfind
 -- a method that is not served: the result is 501, no call is made, and nothing changes
 pub record IsUnserved (old : State) (records : List Logged) (answer : Answer) (new : State) : Type 0 where
   pub none : records ≡ []
-  pub told : answer ≡ Err (Status 501)
+  pub answered : answer ≡ Err (Status 501)
   pub same : new ≡ old
 
 -- a request served as this method; HEAD, GET and an unknown method (`None`) are not served

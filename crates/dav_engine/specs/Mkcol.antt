@@ -13,9 +13,9 @@ use Rattle.dav_resource.specs.declared.request.DavRequest.{DavRequest}
 use Rattle.dav_store.specs.Logged.{Logged}
 use Rattle.dav_store.specs.Store.{Contents}
 use Rattle.dav_store.specs.Calls.{create_dir_call, IsMadeAt}
-use Rattle.dav_parts.specs.Reply.{Reply, Answer, bare_reply}
-use Rattle.dav_parts.specs.ReplyHeader.{optional_field}
-use Rattle.dav_parts.specs.Dialogue.{Dialogue, Passed, needs, WasGranted}
+use Rattle.dav_messages.specs.Reply.{Reply, Answer, bare_reply}
+use Rattle.dav_messages.specs.ReplyHeader.{optional_field}
+use Rattle.dav_messages.specs.Dialogue.{Dialogue, Passed, needs, WasGranted}
 use Rattle.dav_engine.specs.Answered.{IsAnswered}
 
 -- the error of a call that fails: 405 for `Exists`, 409 for `NotFound` (the parent is not a collection), else the store's error

@@ -15,9 +15,9 @@ use Rattle.dav_store.specs.Calls.{IsLawful, error_of, record_of}
 use Rattle.dav_store.specs.Logged.{Logged}
 use Rattle.dav_store.specs.Store.{Store, Contents, Directory}
 use Rattle.dav_store.specs.Transfers.{rename_call, IsRenamedTo}
-use Rattle.dav_parts.specs.Multistatus.{Item}
-use Rattle.dav_parts.specs.Reply.{Answer}
-use Rattle.dav_walks.specs.Deletion.{told_by_names}
+use Rattle.dav_messages.specs.Multistatus.{Item}
+use Rattle.dav_messages.specs.Reply.{Answer}
+use Rattle.dav_walks.specs.Deletion.{first_failure}
 use Rattle.dav_engine.specs.State.{State}
 use Rattle.dav_engine.specs.Delete.{LeavesLocks}
 use Rattle.dav_engine.specs.Transferring.{Replaces, ReplacesInPart, source_path, TransferWork}
@@ -43,13 +43,13 @@ RenamesInPart source destination old new records =
 -- memory ran out, and no failure was appended.
 abbrev pub RenamesOrStops : PathValue → PathValue → Contents → Contents → List Logged → List Item → List Item → Result (Unit {0}) DavError → Type 0
 RenamesOrStops source destination old new records had has answer =
-    ((names : List Item) × (has ≡ had ++ names) × RenamesAlone source destination old new records names × (answer ≡ told_by_names names))
+    ((names : List Item) × (has ≡ had ++ names) × RenamesAlone source destination old new records names × (answer ≡ first_failure names))
     ⊎ ((answer ≡ Err Memory) × RenamesInPart source destination old new records × (has ≡ had))
 
 -- the same from store to store: the log gained the records
 pub record Renaming (source destination : PathValue) (old new : Store) (had has : List Item) (answer : Result (Unit {0}) DavError) : Type 0 where
   pub records : List Logged
-  pub told : new.log ≡ old.log ++ records
+  pub recorded : new.log ≡ old.log ++ records
   pub fixed : new.facts ≡ old.facts
   pub done : RenamesOrStops source destination old.contents new.contents records had has answer
 

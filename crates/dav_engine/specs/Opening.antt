@@ -38,11 +38,11 @@ making_options request =
 abbrev pub misplaced_status : OpenOptions → ℕ
 misplaced_status options = if not options.create || options.create_new then 412 else 409
 
--- the error of an open that fails: for `NotFound` and `Exists` that status, as the error that `told` makes of it; else the store's error
+-- the error of an open that fails: for `NotFound` and `Exists` that status, as the error that `as_error` makes of it; else the store's error
 abbrev pub open_error : (ℕ → DavError) → OpenOptions → FsError → DavError
-open_error told options NotFound = told (misplaced_status options)
-open_error told options Exists = told (misplaced_status options)
-open_error told options e = from_fs e
+open_error as_error options NotFound = as_error (misplaced_status options)
+open_error as_error options Exists = as_error (misplaced_status options)
+open_error as_error options e = from_fs e
 
 -- a file with these bytes is at the key; no other file or directory, no property and no quota limit changes
 pub record IsFileAt (key : Key) (bytes : List ℕ) (old new : Contents) : Type 0 where

@@ -12,13 +12,13 @@ use Rattle.dav_resource.specs.declared.method.DavMethod.TheVariants.{Head, Get, 
 use Rattle.dav_resource.specs.declared.method.DavMethodSet.{DavMethodSet}
 use Rattle.dav_resource.specs.declared.request.DavRequest.{DavRequest}
 use Rattle.dav_store.specs.Logged.{Logged}
-use Rattle.dav_parts.specs.Dialogue.{Dialogue, Passed, look}
-use Rattle.dav_parts.specs.Reply.{Reply, Answer, bare_reply, field}
+use Rattle.dav_messages.specs.Dialogue.{Dialogue, Passed, look_up}
+use Rattle.dav_messages.specs.Reply.{Reply, Answer, bare_reply, field}
 use Rattle.dav_engine.specs.State.{State}
 
 -- a lookup of the path; a failed lookup counts as finding nothing; for `*`, which is no resource, no call is made
 abbrev pub options_rules : DavRequest → State → Dialogue (Option Meta)
-options_rules request state = if request.path.star then Passed None else look state.contents request.path.key
+options_rules request state = if request.path.star then Passed None else look_up state.contents request.path.key
 
 -- ---- the methods by kind of resource
 
@@ -60,12 +60,12 @@ abbrev pub is_let : Option DavMethodSet → DavMethod → Bool
 is_let allow method = option_map_or (λ set. contains_method set method) allow true
 
 -- a method is listed if it is enabled, is not the request's own and, if it needs a lock system, there is one
-abbrev pub is_told : Option DavMethodSet → Bool → Option DavMethod → DavMethod → Bool
-is_told allow locks own method = is_let allow method && (not (is_own own method) && (locks || not (needs_locks method)))
+abbrev pub is_offered : Option DavMethodSet → Bool → Option DavMethod → DavMethod → Bool
+is_offered allow locks own method = is_let allow method && (not (is_own own method) && (locks || not (needs_locks method)))
 
 -- the listed methods for what was found, in order
-abbrev pub told_methods : Option DavMethodSet → Bool → DavRequest → Option Meta → List DavMethod
-told_methods allow locks request found = filter (is_told allow locks (method_of request.method)) (found_methods request.path found)
+abbrev pub offered_methods : Option DavMethodSet → Bool → DavRequest → Option Meta → List DavMethod
+offered_methods allow locks request found = filter (is_offered allow locks (method_of request.method)) (found_methods request.path found)
 
 -- ---- the response
 
@@ -107,5 +107,5 @@ options_reply methods = bare_reply 200 (options_headers methods)
 -- no call is made, nothing changes, and the response lists the methods
 pub record OptionsWork (allow : Option DavMethodSet) (request : DavRequest) (found : Option Meta) (old : State) (records : List Logged) (answer : Answer) (new : State) : Type 0 where
   pub none : records ≡ []
-  pub told : answer ≡ Ok (options_reply (names_of (told_methods allow (is_some old.locks) request found)))
+  pub answered : answer ≡ Ok (options_reply (names_of (offered_methods allow (is_some old.locks) request found)))
   pub same : new ≡ old

@@ -10,16 +10,16 @@ use Rattle.dav_resource.specs.declared.request.DavRequest.{DavRequest}
 use Rattle.dav_store.specs.Logged.{Logged}
 use Rattle.dav_store.specs.PropertyCalls.{Patch}
 use Rattle.dav_store.specs.Store.{Store}
-use Rattle.dav_parts.specs.Reply.{Answer}
+use Rattle.dav_messages.specs.Reply.{Answer}
 use Rattle.dav_engine.specs.Proppatch.{Update, MakesChanges, ProppatchWork, ProppatchCut}
 use Rattle.dav_engine.specs.Work.{WorksOnStore}
 
--- the log gained `records`, over which the store returned `told` for these changes and made all of them or none (`MakesChanges`)
-pub record StoresChanges (key : Key) (patches : List Patch) (old : Store) (told : Result (List ℕ) FsError) (new : Store) : Type 0 where
+-- the log gained `records`, over which the store returned `store_answer` for these changes and made all of them or none (`MakesChanges`)
+pub record StoresChanges (key : Key) (patches : List Patch) (old : Store) (store_answer : Result (List ℕ) FsError) (new : Store) : Type 0 where
   pub records : List Logged
   pub logged : new.log ≡ old.log ++ records
   pub fixed : new.facts ≡ old.facts
-  pub stored : MakesChanges old.facts.keeps_properties key patches old.contents records told new.contents
+  pub stored : MakesChanges old.facts.keeps_properties key patches old.contents records store_answer new.contents
 
 -- the error: `Memory`, and nothing happened; or that of the store's call, which made none of the changes
 abbrev pub IsUnmade : Key → List Patch → Store → DavError → Store → Type 0

@@ -13,16 +13,16 @@ use Rattle.dav_headers.specs.Depth.{depth_of}
 use Rattle.dav_headers.specs.Client.{user_agent_of, litmus_of}
 use Rattle.dav_store.specs.Logged.{Logged}
 use Rattle.dav_store.specs.Store.{Bodies}
-use Rattle.dav_parts.specs.DavElement.{declaring_element, with_elements}
-use Rattle.dav_parts.specs.Dialogue.{Dialogue, Passed, Refuses, ◌>>=◌}
-use Rattle.dav_parts.specs.Multistatus.{xml_type}
-use Rattle.dav_parts.specs.Reply.{Reply, Answer, field}
+use Rattle.dav_messages.specs.DavElement.{declaring_element, with_elements}
+use Rattle.dav_messages.specs.Dialogue.{Dialogue, Passed, Refuses, ◌>>=◌}
+use Rattle.dav_messages.specs.Multistatus.{xml_type}
+use Rattle.dav_messages.specs.Reply.{Reply, Answer, field}
 use Rattle.dav_props.specs.Propstat.{property_multistatus}
 use Rattle.dav_walks.specs.declared.listing.Resource.{Resource}
 use Rattle.dav_find.specs.Asked.{Asking, asking_of}
 use Rattle.dav_find.specs.Declaring.{with_prefixes}
 use Rattle.dav_find.specs.Finding.{View}
-use Rattle.dav_find.specs.Visiting.{Visit, VisitsFrom, response_of, is_deep}
+use Rattle.dav_find.specs.Visiting.{Visit, VisitsFrom, response_of, is_infinite}
 use Rattle.dav_find.specs.declared.search.FindKind.{FindKind}
 use Rattle.dav_engine.specs.Location.{location_fields}
 use Rattle.dav_engine.specs.Rules.{judged, must_find, fixed_path}
@@ -38,7 +38,7 @@ depth_or_default request = unwrap_or (depth_of request.headers) Default
 -- the Depth is infinity, and the request is not one of the test suite litmus, which has an `X-Litmus` header (RFC 4918, section 9.1, lets a server
 -- reject it)
 abbrev pub is_too_deep : DavRequest → Bool
-is_too_deep request = is_deep (depth_or_default request) && not (is_some (litmus_of request.headers))
+is_too_deep request = is_infinite (depth_or_default request) && not (is_some (litmus_of request.headers))
 
 -- ---- the responses
 
@@ -99,18 +99,18 @@ abbrev pub target_at : DavRequest → Meta → Resource
 target_at request meta = record { path = fixed_path request.path (Some meta); meta = meta }
 
 -- over these records these resources are reported; `None`: memory ran out
-abbrev pub Tells : Settings → DavRequest → Meta × Asking → State → List Logged → Option (List Visit) → Type 0
-Tells settings request found old records end =
+abbrev pub Searches : Settings → DavRequest → Meta × Asking → State → List Logged → Option (List Visit) → Type 0
+Searches settings request found old records end =
     VisitsFrom (view_in settings request old found.1.kind) old.contents found.1.asked (target_at request found.0) (depth_or_default request) records end
 
 -- the resources are reported, and nothing changes
 pub record PropfindWork (settings : Settings) (request : DavRequest) (found : Meta × Asking) (old : State) (records : List Logged) (answer : Answer) (new : State) : Type 0 where
   pub visits : List Visit
-  pub tells : Tells settings request found old records (Some visits)
+  pub searches : Searches settings request found old records (Some visits)
   pub answered : answer ≡ Ok (propfind_reply request found visits)
   pub same : new ≡ old
 
 -- memory ran out, and nothing changes
 pub record PropfindCut (settings : Settings) (request : DavRequest) (found : Meta × Asking) (old : State) (records : List Logged) (new : State) : Type 0 where
-  pub tells : (records ≡ []) ⊎ Tells settings request found old records None
+  pub searches : (records ≡ []) ⊎ Searches settings request found old records None
   pub same : new ≡ old

@@ -17,11 +17,11 @@ use Rattle.dav_store.specs.Calls.{Call, IsLawful, error_of, record_of}
 use Rattle.dav_store.specs.Logged.{Logged}
 use Rattle.dav_store.specs.PropertyCalls.{Patch, properties_bar, patch_record, IsPatchedAt}
 use Rattle.dav_store.specs.Store.{Contents}
-use Rattle.dav_parts.specs.Dialogue.{Dialogue, Passed, Refuses, ◌>>=◌}
-use Rattle.dav_parts.specs.Multistatus.{xml_type}
-use Rattle.dav_parts.specs.Reply.{Reply, Answer, field}
+use Rattle.dav_messages.specs.Dialogue.{Dialogue, Passed, Refuses, ◌>>=◌}
+use Rattle.dav_messages.specs.Multistatus.{xml_type}
+use Rattle.dav_messages.specs.Reply.{Reply, Answer, field}
 use Rattle.dav_props.specs.Propstat.{Group, grouped, property_response, property_multistatus}
-use Rattle.dav_props.specs.Update.{Change, update_verdict, some_refused, patches_of, told_failed, told_made}
+use Rattle.dav_props.specs.Update.{Change, update_verdict, some_refused, patches_of, failed_report, made_report}
 use Rattle.dav_engine.specs.Answered.{Unbegun}
 use Rattle.dav_engine.specs.Location.{location_fields}
 use Rattle.dav_engine.specs.Rules.{judged, must_find, path_rules, fixed_path}
@@ -52,7 +52,7 @@ found_rules request state = must_find state.contents request.path.key >>= λ met
 -- if some change is rejected before the store is asked, the request ends with a response that reports all changes as failed
 abbrev pub unless_some_refused : DavRequest → Option Meta → List Change → Dialogue Update
 unless_some_refused request found changes =
-    if some_refused changes then Refuses (Ok (proppatch_reply request.path found (grouped (told_failed changes)))) else Passed (found, changes)
+    if some_refused changes then Refuses (Ok (proppatch_reply request.path found (grouped (failed_report changes)))) else Passed (found, changes)
 
 -- after `found_rules` the body is read, and each change gets its status before the store is asked; the status depends on whether the store supports
 -- dead properties
@@ -72,17 +72,17 @@ abbrev pub all_made : List Patch → List ℕ
 all_made patches = replicate (length patches) 200
 
 -- there are no changes for the store: no call is made, there are no statuses, and nothing changes
-pub record AsksNothing (old : Contents) (records : List Logged) (told : Result (List ℕ) FsError) (new : Contents) : Type 0 where
+pub record AsksNothing (old : Contents) (records : List Logged) (store_answer : Result (List ℕ) FsError) (new : Contents) : Type 0 where
   pub none : records ≡ []
-  pub told_none : told ≡ Ok []
+  pub returns_none : store_answer ≡ Ok []
   pub same : new ≡ old
 
-module _ (keeps : Bool) (key : Key) (patches : List Patch) (old : Contents) (records : List Logged) (told : Result (List ℕ) FsError) (new : Contents) where
+module _ (keeps : Bool) (key : Key) (patches : List Patch) (old : Contents) (records : List Logged) (store_answer : Result (List ℕ) FsError) (new : Contents) where
   -- all changes are made, in order, and the status of each is 200
   pub record MakesAll : Type 0 where
     pub allowed : (patch_call keeps old key).bar ≡ None
     pub called : records ≡ patch_record key Granted (all_made patches) ∷ []
-    pub told_all : told ≡ Ok (all_made patches)
+    pub returns_all : store_answer ≡ Ok (all_made patches)
     pub made : IsPatchedAt key patches old new
 
   -- no change is made; there is a status for each, and not all are 200
@@ -91,7 +91,7 @@ module _ (keeps : Bool) (key : Key) (patches : List Patch) (old : Contents) (rec
     pub each : length statuses ≡ length patches
     pub not_all : statuses ≢ all_made patches
     pub called : records ≡ patch_record key (Refused GeneralFailure) statuses ∷ []
-    pub told_each : told ≡ Ok statuses
+    pub returns_each : store_answer ≡ Ok statuses
     pub same : new ≡ old
 
   -- the call fails, and no change is made
@@ -101,27 +101,27 @@ module _ (keeps : Bool) (key : Key) (patches : List Patch) (old : Contents) (rec
     pub cause : error_of outcome ≡ Some error
     pub lawful : IsLawful (patch_call keeps old key).bar outcome
     pub called : records ≡ record_of (patch_call keeps old key) outcome ∷ []
-    pub told_error : told ≡ Err error
+    pub returns_error : store_answer ≡ Err error
     pub same : new ≡ old
 
 -- one call for all changes; no call if there are none
 abbrev pub MakesChanges : Bool → Key → List Patch → Contents → List Logged → Result (List ℕ) FsError → Contents → Type 0
-MakesChanges keeps key [] old records told new = AsksNothing old records told new
-MakesChanges keeps key (patch ∷ patches) old records told new =
-    MakesAll keeps key (patch ∷ patches) old records told new
-    ⊎ MakesNone keeps key (patch ∷ patches) old records told new
-    ⊎ IsPatchRefused keeps key (patch ∷ patches) old records told new
+MakesChanges keeps key [] old records store_answer new = AsksNothing old records store_answer new
+MakesChanges keeps key (patch ∷ patches) old records store_answer new =
+    MakesAll keeps key (patch ∷ patches) old records store_answer new
+    ⊎ MakesNone keeps key (patch ∷ patches) old records store_answer new
+    ⊎ IsPatchRefused keeps key (patch ∷ patches) old records store_answer new
 
 -- the result: a response that reports the statuses that the store returned, or the error of its call
-abbrev pub told_by_store : DavRequest → Update → Result (List ℕ) FsError → Answer
-told_by_store request update (Ok statuses) = Ok (proppatch_reply request.path update.0 (grouped (told_made update.1 statuses)))
-told_by_store request update (Err e) = Err (from_fs e)
+abbrev pub stored_answer : DavRequest → Update → Result (List ℕ) FsError → Answer
+stored_answer request update (Ok statuses) = Ok (proppatch_reply request.path update.0 (grouped (made_report update.1 statuses)))
+stored_answer request update (Err e) = Err (from_fs e)
 
 -- the store makes all changes to dead properties or none, and the result reports what it returned
 pub record ProppatchWork (keeps : Bool) (request : DavRequest) (update : Update) (old : Contents) (records : List Logged) (answer : Answer) (new : Contents) : Type 0 where
-  pub told : Result (List ℕ) FsError
-  pub stored : MakesChanges keeps request.path.key (patches_of update.1) old records told new
-  pub answered : answer ≡ told_by_store request update told
+  pub store_answer : Result (List ℕ) FsError
+  pub stored : MakesChanges keeps request.path.key (patches_of update.1) old records store_answer new
+  pub answered : answer ≡ stored_answer request update store_answer
 
 -- memory ran out before the store was asked, or after it returned its statuses
 abbrev pub ProppatchCut : Bool → DavRequest → Update → Contents → List Logged → Contents → Type 0

@@ -5,6 +5,7 @@ use Rattle.std.specs.Option.{option_map_or}
 use Rattle.std.specs.Result.{result_ok}
 use Rattle.std.specs.FinMap.{get}
 use Rattle.dav_resource.specs.Key.{Key}
+use Rattle.dav_resource.specs.Methods.{method_of}
 use Rattle.dav_resource.specs.Errors.{from_fs}
 use Rattle.dav_resource.specs.declared.meta.Meta.{Meta}
 use Rattle.dav_resource.specs.declared.meta.OpenOptions.{OpenOptions}
@@ -25,14 +26,14 @@ use Rattle.dav_headers.specs.Body.{checksum_of}
 use Rattle.dav_store.specs.Logged.{Logged}
 use Rattle.dav_store.specs.Store.{Store, Contents, Bodies}
 use Rattle.dav_store.specs.Calls.{Call, open_call, file_call, bytes_at, written_at, Seeks, Writes}
-use Rattle.dav_parts.specs.Reply.{Answer}
-use Rattle.dav_parts.specs.RequestBody.{body_bytes}
+use Rattle.dav_messages.specs.Reply.{Answer}
+use Rattle.dav_messages.specs.RequestBody.{body_bytes}
 use Rattle.dav_engine.specs.PutReply.{put_reply}
 use Rattle.dav_engine.specs.State.{State}
-use Rattle.dav_engine.specs.Rules.{look_closely, path_rules, judged, closing}
+use Rattle.dav_engine.specs.Rules.{look_up_result, path_rules, judged, closing}
 use Rattle.dav_engine.specs.Target.{stated_length, target_of}
 use Rattle.dav_engine.specs.declared.target.Target.{Target}
-use Rattle.dav_parts.specs.Dialogue.{Dialogue, Asks, Passed, GoesOn, needs, refusing, if_granted, ◌>>=◌, LeadsTo, WasGranted}
+use Rattle.dav_messages.specs.Dialogue.{Dialogue, Asks, Passed, GoesOn, needs, refusing, if_granted, ◌>>=◌, LeadsTo, WasGranted}
 use Rattle.dav_engine.specs.Answered.{IsAnswered}
 use Rattle.dav_engine.specs.Opening.{making_options, open_error, IsFileAt}
 
@@ -55,7 +56,7 @@ body_verdict held target body found = if is_some (body_bytes held body) && has_l
 -- is the result.
 abbrev pub put_rules : Bodies → Bool → DavRequest → State → Dialogue (Option Meta)
 put_rules held partial request state =
-    look_closely state.contents request.path.key >>= λ looked.
+    look_up_result state.contents request.path.key >>= λ looked.
     judged (target_of partial request.headers looked) >>= λ target.
     refusing closing (path_rules request state (result_ok looked)) >>= λ found.
     judged (body_verdict held target request.body found)
@@ -68,6 +69,10 @@ is_patch _ = false
 -- a request with the method PATCH is served as PATCH, one with any other method as PUT
 abbrev pub put_method : Option DavMethod → DavMethod
 put_method method = if is_patch method then Patch else Put
+
+-- the same for a request
+abbrev pub put_served : DavRequest → Option DavMethod
+put_served request = Some (put_method (method_of request.method))
 
 -- ---- the work
 
@@ -104,8 +109,8 @@ put_write [] key next = next
 put_write (b ∷ bytes) key next = needs (on_file WriteBytes key) from_fs next
 
 -- a call on the opened file that returns this metadata; if it fails, there is none, and the request continues
-abbrev pub look_by : Call → Option Meta → Dialogue (Option Meta)
-look_by call meta = Asks call (λ outcome. Passed (if_granted outcome meta))
+abbrev pub look_up_by : Call → Option Meta → Dialogue (Option Meta)
+look_up_by call meta = Asks call (λ outcome. Passed (if_granted outcome meta))
 
 -- The calls, in order: open the file, seek to the offset (if a part is written), write the bytes (if there are any), flush, and read the metadata,
 -- which is `meta`. A failure of the last call is ignored; any other failure ends the request with its error.
@@ -116,7 +121,7 @@ put_steps held request target old meta =
     put_seek target key (
     put_write (new_bytes held request.body) key (
     needs (on_file Flush key) from_fs (
-    look_by (on_file FileMetadata key) meta))))
+    look_up_by (on_file FileMetadata key) meta))))
 
 -- ---- the contents after the work
 
@@ -172,5 +177,5 @@ WritesBody old file [] answer new = (answer ≡ Ok tt) × (new ≡ old)
 WritesBody old file (b ∷ bytes) answer new = Writes old file (b ∷ bytes) answer new
 
 -- a call that reads the file's metadata; if it fails, there is none, and the request continues
-abbrev pub look_at_file : Contents → Key → Dialogue (Option Meta)
-look_at_file contents key = look_by (file_call FileMetadata contents key) (contents.metas key)
+abbrev pub look_up_file : Contents → Key → Dialogue (Option Meta)
+look_up_file contents key = look_up_by (file_call FileMetadata contents key) (contents.metas key)

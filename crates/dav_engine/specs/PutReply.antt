@@ -6,7 +6,7 @@ use Rattle.http_header.specs.FieldValue.{FieldValue, plain_value}
 use Rattle.dav_resource.specs.declared.meta.Meta.{Meta}
 use Rattle.dav_dates.specs.Moment.{last_shown}
 use Rattle.dav_dates.specs.HttpDate.{http_date_text}
-use Rattle.dav_parts.specs.Reply.{Reply, bare_reply, field}
+use Rattle.dav_messages.specs.Reply.{Reply, bare_reply, field}
 
 -- the time of the last change in seconds since 1970, if it is known and not after `last_shown`
 abbrev pub shown_change : Meta → Option ℕ

@@ -19,12 +19,12 @@ use Rattle.dav_store.specs.Below.{is_at_or_below}
 use Rattle.dav_store.specs.Calls.{error_of}
 use Rattle.dav_store.specs.Logged.{Logged}
 use Rattle.dav_store.specs.Store.{Tree}
-use Rattle.dav_parts.specs.Dialogue.{Passed, LeadsTo}
-use Rattle.dav_parts.specs.Multistatus.{Item, multi_answer}
-use Rattle.dav_parts.specs.Reply.{Reply, Answer}
+use Rattle.dav_messages.specs.Dialogue.{Passed, LeadsTo}
+use Rattle.dav_messages.specs.Multistatus.{Item, multi_answer}
+use Rattle.dav_messages.specs.Reply.{Reply, Answer}
 use Rattle.dav_walks.specs.Copying.{is_directory_node}
 use Rattle.dav_walks.specs.Deletion.{path_at, named_path, is_call}
-use Rattle.dav_engine.specs.Delete.{told_items}
+use Rattle.dav_engine.specs.Delete.{reported_items}
 use Rattle.dav_engine.specs.Rules.{depth_or_all, fixed_path}
 use Rattle.dav_engine.specs.Settings.{Settings}
 use Rattle.dav_engine.specs.State.{State}
@@ -52,7 +52,7 @@ own_path request old = fixed_path request.path (old.contents.metas request.path.
 pub record Reports (path : PathValue) (failures : List Item) (shown : List Item → List Item) (reply : Reply) : Type 0 where
   pub names : List Item
   pub each : IsPermutation failures names
-  pub told : multi_answer path (shown names) ≡ Ok reply
+  pub answered : multi_answer path (shown names) ≡ Ok reply
 
 -- ---- DELETE
 
@@ -70,7 +70,7 @@ removal_item path call = if is_lookup call.op then None else failure (named_path
 abbrev pub DeleteReports : DavRequest → State → List Logged → Answer → Type 0
 DeleteReports request old records answer =
     let path = own_path request old in
-    (reply : Reply) → answer ≡ Ok reply → Reports path (filter_map (removal_item path) records) (told_items path) reply
+    (reply : Reply) → answer ≡ Ok reply → Reports path (filter_map (removal_item path) records) (reported_items path) reply
 
 -- ---- MOVE
 
@@ -101,14 +101,14 @@ reported_key Entry key = parent key
 reported_key _ key = key
 
 -- the call is on the destination or below it; a lookup and the copy of a file count as calls on the source
-abbrev pub is_at_destination : PathValue → Op → Key → Bool
-is_at_destination destination Metadata key = false
-is_at_destination destination Copy key = false
-is_at_destination destination op key = is_at_or_below (reported_key op key) destination.key
+abbrev pub is_destination_call : PathValue → Op → Key → Bool
+is_destination_call destination Metadata key = false
+is_destination_call destination Copy key = false
+is_destination_call destination op key = is_at_or_below (reported_key op key) destination.key
 
 -- a member of a directory at the source or below it that the store did not list
 abbrev pub is_unlisted : PathValue → Logged → Bool
-is_unlisted destination call = not (is_call call.op) && not (is_at_destination destination call.op (first_key call.keys))
+is_unlisted destination call = not (is_call call.op) && not (is_destination_call destination call.op (first_key call.keys))
 
 -- with Depth 0, to make a directory where something exists is no failure
 abbrev pub is_excused : Op → Depth → Option FsError → Bool
@@ -120,19 +120,19 @@ module _ (depth : Depth) (source destination : PathValue) (tree : Tree) where
   -- by which path a call is reported: at the destination as in a DELETE, at the source with a trailing slash if a directory was there
   abbrev pub copy_path : Op → Key → PathValue
   copy_path op key =
-      if is_at_destination destination op key then named_path destination op key
+      if is_destination_call destination op key then named_path destination op key
       else path_at source (is_directory_node (get tree (reported_key op key))) (reported_key op key)
 
-  -- Each call that was not granted is reported. Of unlisted members one behind another only the first is (`told`: the record before is of such a
+  -- Each call that was not granted is reported. Of unlisted members one behind another only the first is (`after_unlisted`: the record before is of such a
   -- member).
   abbrev pub copy_item : Bool → Logged → Option Item
-  copy_item told call =
-      if is_excused call.op depth (error_of call.outcome) || (told && is_unlisted destination call) then None
+  copy_item after_unlisted call =
+      if is_excused call.op depth (error_of call.outcome) || (after_unlisted && is_unlisted destination call) then None
       else failure (copy_path call.op (first_key call.keys)) call.outcome
 
   abbrev pub copy_items : Bool → List Logged → List Item
-  copy_items told [] = []
-  copy_items told (call ∷ calls) = cons_option (copy_item told call) (copy_items (is_unlisted destination call) calls)
+  copy_items after_unlisted [] = []
+  copy_items after_unlisted (call ∷ calls) = cons_option (copy_item after_unlisted call) (copy_items (is_unlisted destination call) calls)
 
 -- what a response to a COPY reports: the failures in the records behind those of the rules (`rest`) or, if there are none, 204 or 201
 pub record IsCopyReport (settings : Settings) (request : DavRequest) (old : State) (records : List Logged) (reply : Reply) : Type 0 where

@@ -10,7 +10,7 @@ use Rattle.dav_resource.specs.declared.error.FsError.TheVariants.{NotFound}
 use Rattle.dav_resource.specs.declared.error.DavError.{DavError}
 use Rattle.dav_resource.specs.declared.error.DavError.TheVariants.{Status, StatusClose}
 use Rattle.dav_resource.specs.declared.request.Depth.{Depth}
-use Rattle.dav_resource.specs.declared.request.Depth.TheVariants.{One, Infinity}
+use Rattle.dav_resource.specs.declared.request.Depth.TheVariants.{Zero, One, Infinity}
 use Rattle.dav_resource.specs.declared.request.DavRequest.{DavRequest}
 use Rattle.dav_resource.specs.PathText.{PathValue}
 use Rattle.dav_resource.specs.Errors.{from_fs}
@@ -19,8 +19,8 @@ use Rattle.dav_store.specs.Store.{Contents}
 use Rattle.dav_store.specs.Calls.{metadata_call}
 use Rattle.dav_store.specs.Locks.{permits}
 use Rattle.dav_store.specs.declared.lock.DavLock.{DavLock}
-use Rattle.dav_parts.specs.Conditions.{conditions, if_match, dav_if_match, unless_refused, submitted_tokens}
-use Rattle.dav_parts.specs.Dialogue.{Dialogue, Asks, Refuses, Passed, look, ◌>>=◌}
+use Rattle.dav_messages.specs.Conditions.{conditions, if_match, dav_if_match, unless_refused, submitted_tokens}
+use Rattle.dav_messages.specs.Dialogue.{Dialogue, Asks, Refuses, Passed, look_up, ◌>>=◌}
 use Rattle.dav_engine.specs.State.{State}
 
 -- the locks permit this principal, with these submitted tokens, to write at the key or, with `deep`, at and below it; without a lock system
@@ -56,7 +56,7 @@ path_rules request state found =
 
 -- the same after a lookup of the path; a failed lookup counts as finding nothing
 abbrev pub shallow_rules : DavRequest → State → Dialogue (Option Meta)
-shallow_rules request state = look state.contents request.path.key >>= path_rules request state
+shallow_rules request state = look_up state.contents request.path.key >>= path_rules request state
 
 -- the conditions only: the request is rejected if they do not hold
 abbrev pub holding : DavRequest → State → Option Meta → Dialogue (Unit {0})
@@ -68,15 +68,15 @@ judged (Ok a) = Passed a
 judged (Err e) = Refuses (Err e)
 
 -- the result of a lookup: the metadata if the call was granted, else its error; a granted call without metadata counts as `NotFound`
-abbrev pub told_by_look : Outcome → Option Meta → Result Meta FsError
-told_by_look Granted (Some meta) = Ok meta
-told_by_look Granted None = Err NotFound
-told_by_look (Barred e) meta = Err e
-told_by_look (Refused e) meta = Err e
+abbrev pub lookup_result : Outcome → Option Meta → Result Meta FsError
+lookup_result Granted (Some meta) = Ok meta
+lookup_result Granted None = Err NotFound
+lookup_result (Barred e) meta = Err e
+lookup_result (Refused e) meta = Err e
 
 -- a lookup of a key, which passes on its result even if it fails
-abbrev pub look_closely : Contents → Key → Dialogue (Result Meta FsError)
-look_closely contents key = Asks (metadata_call contents key) (λ outcome. Passed (told_by_look outcome (contents.metas key)))
+abbrev pub look_up_result : Contents → Key → Dialogue (Result Meta FsError)
+look_up_result contents key = Asks (metadata_call contents key) (λ outcome. Passed (lookup_result outcome (contents.metas key)))
 
 -- passes the value, or rejects the request with the store's error
 abbrev pub or_refused : {A : Type 0} → Result A FsError → Dialogue A
@@ -85,7 +85,7 @@ or_refused (Err e) = Refuses (Err (from_fs e))
 
 -- a lookup of a key; if it fails, the request is rejected with the store's error
 abbrev pub must_find : Contents → Key → Dialogue Meta
-must_find contents key = Asks (metadata_call contents key) (λ outcome. or_refused (told_by_look outcome (contents.metas key)))
+must_find contents key = Asks (metadata_call contents key) (λ outcome. or_refused (lookup_result outcome (contents.metas key)))
 
 -- ---- what several methods read from a request
 
@@ -97,6 +97,11 @@ depth_or_all request = unwrap_or (depth_of request.headers) Infinity
 abbrev pub depth_verdict : Depth → Result (Unit {0}) DavError
 depth_verdict One = Err (Status 400)
 depth_verdict _ = Ok tt
+
+-- everything below the resource is included
+abbrev pub is_deep : Depth → Bool
+is_deep Zero = false
+is_deep depth = true
 
 -- a directory was found
 abbrev pub is_directory : Option Meta → Bool

@@ -4,7 +4,7 @@ use Rattle.dav_resource.specs.Methods.{method_of}
 use Rattle.dav_resource.specs.declared.method.DavMethod.{DavMethod}
 use Rattle.dav_resource.specs.declared.request.DavRequest.{DavRequest}
 use Rattle.dav_store.specs.Logged.{Logged}
-use Rattle.dav_parts.specs.Reply.{Answer}
+use Rattle.dav_messages.specs.Reply.{Answer}
 use Rattle.dav_engine.specs.State.{State, Seen, state_of, facts_of, IsLawfulState, IsCompatible, HasSameSystem}
 use Rattle.dav_engine.specs.Guarded.{IsGuarded}
 use Rattle.dav_engine.specs.Law.{Law}
@@ -16,7 +16,7 @@ use Rattle.dav_engine.specs.Methods.{Step}
 -- (`Law`). The facts of the store and the lock system (`facts_of`) are unchanged, and compatible locks stay compatible.
 pub record Serves (method : Option DavMethod) (settings : Settings) (old : Seen) (request : DavRequest) (answer : Answer) (new : Seen) : Type 0 where
   pub records : List Logged
-  pub told : new.store.log ≡ old.store.log ++ records
+  pub recorded : new.store.log ≡ old.store.log ++ records
   pub fixed : facts_of new ≡ facts_of old
   pub step : Step method settings request (state_of old) records answer (state_of new)
   pub guarded : IsGuarded method request (state_of old) (state_of new)
@@ -47,7 +47,7 @@ Run settings old (request ∷ requests) records [] new = ⊥
 -- compatible.
 pub record Runs (settings : Settings) (old : Seen) (requests : List DavRequest) (answers : List Answer) (new : Seen) : Type 0 where
   pub records : List Logged
-  pub told : new.store.log ≡ old.store.log ++ records
+  pub recorded : new.store.log ≡ old.store.log ++ records
   pub fixed : facts_of new ≡ facts_of old
   pub run : Run settings (state_of old) requests records answers (state_of new)
   pub compatible : IsCompatible (state_of old) → IsCompatible (state_of new)

@@ -9,8 +9,6 @@ use Rattle.dav_resource.specs.declared.error.FsError.{FsError}
 use Rattle.dav_resource.specs.declared.error.FsError.TheVariants.{NotFound}
 use Rattle.dav_resource.specs.declared.error.DavError.{DavError}
 use Rattle.dav_resource.specs.declared.error.DavError.TheVariants.{Status, Memory}
-use Rattle.dav_resource.specs.declared.method.DavMethod.{DavMethod}
-use Rattle.dav_resource.specs.declared.method.DavMethod.TheVariants.{Copy, Move}
 use Rattle.dav_resource.specs.declared.request.Depth.{Depth}
 use Rattle.dav_resource.specs.declared.request.Depth.TheVariants.{Zero, Infinity}
 use Rattle.dav_resource.specs.declared.request.DavRequest.{DavRequest}
@@ -20,24 +18,16 @@ use Rattle.dav_store.specs.Below.{is_at_or_below}
 use Rattle.dav_store.specs.Logged.{Logged}
 use Rattle.dav_store.specs.Store.{Contents}
 use Rattle.dav_store.specs.declared.lock.DavLock.{DavLock}
-use Rattle.dav_parts.specs.Conditions.{submitted_tokens}
-use Rattle.dav_parts.specs.Dialogue.{Dialogue, look, ◌>>=◌}
-use Rattle.dav_parts.specs.Multistatus.{Item, multi_answer}
-use Rattle.dav_parts.specs.Reply.{Answer}
-use Rattle.dav_walks.specs.Deletion.{Removes, RemovesInPart, told_by_names}
+use Rattle.dav_messages.specs.Conditions.{submitted_tokens}
+use Rattle.dav_messages.specs.Dialogue.{Dialogue, look_up, ◌>>=◌}
+use Rattle.dav_messages.specs.Multistatus.{Item, multi_answer}
+use Rattle.dav_messages.specs.Reply.{Answer}
+use Rattle.dav_walks.specs.Deletion.{Removes, RemovesInPart, first_failure}
 use Rattle.dav_engine.specs.State.{State, Seen, state_of, facts_of, LocksStay, HasSameSystem}
 use Rattle.dav_engine.specs.Settings.{Settings}
 use Rattle.dav_engine.specs.Delete.{LeavesLocks}
-use Rattle.dav_engine.specs.Rules.{judged, must_find, look_closely, own_conditions, permits_by, where_permitted, depth_or_all, depth_verdict, fixed_path, is_directory}
+use Rattle.dav_engine.specs.Rules.{judged, must_find, look_up_result, own_conditions, permits_by, where_permitted, depth_or_all, depth_verdict, is_deep, fixed_path, is_directory}
 use Rattle.dav_engine.specs.declared.transfer.Transfer.{Transfer}
-
-abbrev pub is_copy : Option DavMethod → Bool
-is_copy (Some Copy) = true
-is_copy _ = false
-
--- a request with the method COPY is served as COPY, one with any other method as MOVE
-abbrev pub transfer_method : Option DavMethod → DavMethod
-transfer_method method = if is_copy method then Copy else Move
 
 -- ---- the rules
 
@@ -61,7 +51,7 @@ parent_verdict above = if is_directory above then Ok tt else Err (Status 409)
 
 -- a lookup of the destination's parent, which must be a directory; a failed lookup counts as finding nothing
 abbrev pub must_have_parent : Contents → Key → Dialogue (Unit {0})
-must_have_parent contents destination = look contents (parent destination) >>= λ above. judged (parent_verdict above)
+must_have_parent contents destination = look_up contents (parent destination) >>= λ above. judged (parent_verdict above)
 
 -- the result of a lookup, in which `NotFound` counts as finding nothing and any other error stays an error
 abbrev pub found_or_absent : Result Meta FsError → Result (Option Meta) DavError
@@ -70,21 +60,16 @@ found_or_absent (Err NotFound) = Ok None
 found_or_absent (Err e) = Err (from_fs e)
 
 -- a lookup of the destination; if it fails with any error other than `NotFound`, the request is rejected with that error
-abbrev pub look_there : Contents → Key → Dialogue (Option Meta)
-look_there contents destination = look_closely contents destination >>= λ told. judged (found_or_absent told)
+abbrev pub look_up_destination : Contents → Key → Dialogue (Option Meta)
+look_up_destination contents destination = look_up_result contents destination >>= λ found. judged (found_or_absent found)
 
 -- the same, after the check of its parent
 abbrev pub see_destination : Contents → Key → Dialogue (Option Meta)
-see_destination contents destination = must_have_parent contents destination >>= λ _. look_there contents destination
+see_destination contents destination = must_have_parent contents destination >>= λ _. look_up_destination contents destination
 
 -- the request may replace what exists at the destination, unless `Overwrite` is `F`
 abbrev pub may_overwrite : DavRequest → Bool
 may_overwrite request = unwrap_or (overwrite_of request.headers) true
-
--- everything below the resource is included
-abbrev pub is_deep : Depth → Bool
-is_deep Zero = false
-is_deep depth = true
 
 -- the destination is not allowed: it is the source; in a MOVE, it is below the source; or, unless Depth is 0, the source is below it
 abbrev pub is_misplaced : Bool → Depth → Key → Key → Bool
@@ -135,26 +120,27 @@ ClearsInPart false destination old records new = (records ≡ []) × (new ≡ ol
 -- if no failure was reported, `Follows` comes next; otherwise no further call is made, nothing changes, and the reported failures stay the same
 abbrev pub UnlessNamed : (State → List Logged → List Item → State → Type 0) → List Item → State → List Logged → List Item → State → Type 0
 UnlessNamed Follows [] old records names new = Follows old records names new
-UnlessNamed Follows (item ∷ kept) old records names new = (records ≡ []) × (names ≡ item ∷ kept) × (new ≡ old)
+UnlessNamed Follows (item ∷ left) old records names new = (records ≡ []) × (names ≡ item ∷ left) × (new ≡ old)
 
--- what exists at the destination is removed, and `Follows` comes next unless a failure was reported
+-- What exists at the destination is removed over the records of `removal`, with the failures `left`, and that leads to the state `between`. Unless
+-- there were failures, `Follows` comes next, over the records of `after`.
 pub record Replaces (Follows : State → List Logged → List Item → State → Type 0) (there : Bool) (destination : PathValue) (old : State) (records : List Logged) (names : List Item) (new : State) : Type 0 where
-  pub head : List Logged
-  pub rest : List Logged
-  pub cut : records ≡ head ++ rest
-  pub kept : List Item
-  pub mid : State
-  pub cleared : ClearsIf there destination old head kept mid
-  pub follows : UnlessNamed Follows kept mid rest names new
+  pub removal : List Logged
+  pub after : List Logged
+  pub cut : records ≡ removal ++ after
+  pub left : List Item
+  pub between : State
+  pub cleared : ClearsIf there destination old removal left between
+  pub follows : UnlessNamed Follows left between after names new
 
 -- what exists at the destination was removed, no failure was reported, and memory ran out in what follows
 pub record ReplacesThen (Part : State → List Logged → State → Type 0) (there : Bool) (destination : PathValue) (old : State) (records : List Logged) (new : State) : Type 0 where
-  pub head : List Logged
-  pub rest : List Logged
-  pub cut : records ≡ head ++ rest
-  pub mid : State
-  pub cleared : ClearsIf there destination old head [] mid
-  pub part : Part mid rest new
+  pub removal : List Logged
+  pub after : List Logged
+  pub cut : records ≡ removal ++ after
+  pub between : State
+  pub cleared : ClearsIf there destination old removal [] between
+  pub part : Part between after new
 
 -- memory ran out in the removal, or in what follows
 abbrev pub ReplacesInPart : (State → List Logged → State → Type 0) → Bool → PathValue → State → List Logged → State → Type 0
@@ -166,13 +152,13 @@ ReplacesInPart Part there destination old records new = ClearsInPart there desti
 -- the result is `Memory`, and `Cut` holds.
 abbrev pub NamesBy : (State → List Logged → List Item → State → Type 0) → (State → List Logged → State → Type 0) → State → List Logged → List Item → List Item → Result (Unit {0}) DavError → State → Type 0
 NamesBy Done Cut old records had has answer new =
-    ((names : List Item) × (has ≡ had ++ names) × Done old records names new × (answer ≡ told_by_names names))
+    ((names : List Item) × (has ≡ had ++ names) × Done old records names new × (answer ≡ first_failure names))
     ⊎ ((answer ≡ Err Memory) × Cut old records new)
 
 -- the same for views of the engine: the log gained the records, and the facts of the store and the lock system are unchanged
 pub record Names (Done : State → List Logged → List Item → State → Type 0) (Cut : State → List Logged → State → Type 0) (old : Seen) (had has : List Item) (answer : Result (Unit {0}) DavError) (new : Seen) : Type 0 where
   pub records : List Logged
-  pub told : new.store.log ≡ old.store.log ++ records
+  pub recorded : new.store.log ≡ old.store.log ++ records
   pub fixed : facts_of new ≡ facts_of old
   pub done : NamesBy Done Cut (state_of old) records had has answer (state_of new)
 

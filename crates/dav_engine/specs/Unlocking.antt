@@ -8,8 +8,8 @@ use Rattle.dav_resource.specs.declared.request.DavRequest.{DavRequest}
 use Rattle.dav_headers.specs.LockToken.{lock_token_of}
 use Rattle.dav_store.specs.Logged.{Logged}
 use Rattle.dav_store.specs.LockCalls.{has_named, without_named}
-use Rattle.dav_parts.specs.Dialogue.{Dialogue, look, ◌>>=◌}
-use Rattle.dav_parts.specs.Reply.{Answer}
+use Rattle.dav_messages.specs.Dialogue.{Dialogue, look_up, ◌>>=◌}
+use Rattle.dav_messages.specs.Reply.{Answer}
 use Rattle.dav_engine.specs.LockReply.{unlocked_reply}
 use Rattle.dav_engine.specs.Locking.{locks_verdict}
 use Rattle.dav_engine.specs.Rules.{judged}
@@ -24,7 +24,7 @@ abbrev pub unlock_rules : DavRequest → State → Dialogue (Option Meta)
 unlock_rules request state =
     judged (locks_verdict state) >>= λ _.
     judged (token_verdict request) >>= λ _.
-    look state.contents request.path.key
+    look_up state.contents request.path.key
 
 -- a lock with this token is at the path or above it
 abbrev pub has_lock : DavRequest → List ℕ → State → Bool
@@ -33,13 +33,13 @@ has_lock request token state = option_map_or (has_named request.path.key token) 
 -- there is such a lock, and it is removed: 204
 pub record Unlocks (request : DavRequest) (found : Option Meta) (token : List ℕ) (old : State) (answer : Answer) (new : State) : Type 0 where
   pub there : has_lock request token old ≡ true
-  pub told : answer ≡ Ok (unlocked_reply request.path found)
+  pub answered : answer ≡ Ok (unlocked_reply request.path found)
   pub locks : new.locks ≡ option_map (without_named request.path.key token) old.locks
 
 -- there is no such lock, or the lock system's `unlock` is not reliable: 409, and the locks are unchanged
 pub record UnlocksNothing (request : DavRequest) (token : List ℕ) (old : State) (answer : Answer) (new : State) : Type 0 where
   pub none : (old.reliable.unlock && has_lock request token old) ≡ false
-  pub told : answer ≡ Err (Status 409)
+  pub answered : answer ≡ Err (Status 409)
   pub locks : LocksStay old new
 
 pub record UnlockWork (request : DavRequest) (found : Option Meta) (old : State) (records : List Logged) (answer : Answer) (new : State) : Type 0 where

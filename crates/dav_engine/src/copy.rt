@@ -1,24 +1,23 @@
 //! COPY (RFC 4918, section 9.8).
 ghost use Rattle.std.specs.Prelude.{◌≡◌, ◌≢◌, Ok, Some, option_copied};
 ghost use Rattle.dav_resource.specs.declared.method.DavMethod.TheVariants.{Copy};
-ghost use Rattle.dav_resource.specs.declared.request.Depth.TheVariants.{Zero};
-ghost use Rattle.dav_parts.specs.Reply.{answer_of};
-ghost use Rattle.dav_walks.specs.Copying.{HasRoom};
-ghost use Rattle.dav_walks.specs.Copied.{Copying};
-ghost use Rattle.dav_engine.specs.DavInner.{lent, lent_locks, frame, seen_by};
+ghost use Rattle.dav_messages.specs.Reply.{answer_of};
+ghost use Rattle.dav_engine.specs.DavInner.{lent, lent_locks};
 ghost use Rattle.dav_engine.specs.Rules.{depth_or_all as depth_or_all_of};
 ghost use Rattle.dav_engine.specs.Served.{IsServed};
-ghost use Rattle.dav_engine.specs.Transferring.{Names};
-ghost use Rattle.dav_engine.specs.Copy.{MayCopy, Copies, CopiesSoFar, CopyWork, CopyCut, replaced as replaced_by};
-ghost use Rattle.dav_engine.specs.Work.{Performs};
+ghost use Rattle.dav_engine.specs.Copy.{MayCopy, replaced as replaced_by};
+ghost use Rattle.dav_engine.specs.ByEngine.{IsSameEngine, CopyingBy, HasRoomToCopy, DoesWork, CopiedBy};
+ghost use Rattle.dav_engine.specs.Methods.{copy_method};
+ghost use Rattle.dav_walks.specs.CopyTask.{DoesNothing};
 
 use crate::DavInner;
 use crate::inner::fixed_path;
-use crate::judge::depth_or_all;
-use crate::transfer::{Transfer, is_deep, transferred_status};
-use dav_parts::{MultiError, multi_error};
+use crate::judge::{depth_or_all, is_deep};
+use crate::transfer::{Transfer, transferred_status};
+use dav_messages::{MultiError, multi_error};
 use dav_resource::{Body, DavError, DavPath, DavRequest, DavResult, Depth, Meta};
 use dav_store::{DavLockSystem, GuardedFileSystem};
+use dav_walks::CopyTask;
 use http::Response;
 
 impl<'a, C: Drop, F: GuardedFileSystem<C>, L: DavLockSystem> DavInner<'a, C, F, L> {
@@ -55,7 +54,7 @@ impl<'a, C: Drop, F: GuardedFileSystem<C>, L: DavLockSystem> DavInner<'a, C, F, 
     /// `Memory` can come at any time. What was removed or copied by then stays so. The locks at the
     /// destination are dropped only after everything there was removed.
     pub fn handle_copy(&mut self, request: &DavRequest) -> DavResult<Response<Body>>
-        ensures same_engine { frame self.new ≡ frame self.old }
+        ensures same_engine { IsSameEngine self.old self.new }
         ensures step { IsServed F.seen L.seen (Some Copy) self.old request.entry.now (answer_of result) self.new }
     {
         let found = self.judge_transfer(false, request)?;
@@ -65,8 +64,8 @@ impl<'a, C: Drop, F: GuardedFileSystem<C>, L: DavLockSystem> DavInner<'a, C, F, 
     /// The work: copies the source and makes the response.
     fn copy_found(&mut self, request: &DavRequest, found: &Transfer) -> DavResult<Response<Body>>
         requires { MayCopy (depth_or_all_of request.now) request.now.path.key found.now (F.seen (lent self.old)).contents }
-        ensures same_engine { frame self.new ≡ frame self.old }
-        ensures work { Performs (CopyWork request.entry.now found.now) (CopyCut request.entry.now found.now) (seen_by F.seen L.seen self.old) (answer_of result) (seen_by F.seen L.seen self.new) }
+        ensures same_engine { IsSameEngine self.old self.new }
+        ensures work { DoesWork F.seen L.seen copy_method request.entry.now found.now self.old (answer_of result) self.new }
     {
         let alloc = *self.prefix.allocator();
         let path = fixed_path(&request.path, Some(&found.meta))?;
@@ -93,8 +92,8 @@ impl<'a, C: Drop, F: GuardedFileSystem<C>, L: DavLockSystem> DavInner<'a, C, F, 
         res: &mut MultiError,
     ) -> DavResult<()>
         requires { MayCopy depth source.now.key found.now (F.seen (lent self.old)).contents }
-        ensures same_engine { frame self.new ≡ frame self.old }
-        ensures copied { Names (Copies depth source.now found.now) (CopiesSoFar depth source.now found.now) (seen_by F.seen L.seen self.old) res.old res.new result (seen_by F.seen L.seen self.new) }
+        ensures same_engine { IsSameEngine self.old self.new }
+        ensures copied { CopiedBy F.seen L.seen depth source.now found.now self.old res.old res.new result self.new }
     {
         let there = replaced(depth, found.there.as_ref());
         self.clear_destination(&found.destination, there, res)?;
@@ -122,23 +121,21 @@ impl<'a, C: Drop, F: GuardedFileSystem<C>, L: DavLockSystem> DavInner<'a, C, F, 
         depth: Depth,
         res: &mut MultiError,
     ) -> DavResult<()>
-        requires room { source.now.key ≢ topdest.now.key → depth ≢ Zero → HasRoom source.now.key topdest.now.key dest.now.key (F.seen (lent self.old)).contents }
-        ensures same_engine { frame self.new ≡ frame self.old }
+        requires room { HasRoomToCopy depth source.now topdest.now dest.now (F.seen (lent self.old)).contents }
+        ensures same_engine { IsSameEngine self.old self.new }
         ensures same_locks { lent_locks self.new ≡ lent_locks self.old }
-        ensures passed { source.now.key ≡ topdest.now.key → (result ≡ Ok tt) × (F.seen (lent self.new) ≡ F.seen (lent self.old)) × (res.new ≡ res.old) }
-        ensures copied { source.now.key ≢ topdest.now.key → Copying depth source.now dest.now topdest.now.key (F.seen (lent self.old)) (F.seen (lent self.new)) res.old res.new result }
+        ensures passed { source.now.key ≡ topdest.now.key → DoesNothing (F.seen (lent self.old)) (F.seen (lent self.new)) res.old res.new result }
+        ensures copied { CopyingBy F.seen depth source.now dest.now topdest.now self.old res.old res.new result self.new }
     {
-        let alloc = *self.prefix.allocator();
-        dav_walks::do_copy(
-            alloc,
-            self.fs,
-            &self.credentials,
+        let task = CopyTask {
+            alloc: *self.prefix.allocator(),
+            credentials: &self.credentials,
             source,
             topdest,
             dest,
             depth,
-            res,
-        )
+        };
+        task.do_copy(self.fs, res)
     }
 }
 

@@ -1,19 +1,19 @@
 //! DELETE (RFC 4918, section 9.6).
 ghost use Rattle.std.specs.Prelude.{◌≡◌, Some, IfOk};
 ghost use Rattle.dav_resource.specs.declared.method.DavMethod.TheVariants.{Delete};
-ghost use Rattle.dav_parts.specs.Dialogue.{Judges};
-ghost use Rattle.dav_parts.specs.Reply.{answer_of};
+ghost use Rattle.dav_messages.specs.Reply.{answer_of};
 ghost use Rattle.dav_walks.specs.Deletion.{Removal};
-ghost use Rattle.dav_engine.specs.DavInner.{lent, lent_locks, frame, seen_by, state_by};
+ghost use Rattle.dav_engine.specs.DavInner.{lent, lent_locks, seen_by};
 ghost use Rattle.dav_engine.specs.Served.{IsServed};
 ghost use Rattle.dav_engine.specs.State.{DropsSeen};
-ghost use Rattle.dav_engine.specs.Delete.{delete_rules, DeleteWork, DeleteCut};
-ghost use Rattle.dav_engine.specs.Work.{Performs};
+ghost use Rattle.dav_engine.specs.Delete.{delete_rules};
+ghost use Rattle.dav_engine.specs.ByEngine.{IsSameEngine, JudgesBy, DoesWork};
+ghost use Rattle.dav_engine.specs.Methods.{delete_method};
 
 use crate::DavInner;
 use crate::inner::fixed_path;
 use crate::judge::{depth_or_all, judge_depth, where_permitted};
-use dav_parts::{MultiError, multi_error};
+use dav_messages::{MultiError, multi_error};
 use dav_resource::{Body, DavError, DavPath, DavRequest, DavResult, Depth, Meta};
 use dav_store::{DavLockSystem, GuardedFileSystem};
 use http::{Response, StatusCode};
@@ -38,7 +38,7 @@ impl<'a, C: Drop, F: GuardedFileSystem<C>, L: DavLockSystem> DavInner<'a, C, F, 
     /// `Memory` can come at any time. What was removed by then stays removed. The locks are dropped only
     /// after everything was removed.
     pub fn handle_delete(&mut self, request: &DavRequest) -> DavResult<Response<Body>>
-        ensures same_engine { frame self.new ≡ frame self.old }
+        ensures same_engine { IsSameEngine self.old self.new }
         ensures step { IsServed F.seen L.seen (Some Delete) self.old request.entry.now (answer_of result) self.new }
     {
         let meta = self.judge_delete(request)?;
@@ -48,10 +48,10 @@ impl<'a, C: Drop, F: GuardedFileSystem<C>, L: DavLockSystem> DavInner<'a, C, F, 
     /// Checks the rules: the Depth, the lookup of the path, the conditions, and the locks that cover the path
     /// or are below it. Returns what was found.
     fn judge_delete(&mut self, request: &DavRequest) -> DavResult<Meta>
-        ensures same_engine { frame self.new ≡ frame self.old }
+        ensures same_engine { IsSameEngine self.old self.new }
         ensures same_locks { lent_locks self.new ≡ lent_locks self.old }
         ensures found { IfOk result (λ meta. (F.seen (lent self.old)).contents.metas request.entry.now.path.key ≡ Some meta) }
-        ensures rules { Judges (delete_rules request.entry.now (state_by F.seen L.seen self.old)) (F.seen (lent self.old)) result (F.seen (lent self.new)) }
+        ensures rules { JudgesBy F.seen L.seen (delete_rules request.entry.now) self.old result self.new }
     {
         judge_depth(depth_or_all(request))?;
         let meta = self.fs.metadata(&request.path, &self.credentials)?;
@@ -63,8 +63,8 @@ impl<'a, C: Drop, F: GuardedFileSystem<C>, L: DavLockSystem> DavInner<'a, C, F, 
     /// The work: removes what was found and then, if nothing failed, its locks. Makes the response.
     fn delete_found(&mut self, request: &DavRequest, meta: &Meta) -> DavResult<Response<Body>>
         requires { (F.seen (lent self.old)).contents.metas request.now.path.key ≡ Some meta.now }
-        ensures same_engine { frame self.new ≡ frame self.old }
-        ensures work { Performs (DeleteWork request.entry.now meta.now) (DeleteCut request.entry.now meta.now) (seen_by F.seen L.seen self.old) (answer_of result) (seen_by F.seen L.seen self.new) }
+        ensures same_engine { IsSameEngine self.old self.new }
+        ensures work { DoesWork F.seen L.seen delete_method request.entry.now meta.now self.old (answer_of result) self.new }
     {
         let alloc = *self.prefix.allocator();
         let path = fixed_path(&request.path, Some(meta))?;
@@ -95,7 +95,7 @@ impl<'a, C: Drop, F: GuardedFileSystem<C>, L: DavLockSystem> DavInner<'a, C, F, 
         path: &DavPath,
     ) -> DavResult<()>
         requires { (F.seen (lent self.old)).contents.metas path.now.key ≡ Some meta.now }
-        ensures same_engine { frame self.new ≡ frame self.old }
+        ensures same_engine { IsSameEngine self.old self.new }
         ensures same_locks { lent_locks self.new ≡ lent_locks self.old }
         ensures removal { Removal depth path.now (F.seen (lent self.old)) (F.seen (lent self.new)) res.old res.new result }
     {
@@ -105,7 +105,7 @@ impl<'a, C: Drop, F: GuardedFileSystem<C>, L: DavLockSystem> DavInner<'a, C, F, 
 
     /// Drops the locks at a path and below it. An error of the lock system is ignored.
     pub(crate) fn drop_locks(&mut self, path: &DavPath)
-        ensures same_engine { frame self.new ≡ frame self.old }
+        ensures same_engine { IsSameEngine self.old self.new }
         ensures same_store { lent self.new ≡ lent self.old }
         ensures dropped { DropsSeen path.now.key (seen_by F.seen L.seen self.old) (seen_by F.seen L.seen self.new) }
     {

@@ -1,10 +1,11 @@
 //! The engine's struct, and functions that several methods share.
 ghost use Rattle.std.specs.Prelude.{◌≡◌, IfOk, OnErr, option_map, option_copied, string_bytes};
-ghost use Rattle.dav_engine.specs.DavInner.{lent, lent_locks, loans, made_with, frame};
-ghost use Rattle.dav_parts.specs.Dialogue.{Judges, look as look_of};
-ghost use Rattle.dav_engine.specs.Rules.{look_closely as close_look_of, fixed_path as fixed_path_of, is_directory as is_directory_found};
+ghost use Rattle.dav_engine.specs.DavInner.{lent, lent_locks, loans, made_with};
+ghost use Rattle.dav_messages.specs.Dialogue.{look_up as look_up_of};
+ghost use Rattle.dav_engine.specs.Rules.{look_up_result as look_up_result_of, fixed_path as fixed_path_of, is_directory as is_directory_found};
+ghost use Rattle.dav_engine.specs.ByEngine.{IsSameEngine, JudgesBy};
 
-use dav_parts::look;
+use dav_messages::look_up;
 use dav_resource::{DavError, DavMethodSet, DavPath, DavResult, FsError, FsResult, Meta};
 use dav_store::{DavLockSystem, GuardedFileSystem};
 use std::alloc::AllocError;
@@ -68,21 +69,21 @@ impl<'a, C: Drop, F: GuardedFileSystem<C>, L: DavLockSystem> DavInner<'a, C, F, 
 
     /// Looks up a path. A failed lookup counts as nothing there. The only error is `Memory`, and then nothing
     /// has changed.
-    pub(crate) fn look(&mut self, path: &DavPath) -> DavResult<Option<Meta>>
-        ensures same_engine { frame self.new ≡ frame self.old }
+    pub(crate) fn look_up(&mut self, path: &DavPath) -> DavResult<Option<Meta>>
+        ensures same_engine { IsSameEngine self.old self.new }
         ensures same_locks { lent_locks self.new ≡ lent_locks self.old }
-        ensures rules { Judges (look_of (F.seen (lent self.old)).contents path.now.key) (F.seen (lent self.old)) result (F.seen (lent self.new)) }
+        ensures rules { JudgesBy F.seen L.seen (λ state. look_up_of state.contents path.now.key) self.old result self.new }
         ensures memory { OnErr result (F.seen (lent self.new) ≡ F.seen (lent self.old)) }
     {
-        look(self.fs, path, &self.credentials)
+        look_up(self.fs, path, &self.credentials)
     }
 
     /// Looks up a path, and returns the store's error if the lookup fails. The only error of the function
     /// itself is `Memory`, and then nothing has changed.
-    pub(crate) fn look_closely(&mut self, path: &DavPath) -> DavResult<FsResult<Meta>>
-        ensures same_engine { frame self.new ≡ frame self.old }
+    pub(crate) fn look_up_result(&mut self, path: &DavPath) -> DavResult<FsResult<Meta>>
+        ensures same_engine { IsSameEngine self.old self.new }
         ensures same_locks { lent_locks self.new ≡ lent_locks self.old }
-        ensures rules { Judges (close_look_of (F.seen (lent self.old)).contents path.now.key) (F.seen (lent self.old)) result (F.seen (lent self.new)) }
+        ensures rules { JudgesBy F.seen L.seen (λ state. look_up_result_of state.contents path.now.key) self.old result self.new }
         ensures memory { OnErr result (F.seen (lent self.new) ≡ F.seen (lent self.old)) }
     {
         match self.fs.metadata(path, &self.credentials) {

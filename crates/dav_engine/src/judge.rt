@@ -1,14 +1,15 @@
 //! The checks before a request changes anything: its conditions and the locks.
 ghost use Rattle.std.specs.Prelude.{◌≡◌, if◌then◌else◌, Ok, Err, IfOk, option_map, option_copied};
 ghost use Rattle.dav_resource.specs.declared.error.DavError.TheVariants.{Status};
-ghost use Rattle.dav_parts.specs.Dialogue.{Judges, told_by};
-ghost use Rattle.dav_parts.specs.Conditions.{submitted_tokens};
-ghost use Rattle.dav_engine.specs.DavInner.{lent, lent_locks, frame, state_by};
-ghost use Rattle.dav_engine.specs.Rules.{permits_by, own_conditions, own_if_match, own_if, path_rules, shallow_rules, holding, depth_or_all as depth_or_all_of, depth_verdict, closing as closing_error};
+ghost use Rattle.dav_messages.specs.Dialogue.{map_error};
+ghost use Rattle.dav_messages.specs.Conditions.{submitted_tokens};
+ghost use Rattle.dav_engine.specs.DavInner.{lent_locks, state_by};
+ghost use Rattle.dav_engine.specs.Rules.{permits_by, own_conditions, own_if_match, own_if, path_rules, shallow_rules, holding, depth_or_all as depth_or_all_of, depth_verdict, is_deep as includes_all, closing as closing_error};
+ghost use Rattle.dav_engine.specs.ByEngine.{IsSameEngine, JudgesBy};
 
 use crate::DavInner;
 use dav_headers::read_depth;
-use dav_parts::{dav_if_match, if_match, if_match_get_tokens};
+use dav_messages::{dav_if_match, if_match, if_match_get_tokens};
 use dav_resource::{DavError, DavPath, DavRequest, DavResult, Depth, Items, Meta, Text};
 use dav_store::{DavLockSystem, GuardedFileSystem};
 use http::StatusCode;
@@ -18,11 +19,11 @@ impl<'a, C: Drop, F: GuardedFileSystem<C>, L: DavLockSystem> DavInner<'a, C, F, 
     /// checks the conditions and the locks of the path. A failed lookup counts as nothing there. Returns what
     /// was found.
     pub(crate) fn judge_shallow(&mut self, request: &DavRequest) -> DavResult<Option<Meta>>
-        ensures same_engine { frame self.new ≡ frame self.old }
+        ensures same_engine { IsSameEngine self.old self.new }
         ensures same_locks { lent_locks self.new ≡ lent_locks self.old }
-        ensures rules { Judges (shallow_rules request.entry.now (state_by F.seen L.seen self.old)) (F.seen (lent self.old)) result (F.seen (lent self.new)) }
+        ensures rules { JudgesBy F.seen L.seen (shallow_rules request.entry.now) self.old result self.new }
     {
-        let found = self.look(&request.path)?;
+        let found = self.look_up(&request.path)?;
         self.judge_path(request, found)
     }
 
@@ -32,10 +33,10 @@ impl<'a, C: Drop, F: GuardedFileSystem<C>, L: DavLockSystem> DavInner<'a, C, F, 
         request: &DavRequest,
         found: Option<Meta>,
     ) -> DavResult<Option<Meta>>
-        ensures same_engine { frame self.new ≡ frame self.old }
+        ensures same_engine { IsSameEngine self.old self.new }
         ensures same_locks { lent_locks self.new ≡ lent_locks self.old }
         ensures found { IfOk result (λ passed. passed ≡ found) }
-        ensures rules { Judges (path_rules request.entry.now (state_by F.seen L.seen self.old) found) (F.seen (lent self.old)) result (F.seen (lent self.new)) }
+        ensures rules { JudgesBy F.seen L.seen (λ state. path_rules request.entry.now state found) self.old result self.new }
     {
         let tokens = self.judge_conditions(request, found.as_ref())?;
         let permitted = self.is_permitted(request, tokens.as_slice(), &request.path, false);
@@ -48,10 +49,10 @@ impl<'a, C: Drop, F: GuardedFileSystem<C>, L: DavLockSystem> DavInner<'a, C, F, 
         request: &DavRequest,
         found: Option<&Meta>,
     ) -> DavResult<Items<Text>>
-        ensures same_engine { frame self.new ≡ frame self.old }
+        ensures same_engine { IsSameEngine self.old self.new }
         ensures same_locks { lent_locks self.new ≡ lent_locks self.old }
         ensures tokens { IfOk result (λ tokens. tokens ≡ submitted_tokens request.entry.now) }
-        ensures rules { Judges (own_conditions request.entry.now (state_by F.seen L.seen self.old) (option_copied found.entry)) (F.seen (lent self.old)) result (F.seen (lent self.new)) }
+        ensures rules { JudgesBy F.seen L.seen (λ state. own_conditions request.entry.now state (option_copied found.entry)) self.old result self.new }
     {
         let alloc = *self.prefix.allocator();
         if_match_get_tokens(
@@ -72,9 +73,9 @@ impl<'a, C: Drop, F: GuardedFileSystem<C>, L: DavLockSystem> DavInner<'a, C, F, 
         request: &DavRequest,
         found: Option<&Meta>,
     ) -> DavResult<()>
-        ensures same_engine { frame self.new ≡ frame self.old }
+        ensures same_engine { IsSameEngine self.old self.new }
         ensures same_locks { lent_locks self.new ≡ lent_locks self.old }
-        ensures rules { Judges (holding request.entry.now (state_by F.seen L.seen self.old) (option_copied found.entry)) (F.seen (lent self.old)) result (F.seen (lent self.new)) }
+        ensures rules { JudgesBy F.seen L.seen (λ state. holding request.entry.now state (option_copied found.entry)) self.old result self.new }
     {
         match self.judge_if_match(request, found)? {
             Some(status) => Err(DavError::Status(status)),
@@ -88,9 +89,9 @@ impl<'a, C: Drop, F: GuardedFileSystem<C>, L: DavLockSystem> DavInner<'a, C, F, 
         request: &DavRequest,
         found: Option<&Meta>,
     ) -> DavResult<Option<StatusCode>>
-        ensures same_engine { frame self.new ≡ frame self.old }
+        ensures same_engine { IsSameEngine self.old self.new }
         ensures same_locks { lent_locks self.new ≡ lent_locks self.old }
-        ensures rules { Judges (own_if_match request.entry.now (state_by F.seen L.seen self.old) (option_copied found.entry)) (F.seen (lent self.old)) result (F.seen (lent self.new)) }
+        ensures rules { JudgesBy F.seen L.seen (λ state. own_if_match request.entry.now state (option_copied found.entry)) self.old result self.new }
     {
         if_match(
             *self.prefix.allocator(),
@@ -105,10 +106,10 @@ impl<'a, C: Drop, F: GuardedFileSystem<C>, L: DavLockSystem> DavInner<'a, C, F, 
 
     /// Returns whether the header `If` holds, and the state tokens that the request submits in it.
     pub(crate) fn judge_if(&mut self, request: &DavRequest) -> DavResult<(bool, Items<Text>)>
-        ensures same_engine { frame self.new ≡ frame self.old }
+        ensures same_engine { IsSameEngine self.old self.new }
         ensures same_locks { lent_locks self.new ≡ lent_locks self.old }
-        ensures tokens { IfOk result (λ told. told.1 ≡ submitted_tokens request.entry.now) }
-        ensures rules { Judges (own_if request.entry.now (state_by F.seen L.seen self.old)) (F.seen (lent self.old)) result (F.seen (lent self.new)) }
+        ensures tokens { IfOk result (λ held. held.1 ≡ submitted_tokens request.entry.now) }
+        ensures rules { JudgesBy F.seen L.seen (own_if request.entry.now) self.old result self.new }
     {
         dav_if_match(
             *self.prefix.allocator(),
@@ -146,6 +147,13 @@ pub(crate) fn depth_or_all(request: &DavRequest) -> Depth
         Ok(Some(depth)) => depth,
         _ => Depth::Infinity,
     }
+}
+
+/// Returns whether everything below a resource is included: with any Depth but 0.
+pub(crate) fn is_deep(depth: Depth) -> bool
+    ensures { result ≡ includes_all depth }
+{
+    depth != Depth::Zero
 }
 
 /// Rejects Depth 1 with 400.
@@ -196,7 +204,7 @@ pub(crate) fn where_permitted<T: Drop>(
 
 /// Returns the same result, in which a `Status` error also closes the connection.
 pub(crate) fn closed(verdict: DavResult<Option<Meta>>) -> DavResult<Option<Meta>>
-    ensures { result ≡ told_by closing_error verdict }
+    ensures { result ≡ map_error closing_error verdict }
 {
     verdict.map_err(closing)
 }

@@ -2,7 +2,6 @@
 #![tactic(auto)]
 
 mod copy;
-mod copymove;
 mod delete;
 mod inner;
 mod judge;
@@ -33,14 +32,14 @@ pub use dav_headers::{
     read_overwrite, read_place, read_tagged_path, read_update_range,
 };
 pub use dav_live::{LiveProperty, Viewer, is_microsoft, live_element};
-pub use dav_parts::{
+pub use dav_messages::{
     MultiError, build_lock_prop, dav_if_match, etaglist_match, http_if_match, if_match,
     if_match_get_tokens, ifrange_match, list_lockdiscovery, list_supportedlock, multi_error,
 };
 pub use dav_props::{
     PropWriter, PropertyChange, bare_element, element_to_davprop, element_to_davprop_full,
-    group_by_status, is_kept, liveprop_remove, liveprop_set, patches, read_update, some_refused,
-    tell_failed, tell_made,
+    group_by_status, is_kept, liveprop_remove, liveprop_set, patches, read_update, report_failed,
+    report_made, some_refused,
 };
 pub use dav_resource::{
     Body, BodyNumber, ChildElements, DavError, DavFile, DavMethod, DavMethodSet, DavPath, DavProp,
@@ -49,6 +48,6 @@ pub use dav_resource::{
     XMLNode,
 };
 pub use dav_store::{DavLock, DavLockSystem, GuardedFileSystem, LockError};
-pub use dav_walks::{Resource, delete_items, do_copy};
+pub use dav_walks::{CopyTask, Resource, delete_items};
 pub use inner::DavInner;
 pub use lock::get_timeout;

@@ -1,11 +1,11 @@
 //! The header `content-location` for a directory whose request path lacks the trailing slash.
 ghost use Rattle.std.specs.Prelude.{◌≡◌, ◌++◌, codes, IfOk, OnOk, IfErr};
 ghost use Rattle.dav_resource.specs.declared.error.DavError.TheVariants.{Memory};
-ghost use Rattle.dav_parts.specs.ReplyHeader.{HasRoomFor};
+ghost use Rattle.dav_messages.specs.ReplyHeader.{HasRoomFor};
 ghost use Rattle.dav_engine.specs.Location.{fixed_location as location_of_fixed, location_fields};
 
 use crate::inner::{fixed_path, is_directory};
-use dav_parts::{add_header, header_value};
+use dav_messages::{add_header, header_value};
 use dav_resource::{DavPath, DavResult, Meta};
 use http_header::{CONTENT_LOCATION, HeaderMap, HeaderValue};
 

@@ -1,29 +1,27 @@
 //! LOCK for a new lock (RFC 4918, section 9.10).
-ghost use Rattle.std.specs.Prelude.{◌≡◌, true, false, IfOk, IfErr, OnOk, Ok, Err, Some, is_some};
+ghost use Rattle.std.specs.Prelude.{◌≡◌, true, false, IfOk, IfErr, OnOk, Ok, Err, Some};
 ghost use Rattle.dav_resource.specs.declared.error.DavError.TheVariants.{Memory, Status};
 ghost use Rattle.dav_resource.specs.declared.method.DavMethod.TheVariants.{Lock};
 ghost use Rattle.dav_headers.specs.Timeout.{timeout_of};
 ghost use Rattle.dav_store.specs.LockCalls.{AddsLock};
-ghost use Rattle.dav_parts.specs.Dialogue.{Judges};
-ghost use Rattle.dav_parts.specs.Reply.{answer_of};
+ghost use Rattle.dav_messages.specs.Reply.{answer_of};
 ghost use Rattle.dav_engine.specs.Answered.{Unbegun};
-ghost use Rattle.dav_engine.specs.DavInner.{lent, lent_locks, frame, seen_by, state_by, bodies_by};
+ghost use Rattle.dav_engine.specs.DavInner.{lent_locks, bodies_by, has_locks};
 ghost use Rattle.dav_engine.specs.Served.{IsServed};
 ghost use Rattle.dav_engine.specs.LockInfo.{lock_info_of};
-ghost use Rattle.dav_engine.specs.Locking.{greatest_timeout as greatest_timeout_of, timeout_for, is_refresh as is_refresh_body, new_lock_rules, is_deep as is_deep_depth, lock_asked, DeniesAsked, lock_open_error as error_of_open, TellsLock, NewLockWork, NewLockCut};
+ghost use Rattle.dav_engine.specs.Locking.{greatest_timeout as greatest_timeout_of, timeout_for, is_refresh as is_refresh_body, new_lock_rules, lock_asked, DeniesAsked, lock_open_error as error_of_open, AnswersLock, NewLockWork, NewLockCut};
 ghost use Rattle.dav_engine.specs.Rules.{found_in};
-ghost use Rattle.dav_engine.specs.State.{ChangesLocks, IsRefusedByLocks};
-ghost use Rattle.dav_engine.specs.Work.{Performs, WorksOnStore};
+ghost use Rattle.dav_engine.specs.ByEngine.{IsSameEngine, StoreWorkBy, JudgesBy, WorkBy, LocksChange, LocksRefuse};
 
 use crate::DavInner;
 use crate::inner::fixed_path;
-use crate::judge::{depth_or_all, judge_depth, principal};
+use crate::judge::{depth_or_all, is_deep, judge_depth, principal};
 use crate::lock_calls::lock_error;
 use crate::lock_info::{LockInfo, read_lock_info};
 use crate::lock_reply::granted_reply;
 use crate::opening::{making_options, misplaced_status};
 use dav_headers::{DavTimeout, read_timeout};
-use dav_parts::is_empty_body;
+use dav_messages::is_empty_body;
 use dav_resource::{
     Body, DavError, DavPath, DavRequest, DavResult, Depth, FsError, Meta, OpenOptions,
 };
@@ -60,7 +58,7 @@ impl<'a, C: Drop, F: GuardedFileSystem<C>, L: DavLockSystem> DavInner<'a, C, F, 
     /// - 412 if the locks do not permit the request to write at the path, or if no lock of that token is
     ///   there or above.
     pub fn handle_lock(&mut self, request: &DavRequest) -> DavResult<Response<Body>>
-        ensures same_engine { frame self.new ≡ frame self.old }
+        ensures same_engine { IsSameEngine self.old self.new }
         ensures step { IsServed F.seen L.seen (Some Lock) self.old request.entry.now (answer_of result) self.new }
     {
         if is_empty_body::<C, F>(&*self.fs, &request.body) {
@@ -73,7 +71,7 @@ impl<'a, C: Drop, F: GuardedFileSystem<C>, L: DavLockSystem> DavInner<'a, C, F, 
     /// Executes a LOCK for a new lock: first the rules, and then the work.
     fn new_lock(&mut self, request: &DavRequest) -> DavResult<Response<Body>>
         requires body { is_refresh_body (bodies_by F.seen self.old) request.now.body ≡ false }
-        ensures same_engine { frame self.new ≡ frame self.old }
+        ensures same_engine { IsSameEngine self.old self.new }
         ensures step { IsServed F.seen L.seen (Some Lock) self.old request.entry.now (answer_of result) self.new }
     {
         let (found, info) = self.judge_new_lock(request)?;
@@ -83,13 +81,13 @@ impl<'a, C: Drop, F: GuardedFileSystem<C>, L: DavLockSystem> DavInner<'a, C, F, 
     /// Checks the rules of a new lock: looks up the path, and checks the Depth, the conditions and the body.
     /// Returns what was found, and what the body asks for.
     fn judge_new_lock(&mut self, request: &DavRequest) -> DavResult<(Option<Meta>, LockInfo)>
-        ensures same_engine { frame self.new ≡ frame self.old }
+        ensures same_engine { IsSameEngine self.old self.new }
         ensures same_locks { lent_locks self.new ≡ lent_locks self.old }
-        ensures locks { OnOk result (is_some (lent_locks self.old) ≡ true) }
+        ensures locks { OnOk result (has_locks self.old ≡ true) }
         ensures info { IfOk result (λ passed. lock_info_of request.entry.now.body ≡ Some passed.1) }
-        ensures rules { Judges (new_lock_rules request.entry.now (state_by F.seen L.seen self.old)) (F.seen (lent self.old)) (found_in result) (F.seen (lent self.new)) }
+        ensures rules { JudgesBy F.seen L.seen (new_lock_rules request.entry.now) self.old (found_in result) self.new }
     {
-        let found = self.look_to_lock(request)?;
+        let found = self.look_up_to_lock(request)?;
         judge_depth(depth_or_all(request))?;
         self.judge_holding(request, found.as_ref())?;
         let info = read_lock_info(*self.prefix.allocator(), &request.body)?;
@@ -104,13 +102,13 @@ impl<'a, C: Drop, F: GuardedFileSystem<C>, L: DavLockSystem> DavInner<'a, C, F, 
         found: Option<Meta>,
         info: &LockInfo,
     ) -> DavResult<Response<Body>>
-        requires locks { is_some (lent_locks self.old) ≡ true }
+        requires locks { has_locks self.old ≡ true }
         requires info { lock_info_of request.now.body ≡ Some info.now }
-        ensures same_engine { frame self.new ≡ frame self.old }
-        ensures work { Performs (NewLockWork request.entry.now found) (NewLockCut request.entry.now found) (seen_by F.seen L.seen self.old) (answer_of result) (seen_by F.seen L.seen self.new) }
+        ensures same_engine { IsSameEngine self.old self.new }
+        ensures work { WorkBy F.seen L.seen (NewLockWork request.entry.now found) (NewLockCut request.entry.now found) self.old (answer_of result) self.new }
     {
         let lock = self.add_lock(request, &found, info)?;
-        match self.tell_lock(request, &found, &lock) {
+        match self.answer_lock(request, &found, &lock) {
             Ok(reply) => Ok(reply),
             Err(error) => {
                 self.remove_lock(&lock.path, lock.token.as_str());
@@ -126,11 +124,11 @@ impl<'a, C: Drop, F: GuardedFileSystem<C>, L: DavLockSystem> DavInner<'a, C, F, 
         found: &Option<Meta>,
         info: &LockInfo,
     ) -> DavResult<DavLock>
-        requires locks { is_some (lent_locks self.old) ≡ true }
-        ensures same_engine { frame self.new ≡ frame self.old }
+        requires locks { has_locks self.old ≡ true }
+        ensures same_engine { IsSameEngine self.old self.new }
         ensures lock { IfOk result (λ lock. lock ≡ lock_asked request.entry.now found.now info.now) }
-        ensures granted { OnOk result (ChangesLocks (AddsLock (lock_asked request.entry.now found.now info.now)) (seen_by F.seen L.seen self.old) (seen_by F.seen L.seen self.new)) }
-        ensures refused { IfErr result (λ e. IsRefusedByLocks (DeniesAsked request.entry.now found.now info.now) 423 e (seen_by F.seen L.seen self.old) (seen_by F.seen L.seen self.new)) }
+        ensures granted { OnOk result (LocksChange F.seen L.seen (AddsLock (lock_asked request.entry.now found.now info.now)) self.old self.new) }
+        ensures refused { IfErr result (λ e. LocksRefuse F.seen L.seen (DeniesAsked request.entry.now found.now info.now) 423 e self.old self.new) }
     {
         let path = fixed_path(&request.path, found.as_ref())?;
         let Some(ls) = &mut self.ls else {
@@ -152,15 +150,15 @@ impl<'a, C: Drop, F: GuardedFileSystem<C>, L: DavLockSystem> DavInner<'a, C, F, 
     }
 
     /// Makes the response, and then creates the file if nothing was found.
-    fn tell_lock(
+    fn answer_lock(
         &mut self,
         request: &DavRequest,
         found: &Option<Meta>,
         lock: &DavLock,
     ) -> DavResult<Response<Body>>
-        ensures same_engine { frame self.new ≡ frame self.old }
+        ensures same_engine { IsSameEngine self.old self.new }
         ensures same_locks { lent_locks self.new ≡ lent_locks self.old }
-        ensures work { WorksOnStore (TellsLock request.entry.now found.now lock.now) Unbegun (F.seen (lent self.old)) (answer_of result) (F.seen (lent self.new)) }
+        ensures work { StoreWorkBy F.seen (AnswersLock request.entry.now found.now lock.now) Unbegun self.old (answer_of result) self.new }
     {
         let alloc = *self.prefix.allocator();
         let reply = granted_reply(alloc, request, found, lock)?;
@@ -196,13 +194,6 @@ fn greatest_timeout(shared: bool) -> u64
     ensures { result ≡ greatest_timeout_of shared }
 {
     if shared { 86400 } else { 600 }
-}
-
-/// Returns whether everything below the resource is locked with it.
-fn is_deep(depth: Depth) -> bool
-    ensures { result ≡ is_deep_depth depth }
-{
-    depth != Depth::Zero
 }
 
 fn lock_open_error(options: &OpenOptions, error: FsError) -> DavError

@@ -5,7 +5,7 @@ ghost use Rattle.dav_resource.specs.Gives.{GivesBy};
 ghost use Rattle.dav_resource.specs.Tree.{elements_of};
 ghost use Rattle.dav_engine.specs.LockInfo.{begins_with as tree_begins_with, is_scope as is_scope_tree, is_write as is_write_tree, is_part as is_part_tree, is_lock_info as is_lock_info_tree, last_named as last_named_in, asks_shared as tree_asks_shared, under_dav as tree_under_dav, owner_in, lock_info_verdict};
 
-use dav_parts::is_named;
+use dav_messages::is_named;
 use dav_resource::{DavError, DavResult, Element, ReqBody};
 use std::alloc::{AllocError, Global};
 

@@ -1,12 +1,11 @@
 //! The responses to LOCK and UNLOCK.
 ghost use Rattle.std.specs.Prelude.{◌≡◌, if◌then◌else◌, is_some, [], IfOk, IfErr};
-ghost use Rattle.dav_resource.specs.LockToken.{coded};
 ghost use Rattle.dav_resource.specs.declared.error.DavError.TheVariants.{Memory};
-ghost use Rattle.dav_parts.specs.Reply.{reply_of};
+ghost use Rattle.dav_messages.specs.Reply.{reply_of};
 ghost use Rattle.dav_engine.specs.LockReply.{lock_reply as reply_of_lock, granted_reply as reply_of_granted, refreshed_reply as reply_of_refreshed, unlocked_reply as reply_of_unlocked};
 
 use crate::location::add_location;
-use dav_parts::{add_header, build_lock_prop, header_value, xml_headers};
+use dav_messages::{add_header, build_lock_prop, header_value, xml_headers};
 use dav_resource::{Body, DavPath, DavRequest, DavResult, Meta};
 use dav_store::DavLock;
 use http::{Response, StatusCode};

@@ -1,15 +1,15 @@
 //! MKCOL (RFC 4918, section 9.3).
 ghost use Rattle.std.specs.Prelude.{◌≡◌, IfOk, IfErr, Some};
 ghost use Rattle.dav_resource.specs.declared.method.DavMethod.TheVariants.{MkCol};
-ghost use Rattle.dav_engine.specs.DavInner.{lent, lent_locks, frame};
+ghost use Rattle.dav_engine.specs.DavInner.{lent_locks};
 ghost use Rattle.dav_engine.specs.Served.{IsServed};
-ghost use Rattle.dav_parts.specs.Reply.{reply_of, answer_of};
+ghost use Rattle.dav_messages.specs.Reply.{reply_of, answer_of};
 ghost use Rattle.dav_engine.specs.Mkcol.{mkcol_error as error_of_mkcol, mkcol_reply as reply_of_mkcol, mkcol_location as location_of_mkcol, MkcolWork};
 ghost use Rattle.dav_engine.specs.Answered.{Unbegun};
-ghost use Rattle.dav_engine.specs.Work.{WorksOnStore};
+ghost use Rattle.dav_engine.specs.ByEngine.{IsSameEngine, StoreWorkBy};
 
 use crate::DavInner;
-use dav_parts::{add_header, header_value};
+use dav_messages::{add_header, header_value};
 use dav_resource::{Body, DavError, DavPath, DavRequest, DavResult, FsError};
 use dav_store::{DavLockSystem, GuardedFileSystem};
 use http::{Response, StatusCode};
@@ -26,7 +26,7 @@ impl<'a, C: Drop, F: GuardedFileSystem<C>, L: DavLockSystem> DavInner<'a, C, F, 
     /// - 423 if the locks do not permit the request.
     /// - 405 if something is at the path, 409 if its parent is not a collection, else the store's error.
     pub fn handle_mkcol(&mut self, request: &DavRequest) -> DavResult<Response<Body>>
-        ensures same_engine { frame self.new ≡ frame self.old }
+        ensures same_engine { IsSameEngine self.old self.new }
         ensures step { IsServed F.seen L.seen (Some MkCol) self.old request.entry.now (answer_of result) self.new }
     {
         self.judge_shallow(request)?;
@@ -35,9 +35,9 @@ impl<'a, C: Drop, F: GuardedFileSystem<C>, L: DavLockSystem> DavInner<'a, C, F, 
 
     /// The work. The response is made first, so that memory cannot run out after the collection was created.
     fn make_collection(&mut self, request: &DavRequest) -> DavResult<Response<Body>>
-        ensures same_engine { frame self.new ≡ frame self.old }
+        ensures same_engine { IsSameEngine self.old self.new }
         ensures same_locks { lent_locks self.new ≡ lent_locks self.old }
-        ensures work { WorksOnStore (MkcolWork request.entry.now) Unbegun (F.seen (lent self.old)) (answer_of result) (F.seen (lent self.new)) }
+        ensures work { StoreWorkBy F.seen (MkcolWork request.entry.now) Unbegun self.old (answer_of result) self.new }
     {
         let reply = mkcol_reply(*self.prefix.allocator(), &request.path)?;
         match self.fs.create_dir(&request.path, &self.credentials) {

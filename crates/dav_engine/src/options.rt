@@ -1,20 +1,19 @@
 //! OPTIONS (RFC 9110, section 9.3.7; RFC 4918, section 10.1).
-ghost use Rattle.std.specs.Prelude.{◌≡◌, ◌&&◌, ◌||◌, not, filter, map, is_some, string_bytes, Some, IfOk, IfErr};
+ghost use Rattle.std.specs.Prelude.{◌≡◌, ◌&&◌, ◌||◌, not, filter, map, string_bytes, Some, IfOk, IfErr};
 ghost use Rattle.http_header.specs.FieldValue.{IsFieldValue};
 ghost use Rattle.dav_resource.specs.Methods.{method_of, contains_method};
 ghost use Rattle.dav_resource.specs.declared.error.DavError.TheVariants.{Memory};
 ghost use Rattle.dav_resource.specs.declared.method.DavMethod.{DavMethod};
 ghost use Rattle.dav_resource.specs.declared.method.DavMethod.TheVariants.{Options};
-ghost use Rattle.dav_parts.specs.Dialogue.{Judges};
-ghost use Rattle.dav_parts.specs.Reply.{reply_of, answer_of};
-ghost use Rattle.dav_engine.specs.Answered.{Unbegun};
-ghost use Rattle.dav_engine.specs.DavInner.{lent, lent_locks, frame, seen_by, state_by};
-ghost use Rattle.dav_engine.specs.Options.{options_rules, OptionsWork, found_methods as methods_of_found, is_told, is_let, is_own, needs_locks, name_of, names_of, options_reply as reply_of_options};
+ghost use Rattle.dav_messages.specs.Reply.{reply_of, answer_of};
+ghost use Rattle.dav_engine.specs.DavInner.{lent_locks, has_locks};
+ghost use Rattle.dav_engine.specs.Options.{options_rules, found_methods as methods_of_found, is_offered, is_let, is_own, needs_locks, name_of, names_of, options_reply as reply_of_options};
 ghost use Rattle.dav_engine.specs.Served.{IsServed};
-ghost use Rattle.dav_engine.specs.Work.{Performs};
+ghost use Rattle.dav_engine.specs.ByEngine.{IsSameEngine, JudgesBy, DoesWork};
+ghost use Rattle.dav_engine.specs.Methods.{options_method};
 
 use crate::DavInner;
-use dav_parts::{add_header, header_value};
+use dav_messages::{add_header, header_value};
 use dav_resource::{Body, DavMethod, DavMethodSet, DavPath, DavRequest, DavResult, Meta};
 use dav_store::{DavLockSystem, GuardedFileSystem};
 use http::Response;
@@ -76,47 +75,51 @@ impl<'a, C: Drop, F: GuardedFileSystem<C>, L: DavLockSystem> DavInner<'a, C, F, 
     ///
     /// The only error is `Memory`. The store's contents and the locks never change.
     pub fn handle_options(&mut self, request: &DavRequest) -> DavResult<Response<Body>>
-        ensures same_engine { frame self.new ≡ frame self.old }
+        ensures same_engine { IsSameEngine self.old self.new }
         ensures step { IsServed F.seen L.seen (Some Options) self.old request.entry.now (answer_of result) self.new }
     {
-        let found = self.look_unless_star(request)?;
-        self.tell_methods(request, &found)
+        let found = self.look_up_unless_star(request)?;
+        self.answer_methods(request, &found)
     }
 
     /// The rules: looks up the path, except for `*`. Returns what was found.
-    fn look_unless_star(&mut self, request: &DavRequest) -> DavResult<Option<Meta>>
-        ensures same_engine { frame self.new ≡ frame self.old }
+    fn look_up_unless_star(&mut self, request: &DavRequest) -> DavResult<Option<Meta>>
+        ensures same_engine { IsSameEngine self.old self.new }
         ensures same_locks { lent_locks self.new ≡ lent_locks self.old }
-        ensures rules { Judges (options_rules request.entry.now (state_by F.seen L.seen self.old)) (F.seen (lent self.old)) result (F.seen (lent self.new)) }
+        ensures rules { JudgesBy F.seen L.seen (options_rules request.entry.now) self.old result self.new }
     {
         if request.path.is_star() {
             return Ok(None);
         }
-        self.look(&request.path)
+        self.look_up(&request.path)
     }
 
     /// The work: makes the response that lists the methods for what was found, of those that may be listed.
-    fn tell_methods(&self, request: &DavRequest, found: &Option<Meta>) -> DavResult<Response<Body>>
-        ensures { Performs (OptionsWork self.now.allow request.entry.now found.now) Unbegun (seen_by F.seen L.seen self.now) (answer_of result) (seen_by F.seen L.seen self.now) }
+    fn answer_methods(
+        &self,
+        request: &DavRequest,
+        found: &Option<Meta>,
+    ) -> DavResult<Response<Body>>
+        ensures { DoesWork F.seen L.seen options_method request.entry.now found.now self.now (answer_of result) self.now }
     {
         let alloc = *self.prefix.allocator();
-        let told = self.told_set(request);
-        let names = told_names(alloc, found_methods(&request.path, found), &told)?;
+        let offered = self.offered_set(request);
+        let names = offered_names(alloc, found_methods(&request.path, found), &offered)?;
         let reply = options_reply(alloc, names)?;
         Ok(reply)
     }
 
     /// Returns the methods that may be listed: the enabled ones, without LOCK and UNLOCK if there is no lock
     /// system, and without the request's own unless it is OPTIONS.
-    fn told_set(&self, request: &DavRequest) -> DavMethodSet
-        ensures { (method : DavMethod) → contains_method result method ≡ is_told self.now.allow (is_some (lent_locks self.now)) (method_of request.entry.now.method) method }
+    fn offered_set(&self, request: &DavRequest) -> DavMethodSet
+        ensures { (m : DavMethod) → contains_method result m ≡ is_offered self.now.allow (has_locks self.now) (method_of request.entry.now.method) m }
     {
         without_own(self.let_set(), DavMethod::from_method(&request.method))
     }
 
     /// Returns the enabled methods, without LOCK and UNLOCK if there is no lock system.
     fn let_set(&self) -> DavMethodSet
-        ensures { (method : DavMethod) → contains_method result method ≡ (is_let self.now.allow method && (is_some (lent_locks self.now) || not (needs_locks method))) }
+        ensures { (m : DavMethod) → contains_method result m ≡ (is_let self.now.allow m && (has_locks self.now || not (needs_locks m))) }
     {
         let mut set = self.allow.unwrap_or(DavMethodSet::all());
         if self.ls.is_some() {
@@ -155,14 +158,14 @@ fn found_methods(path: &DavPath, found: &Option<Meta>) -> &'static [DavMethod]
 }
 
 /// Returns the names of those methods that are in the set, joined by commas.
-fn told_names(
+fn offered_names(
     alloc: Global,
     methods: &[DavMethod],
-    told: &DavMethodSet,
+    offered: &DavMethodSet,
 ) -> Result<String, AllocError>
-    ensures { IfOk result (λ names. string_bytes names ≡ names_of (filter (contains_method told.now) methods.now)) }
+    ensures { IfOk result (λ names. string_bytes names ≡ names_of (filter (contains_method offered.now) methods.now)) }
 {
-    let names = names_in(alloc, methods, told)?;
+    let names = names_in(alloc, methods, offered)?;
     let text = names.as_slice().join(alloc, ",")?;
     Ok(text)
 }
@@ -171,13 +174,13 @@ fn told_names(
 fn names_in(
     alloc: Global,
     methods: &[DavMethod],
-    told: &DavMethodSet,
+    offered: &DavMethodSet,
 ) -> Result<Vec<&'static str>, AllocError>
-    ensures { IfOk result (λ names. map (λ name. name.now) names.items ≡ map name_of (filter (contains_method told.now) methods.now)) }
+    ensures { IfOk result (λ names. map (λ name. name.now) names.items ≡ map name_of (filter (contains_method offered.now) methods.now)) }
 {
     let mut names = Vec::new(alloc);
     for method in methods {
-        if told.contains(*method) {
+        if offered.contains(*method) {
             names.push(method_name(*method))?;
         }
     }

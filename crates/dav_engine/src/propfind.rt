@@ -3,17 +3,17 @@ ghost use Rattle.std.specs.Prelude.{◌≡◌, ◌++◌, [], Some, is_some, IfOk
 ghost use Rattle.dav_resource.specs.declared.error.DavError.TheVariants.{Memory};
 ghost use Rattle.dav_resource.specs.declared.method.DavMethod.TheVariants.{PropFind};
 ghost use Rattle.dav_headers.specs.Client.{user_agent_of, litmus_of};
-ghost use Rattle.dav_parts.specs.Dialogue.{Judges};
-ghost use Rattle.dav_parts.specs.Reply.{reply_of, answer_of, bare_reply};
+ghost use Rattle.dav_messages.specs.Reply.{reply_of, answer_of, bare_reply};
 ghost use Rattle.dav_props.specs.Propstat.{property_multistatus};
 ghost use Rattle.dav_find.specs.Declaring.{with_prefixes};
 ghost use Rattle.dav_find.specs.Searching.{asking_for};
-ghost use Rattle.dav_engine.specs.DavInner.{lent, lent_locks, frame, settings_by, seen_by};
-ghost use Rattle.dav_engine.specs.Finding.{PerformsPropfind};
+ghost use Rattle.dav_engine.specs.DavInner.{lent, lent_locks};
 ghost use Rattle.dav_engine.specs.Location.{location_fields};
 ghost use Rattle.dav_engine.specs.Propfind.{depth_or_default as depth_of_propfind, is_too_deep as is_too_deep_request, finite_depth_error as tree_of_finite_depth, finite_depth_reply as reply_of_finite_depth, uncached_fields, propfind_fields};
 ghost use Rattle.dav_engine.specs.Rules.{must_find};
 ghost use Rattle.dav_engine.specs.Served.{IsServed};
+ghost use Rattle.dav_engine.specs.ByEngine.{IsSameEngine, JudgesBy, DoesWork};
+ghost use Rattle.dav_engine.specs.Methods.{propfind_method};
 
 use crate::DavInner;
 use crate::inner::fixed_path;
@@ -21,7 +21,7 @@ use crate::judge::{principal, shared};
 use crate::location::add_location;
 use dav_find::{Finder, Search, declare_prefixes, read_search};
 use dav_headers::{read_depth, read_litmus, read_user_agent};
-use dav_parts::{add_header, add_xml_type, declaring_element};
+use dav_messages::{add_header, add_xml_type, declaring_element};
 use dav_props::PropWriter;
 use dav_resource::{Body, DavRequest, DavResult, Depth, Element, Meta};
 use dav_store::{DavLockSystem, GuardedFileSystem};
@@ -46,7 +46,7 @@ impl<'a, C: Drop, F: GuardedFileSystem<C>, L: DavLockSystem> DavInner<'a, C, F, 
     /// Errors: the store's error if the lookup of the path fails, `XmlParseError` (400) if the body is not
     /// that of a PROPFIND, and `Memory`. The store's contents and the locks never change.
     pub fn handle_propfind(&mut self, request: &DavRequest) -> DavResult<Response<Body>>
-        ensures same_engine { frame self.new ≡ frame self.old }
+        ensures same_engine { IsSameEngine self.old self.new }
         ensures step { IsServed F.seen L.seen (Some PropFind) self.old request.entry.now (answer_of result) self.new }
     {
         let alloc = *self.prefix.allocator();
@@ -55,15 +55,15 @@ impl<'a, C: Drop, F: GuardedFileSystem<C>, L: DavLockSystem> DavInner<'a, C, F, 
         }
         let meta = self.find(request)?;
         let search = read_search::<C, F>(&*self.fs, alloc, &request.body, user_agent(request))?;
-        self.tell_found(request, meta, &search)
+        self.report_found(request, meta, &search)
     }
 
     /// Looks up the path and returns what was found. If the lookup fails, the request fails with the store's
     /// error.
     fn find(&mut self, request: &DavRequest) -> DavResult<Meta>
-        ensures same_engine { frame self.new ≡ frame self.old }
+        ensures same_engine { IsSameEngine self.old self.new }
         ensures same_locks { lent_locks self.new ≡ lent_locks self.old }
-        ensures rules { Judges (must_find (F.seen (lent self.old)).contents request.entry.now.path.key) (F.seen (lent self.old)) result (F.seen (lent self.new)) }
+        ensures rules { JudgesBy F.seen L.seen (λ state. must_find state.contents request.entry.now.path.key) self.old result self.new }
     {
         let meta = self.fs.metadata(&request.path, &self.credentials)?;
         Ok(meta)
@@ -71,15 +71,15 @@ impl<'a, C: Drop, F: GuardedFileSystem<C>, L: DavLockSystem> DavInner<'a, C, F, 
 
     /// The work: makes the response with the properties of what was found, and of what is below it as far as
     /// the Depth reaches.
-    fn tell_found(
+    fn report_found(
         &mut self,
         request: &DavRequest,
         meta: Meta,
         search: &Search,
     ) -> DavResult<Response<Body>>
         requires { (F.seen (lent self.old)).contents.metas request.now.path.key ≡ Some meta }
-        ensures same_engine { frame self.new ≡ frame self.old }
-        ensures work { PerformsPropfind (settings_by F.seen self.old) request.entry.now (meta, asking_for search.now) (seen_by F.seen L.seen self.old) (answer_of result) (seen_by F.seen L.seen self.new) }
+        ensures same_engine { IsSameEngine self.old self.new }
+        ensures work { DoesWork F.seen L.seen propfind_method request.entry.now (meta, asking_for search.now) self.old (answer_of result) self.new }
     {
         let alloc = *self.prefix.allocator();
         let path = fixed_path(&request.path, Some(&meta))?;

@@ -2,20 +2,20 @@
 ghost use Rattle.std.specs.Prelude.{◌≡◌, map, Some, IfOk, IfErr};
 ghost use Rattle.dav_resource.specs.declared.error.DavError.TheVariants.{Memory};
 ghost use Rattle.dav_resource.specs.declared.method.DavMethod.TheVariants.{PropPatch};
-ghost use Rattle.dav_parts.specs.Dialogue.{Judges};
-ghost use Rattle.dav_parts.specs.Reply.{reply_of, answer_of};
+ghost use Rattle.dav_messages.specs.Reply.{reply_of, answer_of};
 ghost use Rattle.dav_props.specs.Groups.{groups_of, AreStatuses};
 ghost use Rattle.dav_props.specs.Update.{change_of, patches_of};
-ghost use Rattle.dav_engine.specs.DavInner.{lent, lent_locks, frame, state_by};
-ghost use Rattle.dav_engine.specs.Patching.{Storing, Patching};
+ghost use Rattle.dav_engine.specs.DavInner.{lent, lent_locks};
+ghost use Rattle.dav_engine.specs.Patching.{Storing};
 ghost use Rattle.dav_engine.specs.Proppatch.{proppatch_reply as reply_of_proppatch, found_rules};
 ghost use Rattle.dav_engine.specs.Served.{IsServed};
+ghost use Rattle.dav_engine.specs.ByEngine.{IsSameEngine, PatchedBy, JudgesBy};
 
 use crate::DavInner;
 use crate::inner::fixed_path;
 use crate::location::add_location;
 use dav_props::{
-    PropWriter, PropertyChange, patches, read_update, some_refused, tell_failed, tell_made,
+    PropWriter, PropertyChange, patches, read_update, report_failed, report_made, some_refused,
 };
 use dav_resource::{Body, DavPath, DavRequest, DavResult, Element, Meta};
 use dav_store::{DavLockSystem, GuardedFileSystem};
@@ -42,14 +42,14 @@ impl<'a, C: Drop, F: GuardedFileSystem<C>, L: DavLockSystem> DavInner<'a, C, F, 
     /// `Memory` can come at any time. The properties are then as before or, if the store had already been
     /// called, as it left them.
     pub fn handle_proppatch(&mut self, request: &DavRequest) -> DavResult<Response<Body>>
-        ensures same_engine { frame self.new ≡ frame self.old }
+        ensures same_engine { IsSameEngine self.old self.new }
         ensures step { IsServed F.seen L.seen (Some PropPatch) self.old request.entry.now (answer_of result) self.new }
     {
         let found = self.judge_found(request)?;
         let alloc = *self.prefix.allocator();
         let changes = read_update(alloc, &request.body, self.fs.have_props())?;
         if some_refused(changes.as_slice()) {
-            let groups = tell_failed(alloc, changes.as_slice())?;
+            let groups = report_failed(alloc, changes.as_slice())?;
             return proppatch_reply(alloc, &request.path, &found, groups);
         }
         self.patch_found(request, &found, changes.as_slice())
@@ -58,9 +58,9 @@ impl<'a, C: Drop, F: GuardedFileSystem<C>, L: DavLockSystem> DavInner<'a, C, F, 
     /// Checks the rules except the body: looks up the path, which must not fail, and checks the conditions
     /// and the locks of the path. Returns what was found.
     fn judge_found(&mut self, request: &DavRequest) -> DavResult<Option<Meta>>
-        ensures same_engine { frame self.new ≡ frame self.old }
+        ensures same_engine { IsSameEngine self.old self.new }
         ensures same_locks { lent_locks self.new ≡ lent_locks self.old }
-        ensures rules { Judges (found_rules request.entry.now (state_by F.seen L.seen self.old)) (F.seen (lent self.old)) result (F.seen (lent self.new)) }
+        ensures rules { JudgesBy F.seen L.seen (found_rules request.entry.now) self.old result self.new }
     {
         let meta = self.fs.metadata(&request.path, &self.credentials)?;
         self.judge_path(request, Some(meta))
@@ -73,13 +73,13 @@ impl<'a, C: Drop, F: GuardedFileSystem<C>, L: DavLockSystem> DavInner<'a, C, F, 
         found: &Option<Meta>,
         changes: &[PropertyChange<'_>],
     ) -> DavResult<Response<Body>>
-        ensures same_engine { frame self.new ≡ frame self.old }
+        ensures same_engine { IsSameEngine self.old self.new }
         ensures same_locks { lent_locks self.new ≡ lent_locks self.old }
-        ensures work { Patching request.entry.now (found.now, map change_of changes.now) (F.seen (lent self.old)) (answer_of result) (F.seen (lent self.new)) }
+        ensures work { PatchedBy F.seen request.entry.now (found.now, map change_of changes.now) self.old (answer_of result) self.new }
     {
         let alloc = *self.prefix.allocator();
         let statuses = self.make_changes(&request.path, changes)?;
-        let groups = tell_made(alloc, changes, statuses.as_slice())?;
+        let groups = report_made(alloc, changes, statuses.as_slice())?;
         proppatch_reply(alloc, &request.path, found, groups)
     }
 
@@ -90,7 +90,7 @@ impl<'a, C: Drop, F: GuardedFileSystem<C>, L: DavLockSystem> DavInner<'a, C, F, 
         path: &DavPath,
         changes: &[PropertyChange<'_>],
     ) -> DavResult<Vec<StatusCode>>
-        ensures same_engine { frame self.new ≡ frame self.old }
+        ensures same_engine { IsSameEngine self.old self.new }
         ensures same_locks { lent_locks self.new ≡ lent_locks self.old }
         ensures stored { Storing path.now.key (patches_of (map change_of changes.now)) (F.seen (lent self.old)) result (F.seen (lent self.new)) }
     {

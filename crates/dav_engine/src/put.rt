@@ -1,17 +1,15 @@
 //! PUT (RFC 9110, section 9.3.4; RFC 4918, section 9.7) and PATCH (RFC 5789).
 ghost use Rattle.std.specs.Prelude.{◌≡◌, ◌<◌, ◌+◌, ◌^◌, nat_eq, true, false, length, if◌then◌else◌, IfOk, IfErr, OnOk, OnErr, Some, Ok};
 ghost use Rattle.std.specs.Option.{ForSome, option_map_or};
-ghost use Rattle.dav_resource.specs.Methods.{method_of};
 ghost use Rattle.dav_store.specs.Store.{IsTagText};
-ghost use Rattle.dav_engine.specs.DavInner.{lent, lent_locks, frame, state_by, bodies_by};
+ghost use Rattle.dav_engine.specs.DavInner.{lent, lent_locks, bodies_by};
 ghost use Rattle.dav_engine.specs.Served.{IsServed};
-ghost use Rattle.dav_parts.specs.Reply.{answer_of};
-ghost use Rattle.dav_parts.specs.Dialogue.{Judges};
+ghost use Rattle.dav_messages.specs.Reply.{answer_of};
 ghost use Rattle.dav_headers.specs.Body.{checksum_of};
 ghost use Rattle.dav_engine.specs.Target.{target_of};
-ghost use Rattle.dav_engine.specs.Put.{new_bytes as bytes_of_request, put_rules, put_method, is_patch as is_patch_method, as_looked, put_options as options_of_put, put_open_error as error_of_open, put_seek_error as seek_error_of, PutWork, PutCut, SeeksPlace, WritesBody, look_at_file as file_look, body_verdict};
+ghost use Rattle.dav_engine.specs.Put.{put_rules, put_served, is_patch as is_patch_method, as_looked, put_options as options_of_put, put_open_error as error_of_open, put_seek_error as seek_error_of, SeeksPlace, WritesBody, look_up_file as look_up_file_of, body_verdict};
 ghost use Rattle.dav_engine.specs.Rules.{found_in};
-ghost use Rattle.dav_engine.specs.Work.{WorksOnStore};
+ghost use Rattle.dav_engine.specs.ByEngine.{IsSameEngine, WritesBy, bytes_by, EndsInRange, JudgesBy};
 
 use crate::DavInner;
 use crate::judge::closed;
@@ -19,7 +17,7 @@ use crate::opening::{making_options, misplaced_status};
 use crate::put_reply::put_reply;
 use crate::target::{Target, find_target, stated_length};
 use dav_headers::read_checksum;
-use dav_parts::body_length;
+use dav_messages::body_length;
 use dav_resource::{
     Body, DavError, DavFile, DavMethod, DavRequest, DavResult, FsError, FsResult, Meta,
     OpenOptions, ReqBody, Text,
@@ -60,8 +58,8 @@ impl<'a, C: Drop, F: GuardedFileSystem<C>, L: DavLockSystem> DavInner<'a, C, F, 
     ///
     /// Whatever the result is, resources at other paths, the properties and the locks are as before.
     pub fn handle_put(&mut self, request: &DavRequest) -> DavResult<Response<Body>>
-        ensures same_engine { frame self.new ≡ frame self.old }
-        ensures step { IsServed F.seen L.seen (Some (put_method (method_of request.entry.now.method))) self.old request.entry.now (answer_of result) self.new }
+        ensures same_engine { IsSameEngine self.old self.new }
+        ensures step { IsServed F.seen L.seen (put_served request.entry.now) self.old request.entry.now (answer_of result) self.new }
         ensures same_locks { lent_locks self.new ≡ lent_locks self.old }
     {
         let partial = is_patch(DavMethod::from_method(&request.method));
@@ -76,13 +74,13 @@ impl<'a, C: Drop, F: GuardedFileSystem<C>, L: DavLockSystem> DavInner<'a, C, F, 
         partial: bool,
         request: &DavRequest,
     ) -> DavResult<(Option<Meta>, Target)>
-        ensures same_engine { frame self.new ≡ frame self.old }
+        ensures same_engine { IsSameEngine self.old self.new }
         ensures same_locks { lent_locks self.new ≡ lent_locks self.old }
         ensures aimed { IfOk result (λ passed. target_of partial request.entry.now.headers (as_looked passed.0) ≡ Ok passed.1) }
-        ensures reach { IfOk result (λ passed. (if passed.1.part then passed.1.start else 0) + length (bytes_of_request (bodies_by F.seen self.old) request.entry.now.body) < 2 ^ 64) }
-        ensures rules { Judges (put_rules (bodies_by F.seen self.old) partial request.entry.now (state_by F.seen L.seen self.old)) (F.seen (lent self.old)) (found_in result) (F.seen (lent self.new)) }
+        ensures reach { IfOk result (λ passed. EndsInRange passed.1 (bytes_by F.seen self.old request.entry.now.body)) }
+        ensures rules { JudgesBy F.seen L.seen (put_rules (bodies_by F.seen self.old) partial request.entry.now) self.old (found_in result) self.new }
     {
-        let looked = self.look_closely(&request.path)?;
+        let looked = self.look_up_result(&request.path)?;
         let target = find_target(partial, &request.headers, &looked)?;
         let found = closed(self.judge_path(request, looked.ok()))?;
         Ok((self.judge_body(&target, &request.body, found)?, target))
@@ -96,7 +94,7 @@ impl<'a, C: Drop, F: GuardedFileSystem<C>, L: DavLockSystem> DavInner<'a, C, F, 
         found: Option<Meta>,
     ) -> DavResult<Option<Meta>>
         ensures verdict { result ≡ body_verdict (bodies_by F.seen self.now) target.now body.now found }
-        ensures fits { OnOk result (length (bytes_of_request (bodies_by F.seen self.now) body.now) < 2 ^ 64) }
+        ensures fits { OnOk result (length (bytes_by F.seen self.now body.now) < 2 ^ 64) }
     {
         match body_length::<C, F>(&*self.fs, body) {
             Some(length) if has_length(target, length) => Ok(found),
@@ -113,10 +111,10 @@ impl<'a, C: Drop, F: GuardedFileSystem<C>, L: DavLockSystem> DavInner<'a, C, F, 
         target: &Target,
     ) -> DavResult<Response<Body>>
         requires aimed { target_of partial request.now.headers (as_looked found) ≡ Ok target.now }
-        requires reach { (if target.now.part then target.now.start else 0) + length (bytes_of_request (bodies_by F.seen self.old) request.now.body) < 2 ^ 64 }
-        ensures same_engine { frame self.new ≡ frame self.old }
+        requires reach { EndsInRange target.now (bytes_by F.seen self.old request.now.body) }
+        ensures same_engine { IsSameEngine self.old self.new }
         ensures same_locks { lent_locks self.new ≡ lent_locks self.old }
-        ensures work { WorksOnStore (PutWork (bodies_by F.seen self.old) partial request.entry.now found) (PutCut (bodies_by F.seen self.old) partial request.entry.now found) (F.seen (lent self.old)) (answer_of result) (F.seen (lent self.new)) }
+        ensures work { WritesBy F.seen partial request.entry.now found self.old (answer_of result) self.new }
     {
         let options = put_options(*self.prefix.allocator(), request, target)?;
         self.write_with(partial, request, found, target, &options)
@@ -132,11 +130,11 @@ impl<'a, C: Drop, F: GuardedFileSystem<C>, L: DavLockSystem> DavInner<'a, C, F, 
         options: &OpenOptions,
     ) -> DavResult<Response<Body>>
         requires aimed { target_of partial request.now.headers (as_looked found) ≡ Ok target.now }
-        requires reach { (if target.now.part then target.now.start else 0) + length (bytes_of_request (bodies_by F.seen self.old) request.now.body) < 2 ^ 64 }
+        requires reach { EndsInRange target.now (bytes_by F.seen self.old request.now.body) }
         requires options { options.now ≡ options_of_put request.now target.now }
-        ensures same_engine { frame self.new ≡ frame self.old }
+        ensures same_engine { IsSameEngine self.old self.new }
         ensures same_locks { lent_locks self.new ≡ lent_locks self.old }
-        ensures work { WorksOnStore (PutWork (bodies_by F.seen self.old) partial request.entry.now found) (PutCut (bodies_by F.seen self.old) partial request.entry.now found) (F.seen (lent self.old)) (answer_of result) (F.seen (lent self.new)) }
+        ensures work { WritesBy F.seen partial request.entry.now found self.old (answer_of result) self.new }
     {
         let mut file = match self.fs.open(&request.path, options, &self.credentials) {
             Ok(file) => file,
@@ -147,13 +145,13 @@ impl<'a, C: Drop, F: GuardedFileSystem<C>, L: DavLockSystem> DavInner<'a, C, F, 
         }
         self.write_body(&mut file, &request.body)?;
         self.fs.flush(&file, &self.credentials)?;
-        let meta = self.look_at_file(&file)?;
+        let meta = self.look_up_file(&file)?;
         put_reply(*self.prefix.allocator(), found, meta)
     }
 
     /// Moves the file handle to the offset, if a part is written.
     fn seek_place(&mut self, file: &mut DavFile, target: &Target) -> FsResult<()>
-        ensures same_engine { frame self.new ≡ frame self.old }
+        ensures same_engine { IsSameEngine self.old self.new }
         ensures same_locks { lent_locks self.new ≡ lent_locks self.old }
         ensures place { IfOk result (λ _. file.new ≡ record file.old { pos = if target.now.part then target.now.start else file.old.pos }) }
         ensures sought { SeeksPlace target.now (F.seen (lent self.old)) file.old.path.key result (F.seen (lent self.new)) }
@@ -166,11 +164,11 @@ impl<'a, C: Drop, F: GuardedFileSystem<C>, L: DavLockSystem> DavInner<'a, C, F, 
 
     /// Writes the body's bytes, if there are any.
     fn write_body(&mut self, file: &mut DavFile, body: &ReqBody) -> FsResult<()>
-        requires { file.old.append ≡ false → file.old.pos + length (bytes_of_request (bodies_by F.seen self.old) body.now) < 2 ^ 64 }
-        ensures same_engine { frame self.new ≡ frame self.old }
+        requires { file.old.append ≡ false → file.old.pos + length (bytes_by F.seen self.old body.now) < 2 ^ 64 }
+        ensures same_engine { IsSameEngine self.old self.new }
         ensures same_locks { lent_locks self.new ≡ lent_locks self.old }
         ensures same_file { file.new.path ≡ file.old.path }
-        ensures written { WritesBody (F.seen (lent self.old)) file.old (bytes_of_request (bodies_by F.seen self.old) body.now) result (F.seen (lent self.new)) }
+        ensures written { WritesBody (F.seen (lent self.old)) file.old (bytes_by F.seen self.old body.now) result (F.seen (lent self.new)) }
     {
         if body_length::<C, F>(&*self.fs, body).unwrap_or(0) == 0 {
             return Ok(());
@@ -186,10 +184,10 @@ impl<'a, C: Drop, F: GuardedFileSystem<C>, L: DavLockSystem> DavInner<'a, C, F, 
 
     /// Reads the metadata of an open file. If the store refuses, nothing is known of the file. The only error
     /// is `Memory`, and then nothing has changed.
-    fn look_at_file(&mut self, file: &DavFile) -> DavResult<Option<Meta>>
-        ensures same_engine { frame self.new ≡ frame self.old }
+    fn look_up_file(&mut self, file: &DavFile) -> DavResult<Option<Meta>>
+        ensures same_engine { IsSameEngine self.old self.new }
         ensures same_locks { lent_locks self.new ≡ lent_locks self.old }
-        ensures looked { Judges (file_look (F.seen (lent self.old)).contents file.now.path.key) (F.seen (lent self.old)) result (F.seen (lent self.new)) }
+        ensures looked { JudgesBy F.seen L.seen (λ state. look_up_file_of state.contents file.now.path.key) self.old result self.new }
         ensures memory { OnErr result (F.seen (lent self.new) ≡ F.seen (lent self.old)) }
         ensures tag { IfOk result (λ meta. ForSome meta (λ m. ForSome m.etag IsTagText)) }
     {

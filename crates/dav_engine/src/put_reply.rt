@@ -4,12 +4,12 @@ ghost use Rattle.std.specs.Option.{ForSome, option_and_then};
 ghost use Rattle.http_header.specs.FieldValue.{plain_value};
 ghost use Rattle.dav_resource.specs.declared.error.DavError.TheVariants.{Memory};
 ghost use Rattle.dav_store.specs.Store.{IsTagText};
-ghost use Rattle.dav_parts.specs.Reply.{reply_of};
+ghost use Rattle.dav_messages.specs.Reply.{reply_of};
 ghost use Rattle.dav_dates.specs.HttpDate.{http_date_text};
 ghost use Rattle.dav_engine.specs.PutReply.{put_reply as reply_to_put, put_headers as headers_of_put, quoted as quoted_tag, shown_tag, shown_change, empty_length};
 
 use dav_dates::{LAST_SHOWN, http_date};
-use dav_parts::{add_header, header_value};
+use dav_messages::{add_header, header_value};
 use dav_resource::{Body, DavResult, Meta};
 use http::{Response, StatusCode};
 use http_header::{ACCEPT_RANGES, CONTENT_LENGTH, ETAG, HeaderMap, HeaderValue, LAST_MODIFIED};

@@ -1,18 +1,18 @@
 //! MOVE (RFC 4918, section 9.9).
-ghost use Rattle.std.specs.Prelude.{◌≡◌, Some, None, is_some, if◌then◌else◌, option_copied};
+ghost use Rattle.std.specs.Prelude.{◌≡◌, Some, None, if◌then◌else◌};
 ghost use Rattle.dav_resource.specs.declared.method.DavMethod.TheVariants.{Move};
 ghost use Rattle.dav_store.specs.Transfers.{rename_call};
-ghost use Rattle.dav_parts.specs.Reply.{answer_of};
-ghost use Rattle.dav_engine.specs.DavInner.{lent, lent_locks, frame, seen_by};
+ghost use Rattle.dav_messages.specs.Reply.{answer_of};
+ghost use Rattle.dav_engine.specs.DavInner.{lent, lent_locks};
 ghost use Rattle.dav_engine.specs.Served.{IsServed};
-ghost use Rattle.dav_engine.specs.Transferring.{Names};
-ghost use Rattle.dav_engine.specs.Move.{MayMove, Renaming, MovesSource, MovesInPart, Moves, MovesSoFar, MoveWork, MoveCut};
-ghost use Rattle.dav_engine.specs.Work.{Performs};
+ghost use Rattle.dav_engine.specs.Move.{MayMove, Renaming, Moves};
+ghost use Rattle.dav_engine.specs.ByEngine.{IsSameEngine, DoesWork, MovedBy, SourceMovedBy};
+ghost use Rattle.dav_engine.specs.Methods.{move_method};
 
 use crate::DavInner;
 use crate::inner::fixed_path;
 use crate::transfer::{Transfer, transferred_status};
-use dav_parts::{MultiError, multi_error};
+use dav_messages::{MultiError, multi_error};
 use dav_resource::{Body, DavError, DavPath, DavRequest, DavResult, FsError};
 use dav_store::{DavLockSystem, GuardedFileSystem};
 use http::Response;
@@ -47,7 +47,7 @@ impl<'a, C: Drop, F: GuardedFileSystem<C>, L: DavLockSystem> DavInner<'a, C, F, 
     /// moved. Locks at the destination are dropped only after everything there was removed, and locks at the
     /// source only after the move.
     pub fn handle_move(&mut self, request: &DavRequest) -> DavResult<Response<Body>>
-        ensures same_engine { frame self.new ≡ frame self.old }
+        ensures same_engine { IsSameEngine self.old self.new }
         ensures step { IsServed F.seen L.seen (Some Move) self.old request.entry.now (answer_of result) self.new }
     {
         let found = self.judge_transfer(true, request)?;
@@ -57,8 +57,8 @@ impl<'a, C: Drop, F: GuardedFileSystem<C>, L: DavLockSystem> DavInner<'a, C, F, 
     /// The work: moves the source and makes the response.
     fn move_found(&mut self, request: &DavRequest, found: &Transfer) -> DavResult<Response<Body>>
         requires { MayMove request.now.path.key found.now (F.seen (lent self.old)).contents }
-        ensures same_engine { frame self.new ≡ frame self.old }
-        ensures work { Performs (MoveWork request.entry.now found.now) (MoveCut request.entry.now found.now) (seen_by F.seen L.seen self.old) (answer_of result) (seen_by F.seen L.seen self.new) }
+        ensures same_engine { IsSameEngine self.old self.new }
+        ensures work { DoesWork F.seen L.seen move_method request.entry.now found.now self.old (answer_of result) self.new }
     {
         let alloc = *self.prefix.allocator();
         let path = fixed_path(&request.path, Some(&found.meta))?;
@@ -83,8 +83,8 @@ impl<'a, C: Drop, F: GuardedFileSystem<C>, L: DavLockSystem> DavInner<'a, C, F, 
         res: &mut MultiError,
     ) -> DavResult<()>
         requires { MayMove source.now.key found.now (F.seen (lent self.old)).contents }
-        ensures same_engine { frame self.new ≡ frame self.old }
-        ensures moved { Names (Moves source.now found.now) (MovesSoFar source.now found.now) (seen_by F.seen L.seen self.old) res.old res.new result (seen_by F.seen L.seen self.new) }
+        ensures same_engine { IsSameEngine self.old self.new }
+        ensures moved { MovedBy F.seen L.seen source.now found.now self.old res.old res.new result self.new }
     {
         self.clear_destination(&found.destination, found.there.as_ref(), res)?;
         self.move_source(source, &found.destination, res)
@@ -103,8 +103,8 @@ impl<'a, C: Drop, F: GuardedFileSystem<C>, L: DavLockSystem> DavInner<'a, C, F, 
         res: &mut MultiError,
     ) -> DavResult<()>
         requires { (rename_call (F.seen (lent self.old)).contents source.now.key destination.now.key).bar ≡ None }
-        ensures same_engine { frame self.new ≡ frame self.old }
-        ensures moved { Names (MovesSource source.now destination.now) (MovesInPart source.now destination.now) (seen_by F.seen L.seen self.old) res.old res.new result (seen_by F.seen L.seen self.new) }
+        ensures same_engine { IsSameEngine self.old self.new }
+        ensures moved { SourceMovedBy F.seen L.seen source.now destination.now self.old res.old res.new result self.new }
     {
         self.do_move(source, destination, res)?;
         self.drop_locks(source);
@@ -122,7 +122,7 @@ impl<'a, C: Drop, F: GuardedFileSystem<C>, L: DavLockSystem> DavInner<'a, C, F, 
         dest: &DavPath,
         res: &mut MultiError,
     ) -> DavResult<()>
-        ensures same_engine { frame self.new ≡ frame self.old }
+        ensures same_engine { IsSameEngine self.old self.new }
         ensures same_locks { lent_locks self.new ≡ lent_locks self.old }
         ensures renaming { Renaming source.now dest.now (F.seen (lent self.old)) (F.seen (lent self.new)) res.old res.new result }
     {

@@ -3,15 +3,15 @@ ghost use Rattle.std.specs.Prelude.{◌≡◌, true, Some, is_some, if◌then◌
 ghost use Rattle.std.specs.Option.{ForSome};
 ghost use Rattle.dav_resource.specs.Gives.{GivesBy};
 ghost use Rattle.dav_resource.specs.Key.{is_same_key};
-ghost use Rattle.dav_parts.specs.Dialogue.{Judges};
-ghost use Rattle.dav_engine.specs.DavInner.{lent, lent_locks, frame, seen_by, state_by, settings_by};
-ghost use Rattle.dav_engine.specs.Transferring.{transfer_rules, asked_destination as asked_destination_of, reach_verdict, parent_verdict, must_have_parent as must_have_parent_of, look_there as look_there_of, see_destination as see_destination_of, found_or_absent as found_or_absent_of, place_verdict, is_misplaced as is_misplaced_by, is_deep as is_deep_depth, may_overwrite as may_overwrite_by, permits_transfer as permits_transfer_by, Clearing};
+ghost use Rattle.dav_engine.specs.DavInner.{lent, lent_locks, state_by, settings_by};
+ghost use Rattle.dav_engine.specs.Transferring.{transfer_rules, asked_destination as asked_destination_of, reach_verdict, parent_verdict, must_have_parent as must_have_parent_of, look_up_destination as look_up_destination_of, see_destination as see_destination_of, found_or_absent as found_or_absent_of, place_verdict, is_misplaced as is_misplaced_by, may_overwrite as may_overwrite_by, permits_transfer as permits_transfer_by};
+ghost use Rattle.dav_engine.specs.ByEngine.{IsSameEngine, JudgesBy, ClearedBy};
 
 use crate::DavInner;
 use crate::inner::is_directory;
-use crate::judge::{depth_or_all, judge_depth, where_permitted};
+use crate::judge::{depth_or_all, is_deep, judge_depth, where_permitted};
 use dav_headers::{read_destination, read_overwrite};
-use dav_parts::MultiError;
+use dav_messages::MultiError;
 use dav_resource::{
     DavError, DavPath, DavRequest, DavResult, Depth, FsError, FsResult, Meta, Text,
 };
@@ -38,9 +38,9 @@ impl<'a, C: Drop, F: GuardedFileSystem<C>, L: DavLockSystem> DavInner<'a, C, F, 
         moving: bool,
         request: &DavRequest,
     ) -> DavResult<Transfer>
-        ensures same_engine { frame self.new ≡ frame self.old }
+        ensures same_engine { IsSameEngine self.old self.new }
         ensures same_locks { lent_locks self.new ≡ lent_locks self.old }
-        ensures rules { Judges (transfer_rules moving (settings_by F.seen self.old) request.entry.now (state_by F.seen L.seen self.old)) (F.seen (lent self.old)) result (F.seen (lent self.new)) }
+        ensures rules { JudgesBy F.seen L.seen (transfer_rules moving (settings_by F.seen self.old) request.entry.now) self.old result self.new }
     {
         let destination = self.asked_destination(moving, request)?;
         let meta = self.fs.metadata(&request.path, &self.credentials)?;
@@ -70,34 +70,34 @@ impl<'a, C: Drop, F: GuardedFileSystem<C>, L: DavLockSystem> DavInner<'a, C, F, 
 
     /// Looks up the destination, which has to be below a directory.
     fn see_destination(&mut self, destination: &DavPath) -> DavResult<Option<Meta>>
-        ensures same_engine { frame self.new ≡ frame self.old }
+        ensures same_engine { IsSameEngine self.old self.new }
         ensures same_locks { lent_locks self.new ≡ lent_locks self.old }
-        ensures rules { Judges (see_destination_of (F.seen (lent self.old)).contents destination.now.key) (F.seen (lent self.old)) result (F.seen (lent self.new)) }
+        ensures rules { JudgesBy F.seen L.seen (λ state. see_destination_of state.contents destination.now.key) self.old result self.new }
     {
         self.must_have_parent(destination)?;
-        self.look_there(destination)
+        self.look_up_destination(destination)
     }
 
     /// Rejects a destination with 409 if no directory is found above it. A failed lookup counts as nothing
     /// there.
     fn must_have_parent(&mut self, destination: &DavPath) -> DavResult<()>
-        ensures same_engine { frame self.new ≡ frame self.old }
+        ensures same_engine { IsSameEngine self.old self.new }
         ensures same_locks { lent_locks self.new ≡ lent_locks self.old }
-        ensures rules { Judges (must_have_parent_of (F.seen (lent self.old)).contents destination.now.key) (F.seen (lent self.old)) result (F.seen (lent self.new)) }
+        ensures rules { JudgesBy F.seen L.seen (λ state. must_have_parent_of state.contents destination.now.key) self.old result self.new }
     {
         let parent = destination.parent()?;
-        let above = self.look(&parent)?;
+        let above = self.look_up(&parent)?;
         judge_parent(above.as_ref())
     }
 
     /// Looks up the destination. It is no error if nothing is there, but each other error of the store is.
-    fn look_there(&mut self, destination: &DavPath) -> DavResult<Option<Meta>>
-        ensures same_engine { frame self.new ≡ frame self.old }
+    fn look_up_destination(&mut self, destination: &DavPath) -> DavResult<Option<Meta>>
+        ensures same_engine { IsSameEngine self.old self.new }
         ensures same_locks { lent_locks self.new ≡ lent_locks self.old }
-        ensures rules { Judges (look_there_of (F.seen (lent self.old)).contents destination.now.key) (F.seen (lent self.old)) result (F.seen (lent self.new)) }
+        ensures rules { JudgesBy F.seen L.seen (λ state. look_up_destination_of state.contents destination.now.key) self.old result self.new }
     {
-        let told = self.look_closely(destination)?;
-        found_or_absent(told)
+        let found = self.look_up_result(destination)?;
+        found_or_absent(found)
     }
 
     /// Returns whether the locks allow the request, with these tokens, to replace everything at the
@@ -128,8 +128,8 @@ impl<'a, C: Drop, F: GuardedFileSystem<C>, L: DavLockSystem> DavInner<'a, C, F, 
         res: &mut MultiError,
     ) -> DavResult<()>
         requires { ForSome (option_copied there) (λ meta. (F.seen (lent self.old)).contents.metas destination.now.key ≡ Some meta) }
-        ensures same_engine { frame self.new ≡ frame self.old }
-        ensures cleared { Clearing (is_some there.entry) destination.now (seen_by F.seen L.seen self.old) res.old res.new result (seen_by F.seen L.seen self.new) }
+        ensures same_engine { IsSameEngine self.old self.new }
+        ensures cleared { ClearedBy F.seen L.seen (is_some there.entry) destination.now self.old res.old res.new result self.new }
     {
         match there {
             Some(meta) => self.clear_found(destination, meta, res),
@@ -145,8 +145,8 @@ impl<'a, C: Drop, F: GuardedFileSystem<C>, L: DavLockSystem> DavInner<'a, C, F, 
         res: &mut MultiError,
     ) -> DavResult<()>
         requires { (F.seen (lent self.old)).contents.metas destination.now.key ≡ Some meta.now }
-        ensures same_engine { frame self.new ≡ frame self.old }
-        ensures cleared { Clearing true destination.now (seen_by F.seen L.seen self.old) res.old res.new result (seen_by F.seen L.seen self.new) }
+        ensures same_engine { IsSameEngine self.old self.new }
+        ensures cleared { ClearedBy F.seen L.seen true destination.now self.old res.old res.new result self.new }
     {
         self.delete_items(res, Depth::Infinity, meta, destination)?;
         self.drop_locks(destination);
@@ -176,10 +176,10 @@ fn judge_parent(above: Option<&Meta>) -> DavResult<()>
 }
 
 /// Returns what a lookup found. It is no error if nothing is there.
-fn found_or_absent(told: FsResult<Meta>) -> DavResult<Option<Meta>>
-    ensures { result ≡ found_or_absent_of told }
+fn found_or_absent(found: FsResult<Meta>) -> DavResult<Option<Meta>>
+    ensures { result ≡ found_or_absent_of found }
 {
-    match told {
+    match found {
         Ok(meta) => Ok(Some(meta)),
         Err(FsError::NotFound) => Ok(None),
         Err(error) => Err(error.into()),
@@ -234,13 +234,6 @@ fn is_same_place(source: &DavPath, destination: &DavPath) -> bool
     ensures { result ≡ is_same_key source.now.key destination.now.key }
 {
     source.same_key(destination)
-}
-
-/// Returns whether everything below a resource goes with it.
-pub(crate) fn is_deep(depth: Depth) -> bool
-    ensures { result ≡ is_deep_depth depth }
-{
-    depth != Depth::Zero
 }
 
 /// Returns 204 if something was at the destination, else 201.

@@ -1,16 +1,15 @@
 //! UNLOCK (RFC 4918, section 9.11).
-ghost use Rattle.std.specs.Prelude.{◌≡◌, true, IfOk, IfErr, OnOk, Some, None, is_some};
+ghost use Rattle.std.specs.Prelude.{◌≡◌, true, IfOk, IfErr, OnOk, Some, None};
 ghost use Rattle.dav_resource.specs.declared.error.DavError.TheVariants.{Status};
 ghost use Rattle.dav_resource.specs.declared.method.DavMethod.TheVariants.{Unlock};
 ghost use Rattle.dav_headers.specs.LockToken.{lock_token_of};
-ghost use Rattle.dav_parts.specs.Dialogue.{Judges};
-ghost use Rattle.dav_parts.specs.Reply.{answer_of};
-ghost use Rattle.dav_engine.specs.Answered.{Unbegun};
-ghost use Rattle.dav_engine.specs.DavInner.{lent, lent_locks, frame, seen_by, state_by};
+ghost use Rattle.dav_messages.specs.Reply.{answer_of};
+ghost use Rattle.dav_engine.specs.DavInner.{lent_locks, has_locks};
 ghost use Rattle.dav_engine.specs.Served.{IsServed};
 ghost use Rattle.dav_engine.specs.Rules.{found_in};
-ghost use Rattle.dav_engine.specs.Work.{Performs};
-ghost use Rattle.dav_engine.specs.Unlocking.{unlock_rules, UnlockWork};
+ghost use Rattle.dav_engine.specs.Unlocking.{unlock_rules};
+ghost use Rattle.dav_engine.specs.ByEngine.{IsSameEngine, JudgesBy, DoesWork};
+ghost use Rattle.dav_engine.specs.Methods.{unlock_method};
 
 use crate::DavInner;
 use crate::lock_reply::unlocked_reply;
@@ -28,7 +27,7 @@ impl<'a, C: Drop, F: GuardedFileSystem<C>, L: DavLockSystem> DavInner<'a, C, F, 
     /// such lock or if a lock system whose `unlock` is not reliable fails to remove it, and `Memory`. After
     /// each of them nothing has changed.
     pub fn handle_unlock(&mut self, request: &DavRequest) -> DavResult<Response<Body>>
-        ensures same_engine { frame self.new ≡ frame self.old }
+        ensures same_engine { IsSameEngine self.old self.new }
         ensures step { IsServed F.seen L.seen (Some Unlock) self.old request.entry.now (answer_of result) self.new }
     {
         let (found, token) = self.judge_unlock(request)?;
@@ -38,15 +37,15 @@ impl<'a, C: Drop, F: GuardedFileSystem<C>, L: DavLockSystem> DavInner<'a, C, F, 
     /// Checks the rules: whether there is a lock system, and the token. Then looks up the path. Returns what
     /// was found, and the token.
     fn judge_unlock<'r>(&mut self, request: &'r DavRequest) -> DavResult<(Option<Meta>, &'r str)>
-        ensures same_engine { frame self.new ≡ frame self.old }
+        ensures same_engine { IsSameEngine self.old self.new }
         ensures same_locks { lent_locks self.new ≡ lent_locks self.old }
-        ensures locks { OnOk result (is_some (lent_locks self.old) ≡ true) }
+        ensures locks { OnOk result (has_locks self.old ≡ true) }
         ensures token { IfOk result (λ passed. lock_token_of request.entry.now.headers ≡ Some passed.1.now) }
-        ensures rules { Judges (unlock_rules request.entry.now (state_by F.seen L.seen self.old)) (F.seen (lent self.old)) (found_in result) (F.seen (lent self.new)) }
+        ensures rules { JudgesBy F.seen L.seen (unlock_rules request.entry.now) self.old (found_in result) self.new }
     {
         self.judge_locks()?;
         let token = named_token(&request.headers)?;
-        Ok((self.look(&request.path)?, token))
+        Ok((self.look_up(&request.path)?, token))
     }
 
     /// The work. The response is made first, so that memory cannot run out after the lock was removed.
@@ -56,10 +55,10 @@ impl<'a, C: Drop, F: GuardedFileSystem<C>, L: DavLockSystem> DavInner<'a, C, F, 
         found: Option<Meta>,
         token: &str,
     ) -> DavResult<Response<Body>>
-        requires locks { is_some (lent_locks self.old) ≡ true }
+        requires locks { has_locks self.old ≡ true }
         requires token { lock_token_of request.now.headers ≡ Some token.now }
-        ensures same_engine { frame self.new ≡ frame self.old }
-        ensures work { Performs (UnlockWork request.entry.now found) Unbegun (seen_by F.seen L.seen self.old) (answer_of result) (seen_by F.seen L.seen self.new) }
+        ensures same_engine { IsSameEngine self.old self.new }
+        ensures work { DoesWork F.seen L.seen unlock_method request.entry.now found self.old (answer_of result) self.new }
     {
         let reply = unlocked_reply(*self.prefix.allocator(), &request.path, &found)?;
         if self.remove_lock(&request.path, token) {

@@ -4,7 +4,7 @@ use Rattle.std.proofs.lemmas.Iterator.{items_from_drains}
 use Rattle.std.proofs.lemmas.Iterator.Consumers.{YieldsList-from_first, YieldsList-from_filter}
 use Rattle.dav_resource.specs.Element.{child_elements}
 use Rattle.dav_resource.specs.Tree.{Tree}
-use Rattle.dav_parts.specs.DavElement.{is_named}
+use Rattle.dav_messages.specs.DavElement.{is_named}
 use Rattle.dav_engine.proofs.LastNamed.{last_or-map}
 use Rattle.dav_engine.proofs.lock_info.last_named.Goals as goal
 

@@ -1,7 +1,7 @@
 use Rattle.std.proofs.Common.{◌≢◌, ◌∙◌, Err, ap, rules}
 use Rattle.std.proofs.lemmas.Result.{err_from_is_err_and}
 use Rattle.dav_resource.specs.declared.error.DavError.TheVariants.{Memory}
-use Rattle.dav_parts.specs.Reply.{answer_of}
+use Rattle.dav_messages.specs.Reply.{answer_of}
 use Rattle.dav_engine.proofs.Copying.{copy_is_work}
 use Rattle.dav_engine.proofs.Replacing.{transfer_unbegun, transfer_stopped, transfer_untold, transfer_done, transfer_named}
 use Rattle.dav_engine.proofs.inner.DavInner.copy_found.Goals.{in-Ok+in_ok-add_status-in-Ok, in-Err}

@@ -1,7 +1,7 @@
 use Rattle.std.proofs.Common.{◌≢◌, ◌∙◌, Err, ap, option_map, rules}
 use Rattle.std.proofs.lemmas.Result.{err_from_is_err_and}
 use Rattle.dav_resource.specs.declared.error.DavError.TheVariants.{Memory}
-use Rattle.dav_parts.specs.Reply.{answer_of}
+use Rattle.dav_messages.specs.Reply.{answer_of}
 use Rattle.dav_engine.specs.DavInner.{seen_by}
 use Rattle.dav_engine.proofs.Deleting.{works_unbegun, works_stopped, works_untold, works_gone, works_named}
 use Rattle.dav_engine.proofs.inner.DavInner.delete_found.Goals.{in-Ok+in_ok-add_status-in-Ok, in-Err}

@@ -1,6 +1,6 @@
 use Rattle.std.proofs.Common.{◌≡◌, ◌∙◌, true, false, sym, ap}
 use Rattle.dav_find.specs.Searching.{asking_for}
-use Rattle.dav_engine.specs.DavInner.{lent, settings_by, seen_by, bodies_by}
+use Rattle.dav_engine.specs.DavInner.{settings_by, seen_by, bodies_by}
 use Rattle.dav_engine.specs.Methods.{propfind_method}
 use Rattle.dav_engine.specs.Propfind.{is_too_deep, finite_depth_reply}
 use Rattle.dav_engine.specs.State.{state_of}
@@ -41,12 +41,12 @@ returns-clause-step g c =
     let shallow : is_too_deep c.args.request.now ≡ false = sym c.is_too_deep.ensures ∙ c.if-is_too_deep.false in
     let found = c.in_ok-meta.ensures in
     let read = rw (c.user_agent.ensures, found.rules.fixed) at c.in_ok-search.ensures in
-    let work = rw (ap (λ f. f.1.0) found.same_engine, ap (λ f. f.1.1) found.same_engine, found.rules.fixed, found.same_locks) at c.tell_found.ensures.work in
+    let work = rw (ap (λ f. f.1.0) found.same_engine, ap (λ f. f.1.1) found.same_engine, found.rules.fixed, found.same_locks) at c.report_found.ensures.work in
     serves_work propfind_method propfind_sound (settings_by g.F.GuardedFileSystem.seen c.args.self.now) c.args.request.now _ (c.in_ok-meta.meta, asking_for c.in_ok-search.search) _ _ _ _ (lawful g.F.GuardedFileSystem.seen g.L.DavLockSystem.seen g.met.F.GuardedFileSystem.well_formed g.met.L.DavLockSystem.distinct c.args.self.now)
     (judges_sought held c.args.request.now state shallow _ _ c.in_ok-meta.meta found.rules _ read) work
 
-pub tell_found-requires : goal.tell_found-requires
-tell_found-requires g c =
+pub report_found-requires : goal.report_found-requires
+report_found-requires g c =
     let held = bodies_by g.F.GuardedFileSystem.seen c.args.self.now in
     let state = state_of (seen_by g.F.GuardedFileSystem.seen g.L.DavLockSystem.seen c.args.self.now) in
     let shallow : is_too_deep c.args.request.now ≡ false = sym c.is_too_deep.ensures ∙ c.if-is_too_deep.false in

@@ -1,7 +1,7 @@
 use Rattle.std.proofs.Common.{◌≡◌, ◌∙◌, true, false, sym, map}
 use Rattle.dav_props.specs.Groups.{groups_of}
 use Rattle.dav_props.specs.Propstat.{grouped}
-use Rattle.dav_props.specs.Update.{change_of, some_refused, told_failed}
+use Rattle.dav_props.specs.Update.{change_of, some_refused, failed_report}
 use Rattle.dav_engine.specs.DavInner.{lent, seen_by, settings_by}
 use Rattle.dav_engine.specs.Methods.{proppatch_method}
 use Rattle.dav_engine.specs.Proppatch.{proppatch_reply}
@@ -42,11 +42,11 @@ returns-then-some_refused-clause-step g c =
     let read = rw (c.have_props.ensures, judged.rules.fixed) at c.in_ok-changes.ensures.given in
     let is : some_refused (map change_of c.as_slice.result.now) ≡ true = sym c.some_refused.ensures ∙ c.if-some_refused.true in
     let refused = rw c.as_slice.ensures.value at is in
-    let groups = grouped (told_failed (map change_of c.in_ok-changes.changes.items)) in
+    let groups = grouped (failed_report (map change_of c.in_ok-changes.changes.items)) in
     let are : groups_of c.in_ok-groups.groups ≡ groups = rw c.as_slice-then-some_refused.ensures.value at c.in_ok-groups.ensures.groups in
-    let told = rw are at c.proppatch_reply.ensures.ok in
+    let recorded = rw are at c.proppatch_reply.ensures.ok in
     rw judged.same_locks
-    (serves_told proppatch_method proppatch_sound (settings_by g.F.GuardedFileSystem.seen c.args.self.now) c.args.request.now _ _ _ (proppatch_reply c.args.request.now.path c.in_ok-found.found groups) c.proppatch_reply.result (lawful g.F.GuardedFileSystem.seen g.L.DavLockSystem.seen g.met.F.GuardedFileSystem.well_formed g.met.L.DavLockSystem.distinct c.args.self.now) told c.proppatch_reply.ensures.err
+    (serves_told proppatch_method proppatch_sound (settings_by g.F.GuardedFileSystem.seen c.args.self.now) c.args.request.now _ _ _ (proppatch_reply c.args.request.now.path c.in_ok-found.found groups) c.proppatch_reply.result (lawful g.F.GuardedFileSystem.seen g.L.DavLockSystem.seen g.met.F.GuardedFileSystem.well_formed g.met.L.DavLockSystem.distinct c.args.self.now) recorded c.proppatch_reply.ensures.err
     (reaches_refusal keeps c.args.request.now state _ _ c.in_ok-found.found judged.rules _ read refused) (judges_untold keeps c.args.request.now state _ _ c.in_ok-found.found judged.rules _ read))
 
 pub returns-clause-step : goal.returns-clause-step

@@ -1,5 +1,4 @@
 use Rattle.std.proofs.Common.{◌∙◌, ap}
-use Rattle.dav_resource.specs.Methods.{method_of}
 use Rattle.dav_engine.specs.DavInner.{settings_by, bodies_by}
 use Rattle.dav_engine.specs.Methods.{write_method}
 use Rattle.dav_engine.specs.Put.{is_patch}

@@ -1,5 +1,5 @@
 use Rattle.std.proofs.Common.{◌∙◌, Some, refl, sym, ap}
-use Rattle.dav_parts.specs.Dialogues.{judges_exit, judges_then}
+use Rattle.dav_messages.specs.Dialogues.{judges_exit, judges_then}
 use Rattle.dav_engine.specs.DavInner.{seen_by}
 use Rattle.dav_engine.specs.Rules.{depth_verdict}
 use Rattle.dav_engine.specs.State.{state_of}

@@ -1,5 +1,5 @@
 use Rattle.std.proofs.Common.{Some, refl}
-use Rattle.dav_parts.specs.Dialogues.{judges_exit, judges_then}
+use Rattle.dav_messages.specs.Dialogues.{judges_exit, judges_then}
 use Rattle.dav_engine.proofs.Deleting.{finds, finds_nothing}
 use Rattle.dav_engine.proofs.Judging.{still, same_rules}
 use Rattle.dav_engine.proofs.inner.DavInner.judge_found.Goals as goal

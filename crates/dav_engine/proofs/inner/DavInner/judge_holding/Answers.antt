@@ -1,5 +1,5 @@
 use Rattle.std.proofs.Common.{option_copied}
-use Rattle.dav_parts.specs.Dialogues.{judges_exit}
+use Rattle.dav_messages.specs.Dialogues.{judges_exit}
 use Rattle.dav_engine.specs.DavInner.{seen_by}
 use Rattle.dav_engine.specs.State.{state_of}
 use Rattle.dav_engine.proofs.Locking.{holds_not, holds_so}

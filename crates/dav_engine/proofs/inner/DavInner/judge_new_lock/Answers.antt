@@ -1,5 +1,5 @@
 use Rattle.std.proofs.Common.{◌∙◌, sym, ap}
-use Rattle.dav_parts.specs.Dialogues.{judges_exit, judges_then}
+use Rattle.dav_messages.specs.Dialogues.{judges_exit, judges_then}
 use Rattle.dav_engine.specs.Rules.{depth_verdict, holding}
 use Rattle.dav_engine.proofs.Deleting.{judges_known}
 use Rattle.dav_engine.proofs.Judging.{still, in_same_state, found_in_error}

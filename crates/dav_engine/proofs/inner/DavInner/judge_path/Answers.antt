@@ -1,4 +1,4 @@
-use Rattle.dav_parts.specs.Dialogues.{judges_exit, judges_then, judges_if}
+use Rattle.dav_messages.specs.Dialogues.{judges_exit, judges_then, judges_if}
 use Rattle.dav_engine.proofs.inner.DavInner.judge_path.Goals as goal
 
 pub returns-in_err-tokens-clause-rules : goal.returns-in_err-tokens-clause-rules

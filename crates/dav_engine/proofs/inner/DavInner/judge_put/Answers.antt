@@ -1,5 +1,5 @@
 use Rattle.std.proofs.Common.{◌∙◌, ◌<◌, ◌^◌, length, ap, refl, subst, sym}
-use Rattle.dav_parts.specs.Dialogues.{judges_exit, judges_refusing}
+use Rattle.dav_messages.specs.Dialogues.{judges_exit, judges_refusing}
 use Rattle.dav_engine.specs.DavInner.{lent, seen_by, bodies_by}
 use Rattle.dav_engine.specs.State.{state_of}
 use Rattle.dav_engine.specs.Rules.{closing}
@@ -17,7 +17,7 @@ pub returns-in_err-target-clause-rules : goal.returns-in_err-target-clause-rules
 returns-in_err-target-clause-rules g c =
     let see = g.F.GuardedFileSystem.seen in
     let state = state_of (seen_by see g.L.DavLockSystem.seen c.args.self.now) in
-    put_unaimed (bodies_by see c.args.self.now) c.args.partial c.args.request.now state (see (lent c.args.self.now)) _ (see (lent c.look_closely.new.self)) c.in_ok-looked.looked c.in_ok-looked.ensures.rules _ _
+    put_unaimed (bodies_by see c.args.self.now) c.args.partial c.args.request.now state (see (lent c.args.self.now)) _ (see (lent c.look_up_result.new.self)) c.in_ok-looked.looked c.in_ok-looked.ensures.rules _ _
     (found_in_error _ _ c.from_residual-in_err-target.ensures.1) c.in_err-target.ensures
 
 pub returns-in_err-found-clause-rules : goal.returns-in_err-found-clause-rules

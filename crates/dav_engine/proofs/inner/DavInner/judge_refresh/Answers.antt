@@ -1,6 +1,6 @@
 use Rattle.std.proofs.Common.{◌∙◌, sym, ap}
-use Rattle.dav_parts.specs.Conditions.{dav_if_match}
-use Rattle.dav_parts.specs.Dialogues.{judges_exit, judges_then, judges_memory, judges_if}
+use Rattle.dav_messages.specs.Conditions.{dav_if_match}
+use Rattle.dav_messages.specs.Dialogues.{judges_exit, judges_then, judges_memory, judges_if}
 use Rattle.dav_engine.specs.Locking.{one_token}
 use Rattle.dav_engine.proofs.Deleting.{judges_known}
 use Rattle.dav_engine.proofs.Judging.{still, in_same_state, found_in_error, judges_error}

@@ -1,4 +1,4 @@
-use Rattle.dav_parts.specs.Dialogues.{judges_exit, judges_then}
+use Rattle.dav_messages.specs.Dialogues.{judges_exit, judges_then}
 use Rattle.dav_engine.proofs.Judging.{still, same_rules}
 use Rattle.dav_engine.proofs.inner.DavInner.judge_shallow.Goals as goal
 

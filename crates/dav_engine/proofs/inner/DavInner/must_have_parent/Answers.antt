@@ -1,5 +1,5 @@
 use Rattle.std.proofs.Common.{sym}
-use Rattle.dav_parts.specs.Dialogues.{judges_exit, judges_then}
+use Rattle.dav_messages.specs.Dialogues.{judges_exit, judges_then}
 use Rattle.dav_engine.proofs.Deleting.{judges_known}
 use Rattle.dav_engine.proofs.inner.DavInner.must_have_parent.Goals as goal
 

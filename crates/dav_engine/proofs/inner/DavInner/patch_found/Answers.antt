@@ -1,6 +1,6 @@
 use Rattle.std.proofs.Common.{◌∙◌, Err, ap, map}
 use Rattle.std.proofs.lemmas.Result.{err_from_is_err_and}
-use Rattle.dav_parts.specs.Reply.{answer_of}
+use Rattle.dav_messages.specs.Reply.{answer_of}
 use Rattle.dav_props.specs.Update.{change_of}
 use Rattle.dav_engine.proofs.Patching.{patch_unmade}
 use Rattle.dav_engine.proofs.inner.DavInner.patch_found.Goals as goal

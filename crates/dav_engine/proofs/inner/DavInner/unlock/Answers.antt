@@ -1,6 +1,6 @@
 use Rattle.std.proofs.Common.{◌∙◌, ap, Err}
 use Rattle.std.proofs.lemmas.Result.{err_from_is_err_and}
-use Rattle.dav_parts.specs.Reply.{answer_of}
+use Rattle.dav_messages.specs.Reply.{answer_of}
 use Rattle.dav_engine.proofs.Locking.{unlocks_unbegun, unlocks, unlocks_nothing}
 use Rattle.dav_engine.proofs.inner.DavInner.unlock.Goals as goal
 

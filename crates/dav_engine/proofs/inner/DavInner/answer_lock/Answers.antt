@@ -1,8 +1,8 @@
 use Rattle.std.proofs.Common.{◌∙◌, ap, sym, Err}
 use Rattle.std.proofs.lemmas.Result.{err_from_is_err_and}
-use Rattle.dav_parts.specs.Reply.{answer_of}
+use Rattle.dav_messages.specs.Reply.{answer_of}
 use Rattle.dav_engine.proofs.Locking.{tells_unbegun, tells_found, tells_made, tells_not}
-use Rattle.dav_engine.proofs.inner.DavInner.tell_lock.Goals as goal
+use Rattle.dav_engine.proofs.inner.DavInner.answer_lock.Goals as goal
 
 pub returns-then-is_some-clause-work : goal.returns-then-is_some-clause-work
 returns-then-is_some-clause-work g c = tells_found c.args.request.now c.args.found.now c.args.lock.now _ _ (sym c.is_some.ensures ∙ c.if-is_some.true) c.in_ok-reply.ensures.ok

@@ -14,8 +14,8 @@ use Rattle.dav_headers.specs.Destination.{destination_of}
 use Rattle.dav_store.specs.Below.{is_at_or_below}
 use Rattle.dav_store.specs.Logged.{Logged}
 use Rattle.dav_store.specs.Store.{Contents, IsWellFormed}
-use Rattle.dav_parts.specs.Multistatus.{Item, multi_answer}
-use Rattle.dav_parts.specs.Reply.{Answer}
+use Rattle.dav_messages.specs.Multistatus.{Item, multi_answer}
+use Rattle.dav_messages.specs.Reply.{Answer}
 use Rattle.dav_walks.specs.ClearedLaws.{all_gone}
 use Rattle.dav_walks.specs.Copied.{CopiesAll}
 use Rattle.dav_walks.specs.Copying.{snapshot, copied}
@@ -23,10 +23,10 @@ use Rattle.dav_walks.specs.CopyLaws.{IsCopiedWhole, copied_whole, copy_names_ref
 use Rattle.dav_walks.specs.KeyCall.{standing}
 use Rattle.dav_engine.specs.State.{State, IsLawfulState}
 use Rattle.dav_engine.specs.Settings.{Settings}
-use Rattle.dav_engine.specs.Rules.{depth_or_all, fixed_path}
-use Rattle.dav_engine.specs.Transferring.{where_reached, reach_verdict, is_deep, transfer_rules, ClearsIf, UnlessNamed, transferred_items}
+use Rattle.dav_engine.specs.Rules.{depth_or_all, fixed_path, is_deep}
+use Rattle.dav_engine.specs.Transferring.{where_reached, reach_verdict, transfer_rules, ClearsIf, UnlessNamed, transferred_items}
 use Rattle.dav_engine.specs.Copy.{replaced, MayCopy, CopiesSource, Copies, CopyWork}
-use Rattle.dav_engine.specs.Laws.{tells_transferred, DuplicatesWhole}
+use Rattle.dav_engine.specs.Laws.{is_transferred, DuplicatesWhole}
 use Rattle.dav_engine.specs.Method.{StepBy, Refused as ByRules, Done, CutShort, CutInWork}
 use Rattle.dav_engine.specs.Methods.{copy_method}
 use Rattle.dav_engine.specs.declared.transfer.Transfer.{Transfer}
@@ -89,17 +89,17 @@ module _ (depth : Depth) (deep : is_deep depth ≡ true) (source : PathValue) (f
     pub nothing_else : (x : Key) → snapshot old.contents.tree source.key found.destination.key x ≡ None → get new.contents.tree (found.destination.key ++ x) ≡ None
 
   copies_whole : Copies depth source found old records [] new → AllCopied
-  copies_whole w = by_kept w.kept w.cleared w.follows
+  copies_whole w = by_left w.left w.cleared w.follows
     where
-      by_kept : (kept : List Item) → ClearsIf (is_some (replaced depth found.there)) found.destination old w.head kept w.mid → UnlessNamed (CopiesSource depth source found.destination) kept w.mid w.rest [] new → AllCopied
-      by_kept (item ∷ kept) cleared follows = absurd (let none : [] ≡ item ∷ kept = follows.1 in cc)
-      by_kept [] cleared follows =
-          let whole = whole_of depth source found.destination w.mid.contents new.contents w.rest deep follows.copied in
+      by_left : (kept : List Item) → ClearsIf (is_some (replaced depth found.there)) found.destination old w.removal kept w.between → UnlessNamed (CopiesSource depth source found.destination) kept w.between w.after [] new → AllCopied
+      by_left (item ∷ kept) cleared follows = absurd (let none : [] ≡ item ∷ kept = follows.1 in cc)
+      by_left [] cleared follows =
+          let whole = whole_of depth source found.destination w.between.contents new.contents w.after deep follows.copied in
           record {
-            there = λ x there. whole.there x (λ none. there (sym (same_snapshot w.mid w.head cleared x) ∙ none)) ∙ ap copied (kept_source w.mid w.head cleared x (outside_of w.mid w.head cleared x there));
+            there = λ x there. whole.there x (λ none. there (sym (same_snapshot w.between w.removal cleared x) ∙ none)) ∙ ap copied (kept_source w.between w.removal cleared x (outside_of w.between w.removal cleared x there));
             nothing_else = λ x nothing.
-                ap (λ s. s.0) (whole.others (found.destination.key ++ x) (λ y there e. there (ap (snapshot w.mid.contents.tree source.key found.destination.key) (sym (append_cancel_left found.destination.key x y e)) ∙ same_snapshot w.mid w.head cleared x ∙ nothing)))
-                ∙ gone w.mid w.head cleared x;
+                ap (λ s. s.0) (whole.others (found.destination.key ++ x) (λ y there e. there (ap (snapshot w.between.contents.tree source.key found.destination.key) (sym (append_cancel_left found.destination.key x y e)) ∙ same_snapshot w.between w.removal cleared x ∙ nothing)))
+                ∙ gone w.between w.removal cleared x;
           }
 
 -- ---- the laws
@@ -109,7 +109,7 @@ module _ (settings : Settings) (request : DavRequest) (old : State) (answer : An
   CopyTells = DuplicatesWhole settings request old answer new
 
   error_tells : (e : DavError) → answer ≡ Err e → CopyTells
-  error_tells e is told deep = absurd (let no : false ≡ true = sym (ap tells_transferred is) ∙ told in cc)
+  error_tells e is recorded deep = absurd (let no : false ≡ true = sym (ap is_transferred is) ∙ recorded in cc)
 
   module _ (formed : IsWellFormed old.contents) (found : Transfer) (rules : CopyPassed settings request old found) (records : List Logged) where
     abbrev path : PathValue
@@ -126,7 +126,7 @@ module _ (settings : Settings) (request : DavRequest) (old : State) (answer : An
         asked_so (Err e) is = absurd cc
 
         by_names : (names : List Item) → Copies depth path found old records names new → answer ≡ multi_answer path (transferred_items path found.there names) → CopyTells
-        by_names [] copies answered told deep =
+        by_names [] copies answered recorded deep =
             let whole = copies_whole depth deep path found old new records formed (rules.may formed) copies in
             record {
               destination = found.destination;
@@ -135,17 +135,17 @@ module _ (settings : Settings) (request : DavRequest) (old : State) (answer : An
               nothing_else = whole.nothing_else;
               outside = λ key apart. copied_outside depth path found old new records key apart [] copies;
             }
-        by_names (item ∷ names) copies answered told deep =
+        by_names (item ∷ names) copies answered recorded deep =
             let refusals : AreRefusals (item ∷ names) = copies_refused depth path found old new records (item ∷ names) copies in
-            absurd (let no : false ≡ true = sym (ap tells_transferred answered ∙ named_untold path item names refusals) ∙ told in cc)
+            absurd (let no : false ≡ true = sym (ap is_transferred answered ∙ named_untold path item names refusals) ∙ recorded in cc)
 
   step_tells : IsWellFormed old.contents → (records : List Logged) → StepBy copy_method settings request old records answer new → CopyTells
   step_tells formed records (ByRules h) =
       let refused = errs_led AnyError (transfer_rules false settings request old) records answer (errs_transfer false settings request old) h.head in
       error_tells refused.0 refused.1
   step_tells formed records (Done h) = work_tells formed h.found (copy_passed settings request old h.head h.found h.passed) h.rest h.work
-  step_tells formed records (CutShort h) = error_tells Memory h.told
-  step_tells formed records (CutInWork h) = error_tells Memory h.told
+  step_tells formed records (CutShort h) = error_tells Memory h.answered
+  step_tells formed records (CutInWork h) = error_tells Memory h.answered
 
 pub copy_tells : {settings : Settings} {request : DavRequest} {old new : State} {records : List Logged} {answer : Answer} → IsLawfulState old → StepBy copy_method settings request old records answer new → DuplicatesWhole settings request old answer new
 copy_tells {settings} {request} {old} {new} {records} {answer} lawful step = step_tells settings request old answer new lawful.contents records step

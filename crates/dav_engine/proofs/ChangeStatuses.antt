@@ -13,11 +13,11 @@ use Rattle.dav_resource.specs.declared.record.Outcome.TheVariants.{Granted, Refu
 use Rattle.dav_store.specs.Logged.{Logged}
 use Rattle.dav_store.specs.PropertyCalls.{Patch, patch_record}
 use Rattle.dav_store.specs.Store.{Contents, property_key}
-use Rattle.dav_parts.specs.Dialogue.{Dialogue, Asks, Refuses, Passed, LeadsTo}
+use Rattle.dav_messages.specs.Dialogue.{Dialogue, Asks, Refuses, Passed, LeadsTo}
 use Rattle.dav_props.specs.Property.{bare}
-use Rattle.dav_props.specs.Propstat.{Told}
-use Rattle.dav_props.specs.Update.{Change, is_dead, is_refused, live_first, failed, told_failed, patch_of, patches_of, made, live_made, told_made}
-use Rattle.dav_engine.specs.Laws.{is_passed_over, status_beside_refused, is_patch, returned, all_ok, property_of, TellsEach}
+use Rattle.dav_props.specs.Propstat.{PropertyStatus}
+use Rattle.dav_props.specs.Update.{Change, is_dead, is_refused, live_first, failed, failed_report, patch_of, patches_of, made, live_made, made_report}
+use Rattle.dav_engine.specs.Laws.{is_passed_over, status_beside_refused, is_patch, returned, all_ok, property_of, ReportsEach}
 use Rattle.dav_engine.specs.Proppatch.{MakesChanges}
 
 abbrev live : Change → Bool
@@ -39,26 +39,26 @@ all_both statuses more is = both (all_200 statuses) (all_200 more) (sym (list_al
 
 -- ---- a change was refused
 
--- 200 is told of none that is
+-- 200 is reported of none that is
 ok_unrefused : (status : ℕ) (dead ok : Bool) → nat_eq status 200 ≡ ok → nat_eq (if not (dead || ok) then status else 424) 200 ≡ true → not (dead || ok) ≡ false
-ok_unrefused status true ok is told = refl
-ok_unrefused status false true is told = refl
-ok_unrefused status false false is told = let no : false ≡ true = sym is ∙ told in absurd cc
+ok_unrefused status true ok is recorded = refl
+ok_unrefused status false true is recorded = refl
+ok_unrefused status false false is recorded = let no : false ≡ true = sym is ∙ recorded in absurd cc
 
 beside_unrefused : (change : Change) → nat_eq (status_beside_refused change) 200 ≡ true → is_refused change ≡ false
 beside_unrefused change = ok_unrefused change.status (nat_eq change.status 100) (nat_eq change.status 200) refl
 
 beside_each : (changes : List Change) → all_200 (map status_beside_refused (filter live changes)) ≡ true → all_200 (map status_beside_refused (filter is_dead changes)) ≡ true → list_any is_refused changes ≡ false
-beside_each [] told more = refl
-beside_each (change ∷ changes) told more =
+beside_each [] recorded more = refl
+beside_each (change ∷ changes) recorded more =
     elim (is_dead change) as
     (λ b. all_200 (map status_beside_refused (if not b then change ∷ filter live changes else filter live changes)) ≡ true → all_200 (map status_beside_refused (if b then change ∷ filter is_dead changes else filter is_dead changes)) ≡ true
     → list_any is_refused (change ∷ changes) ≡ false) [
-      | true ↦ λ told more. let first = both _ _ more in rw (beside_unrefused change first.0) (beside_each changes told first.1)
-      | false ↦ λ told more. let first = both _ _ told in rw (beside_unrefused change first.0) (beside_each changes first.1 more)
-    ] told more
+      | true ↦ λ recorded more. let first = both _ _ more in rw (beside_unrefused change first.0) (beside_each changes recorded first.1)
+      | false ↦ λ recorded more. let first = both _ _ recorded in rw (beside_unrefused change first.0) (beside_each changes first.1 more)
+    ] recorded more
 
--- where one is refused, not all are told with 200
+-- where one is refused, not all are reported with 200
 pub beside_not_ok : (changes : List Change) → list_any is_refused changes ≡ true → all_200 (map status_beside_refused (live_first changes)) ≡ true → ⊥
 beside_not_ok changes refused ok =
     let parts = all_both (map status_beside_refused (filter live changes)) (map status_beside_refused (filter is_dead changes)) (ap all_200 (sym (map-append status_beside_refused (filter live changes) (filter is_dead changes))) ∙ ok) in
@@ -73,7 +73,7 @@ passed_ok : (changes : List Change) → all_200 (map (λ change. 200) changes) �
 passed_ok [] = refl
 passed_ok (change ∷ changes) = passed_ok changes
 
--- all are told with 200 where the store returned nothing else
+-- all are reported with 200 where the store returned nothing else
 pub ok_returned : (changes : List Change) (statuses : List ℕ) → all_200 (passed changes ++ statuses) ≡ all_200 statuses
 ok_returned changes statuses = list_all-append (λ status. nat_eq status 200) (passed changes) statuses ∙ (rw (passed_ok (filter is_passed_over changes)) refl)
 
@@ -88,10 +88,10 @@ each_ok (status ∷ statuses) ok =
     let is : status ≡ 200 = grind (arith, nat_tests) in
     rw is (ap (λ rest. 200 ∷ rest) (each_ok statuses first.1))
 
--- ---- each change is told once
+-- ---- each change is reported once
 
-abbrev named : Told → Key
-named told = property_of told.1
+abbrev named : PropertyStatus → Key
+named recorded = property_of recorded.1
 
 abbrev asked : Change → Key
 asked change = property_of change.element
@@ -103,8 +103,8 @@ bare_tag tag (Some namespace) children = refl
 bare_named : (element : Tree) → property_of (bare element) ≡ property_of element
 bare_named element = bare_tag element.tag element.tag.namespace element.children
 
--- as it is told where it is refused itself, or not
-abbrev told_if : Change → Bool → Told
+-- as it is reported where it is refused itself, or not
+abbrev told_if : Change → Bool → PropertyStatus
 told_if change refused = if refused then (change.status, bare change.element) else (424, if change.set && is_dead change then change.element else bare change.element)
 
 failed_named : (change : Change) → named (failed change) ≡ asked change
@@ -114,8 +114,8 @@ failed_named change =
       | false ↦ elim (change.set && is_dead change) as (λ b. property_of (if b then change.element else bare change.element) ≡ asked change) [ true ↦ refl | false ↦ bare_named change.element ]
     ]
 
--- what is told of each change, if it is `of` for one
-each_of : {X : Type 0} (say : Told → X) (tell : Change → Told) (of : Change → X) → ((change : Change) → say (tell change) ≡ of change) → (changes : List Change) → map say (map tell changes) ≡ map of changes
+-- what is reported of each change, if it is `of` for one
+each_of : {X : Type 0} (say : PropertyStatus → X) (tell : Change → PropertyStatus) (of : Change → X) → ((change : Change) → say (tell change) ≡ of change) → (changes : List Change) → map say (map tell changes) ≡ map of changes
 each_of say tell of each [] = refl
 each_of say tell of each (change ∷ changes) = λ i. each change i ∷ each_of say tell of each changes i
 
@@ -127,11 +127,11 @@ zip_names (status ∷ statuses) [] same = absurd cc
 zip_names (status ∷ statuses) (change ∷ changes) same = rw (bare_named change.element) (ap (λ names. asked change ∷ names) (zip_names statuses changes (omega (arith, same))))
 
 -- where one is refused
-pub failed_names : (changes : List Change) → TellsEach changes (told_failed changes)
+pub failed_names : (changes : List Change) → ReportsEach changes (failed_report changes)
 failed_names changes = each_of named failed asked failed_named (live_first changes)
 
 -- where none is
-pub made_names : (changes : List Change) (statuses : List ℕ) → length statuses ≡ length (patches_of changes) → TellsEach changes (told_made changes statuses)
+pub made_names : (changes : List Change) (statuses : List ℕ) → length statuses ≡ length (patches_of changes) → ReportsEach changes (made_report changes statuses)
 made_names changes statuses count =
     map-append named (live_made changes) (zip statuses (map (λ change. bare change.element) (filter is_dead changes)))
     ∙ (rw (each_of named made asked (λ change. bare_named change.element) (filter live changes), zip_names statuses (filter is_dead changes) (count ∙ length-map (filter is_dead changes) patch_of))
@@ -139,18 +139,18 @@ made_names changes statuses count =
 
 -- ---- each change has its own status
 
-abbrev pub status_of : Told → ℕ
-status_of told = told.0
+abbrev pub status_of : PropertyStatus → ℕ
+status_of recorded = recorded.0
 
-pub ok_statuses : (told : List Told) → all_ok told ≡ all_200 (map status_of told)
+pub ok_statuses : (recorded : List PropertyStatus) → all_ok recorded ≡ all_200 (map status_of recorded)
 ok_statuses [] = refl
-ok_statuses (t ∷ told) = ap (λ rest. nat_eq t.0 200 && rest) (ok_statuses told)
+ok_statuses (t ∷ recorded) = ap (λ rest. nat_eq t.0 200 && rest) (ok_statuses recorded)
 
 failed_status : (change : Change) → status_of (failed change) ≡ status_beside_refused change
 failed_status change = elim (is_refused change) as (λ b. status_of (told_if change b) ≡ (if b then change.status else 424)) [ true ↦ refl | false ↦ refl ]
 
 -- where one is refused
-pub failed_statuses : (changes : List Change) → map status_of (told_failed changes) ≡ map status_beside_refused (live_first changes)
+pub failed_statuses : (changes : List Change) → map status_of (failed_report changes) ≡ map status_beside_refused (live_first changes)
 failed_statuses changes = each_of status_of failed status_beside_refused failed_status (live_first changes)
 
 -- a live one that isn't refused is passed over
@@ -172,7 +172,7 @@ zip_statuses (status ∷ statuses) [] same = absurd cc
 zip_statuses (status ∷ statuses) (element ∷ elements) same = ap (λ rest. status ∷ rest) (zip_statuses statuses elements (omega (arith, same)))
 
 -- where none is refused
-pub made_statuses : (changes : List Change) (statuses : List ℕ) → list_any is_refused changes ≡ false → length statuses ≡ length (patches_of changes) → map status_of (told_made changes statuses) ≡ passed changes ++ statuses
+pub made_statuses : (changes : List Change) (statuses : List ℕ) → list_any is_refused changes ≡ false → length statuses ≡ length (patches_of changes) → map status_of (made_report changes statuses) ≡ passed changes ++ statuses
 made_statuses changes statuses none count =
     map-append status_of (live_made changes) (zip statuses (map (λ change. bare change.element) (filter is_dead changes)))
     ∙ (λ i. passed_statuses changes none i ++ zip_statuses statuses (map (λ change. bare change.element) (filter is_dead changes)) elements i)
@@ -202,18 +202,18 @@ none_returned key (Passed a) (logged ∷ records) left led = absurd led
 one_returned : (key : Key) (outcome : Outcome) (statuses : List ℕ) → returned key (patch_record key outcome statuses ∷ []) ≡ statuses
 one_returned key outcome statuses = ap (λ b. (if b then statuses else []) ++ []) ((same_key_decides key key).1 refl) ∙ append-nil statuses
 
--- the work's call returns those that are told
+-- the work's call returns those that are reported
 pub work_returned : (keeps : Bool) (key : Key) (patches : List Patch) (old : Contents) (records : List Logged) (statuses : List ℕ) (new : Contents) → MakesChanges keeps key patches old records (Ok statuses) new → returned key records ≡ statuses
 work_returned keeps key [] old records statuses new asks =
-    let told : statuses ≡ [] = let h = asks.told_none in cc in
-    ap (returned key) asks.none ∙ sym told
+    let recorded : statuses ≡ [] = let h = asks.returns_none in cc in
+    ap (returned key) asks.none ∙ sym recorded
 work_returned keeps key (patch ∷ patches) old records statuses new (inl all) =
-    let told : statuses ≡ replicate (length (patch ∷ patches)) 200 = let h = all.told_all in cc in
-    ap (returned key) all.called ∙ one_returned key Granted (replicate (length (patch ∷ patches)) 200) ∙ sym told
+    let recorded : statuses ≡ replicate (length (patch ∷ patches)) 200 = let h = all.returns_all in cc in
+    ap (returned key) all.called ∙ one_returned key Granted (replicate (length (patch ∷ patches)) 200) ∙ sym recorded
 work_returned keeps key (patch ∷ patches) old records statuses new (inr (inl none)) =
-    let told : statuses ≡ none.statuses = let h = none.told_each in cc in
-    ap (returned key) none.called ∙ one_returned key (Refused GeneralFailure) none.statuses ∙ sym told
-work_returned keeps key (patch ∷ patches) old records statuses new (inr (inr refused)) = let no = refused.told_error in absurd cc
+    let recorded : statuses ≡ none.statuses = let h = none.returns_each in cc in
+    ap (returned key) none.called ∙ one_returned key (Refused GeneralFailure) none.statuses ∙ sym recorded
+work_returned keeps key (patch ∷ patches) old records statuses new (inr (inr refused)) = let no = refused.returns_error in absurd cc
 
 -- of both
 pub both_returned : (key : Key) (records head rest : List Logged) → records ≡ head ++ rest → returned key head ≡ [] → returned key records ≡ returned key rest

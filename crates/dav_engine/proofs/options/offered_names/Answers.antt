@@ -3,7 +3,7 @@ use Rattle.std.specs.List.{join_by}
 use Rattle.std.specs.Prelude.{codes}
 use Rattle.dav_engine.specs.Options.{name_of}
 use Rattle.dav_engine.proofs.AllowList.{join_by-map}
-use Rattle.dav_engine.proofs.options.told_names.Goals as goal
+use Rattle.dav_engine.proofs.options.offered_names.Goals as goal
 
 pub returns : goal.returns
 returns c =

@@ -4,7 +4,7 @@ use Rattle.dav_resource.specs.Methods.{method_of}
 use Rattle.dav_engine.specs.DavInner.{lent_locks}
 use Rattle.dav_engine.specs.Options.{is_own, is_let, needs_locks}
 use Rattle.dav_engine.proofs.AllowList.{and_first}
-use Rattle.dav_engine.proofs.inner.DavInner.told_set.Goals as goal
+use Rattle.dav_engine.proofs.inner.DavInner.offered_set.Goals as goal
 
 pub returns : goal.returns
 returns g c = λ method.
