@@ -5,8 +5,8 @@ use Rattle.dav_resource.specs.Key.{Key}
 use Rattle.dav_resource.specs.Tree.{Tree, prefixed_element}
 use Rattle.dav_resource.specs.declared.meta.Meta.{Meta}
 use Rattle.dav_store.specs.declared.lock.DavLock.{DavLock}
-use Rattle.dav_parts.specs.DavElement.{with_elements, text_element}
-use Rattle.dav_parts.specs.LockTree.{lock_discovery, covering_in, supported_lock}
+use Rattle.dav_messages.specs.DavElement.{with_elements, text_element}
+use Rattle.dav_messages.specs.LockTree.{lock_discovery, covering_in, supported_lock}
 use Rattle.dav_live.specs.Viewing.{Asker}
 use Rattle.dav_live.specs.Names.{shown_name}
 use Rattle.dav_live.specs.Rows.{live_text}

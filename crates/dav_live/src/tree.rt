@@ -3,11 +3,11 @@ ghost use Rattle.std.specs.Prelude.{◌≡◌, ◌∷◌, [], codes, IfOk, IfErr
 ghost use Rattle.std.specs.Option.{option_copied};
 ghost use Rattle.dav_resource.specs.declared.error.DavError.TheVariants.{Memory};
 ghost use Rattle.dav_resource.specs.Tree.{prefixed_element};
-ghost use Rattle.dav_parts.specs.Conditions.{locks_in};
-ghost use Rattle.dav_parts.specs.DavElement.{with_elements};
+ghost use Rattle.dav_messages.specs.Conditions.{locks_in};
+ghost use Rattle.dav_messages.specs.DavElement.{with_elements};
 ghost use Rattle.dav_live.specs.Live.{resource_type as tree_of_type, current_user_principal as tree_of_principal, text_property as property_of_text, locks_of as tree_of_locks, lock_kinds as tree_of_kinds};
 
-use dav_parts::{list_lockdiscovery, list_supportedlock, text_element};
+use dav_messages::{list_lockdiscovery, list_supportedlock, text_element};
 use dav_resource::{DavPath, DavResult, Element, Text};
 use dav_store::DavLockSystem;
 use std::alloc::{AllocError, Global};
@@ -20,7 +20,7 @@ pub(crate) fn text_property(
     names_only: bool,
     text: Option<Text>,
 ) -> Result<Option<Element>, AllocError>
-    ensures { IfOk result (λ told. told ≡ property_of_text name.now names_only text) }
+    ensures { IfOk result (λ reported. reported ≡ property_of_text name.now names_only text) }
 {
     let Some(text) = text else {
         return Ok(None);
@@ -39,19 +39,19 @@ pub(crate) fn resource_type(
     names_only: bool,
     dir: bool,
 ) -> Result<Element, AllocError>
-    ensures { IfOk result (λ told. told ≡ tree_of_type asked.now names_only dir) }
+    ensures { IfOk result (λ reported. reported ≡ tree_of_type asked.now names_only dir) }
 {
-    let told = asked.clone()?;
+    let reported = asked.clone()?;
     if dir && !names_only {
-        with_collection(alloc, told)
+        with_collection(alloc, reported)
     } else {
-        Ok(told)
+        Ok(reported)
     }
 }
 
 /// Appends `D:collection` to the children of the element.
 fn with_collection(alloc: Global, mut element: Element) -> Result<Element, AllocError>
-    ensures { IfOk result (λ told. told ≡ with_elements element (prefixed_element (codes "D:collection") ∷ [])) }
+    ensures { IfOk result (λ reported. reported ≡ with_elements element (prefixed_element (codes "D:collection") ∷ [])) }
 {
     element.push_element(Element::new2(alloc, "D:collection")?)?;
     Ok(element)
@@ -65,16 +65,16 @@ pub(crate) fn current_user_principal(
     names_only: bool,
     principal: Option<&str>,
 ) -> Result<Option<Element>, AllocError>
-    ensures { IfOk result (λ told. told ≡ tree_of_principal asked.now names_only (option_copied principal.entry)) }
+    ensures { IfOk result (λ reported. reported ≡ tree_of_principal asked.now names_only (option_copied principal.entry)) }
 {
     let Some(principal) = principal else {
         return Ok(None);
     };
-    let mut told = asked.clone()?;
+    let mut reported = asked.clone()?;
     if !names_only {
-        told.push_element(text_element(alloc, "D:href", principal)?)?;
+        reported.push_element(text_element(alloc, "D:href", principal)?)?;
     }
-    Ok(Some(told))
+    Ok(Some(reported))
 }
 
 /// Returns `D:lockdiscovery` with the locks that cover the path. With `names_only` the element is empty. The
@@ -85,7 +85,7 @@ pub(crate) fn lock_discovery<L: DavLockSystem>(
     ls: Option<&L>,
     path: &DavPath,
 ) -> DavResult<Element>
-    ensures ok { IfOk result (λ told. told ≡ tree_of_locks names_only (locks_in L.seen (option_copied ls.entry)) path.now.key) }
+    ensures ok { IfOk result (λ reported. reported ≡ tree_of_locks names_only (locks_in L.seen (option_copied ls.entry)) path.now.key) }
     ensures err { IfErr result (λ e. e ≡ Memory) }
 {
     if names_only {
@@ -98,7 +98,7 @@ pub(crate) fn lock_discovery<L: DavLockSystem>(
 /// Returns `D:supportedlock` with the kinds of locks that are supported. With `names_only`, or if no lock
 /// system is present, the element is empty. The only error is `Memory`.
 pub(crate) fn supported_lock(alloc: Global, names_only: bool, present: bool) -> DavResult<Element>
-    ensures ok { IfOk result (λ told. told ≡ tree_of_kinds names_only present) }
+    ensures ok { IfOk result (λ reported. reported ≡ tree_of_kinds names_only present) }
     ensures err { IfErr result (λ e. e ≡ Memory) }
 {
     if names_only {

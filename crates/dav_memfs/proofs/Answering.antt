@@ -30,7 +30,7 @@ use Rattle.dav_store.specs.Transfers.{copy_bar, rename_bar, IsCopiedTo, IsRename
 use Rattle.dav_store.specs.PropertyCalls.{Patch, patched, some_properties, properties_at, get_prop_bar, properties_bar, get_quota_bar, IsPatchedAt, ArePropertiesAt, PatchesProps, patch_props_call}
 use Rattle.dav_memfs.specs.Memory as memory
 use Rattle.dav_memfs.specs.Memory.{Stored, Resources, tree_of, properties_of, contents_of, seen_of, change_at, with_bytes, with_properties, copy_of, fresh, facts_of, made, filled, without, copied, with_patches, IsRenamed}
-use Rattle.dav_memfs.specs.MemoryCalls.{Yields, Gives, Tells, TellsWith, outcome_of, change_error, open_error, error_of_opening, opened, opened_from, file_error, write_error, written, copy_error, properties_error, IsPropertyList}
+use Rattle.dav_memfs.specs.MemoryCalls.{Yields, Gives, Records, RecordsWith, outcome_of, change_error, open_error, error_of_opening, opened, opened_from, file_error, write_error, written, copy_error, properties_error, IsPropertyList}
 use Rattle.dav_store.specs.Logged.{record_with}
 use Rattle.dav_memfs.specs.Lawful.{node_in, get-tree, get-properties}
 
@@ -169,7 +169,7 @@ one_more op paths keys outcome statuses old new ks is = ap (map logged_of) is �
 
 -- a call that isn't granted
 pub declines : {A : Type 0} (statuses : A → List ℕ) (call : Call) (paths : List PathValue) (error : Option FsError) (old new : memory.Memory) (before after : List Record) (e : FsError)
-    → map (λ (p : PathValue). p.key) paths ≡ call.keys → new ≡ old → (e ≡ Memory) ⊎ (error ≡ Some e) → TellsWith {A = A} statuses call.op paths (Err e) before after
+    → map (λ (p : PathValue). p.key) paths ≡ call.keys → new ≡ old → (e ≡ Memory) ⊎ (error ≡ Some e) → RecordsWith {A = A} statuses call.op paths (Err e) before after
     → ((e : FsError) → error ≡ Some e → IsLawful call.bar (outcome_of e) × (e ≢ Memory))
     → ((e ≡ Memory) × (seen new after ≡ seen old before)) ⊎ Declines call e (seen old before) (seen new after)
 declines statuses call paths error old new before after e ks same why (inl p) law = inl (p.0, λ i. seen (same i) (p.1 i))
@@ -180,14 +180,14 @@ declines statuses call paths error old new before after e ks same (inr is) (inr 
   lawful = (law e is).0;
   not_memory = p.0;
   same = ap contents_of same;
-  told = one_more call.op paths call.keys (outcome_of e) [] before after ks p.1;
+  recorded = one_more call.op paths call.keys (outcome_of e) [] before after ks p.1;
   fixed = ap (λ (m : memory.Memory). facts_of m.held) same;
 })
 
 -- an exact answer and its record are what the engine sees of a call
 pub answers : {A : Type 0} (call : Call) (paths : List PathValue) (Effect : A → Contents → Contents → Type 0) (error : Option FsError) (Becomes : memory.Memory → memory.Memory → Type 0)
     (old new : memory.Memory) (before after : List Record) (answer : Result A FsError)
-    → map (λ (p : PathValue). p.key) paths ≡ call.keys → Yields error Becomes old answer new → Tells call.op paths answer before after
+    → map (λ (p : PathValue). p.key) paths ≡ call.keys → Yields error Becomes old answer new → Records call.op paths answer before after
     → (error ≡ None → call.bar ≡ None) → ((e : FsError) → error ≡ Some e → IsLawful call.bar (outcome_of e) × (e ≢ Memory))
     → (Becomes old new → new.held ≡ old.held) → IfOk answer (λ a. error ≡ None → Becomes old new → Effect a (contents_of old) (contents_of new))
     → Answers call Effect (seen old before) answer (seen new after)
@@ -195,7 +195,7 @@ answers call paths Effect error Becomes old new before after (Ok a) ks y t none 
   granted = record {
     allowed = none y.granted.0;
     effect = effect y.granted.0 y.granted.1;
-    told = one_more call.op paths call.keys Granted [] before after ks t;
+    recorded = one_more call.op paths call.keys Granted [] before after ks t;
     fixed = ap facts_of (held y.granted.1);
   };
   declined = tt;
@@ -224,14 +224,14 @@ no_properties : some_properties empty ≡ None
 no_properties = ap (λ n. if n == 0 then None else Some empty) (len-empty key_cmp elements.Tree)
 
 no_limit_change : (old new : memory.Memory) → new.limit ≡ old.limit → limit_of (contents_of new) ≡ limit_of (contents_of old)
-no_limit_change old new same = told new ∙ same ∙ sym (told old)
+no_limit_change old new same = recorded new ∙ same ∙ sym (recorded old)
   where
     by : (limit : Option (Option ℕ)) (used : ℕ) → option_map (λ (q : Quota). q.total) (option_map (λ total. record { used = used; total = total }) limit) ≡ limit
     by None used = refl
     by (Some total) used = refl
 
-    told : (m : memory.Memory) → limit_of (contents_of m) ≡ m.limit
-    told m = by m.limit _
+    recorded : (m : memory.Memory) → limit_of (contents_of m) ≡ m.limit
+    recorded m = by m.limit _
 
 -- nothing stood at the key, so nothing has to be said of its properties
 unchanged : (resources : Resources) (key : Key) (node : Node) (version now : ℕ) → get resources key ≡ None → properties_of (insert resources key (fresh node version now)) ≡ properties_of resources
@@ -416,14 +416,14 @@ lists_props key props old new is same = record { each_once = subst (IsPermutatio
 
 -- a change of properties: the engine sees one that is made whole
 pub patches_props : (key : Key) (patches : List Patch) (paths : List PathValue) (old new : memory.Memory) (before after : List Record) (answer : Result (Vec ℕ Global) FsError)
-    → map (λ (p : PathValue). p.key) paths ≡ key ∷ [] → Gives (properties_error key old) (with_patches key patches) old answer new → TellsWith (λ statuses. statuses.items) PatchProps paths answer before after
+    → map (λ (p : PathValue). p.key) paths ≡ key ∷ [] → Gives (properties_error key old) (with_patches key patches) old answer new → RecordsWith (λ statuses. statuses.items) PatchProps paths answer before after
     → IfOk answer (λ statuses. statuses.items ≡ replicate (length patches) 200) → PatchesProps (seen old before) key patches answer (seen new after)
 patches_props key patches paths old new before after (Ok statuses) ks g t all = record {
   granted = inl (record {
     allowed = g.granted.0;
     answered = all;
     effect = patches_at key patches old new g.granted.0 g.granted.1;
-    told = one_more PatchProps paths (key ∷ []) Granted statuses.items before after ks t;
+    recorded = one_more PatchProps paths (key ∷ []) Granted statuses.items before after ks t;
     fixed = ap (λ (m : memory.Memory). facts_of m.held) g.granted.1;
   });
   declined = tt;
@@ -443,15 +443,15 @@ ok_then (Err e) h f = tt
 pub answers-call : {A : Type 0} (call : Call) (paths : List PathValue) (Effect : A → Contents → Contents → Type 0) (error : memory.Memory → Option FsError) (Becomes : memory.Memory → memory.Memory → Type 0)
     (old begun done ended : memory.Memory) (log begun_log done_log ended_log : List Record) (answer result : Result A FsError) (Says : A → Type 0)
     → result ≡ answer → begun ≡ old → ended ≡ done → begun_log ≡ log → done_log ≡ begun_log → map (λ (p : PathValue). p.key) paths ≡ call.keys
-    → Yields (error begun) Becomes begun answer done → Tells call.op paths answer done_log ended_log
+    → Yields (error begun) Becomes begun answer done → Records call.op paths answer done_log ended_log
     → (error old ≡ None → call.bar ≡ None) → ((e : FsError) → error old ≡ Some e → IsLawful call.bar (outcome_of e) × (e ≢ Memory))
     → (Becomes old ended → ended.held ≡ old.held) → IfOk answer Says → ((a : A) → Says a → error old ≡ None → Becomes old ended → Effect a (contents_of old) (contents_of ended))
     → Answers call Effect (seen old log) result (seen ended ended_log)
 answers-call {A} call paths Effect error Becomes old begun done ended log begun_log done_log ended_log answer result Says same b d bl dl ks y t none law keeps says effect =
     let held : Yields (error old) Becomes old answer ended = subst (λ (m : memory.Memory). Yields (error m) Becomes m answer ended) b (subst (λ (m : memory.Memory). Yields (error begun) Becomes begun answer m) (sym d) y) in
-    let told : Tells call.op paths answer log ended_log = subst (λ (ls : List Record). Tells call.op paths answer ls ended_log) (dl ∙ bl) t in
+    let recorded : Records call.op paths answer log ended_log = subst (λ (ls : List Record). Records call.op paths answer ls ended_log) (dl ∙ bl) t in
     subst (λ r. Answers call Effect (seen old log) r (seen ended ended_log)) (sym same)
-    (answers call paths Effect (error old) Becomes old ended log ended_log answer ks held told none law keeps (ok_then answer says effect))
+    (answers call paths Effect (error old) Becomes old ended log ended_log answer ks held recorded none law keeps (ok_then answer says effect))
 
 pub any_ok : {A : Type 0} (answer : Result A FsError) → IfOk answer (λ _. Unit {0})
 any_ok (Ok a) = tt
@@ -470,21 +470,21 @@ property-missing old key name none = ap (λ p. get p name) (properties-kept old 
 
 -- ---- a whole change of properties
 
-told_statuses : (statuses : List ℕ) (paths : List PathValue) (answer : Result (Vec ℕ Global) FsError) (before after : List Record) → IfOk answer (λ told. told.items ≡ statuses)
-    → TellsWith (λ _. statuses) PatchProps paths answer before after → TellsWith (λ told. told.items) PatchProps paths answer before after
-told_statuses statuses paths (Ok told) before after same t = t ∙ ap (λ ss. before ++ record_with PatchProps paths Granted ss ∷ []) (sym same)
-told_statuses statuses paths (Err e) before after same t = t
+recorded_statuses : (statuses : List ℕ) (paths : List PathValue) (answer : Result (Vec ℕ Global) FsError) (before after : List Record) → IfOk answer (λ recorded. recorded.items ≡ statuses)
+    → RecordsWith (λ _. statuses) PatchProps paths answer before after → RecordsWith (λ recorded. recorded.items) PatchProps paths answer before after
+recorded_statuses statuses paths (Ok recorded) before after same t = t ∙ ap (λ ss. before ++ record_with PatchProps paths Granted ss ∷ []) (sym same)
+recorded_statuses statuses paths (Err e) before after same t = t
 
-all_told : (statuses all : List ℕ) (answer : Result (Vec ℕ Global) FsError) → IfOk answer (λ told. told.items ≡ all) → statuses ≡ all → IfOk answer (λ told. told.items ≡ statuses)
-all_told statuses all (Ok told) is same = is ∙ sym same
-all_told statuses all (Err e) is same = tt
+all_recorded : (statuses all : List ℕ) (answer : Result (Vec ℕ Global) FsError) → IfOk answer (λ recorded. recorded.items ≡ all) → statuses ≡ all → IfOk answer (λ recorded. recorded.items ≡ statuses)
+all_recorded statuses all (Ok recorded) is same = is ∙ sym same
+all_recorded statuses all (Err e) is same = tt
 
 pub patches-call : (key : Key) (patches : List Patch) (paths : List PathValue) (old begun done ended : memory.Memory) (log begun_log done_log ended_log : List Record) (statuses : List ℕ) (answer result : Result (Vec ℕ Global) FsError)
     → result ≡ answer → begun ≡ old → ended ≡ done → begun_log ≡ log → done_log ≡ begun_log → map (λ (p : PathValue). p.key) paths ≡ key ∷ []
-    → Gives (properties_error key begun) (with_patches key patches) begun answer done → TellsWith (λ _. statuses) PatchProps paths answer done_log ended_log
-    → IfOk answer (λ told. told.items ≡ replicate (length patches) 200) → statuses ≡ replicate (length patches) 200
+    → Gives (properties_error key begun) (with_patches key patches) begun answer done → RecordsWith (λ _. statuses) PatchProps paths answer done_log ended_log
+    → IfOk answer (λ recorded. recorded.items ≡ replicate (length patches) 200) → statuses ≡ replicate (length patches) 200
     → PatchesProps (seen old log) key patches result (seen ended ended_log)
 patches-call key patches paths old begun done ended log begun_log done_log ended_log statuses answer result same b d bl dl ks g t all is =
     let held : Gives (properties_error key old) (with_patches key patches) old answer ended = subst (λ (m : memory.Memory). Gives (properties_error key m) (with_patches key patches) m answer ended) b (subst (λ (m : memory.Memory). Gives (properties_error key begun) (with_patches key patches) begun answer m) (sym d) g) in
-    let told : TellsWith (λ told. told.items) PatchProps paths answer log ended_log = told_statuses statuses paths answer log ended_log (all_told statuses (replicate (length patches) 200) answer all is) (subst (λ (ls : List Record). TellsWith (λ _. statuses) PatchProps paths answer ls ended_log) (dl ∙ bl) t) in
-    subst (λ r. PatchesProps (seen old log) key patches r (seen ended ended_log)) (sym same) (patches_props key patches paths old ended log ended_log answer ks held told all)
+    let recorded : RecordsWith (λ recorded. recorded.items) PatchProps paths answer log ended_log = recorded_statuses statuses paths answer log ended_log (all_recorded statuses (replicate (length patches) 200) answer all is) (subst (λ (ls : List Record). RecordsWith (λ _. statuses) PatchProps paths answer ls ended_log) (dl ∙ bl) t) in
+    subst (λ r. PatchesProps (seen old log) key patches r (seen ended ended_log)) (sym same) (patches_props key patches paths old ended log ended_log answer ks held recorded all)

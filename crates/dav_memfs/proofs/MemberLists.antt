@@ -83,9 +83,9 @@ is_some-option_map f (Some x) = refl
 module _ (d : Key) (resources : Resources) (names : List (List ℕ)) (listing : List Shown) (shown : AllZip (IsShown d resources) names listing) where
   -- one more member is shown
   pub shown_more : (new : List Shown) (place next : Key) (name : List ℕ) (s : Stored) (entry : DirEntry) → FindsNext d resources place (Some (name, s)) next → entry.name ≡ name → entry.meta ≡ meta_of s → new ≡ listing ++ Ok entry ∷ [] → AllZip (IsShown d resources) (names ++ name ∷ []) new
-  shown_more new place next name s entry found named told is =
+  shown_more new place next name s entry found named recorded is =
       subst (AllZip (IsShown d resources) (names ++ name ∷ [])) (sym is)
-      (all_zipped_more (IsShown d resources) names listing name (Ok entry) shown (named, ap (option_map meta_of) found.1 ∙ ap Some (sym told)))
+      (all_zipped_more (IsShown d resources) names listing name (Ok entry) shown (named, ap (option_map meta_of) found.1 ∙ ap Some (sym recorded)))
 
   -- all are shown
   pub shown_all : (place next : Key) → FindsNext d resources place None next → names ++ names_from d resources place ≡ members (tree_of resources) d → IsListing d resources listing

@@ -68,7 +68,7 @@ lists directory memory listing old new is all g = record {
   };
   listed = children_listing directory memory.resources names listing.items g.effect.1;
   same = g.effect.0;
-  told = g.told ∙ ap (λ ls. old.log ++ record_of (read_dir_call old.contents directory) Granted ∷ ls) (sym (none_unseen directory memory.resources names listing.items g.effect.1));
+  recorded = g.recorded ∙ ap (λ ls. old.log ++ record_of (read_dir_call old.contents directory) Granted ∷ ls) (sym (none_unseen directory memory.resources names listing.items g.effect.1));
   fixed = g.fixed;
 }
   where

@@ -48,13 +48,13 @@ outcome_of errors.IsRemote = Barred errors.IsRemote
 outcome_of errors.Memory = Barred errors.Memory
 
 -- what a result with these statuses adds to the records, with the paths exactly as supplied; the error `Memory` adds nothing
-abbrev pub TellsWith : {A : Type 0} → (A → List ℕ) → Op → List PathValue → Result A FsError → List Record → List Record → Type 0
-TellsWith statuses op paths (Ok answer) old new = new ≡ old ++ record_with op paths Granted (statuses answer) ∷ []
-TellsWith statuses op paths (Err e) old new = ((e ≡ errors.Memory) × (new ≡ old)) ⊎ ((e ≢ errors.Memory) × (new ≡ old ++ record_on op paths (outcome_of e) ∷ []))
+abbrev pub RecordsWith : {A : Type 0} → (A → List ℕ) → Op → List PathValue → Result A FsError → List Record → List Record → Type 0
+RecordsWith statuses op paths (Ok answer) old new = new ≡ old ++ record_with op paths Granted (statuses answer) ∷ []
+RecordsWith statuses op paths (Err e) old new = ((e ≡ errors.Memory) × (new ≡ old)) ⊎ ((e ≢ errors.Memory) × (new ≡ old ++ record_on op paths (outcome_of e) ∷ []))
 
 -- the same for a result without statuses
-abbrev pub Tells : {A : Type 0} → Op → List PathValue → Result A FsError → List Record → List Record → Type 0
-Tells = TellsWith (λ _. [])
+abbrev pub Records : {A : Type 0} → Op → List PathValue → Result A FsError → List Record → List Record → Type 0
+Records = RecordsWith (λ _. [])
 
 -- nothing changes
 abbrev pub kept : Memory → Memory

@@ -3,7 +3,7 @@ ghost use Rattle.std.specs.Prelude.{◌≡◌, ◌≢◌, ◌<◌, ◌+◌, ◌^
 ghost use Rattle.dav_resource.specs.PathText.{IsKey};
 ghost use Rattle.dav_store.specs.Logged.{logged_of};
 ghost use Rattle.dav_store.specs.Store.{Directory};
-ghost use Rattle.dav_store.specs.Calls.{Looks, MakesDirectory, Opens, ReadsBytes, bytes_from, Seeks, Writes, Flushes, LooksAtFile, place_of};
+ghost use Rattle.dav_store.specs.Calls.{LooksUp, MakesDirectory, Opens, ReadsBytes, bytes_from, Seeks, Writes, Flushes, LooksUpFile, place_of};
 ghost use Rattle.dav_store.specs.BodyCalls.{StartsBody, AddsToBody, with_body};
 ghost use Rattle.dav_store.specs.Members.{ReadsDir, RemovesFile, RemovesDir};
 ghost use Rattle.dav_store.specs.Transfers.{Copies, Renames};
@@ -11,7 +11,7 @@ ghost use Rattle.dav_store.specs.PropertyCalls.{name_of, properties_at, IsWhole,
 ghost use Rattle.dav_memfs.specs.Memory.{IsSound, file_bytes, contents_of, begun, lengthened, put_held, with_held, made, without, copied, IsRenamed, with_patches};
 ghost use Rattle.dav_memfs.specs.Dump.{IsDump};
 ghost use Rattle.dav_memfs.specs.Lawful.{is_well_formed};
-ghost use Rattle.dav_memfs.specs.MemoryCalls.{Yields, Gives, Tells, TellsWith, kept, look_error, read_dir_error, IsListing, create_dir_error, remove_file_error, remove_dir_error, read_bytes_error, open_error, opened, file_error, write_error, written, after_write, copy_error, rename_error, get_prop_error, properties_error, IsPropertyList, quota_error, start_error, add_error};
+ghost use Rattle.dav_memfs.specs.MemoryCalls.{Yields, Gives, Records, RecordsWith, kept, look_error, read_dir_error, IsListing, create_dir_error, remove_file_error, remove_dir_error, read_bytes_error, open_error, opened, file_error, write_error, written, after_write, copy_error, rename_error, get_prop_error, properties_error, IsPropertyList, quota_error, start_error, add_error};
 ghost use Rattle.std.proofs.Props.{props};
 ghost use Rattle.dav_memfs.specs.KeyProps.{IsKey-prop};
 
@@ -148,9 +148,9 @@ impl<C> GuardedFileSystem<C> for MemFs {
     ghost allowed = { λ store call inside granted. refl };
 
     fn metadata(&mut self, path: &DavPath, _credentials: &C) -> FsResult<Meta>
-        ensures seen { Looks (store_of self.old) path.now.key result (store_of self.new) }
+        ensures seen { LooksUp (store_of self.old) path.now.key result (store_of self.new) }
         ensures memory { Gives (look_error path.now.key (memory_of self.old)) kept (memory_of self.old) result (memory_of self.new) }
-        ensures record { Tells Op.Metadata (path.now ∷ []) result (records_of self.old) (records_of self.new) }
+        ensures record { Records Op.Metadata (path.now ∷ []) result (records_of self.old) (records_of self.new) }
     {
         let paths = self.begin_record(path)?;
         let answer = self.look(path);
@@ -160,7 +160,7 @@ impl<C> GuardedFileSystem<C> for MemFs {
     fn create_dir(&mut self, path: &DavPath, _credentials: &C) -> FsResult<()>
         ensures seen { MakesDirectory (store_of self.old) path.now.key result (store_of self.new) }
         ensures memory { Gives (create_dir_error path.now.key (memory_of self.old)) (made path.now.key Directory) (memory_of self.old) result (memory_of self.new) }
-        ensures record { Tells Op.CreateDir (path.now ∷ []) result (records_of self.old) (records_of self.new) }
+        ensures record { Records Op.CreateDir (path.now ∷ []) result (records_of self.old) (records_of self.new) }
     {
         let paths = self.begin_record(path)?;
         let answer = self.make_directory(path);
@@ -171,7 +171,7 @@ impl<C> GuardedFileSystem<C> for MemFs {
         ensures seen { ReadsDir (store_of self.old) path.now.key result (store_of self.new) }
         ensures listing { IfOk result (λ listing. IsListing path.now.key (memory_of self.old).resources listing.items) }
         ensures memory { Gives (read_dir_error path.now.key (memory_of self.old)) kept (memory_of self.old) result (memory_of self.new) }
-        ensures record { Tells Op.ReadDir (path.now ∷ []) result (records_of self.old) (records_of self.new) }
+        ensures record { Records Op.ReadDir (path.now ∷ []) result (records_of self.old) (records_of self.new) }
     {
         let paths = self.begin_record(path)?;
         let answer = self.list(path);
@@ -181,7 +181,7 @@ impl<C> GuardedFileSystem<C> for MemFs {
     fn remove_file(&mut self, path: &DavPath, _credentials: &C) -> FsResult<()>
         ensures seen { RemovesFile (store_of self.old) path.now.key result (store_of self.new) }
         ensures memory { Gives (remove_file_error path.now.key (memory_of self.old)) (without path.now.key) (memory_of self.old) result (memory_of self.new) }
-        ensures record { Tells Op.RemoveFile (path.now ∷ []) result (records_of self.old) (records_of self.new) }
+        ensures record { Records Op.RemoveFile (path.now ∷ []) result (records_of self.old) (records_of self.new) }
     {
         let paths = self.begin_record(path)?;
         let answer = self.take_file(path);
@@ -191,7 +191,7 @@ impl<C> GuardedFileSystem<C> for MemFs {
     fn remove_dir(&mut self, path: &DavPath, _credentials: &C) -> FsResult<()>
         ensures seen { RemovesDir (store_of self.old) path.now.key result (store_of self.new) }
         ensures memory { Gives (remove_dir_error path.now.key (memory_of self.old)) (without path.now.key) (memory_of self.old) result (memory_of self.new) }
-        ensures record { Tells Op.RemoveDir (path.now ∷ []) result (records_of self.old) (records_of self.new) }
+        ensures record { Records Op.RemoveDir (path.now ∷ []) result (records_of self.old) (records_of self.new) }
     {
         let paths = self.begin_record(path)?;
         let answer = self.take_directory(path);
@@ -201,7 +201,7 @@ impl<C> GuardedFileSystem<C> for MemFs {
     fn open(&mut self, path: &DavPath, options: &OpenOptions, _credentials: &C) -> FsResult<DavFile>
         ensures seen { Opens (store_of self.old) path.now options.now result (store_of self.new) }
         ensures memory { Gives (open_error options.now path.now.key (memory_of self.old)) (opened options.now path.now.key) (memory_of self.old) result (memory_of self.new) }
-        ensures record { Tells Op.OpenFile (path.now ∷ []) result (records_of self.old) (records_of self.new) }
+        ensures record { Records Op.OpenFile (path.now ∷ []) result (records_of self.old) (records_of self.new) }
     {
         let paths = self.begin_record(path)?;
         let answer = self.open_file(path, options);
@@ -219,7 +219,7 @@ impl<C> GuardedFileSystem<C> for MemFs {
         ensures seen { ReadsBytes true (store_of self.old) path.now.key place count result (store_of self.new) }
         ensures bytes { IfOk result (λ bytes. bytes.items ≡ bytes_from place count (file_bytes path.now.key (memory_of self.old).resources)) }
         ensures memory { Gives (read_bytes_error path.now.key (memory_of self.old)) kept (memory_of self.old) result (memory_of self.new) }
-        ensures record { Tells Op.ReadBytes (path.now ∷ []) result (records_of self.old) (records_of self.new) }
+        ensures record { Records Op.ReadBytes (path.now ∷ []) result (records_of self.old) (records_of self.new) }
     {
         let paths = self.begin_record(path)?;
         let answer = self.read_file(path, place, count);
@@ -230,7 +230,7 @@ impl<C> GuardedFileSystem<C> for MemFs {
         ensures sought { Seeks (store_of self.old) file.old.path.key result (store_of self.new) }
         ensures place { MatchResult result (λ _. file.new ≡ record file.old { pos = pos }) (λ _. file.new ≡ file.old) }
         ensures memory { Gives (file_error file.old.path.key (memory_of self.old)) kept (memory_of self.old) result (memory_of self.new) }
-        ensures record { Tells Op.Seek (file.old.path ∷ []) result (records_of self.old) (records_of self.new) }
+        ensures record { Records Op.Seek (file.old.path ∷ []) result (records_of self.old) (records_of self.new) }
     {
         let paths = self.begin_record(&file.path)?;
         let answer = self.move_place(file, pos);
@@ -242,7 +242,7 @@ impl<C> GuardedFileSystem<C> for MemFs {
         ensures written { Writes (store_of self.old) file.old bytes.now result (store_of self.new) }
         ensures place { MatchResult result (λ _. file.new ≡ record file.old { pos = place_of file.old (store_of self.old).contents + length bytes.now }) (λ _. file.new ≡ file.old) }
         ensures memory { Gives (write_error file.old.path.key (memory_of self.old)) (written file.old bytes.now) (memory_of self.old) result (memory_of self.new) }
-        ensures record { Tells Op.WriteBytes (file.old.path ∷ []) result (records_of self.old) (records_of self.new) }
+        ensures record { Records Op.WriteBytes (file.old.path ∷ []) result (records_of self.old) (records_of self.new) }
     {
         let paths = self.begin_record(&file.path)?;
         let answer = self.write_file(file, bytes);
@@ -259,7 +259,7 @@ impl<C> GuardedFileSystem<C> for MemFs {
         ensures written { Writes (store_of self.old) file.old (body_of self.old number) result (store_of self.new) }
         ensures place { MatchResult result (λ _. file.new ≡ after_write file.old (body_of self.old number) (memory_of self.old)) (λ _. file.new ≡ file.old) }
         ensures memory { let old = memory_of self.old in Gives (write_error file.old.path.key old) (written file.old (body_of self.old number)) old result (memory_of self.new) }
-        ensures record { Tells Op.WriteBytes (file.old.path ∷ []) result (records_of self.old) (records_of self.new) }
+        ensures record { Records Op.WriteBytes (file.old.path ∷ []) result (records_of self.old) (records_of self.new) }
     {
         let paths = self.begin_record(&file.path)?;
         let answer = self.write_stored(file, number);
@@ -269,7 +269,7 @@ impl<C> GuardedFileSystem<C> for MemFs {
     fn flush(&mut self, file: &DavFile, _credentials: &C) -> FsResult<()>
         ensures seen { Flushes (store_of self.old) file.now.path.key result (store_of self.new) }
         ensures memory { Gives (file_error file.now.path.key (memory_of self.old)) kept (memory_of self.old) result (memory_of self.new) }
-        ensures record { Tells Op.Flush (file.now.path ∷ []) result (records_of self.old) (records_of self.new) }
+        ensures record { Records Op.Flush (file.now.path ∷ []) result (records_of self.old) (records_of self.new) }
     {
         let paths = self.begin_record(&file.path)?;
         let answer = self.check_file(file);
@@ -277,9 +277,9 @@ impl<C> GuardedFileSystem<C> for MemFs {
     }
 
     fn file_metadata(&mut self, file: &DavFile, _credentials: &C) -> FsResult<Meta>
-        ensures seen { LooksAtFile (store_of self.old) file.now.path.key result (store_of self.new) }
+        ensures seen { LooksUpFile (store_of self.old) file.now.path.key result (store_of self.new) }
         ensures memory { Gives (file_error file.now.path.key (memory_of self.old)) kept (memory_of self.old) result (memory_of self.new) }
-        ensures record { Tells Op.FileMetadata (file.now.path ∷ []) result (records_of self.old) (records_of self.new) }
+        ensures record { Records Op.FileMetadata (file.now.path ∷ []) result (records_of self.old) (records_of self.new) }
     {
         let paths = self.begin_record(&file.path)?;
         let answer = self.look_at_file(file);
@@ -290,7 +290,7 @@ impl<C> GuardedFileSystem<C> for MemFs {
     fn copy(&mut self, from: &DavPath, to: &DavPath, _credentials: &C) -> FsResult<()>
         ensures seen { Copies (store_of self.old) from.now.key to.now.key result (store_of self.new) }
         ensures memory { Gives (copy_error from.now.key to.now.key (memory_of self.old)) (copied from.now.key to.now.key) (memory_of self.old) result (memory_of self.new) }
-        ensures record { Tells Op.Copy (from.now ∷ to.now ∷ []) result (records_of self.old) (records_of self.new) }
+        ensures record { Records Op.Copy (from.now ∷ to.now ∷ []) result (records_of self.old) (records_of self.new) }
     {
         let paths = self.begin_record_of_two(from, to)?;
         let answer = self.copy_file(from, to);
@@ -301,7 +301,7 @@ impl<C> GuardedFileSystem<C> for MemFs {
     fn rename(&mut self, from: &DavPath, to: &DavPath, _credentials: &C) -> FsResult<()>
         ensures seen { Renames (store_of self.old) from.now.key to.now.key result (store_of self.new) }
         ensures memory { Yields (rename_error from.now.key to.now.key (memory_of self.old)) (IsRenamed from.now.key to.now.key) (memory_of self.old) result (memory_of self.new) }
-        ensures record { Tells Op.Rename (from.now ∷ to.now ∷ []) result (records_of self.old) (records_of self.new) }
+        ensures record { Records Op.Rename (from.now ∷ to.now ∷ []) result (records_of self.old) (records_of self.new) }
     {
         let paths = self.begin_record_of_two(from, to)?;
         let answer = self.move_all(from, to);
@@ -312,7 +312,7 @@ impl<C> GuardedFileSystem<C> for MemFs {
     fn get_prop(&mut self, path: &DavPath, prop: &DavProp, _credentials: &C) -> FsResult<Element>
         ensures seen { GetsProp (store_of self.old) path.now.key (name_of prop.now) result (store_of self.new) }
         ensures memory { Gives (get_prop_error path.now.key (name_of prop.now) (memory_of self.old)) kept (memory_of self.old) result (memory_of self.new) }
-        ensures record { Tells Op.GetProp (path.now ∷ []) result (records_of self.old) (records_of self.new) }
+        ensures record { Records Op.GetProp (path.now ∷ []) result (records_of self.old) (records_of self.new) }
     {
         let paths = self.begin_record(path)?;
         let answer = self.find_prop(path, prop);
@@ -324,7 +324,7 @@ impl<C> GuardedFileSystem<C> for MemFs {
         ensures seen { GetsProps (store_of self.old) path.now.key result (store_of self.new) }
         ensures props { IfOk result (λ props. IsPropertyList (properties_at (contents_of (memory_of self.old)) path.now.key) props.items) }
         ensures memory { Gives (properties_error path.now.key (memory_of self.old)) kept (memory_of self.old) result (memory_of self.new) }
-        ensures record { Tells Op.GetProps (path.now ∷ []) result (records_of self.old) (records_of self.new) }
+        ensures record { Records Op.GetProps (path.now ∷ []) result (records_of self.old) (records_of self.new) }
     {
         let paths = self.begin_record(path)?;
         let answer = self.list_props(path);
@@ -344,7 +344,7 @@ impl<C> GuardedFileSystem<C> for MemFs {
         ensures seen { PatchesProps (store_of self.old) path.now.key patches.now result (store_of self.new) }
         ensures statuses { IfOk result (λ statuses. statuses.items ≡ replicate (length patches.now) 200) }
         ensures memory { Gives (properties_error path.now.key (memory_of self.old)) (with_patches path.now.key patches.now) (memory_of self.old) result (memory_of self.new) }
-        ensures record { TellsWith (λ statuses. statuses.items) Op.PatchProps (path.now ∷ []) result (records_of self.old) (records_of self.new) }
+        ensures record { RecordsWith (λ statuses. statuses.items) Op.PatchProps (path.now ∷ []) result (records_of self.old) (records_of self.new) }
     {
         let paths = self.begin_record(path)?;
         let statuses = Items::from_vec(patches::all_ok(*self.log.allocator(), patches.len())?);
@@ -355,10 +355,10 @@ impl<C> GuardedFileSystem<C> for MemFs {
     fn get_quota(&mut self, _credentials: &C) -> FsResult<(u64, Option<u64>)>
         ensures seen { GetsQuota (store_of self.old) result (store_of self.new) }
         ensures memory { Gives (quota_error (memory_of self.old)) kept (memory_of self.old) result (memory_of self.new) }
-        ensures record { Tells Op.GetQuota [] result (records_of self.old) (records_of self.new) }
+        ensures record { Records Op.GetQuota [] result (records_of self.old) (records_of self.new) }
     {
         let paths = self.begin_record_of_none()?;
-        let answer = self.tell_quota();
+        let answer = self.read_quota();
         self.end_record(Op::GetQuota, paths, answer)
     }
 

@@ -1,4 +1,4 @@
--- Lists of changes, and of what is told of them.
+-- Lists of changes, and of what is reported of them.
 use Rattle.std.proofs.Common.{◌≡◌, Bool, List, [], ◌∷◌, map, refl, ap}
 use Rattle.std.specs.Prelude.{◌||◌}
 use Rattle.std.specs.List.{list_any}

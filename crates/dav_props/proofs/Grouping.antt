@@ -1,4 +1,4 @@
--- Properties by their statuses: what a map holds of them is what is to be told.
+-- Properties by their statuses: what a map holds of them is what is to be reported.
 use Rattle.std.proofs.Common.{◌≡◌, ◌≢◌, ◌∙◌, ◌⊎◌, ◌<◌, ℕ, Bool, true, false, cond, T, List, [], ◌∷◌, ◌++◌, Option, Some, None, Result, Ok, Err, Vec, map, length, get_or, refl, sym, ap, subst, is_some, inl, inr, append-nil, arith}
 use Rattle.std.specs.Prelude.{filter, nat_eq, option_map, ◌&&◌, codes, All, IsOk}
 use Rattle.std.specs.declared.alloc.Global.{Global}
@@ -17,12 +17,12 @@ use Rattle.std.proofs.lemmas.List.Elements.{All-get_or}
 use Rattle.http.specs.StatusCode.{IsStatusCode}
 use Rattle.dav_resource.specs.PathText.{PathValue}
 use Rattle.dav_resource.specs.TreeLaws.{elements_snoc}
-use Rattle.dav_parts.specs.DavElement.{href_element}
+use Rattle.dav_messages.specs.DavElement.{href_element}
 use Rattle.std.specs.BTreeMap.{get, is_at, IsOrdered}
 use Rattle.std.specs.FinMap as fin
 use Rattle.std.specs.FinMap.Entries.{find, is_sorted, below_all, same_entries}
 use Rattle.dav_resource.specs.Tree.{Tree, prefixed_element, with_children, one_element, elements}
-use Rattle.dav_props.specs.Propstat.{Told, Group, of_status, statuses, grouped, propstat, property_response}
+use Rattle.dav_props.specs.Propstat.{PropertyStatus, Group, of_status, statuses, grouped, propstat, property_response}
 use Rattle.dav_props.specs.Groups.{StatusMap, groups_of, properties_at, AddsProperty}
 
 -- the list, where there is something in it
@@ -35,23 +35,23 @@ abbrev pub at_status : StatusMap → ℕ → Option (List Tree)
 at_status groups status = option_map (λ (elements : Vec Tree Global). elements.items) (get nat_cmp groups status)
 
 -- the map holds these properties
-pub record IsGrouping (told : List Told) (groups : StatusMap) : Type 0 where
-  pub holds : (status : ℕ) → at_status groups status ≡ some_of (of_status status told)
+pub record IsGrouping (reported : List PropertyStatus) (groups : StatusMap) : Type 0 where
+  pub holds : (status : ℕ) → at_status groups status ≡ some_of (of_status status reported)
   pub ordered : IsOrdered nat_cmp groups
 
 -- ---- one more
 
 -- those of a status, with one more property behind them
-of_status-more : (status : ℕ) (told : List Told) (t : Told) → of_status status (told ++ t ∷ []) ≡ of_status status told ++ cond (nat_eq t.0 status) (t.1 ∷ []) []
+of_status-more : (status : ℕ) (reported : List PropertyStatus) (t : PropertyStatus) → of_status status (reported ++ t ∷ []) ≡ of_status status reported ++ cond (nat_eq t.0 status) (t.1 ∷ []) []
 of_status-more status [] t = by_test (nat_eq t.0 status)
   where
-    by_test : (b : Bool) → map (λ (x : Told). x.1) (cond b (t ∷ []) []) ≡ cond b (t.1 ∷ []) []
+    by_test : (b : Bool) → map (λ (x : PropertyStatus). x.1) (cond b (t ∷ []) []) ≡ cond b (t.1 ∷ []) []
     by_test true = refl
     by_test false = refl
-of_status-more status (x ∷ told) t = by_test (nat_eq x.0 status) (of_status-more status told t)
+of_status-more status (x ∷ reported) t = by_test (nat_eq x.0 status) (of_status-more status reported t)
   where
-    by_test : (b : Bool) → of_status status (told ++ t ∷ []) ≡ of_status status told ++ cond (nat_eq t.0 status) (t.1 ∷ []) [] → map (λ (y : Told). y.1) (cond b (x ∷ filter (λ (y : Told). nat_eq y.0 status) (told ++ t ∷ [])) (filter (λ (y : Told). nat_eq y.0 status) (told ++ t ∷ [])))
-        ≡ map (λ (y : Told). y.1) (cond b (x ∷ filter (λ (y : Told). nat_eq y.0 status) told) (filter (λ (y : Told). nat_eq y.0 status) told)) ++ cond (nat_eq t.0 status) (t.1 ∷ []) []
+    by_test : (b : Bool) → of_status status (reported ++ t ∷ []) ≡ of_status status reported ++ cond (nat_eq t.0 status) (t.1 ∷ []) [] → map (λ (y : PropertyStatus). y.1) (cond b (x ∷ filter (λ (y : PropertyStatus). nat_eq y.0 status) (reported ++ t ∷ [])) (filter (λ (y : PropertyStatus). nat_eq y.0 status) (reported ++ t ∷ [])))
+        ≡ map (λ (y : PropertyStatus). y.1) (cond b (x ∷ filter (λ (y : PropertyStatus). nat_eq y.0 status) reported) (filter (λ (y : PropertyStatus). nat_eq y.0 status) reported)) ++ cond (nat_eq t.0 status) (t.1 ∷ []) []
     by_test true rest = ap (λ l. x.1 ∷ l) rest
     by_test false rest = rest
 
@@ -75,24 +75,24 @@ grouping-none groups none = record {
   ordered = subst (λ es. IsStrictlySortedBy nat_cmp (keys_of es)) (sym none) tt;
 }
 
-pub grouping-more : (told : List Told) (old new : StatusMap) (t : Told) → IsGrouping told old → AddsProperty old t.0 t.1 new → IsGrouping (told ++ t ∷ []) new
-grouping-more told old new t was adds = record { holds = holds; ordered = adds.ordered }
+pub grouping-more : (reported : List PropertyStatus) (old new : StatusMap) (t : PropertyStatus) → IsGrouping reported old → AddsProperty old t.0 t.1 new → IsGrouping (reported ++ t ∷ []) new
+grouping-more reported old new t was adds = record { holds = holds; ordered = adds.ordered }
   where
-    holds : (status : ℕ) → at_status new status ≡ some_of (of_status status (told ++ t ∷ []))
+    holds : (status : ℕ) → at_status new status ≡ some_of (of_status status (reported ++ t ∷ []))
     holds status = by_test (eqb_tells t.0 status)
       where
-        by_test : ((nat_eq t.0 status ≡ true) × (t.0 ≡ status)) ⊎ ((nat_eq t.0 status ≡ false) × (t.0 ≢ status)) → at_status new status ≡ some_of (of_status status (told ++ t ∷ []))
+        by_test : ((nat_eq t.0 status ≡ true) × (t.0 ≡ status)) ⊎ ((nat_eq t.0 status ≡ false) × (t.0 ≢ status)) → at_status new status ≡ some_of (of_status status (reported ++ t ∷ []))
         by_test (inl same) =
             ap (at_status new) (sym same.1)
             ∙ adds.here
             ∙ ap (λ xs. Some (xs ++ t.1 ∷ [])) (properties_of-status old t.0 ∙ ap (λ o. option_map_or (λ ys. ys) o []) (was.holds t.0))
-            ∙ joined (of_status t.0 told) t.1
-            ∙ ap (λ s. some_of (of_status s told ++ t.1 ∷ [])) same.1
-            ∙ ap some_of (sym (of_status-more status told t ∙ ap (λ b. of_status status told ++ cond b (t.1 ∷ []) []) same.0))
+            ∙ joined (of_status t.0 reported) t.1
+            ∙ ap (λ s. some_of (of_status s reported ++ t.1 ∷ [])) same.1
+            ∙ ap some_of (sym (of_status-more status reported t ∙ ap (λ b. of_status status reported ++ cond b (t.1 ∷ []) []) same.0))
         by_test (inr other) =
             ap (option_map (λ (elements : Vec Tree Global). elements.items)) (adds.others status (λ e. other.1 (sym e)))
             ∙ was.holds status
-            ∙ ap some_of (sym (of_status-more status told t ∙ ap (λ b. of_status status told ++ cond b (t.1 ∷ []) []) other.0 ∙ append-nil (of_status status told)))
+            ∙ ap some_of (sym (of_status-more status reported t ∙ ap (λ b. of_status status reported ++ cond b (t.1 ∷ []) []) other.0 ∙ append-nil (of_status status reported)))
 
 -- ---- all of them
 
@@ -116,27 +116,27 @@ find-groups q (e ∷ es) = by_test (eq_by_cmp nat_cmp q e.0) (find-groups q es)
     by_test true rest = refl
     by_test false rest = rest
 
-find-listed : (q : ℕ) (told : List Told) (ks : List ℕ) → find nat_cmp q (map (λ s. (s, of_status s told)) ks) ≡ cond (list_any (eq_by_cmp nat_cmp q) ks) (Some (of_status q told)) None
-find-listed q told [] = refl
-find-listed q told (k ∷ ks) = by_test (by_order q k) (find-listed q told ks)
+find-listed : (q : ℕ) (reported : List PropertyStatus) (ks : List ℕ) → find nat_cmp q (map (λ s. (s, of_status s reported)) ks) ≡ cond (list_any (eq_by_cmp nat_cmp q) ks) (Some (of_status q reported)) None
+find-listed q reported [] = refl
+find-listed q reported (k ∷ ks) = by_test (by_order q k) (find-listed q reported ks)
   where
     Same : Type 0
-    Same = find nat_cmp q (map (λ s. (s, of_status s told)) ks) ≡ cond (list_any (eq_by_cmp nat_cmp q) ks) (Some (of_status q told)) None
+    Same = find nat_cmp q (map (λ s. (s, of_status s reported)) ks) ≡ cond (list_any (eq_by_cmp nat_cmp q) ks) (Some (of_status q reported)) None
 
     by_test : ((eq_by_cmp nat_cmp q k ≡ true) × (q ≡ k)) ⊎ ((eq_by_cmp nat_cmp q k ≡ false) × (q ≢ k)) → Same
-        → cond (eq_by_cmp nat_cmp q k) (Some (of_status k told)) (find nat_cmp q (map (λ s. (s, of_status s told)) ks)) ≡ cond (list_any (eq_by_cmp nat_cmp q) (k ∷ ks)) (Some (of_status q told)) None
-    by_test (inl same) rest = rw same.0 (ap (λ s. Some (of_status s told)) (sym same.1))
+        → cond (eq_by_cmp nat_cmp q k) (Some (of_status k reported)) (find nat_cmp q (map (λ s. (s, of_status s reported)) ks)) ≡ cond (list_any (eq_by_cmp nat_cmp q) (k ∷ ks)) (Some (of_status q reported)) None
+    by_test (inl same) rest = rw same.0 (ap (λ s. Some (of_status s reported)) (sym same.1))
     by_test (inr other) rest = rw other.0 rest
 
-some-told : (q : ℕ) (told : List Told) → some_of (of_status q told) ≡ cond (is_some (find nat_cmp q told)) (Some (of_status q told)) None
-some-told q [] = refl
-some-told q (t ∷ told) = by_test (by_order q t.0) (eqb_tells t.0 q) (some-told q told)
+some-reported : (q : ℕ) (reported : List PropertyStatus) → some_of (of_status q reported) ≡ cond (is_some (find nat_cmp q reported)) (Some (of_status q reported)) None
+some-reported q [] = refl
+some-reported q (t ∷ reported) = by_test (by_order q t.0) (eqb_tells t.0 q) (some-reported q reported)
   where
     Same : Type 0
-    Same = some_of (of_status q told) ≡ cond (is_some (find nat_cmp q told)) (Some (of_status q told)) None
+    Same = some_of (of_status q reported) ≡ cond (is_some (find nat_cmp q reported)) (Some (of_status q reported)) None
 
     Wanted : Type 0
-    Wanted = some_of (of_status q (t ∷ told)) ≡ cond (is_some (find nat_cmp q (t ∷ told))) (Some (of_status q (t ∷ told))) None
+    Wanted = some_of (of_status q (t ∷ reported)) ≡ cond (is_some (find nat_cmp q (t ∷ reported))) (Some (of_status q (t ∷ reported))) None
 
     by_test : ((eq_by_cmp nat_cmp q t.0 ≡ true) × (q ≡ t.0)) ⊎ ((eq_by_cmp nat_cmp q t.0 ≡ false) × (q ≢ t.0)) → ((nat_eq t.0 q ≡ true) × (t.0 ≡ q)) ⊎ ((nat_eq t.0 q ≡ false) × (t.0 ≢ q)) → Same → Wanted
     by_test (inl same) (inl also) rest = rw (same.0, also.0) refl
@@ -157,30 +157,30 @@ unfolding IsStrictlySortedBy
 groups-sorted [] h = tt
 groups-sorted (e ∷ es) h = both _ _ (below-sorted e.0 es h.0) (groups-sorted es h.1)
 
-below-listed : (x : ℕ) (told es : List Told) → below_all nat_cmp x (map (λ s. (s, of_status s told)) (map (λ (e : Told). e.0) es)) ≡ below_all nat_cmp x es
-below-listed x told [] = refl
-below-listed x told (e ∷ es) = ap (λ b. is_lt (nat_cmp x e.0) && b) (below-listed x told es)
+below-listed : (x : ℕ) (reported es : List PropertyStatus) → below_all nat_cmp x (map (λ s. (s, of_status s reported)) (map (λ (e : PropertyStatus). e.0) es)) ≡ below_all nat_cmp x es
+below-listed x reported [] = refl
+below-listed x reported (e ∷ es) = ap (λ b. is_lt (nat_cmp x e.0) && b) (below-listed x reported es)
 
-listed-sorted : (told es : List Told) → is_sorted nat_cmp (map (λ s. (s, of_status s told)) (map (λ (e : Told). e.0) es)) ≡ is_sorted nat_cmp es
-listed-sorted told [] = refl
-listed-sorted told (e ∷ es) = λ i. below-listed e.0 told es i && listed-sorted told es i
+listed-sorted : (reported es : List PropertyStatus) → is_sorted nat_cmp (map (λ s. (s, of_status s reported)) (map (λ (e : PropertyStatus). e.0) es)) ≡ is_sorted nat_cmp es
+listed-sorted reported [] = refl
+listed-sorted reported (e ∷ es) = λ i. below-listed e.0 reported es i && listed-sorted reported es i
 
--- the map's entries are the properties that are to be told
-pub grouping-is : (told : List Told) (groups : StatusMap) → IsGrouping told groups → groups_of groups ≡ grouped told
-grouping-is told groups h =
-    same_entries nat_cmp nat_cmp_total fin.nat_cmp-IsAntisymmetric (groups_of groups) (grouped told) (groups-sorted groups.entries h.ordered)
-    (subst T (sym (listed-sorted told (fin.entries (fin.from_entries {R = nat_cmp} told)))) (fin.entries_sorted (fin.from_entries {R = nat_cmp} told))) finds
+-- the map's entries are the properties that are to be reported
+pub grouping-is : (reported : List PropertyStatus) (groups : StatusMap) → IsGrouping reported groups → groups_of groups ≡ grouped reported
+grouping-is reported groups h =
+    same_entries nat_cmp nat_cmp_total fin.nat_cmp-IsAntisymmetric (groups_of groups) (grouped reported) (groups-sorted groups.entries h.ordered)
+    (subst T (sym (listed-sorted reported (fin.entries (fin.from_entries {R = nat_cmp} reported)))) (fin.entries_sorted (fin.from_entries {R = nat_cmp} reported))) finds
   where
-    among : (q : ℕ) → list_any (eq_by_cmp nat_cmp q) (statuses told) ≡ is_some (find nat_cmp q told)
-    among q = sym (fin.contains_key-keys (fin.from_entries {R = nat_cmp} told) q) ∙ ap is_some (fin.get-from_entries nat_cmp_total told q)
+    among : (q : ℕ) → list_any (eq_by_cmp nat_cmp q) (statuses reported) ≡ is_some (find nat_cmp q reported)
+    among q = sym (fin.contains_key-keys (fin.from_entries {R = nat_cmp} reported) q) ∙ ap is_some (fin.get-from_entries nat_cmp_total reported q)
 
-    finds : (q : ℕ) → find nat_cmp q (groups_of groups) ≡ find nat_cmp q (grouped told)
+    finds : (q : ℕ) → find nat_cmp q (groups_of groups) ≡ find nat_cmp q (grouped reported)
     finds q =
         find-groups q groups.entries
         ∙ h.holds q
-        ∙ some-told q told
-        ∙ ap (λ b. cond b (Some (of_status q told)) None) (sym (among q))
-        ∙ sym (find-listed q told (statuses told))
+        ∙ some-reported q reported
+        ∙ ap (λ b. cond b (Some (of_status q reported)) None) (sym (among q))
+        ∙ sym (find-listed q reported (statuses reported))
 
 -- the groups that these entries are
 abbrev pub seen_groups : List (ℕ × Vec Tree Global) → List Group

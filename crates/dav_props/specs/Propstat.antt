@@ -4,30 +4,30 @@ use Rattle.std.specs.Ordering.{nat_cmp}
 use Rattle.std.specs.FinMap.{keys, from_entries}
 use Rattle.dav_resource.specs.PathText.{PathValue}
 use Rattle.dav_resource.specs.Tree.{Tree, prefixed_element}
-use Rattle.dav_parts.specs.DavElement.{with_elements, declaring_element, text_element, href_element}
-use Rattle.dav_parts.specs.Multistatus.{status_line}
+use Rattle.dav_messages.specs.DavElement.{with_elements, declaring_element, text_element, href_element}
+use Rattle.dav_messages.specs.Multistatus.{status_line}
 
 -- ---- properties by their statuses
 
 -- a reported property, with its status
-abbrev pub Told : Type 0
-Told = ℕ × Tree
+abbrev pub PropertyStatus : Type 0
+PropertyStatus = ℕ × Tree
 
 -- a status and the properties that have it
 abbrev pub Group : Type 0
 Group = ℕ × List Tree
 
 -- the properties of this status, in order
-abbrev pub of_status : ℕ → List Told → List Tree
-of_status status told = map (λ (t : Told). t.1) (filter (λ (t : Told). nat_eq t.0 status) told)
+abbrev pub of_status : ℕ → List PropertyStatus → List Tree
+of_status status reported = map (λ (t : PropertyStatus). t.1) (filter (λ (t : PropertyStatus). nat_eq t.0 status) reported)
 
 -- each status that a property has, once, the least first
-abbrev pub statuses : List Told → List ℕ
-statuses told = keys (from_entries {R = nat_cmp} told)
+abbrev pub statuses : List PropertyStatus → List ℕ
+statuses reported = keys (from_entries {R = nat_cmp} reported)
 
 -- each status with its properties
-abbrev pub grouped : List Told → List Group
-grouped told = map (λ status. (status, of_status status told)) (statuses told)
+abbrev pub grouped : List PropertyStatus → List Group
+grouped reported = map (λ status. (status, of_status status reported)) (statuses reported)
 
 -- ---- the trees
 

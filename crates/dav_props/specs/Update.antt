@@ -7,10 +7,10 @@ use Rattle.dav_resource.specs.declared.error.DavError.TheVariants.{XmlParseError
 use Rattle.dav_resource.specs.declared.request.ReqBody.{ReqBody}
 use Rattle.dav_resource.specs.declared.request.ReqBody.TheVariants as bodies
 use Rattle.dav_store.specs.PropertyCalls.{Patch}
-use Rattle.dav_parts.specs.DavElement.{is_named}
+use Rattle.dav_messages.specs.DavElement.{is_named}
 use Rattle.dav_props.specs.Live.{set_status, remove_status}
 use Rattle.dav_props.specs.Property.{bare, prop_named}
-use Rattle.dav_props.specs.Propstat.{Told}
+use Rattle.dav_props.specs.Propstat.{PropertyStatus}
 use Rattle.dav_props.specs.declared.update.PropertyChange.{PropertyChange}
 
 -- a property that is set or removed, and its status before the store is called
@@ -78,24 +78,24 @@ patches_of changes = map patch_of (filter is_dead changes)
 
 -- If some change is rejected, every change that is not itself rejected is reported with 424: with its value if the store would have set the property,
 -- else by name.
-abbrev pub failed : Change → Told
+abbrev pub failed : Change → PropertyStatus
 failed change =
     if is_refused change then (change.status, bare change.element)
     else (424, if change.set && is_dead change then change.element else bare change.element)
 
-abbrev pub told_failed : List Change → List Told
-told_failed changes = map failed (live_first changes)
+abbrev pub failed_report : List Change → List PropertyStatus
+failed_report changes = map failed (live_first changes)
 
 -- if none is rejected, each change that the store does not have to make has its own status
-abbrev pub made : Change → Told
+abbrev pub made : Change → PropertyStatus
 made change = (change.status, bare change.element)
 
-abbrev pub live_made : List Change → List Told
+abbrev pub live_made : List Change → List PropertyStatus
 live_made changes = map made (filter (λ change. not (is_dead change)) changes)
 
 -- and each other change has the status that the store returned for it
-abbrev pub dead_made : List Change → List ℕ → List Told
+abbrev pub dead_made : List Change → List ℕ → List PropertyStatus
 dead_made changes statuses = zip statuses (map (λ change. bare change.element) (filter is_dead changes))
 
-abbrev pub told_made : List Change → List ℕ → List Told
-told_made changes statuses = live_made changes ++ dead_made changes statuses
+abbrev pub made_report : List Change → List ℕ → List PropertyStatus
+made_report changes statuses = live_made changes ++ dead_made changes statuses

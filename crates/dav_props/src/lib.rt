@@ -6,13 +6,13 @@ mod language;
 mod live;
 mod property;
 mod propstat;
-mod telling;
+mod reporting;
 mod update;
 mod writer;
 
 pub use live::{is_kept, liveprop_remove, liveprop_set};
 pub use property::{bare_element, element_to_davprop, element_to_davprop_full};
 pub use propstat::group_by_status;
-pub use telling::{patches, some_refused, tell_failed, tell_made};
+pub use reporting::{patches, report_failed, report_made, some_refused};
 pub use update::{PropertyChange, read_update};
 pub use writer::PropWriter;

@@ -2,11 +2,11 @@
 ghost use Rattle.std.specs.Prelude.{◌≡◌, IfOk, codes};
 ghost use Rattle.http.specs.StatusCode.{IsStatusCode};
 ghost use Rattle.dav_resource.specs.Tree.{prefixed_element};
-ghost use Rattle.dav_parts.specs.DavElement.{with_elements};
+ghost use Rattle.dav_messages.specs.DavElement.{with_elements};
 ghost use Rattle.dav_props.specs.Propstat.{grouped, propstat as tree_of_group, property_response as response_of_groups};
 ghost use Rattle.dav_props.specs.Groups.{groups_of, AddsProperty, AreStatuses};
 
-use dav_parts::{href_element, status_line, text_element};
+use dav_messages::{href_element, status_line, text_element};
 use dav_resource::{DavPath, Element};
 use http::StatusCode;
 use std::alloc::{AllocError, Global};
@@ -15,13 +15,13 @@ use std::collections::BTreeMap;
 /// Groups reported properties by status. Those of one status keep their order. Fails only if memory runs out.
 pub fn group_by_status(
     alloc: Global,
-    told: Vec<(StatusCode, Element)>,
+    reported: Vec<(StatusCode, Element)>,
 ) -> Result<BTreeMap<u16, Vec<Element>>, AllocError>
-    ensures groups { IfOk result (λ groups. groups_of groups ≡ grouped told.items) }
+    ensures groups { IfOk result (λ groups. groups_of groups ≡ grouped reported.items) }
     ensures statuses { IfOk result AreStatuses }
 {
     let mut groups = BTreeMap::new(alloc);
-    for (status, element) in told {
+    for (status, element) in reported {
         groups = add_property(alloc, groups, status.as_u16(), element)?;
     }
     Ok(groups)

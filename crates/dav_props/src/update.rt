@@ -6,7 +6,7 @@ ghost use Rattle.dav_resource.specs.Tree.{elements_of};
 ghost use Rattle.dav_props.specs.Update.{change_of, judged, changes_in, properties_of, properties_in, update_verdict};
 
 use crate::live::{liveprop_remove, liveprop_set};
-use dav_parts::is_named;
+use dav_messages::is_named;
 use dav_resource::{DavError, DavResult, Element, ReqBody};
 use http::StatusCode;
 use std::alloc::{AllocError, Global};

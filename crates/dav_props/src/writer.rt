@@ -2,15 +2,15 @@
 ghost use Rattle.std.specs.Prelude.{◌≡◌, ◌++◌, ◌∷◌, [], codes, Ok, IfOk, IfErr, OnOk, OnErr};
 ghost use Rattle.dav_resource.specs.declared.error.DavError.TheVariants.{Memory};
 ghost use Rattle.dav_resource.specs.Tree.{with_attribute, xmlns_name};
-ghost use Rattle.dav_parts.specs.DavElement.{with_elements};
-ghost use Rattle.dav_parts.specs.Multistatus.{xml_type};
-ghost use Rattle.dav_parts.specs.Reply.{reply_of, field};
-ghost use Rattle.dav_parts.specs.ReplyHeader.{HasRoomFor};
+ghost use Rattle.dav_messages.specs.DavElement.{with_elements};
+ghost use Rattle.dav_messages.specs.Multistatus.{xml_type};
+ghost use Rattle.dav_messages.specs.Reply.{reply_of, field};
+ghost use Rattle.dav_messages.specs.ReplyHeader.{HasRoomFor};
 ghost use Rattle.dav_props.specs.Groups.{groups_of, AreStatuses};
 ghost use Rattle.dav_props.specs.Propstat.{property_response as response_of_groups, property_multistatus};
 
 use crate::propstat::property_response;
-use dav_parts::{add_xml_type, declaring_element};
+use dav_messages::{add_xml_type, declaring_element};
 use dav_resource::{Body, DavPath, DavResult, Element};
 use http::{Response, StatusCode};
 use std::alloc::Global;

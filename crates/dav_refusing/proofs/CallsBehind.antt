@@ -6,13 +6,13 @@ use Rattle.dav_resource.specs.PathText.{PathValue}
 use Rattle.dav_resource.specs.declared.meta.OpenOptions.{OpenOptions}
 use Rattle.dav_resource.specs.declared.meta.DavFile.{DavFile}
 use Rattle.dav_resource.specs.declared.record.Op.TheVariants.{Metadata, ReadBytes, CreateDir, RemoveFile, RemoveDir, Copy, Rename, OpenFile, Seek, WriteBytes, Flush, FileMetadata, GetProp, GetProps, GetQuota}
-use Rattle.dav_store.specs.Calls.{metadata_bar, IsMetaAt, Looks, create_dir_bar, IsMadeAt, MakesDirectory, open_bar, IsOpened, Opens, must_be_file, IsReadAt, ReadsBytes, file_bar, Seeks, IsWritten, Writes, Flushes, LooksAtFile}
+use Rattle.dav_store.specs.Calls.{metadata_bar, IsMetaAt, LooksUp, create_dir_bar, IsMadeAt, MakesDirectory, open_bar, IsOpened, Opens, must_be_file, IsReadAt, ReadsBytes, file_bar, Seeks, IsWritten, Writes, Flushes, LooksUpFile}
 use Rattle.dav_store.specs.Members.{members, IsRemovedAt, RemovesFile, remove_dir_bar, RemovesDir}
 use Rattle.dav_store.specs.Transfers.{copy_bar, IsCopiedTo, Copies, rename_bar, IsRenamedTo, Renames}
 use Rattle.dav_store.specs.PropertyCalls.{properties_at, get_prop_bar, IsPropertyAt, GetsProp, properties_bar, ArePropertiesAt, GetsProps, get_quota_bar, IsQuota, GetsQuota}
 use Rattle.dav_refusing.proofs.Refusals.{IsCall, no_statuses, answers_call}
 
-pub looks_call : (key : Key) → IsCall Metadata (key ∷ []) no_statuses (λ s. Looks s key)
+pub looks_call : (key : Key) → IsCall Metadata (key ∷ []) no_statuses (λ s. LooksUp s key)
 looks_call key = answers_call Metadata (key ∷ []) (λ keeps old. metadata_bar (get old.tree key)) (IsMetaAt key)
 
 pub makes_directory_call : (key : Key) → IsCall CreateDir (key ∷ []) no_statuses (λ s. MakesDirectory s key)
@@ -45,7 +45,7 @@ writes_call file more = answers_call WriteBytes (file.path.key ∷ []) (λ keeps
 pub flushes_call : (key : Key) → IsCall Flush (key ∷ []) no_statuses (λ s. Flushes s key)
 flushes_call key = answers_call Flush (key ∷ []) (λ keeps old. file_bar (get old.tree key)) (λ _ before after. after ≡ before)
 
-pub looks_at_file_call : (key : Key) → IsCall FileMetadata (key ∷ []) no_statuses (λ s. LooksAtFile s key)
+pub looks_at_file_call : (key : Key) → IsCall FileMetadata (key ∷ []) no_statuses (λ s. LooksUpFile s key)
 looks_at_file_call key = answers_call FileMetadata (key ∷ []) (λ keeps old. file_bar (get old.tree key)) (IsMetaAt key)
 
 pub gets_prop_call : (key name : Key) → IsCall GetProp (key ∷ []) no_statuses (λ s. GetsProp s key name)

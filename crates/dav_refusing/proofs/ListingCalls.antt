@@ -20,7 +20,7 @@ use Rattle.dav_refusing.specs.Pending.{Pending, due, passed_by}
 use Rattle.dav_refusing.specs.Refusing.{all_allowed, inner_of, pending_of, plan_of, records_of, seen_behind, IsWhollyKept, Passes, GoesByPlan, Follows, PassesListing, PassesReadDir, HasListed, KeepsReading, FollowsReading}
 use Rattle.dav_refusing.specs.declared.refusing.Refusing.{Refusing}
 use Rattle.dav_refusing.proofs.Queues.{own_planned}
-use Rattle.dav_refusing.proofs.Refusals.{CallBehind, IsOwnPlan, looks_kept, IsCall, answers_call, no_statuses, lawful}
+use Rattle.dav_refusing.proofs.Refusals.{CallBehind, IsOwnPlan, seen_kept, IsCall, answers_call, no_statuses, lawful}
 
 abbrev pub Listing : Type 0
 Listing = Vec (Result DirEntry FsError) Global
@@ -52,21 +52,21 @@ named shows old directory (name, Err e) is = tt
 -- ---- the records of members that the store behind doesn't show
 
 -- the keys of the records are those of the members that aren't shown
-told-keys : (plan : Plan) (directory : PathValue) (children : List Child) (hidden : List Record) → map logged_of hidden ≡ filter_map (unseen_record directory.key) children
+recorded-keys : (plan : Plan) (directory : PathValue) (children : List Child) (hidden : List Record) → map logged_of hidden ≡ filter_map (unseen_record directory.key) children
     → map logged_of (hidden_by plan directory children hidden) ≡ filter_map (unseen_record directory.key) (shown_by plan directory.key children)
-told-keys plan directory [] hidden are = refl
-told-keys plan directory ((name, Ok entry) ∷ children) hidden are =
-    by_error (refusal_for Entry (member directory.key name) plan) _ (shown_by plan directory.key children) (told-keys plan directory children hidden are)
+recorded-keys plan directory [] hidden are = refl
+recorded-keys plan directory ((name, Ok entry) ∷ children) hidden are =
+    by_error (refusal_for Entry (member directory.key name) plan) _ (shown_by plan directory.key children) (recorded-keys plan directory children hidden are)
   where
-    by_error : (o : Option FsError) (told : List Record) (shown : List Child) → map logged_of told ≡ filter_map (unseen_record directory.key) shown
-        → map logged_of (refused_record directory name o ++ told) ≡ filter_map (unseen_record directory.key) ((name, shown_as o entry) ∷ shown)
-    by_error None told shown is = is
-    by_error (Some e) told shown is = ap (λ l. logged Entry (member directory.key name ∷ []) (Refused e) ∷ l) is
-told-keys plan directory ((name, Err e) ∷ children) [] are = absurd cc
-told-keys plan directory ((name, Err e) ∷ children) (r ∷ hidden) are =
+    by_error : (o : Option FsError) (recorded : List Record) (shown : List Child) → map logged_of recorded ≡ filter_map (unseen_record directory.key) shown
+        → map logged_of (refused_record directory name o ++ recorded) ≡ filter_map (unseen_record directory.key) ((name, shown_as o entry) ∷ shown)
+    by_error None recorded shown is = is
+    by_error (Some e) recorded shown is = ap (λ l. logged Entry (member directory.key name ∷ []) (Refused e) ∷ l) is
+recorded-keys plan directory ((name, Err e) ∷ children) [] are = absurd cc
+recorded-keys plan directory ((name, Err e) ∷ children) (r ∷ hidden) are =
     let first : logged_of r ≡ logged Entry (member directory.key name ∷ []) (Refused e) = cc in
     let more : map logged_of hidden ≡ filter_map (unseen_record directory.key) children = cc in
-    λ i. first i ∷ told-keys plan directory children hidden more i
+    λ i. first i ∷ recorded-keys plan directory children hidden more i
 
 map-drop : (n : ℕ) (xs : List Record) → map logged_of (drop n xs) ≡ drop n (map logged_of xs)
 map-drop zero xs = refl
@@ -78,18 +78,18 @@ length-map [] = refl
 length-map (x ∷ xs) = ap suc (length-map xs)
 
 -- the log has the record of the call
-pub one_more_told : (before after : List Record) (old_log new_log : List Logged) (r : Logged) (others : List Logged) → map logged_of before ≡ old_log → map logged_of after ≡ new_log → new_log ≡ old_log ++ r ∷ others
+pub one_more_recorded : (before after : List Record) (old_log new_log : List Logged) (r : Logged) (others : List Logged) → map logged_of before ≡ old_log → map logged_of after ≡ new_log → new_log ≡ old_log ++ r ∷ others
     → length before + 1 ≤ length after
-one_more_told before after old_log new_log r others b a told =
-    let count : length (map logged_of after) ≡ length (map logged_of before ++ r ∷ others) = ap length (a ∙ told ∙ ap (λ l. l ++ r ∷ others) (sym b)) in
+one_more_recorded before after old_log new_log r others b a recorded =
+    let count : length (map logged_of after) ≡ length (map logged_of before ++ r ∷ others) = ap length (a ∙ recorded ∙ ap (λ l. l ++ r ∷ others) (sym b)) in
     omega (arith, count, length-map before, length-map after, length-append (map logged_of before) (r ∷ others))
 
 -- what stands behind the record of the call
 pub hidden_are : (before after hidden : List Record) (old_log new_log : List Logged) (r : Logged) (others : List Logged) → map logged_of before ≡ old_log → map logged_of after ≡ new_log → new_log ≡ old_log ++ r ∷ others
     → hidden ≡ drop (length before + 1) after → map logged_of hidden ≡ others
-hidden_are before after hidden old_log new_log r others b a told is =
+hidden_are before after hidden old_log new_log r others b a recorded is =
     let count : length (map logged_of before ++ r ∷ []) ≡ length before + 1 = omega (arith, length-append (map logged_of before) (r ∷ []), length-map before) in
-    ap (map logged_of) is ∙ map-drop (length before + 1) after ∙ ap (drop (length before + 1)) (a ∙ told ∙ ap (λ l. l ++ r ∷ others) (sym b) ∙ sym (append_assoc (map logged_of before) (r ∷ []) others))
+    ap (map logged_of) is ∙ map-drop (length before + 1) after ∙ ap (drop (length before + 1)) (a ∙ recorded ∙ ap (λ l. l ++ r ∷ others) (sym b) ∙ sym (append_assoc (map logged_of before) (r ∷ []) others))
     ∙ drop_at (map logged_of before ++ r ∷ []) others (length before + 1) count
 
 module _ {F : Type 0} (see : F → Store) (path : PathValue) where
@@ -120,14 +120,14 @@ module _ {F : Type 0} (see : F → Store) (path : PathValue) where
     where
       by_due : (r : Option FsError) → GoesByPlan ReadDir (path ∷ []) (Passes see ReadDir (path ∷ []) Declining) r old (Err e) new → GoesByPlan ReadDir (path ∷ []) (PassesReadDir see path) r old (Err e) new
       by_due (Some e') h = h
-      by_due None h = record { behind = declined _ _ e h.behind; left = h.left; outcome = h.outcome; statuses = h.statuses; told = h.told; records = h.records }
+      by_due None h = record { behind = declined _ _ e h.behind; left = h.left; outcome = h.outcome; statuses = h.statuses; recorded = h.recorded; records = h.records }
 
   as_call : (old new : Refusing F) (e : FsError) → HadMemory (Err e) → GoesByPlan ReadDir (path ∷ []) (PassesReadDir see path) (due ReadDir path.key (pending_of old)) old (Err e) new → Follows see ReadDir (path ∷ []) Declining old (Err e) new
   as_call old new e not_memory goes = inr (not_memory, by_due (due ReadDir path.key (pending_of old)) goes)
     where
       by_due : (r : Option FsError) → GoesByPlan ReadDir (path ∷ []) (PassesReadDir see path) r old (Err e) new → GoesByPlan ReadDir (path ∷ []) (Passes see ReadDir (path ∷ []) Declining) r old (Err e) new
       by_due (Some e') h = h
-      by_due None h = record { behind = record { granted = tt; declined = h.behind.declined }; left = h.left; outcome = h.outcome; statuses = h.statuses; told = h.told; records = h.records }
+      by_due None h = record { behind = record { granted = tt; declined = h.behind.declined }; left = h.left; outcome = h.outcome; statuses = h.statuses; recorded = h.recorded; records = h.records }
 
   -- ---- a listing without memory
 
@@ -135,7 +135,7 @@ module _ {F : Type 0} (see : F → Store) (path : PathValue) where
   reading_kept old new kept = by_inner kept.inner
     where
       by_inner : (see (inner_of new) ≡ see (inner_of old)) ⊎ HasListed see path old new → seen_behind see new ≡ seen_behind see old
-      by_inner (inl same) = looks_kept see old new same kept.records
+      by_inner (inl same) = seen_kept see old new same kept.records
       by_inner (inr h) = λ i. record { contents = h.behind.same i; facts = all_allowed (h.behind.fixed i); log = map logged_of (kept.records i) }
 
   -- ---- a listing that is granted
@@ -149,8 +149,8 @@ module _ {F : Type 0} (see : F → Store) (path : PathValue) where
   lists old begun ended called call listed shown before after hidden unseen refused call_is kept g b a hidden_is lets inner pending records =
       let was : see (inner_of begun) ≡ see (inner_of old) = ap see kept.inner in
       let is : see called ≡ see (inner_of ended) = ap see (sym inner) in
-      let hide : map logged_of hidden ≡ filter_map (unseen_record path.key) g.children = hidden_are before after hidden (see (inner_of begun)).log (see called).log (logged ReadDir (path.key ∷ []) Granted) (filter_map (unseen_record path.key) g.children) b a g.told (hidden_is ∙ take_all (length after - (length before + 1)) (drop (length before + 1) after) (omega (arith, length-drop (length before + 1) after))) in
-      let let_by = lets g.children (record { named = λ c within. named (see (inner_of begun)).facts.shows (see (inner_of begun)).contents path.key c (g.are.shown c within); listed = g.listed; told = hide }) in
+      let hide : map logged_of hidden ≡ filter_map (unseen_record path.key) g.children = hidden_are before after hidden (see (inner_of begun)).log (see called).log (logged ReadDir (path.key ∷ []) Granted) (filter_map (unseen_record path.key) g.children) b a g.recorded (hidden_is ∙ take_all (length after - (length before + 1)) (drop (length before + 1) after) (omega (arith, length-drop (length before + 1) after))) in
+      let let_by = lets g.children (record { named = λ c within. named (see (inner_of begun)).facts.shows (see (inner_of begun)).contents path.key c (g.are.shown c within); listed = g.listed; recorded = hide }) in
       record {
         listed = listed;
         behind = record {
@@ -159,14 +159,14 @@ module _ {F : Type 0} (see : F → Store) (path : PathValue) where
           are = subst (λ (s : Store). AreChildren s.facts.shows s.contents path.key g.children) was g.are;
           listed = g.listed;
           same = ap (λ (s : Store). s.contents) (sym is) ∙ g.same ∙ ap (λ (s : Store). s.contents) was;
-          told = ap (λ (s : Store). s.log) (sym is) ∙ g.told ∙ ap (λ (s : Store). s.log ++ logged ReadDir (path.key ∷ []) Granted ∷ filter_map (unseen_record path.key) g.children) was;
+          recorded = ap (λ (s : Store). s.log) (sym is) ∙ g.recorded ∙ ap (λ (s : Store). s.log ++ logged ReadDir (path.key ∷ []) Granted ∷ filter_map (unseen_record path.key) g.children) was;
           fixed = ap (λ (s : Store). s.facts) (sym is) ∙ g.fixed ∙ ap (λ (s : Store). s.facts) was;
         };
         shown = let_by.shown ∙ ap (λ (p : Pending). map (λ c. c.1) (shown_by p.plan path.key g.children)) kept.pending;
         left = pending ∙ (λ i. record (passed_by (pending_of begun)) { plan = without_firsts (let_by.refused_are i) (plan_of begun) }) ∙ ap (λ (p : Pending). record (passed_by p) { plan = left_by p.plan path.key g.children }) kept.pending;
         hidden = hidden;
-        told = hide;
-        records = records ∙ (λ i. kept.records i ++ call_is i ∷ let_by.told i) ∙ ap (λ (p : Pending). records_of old ++ record_on ReadDir (path ∷ []) Granted ∷ hidden_by p.plan path g.children hidden) kept.pending;
+        recorded = hide;
+        records = records ∙ (λ i. kept.records i ++ call_is i ∷ let_by.recorded i) ∙ ap (λ (p : Pending). records_of old ++ record_on ReadDir (path ∷ []) Granted ∷ hidden_by p.plan path g.children hidden) kept.pending;
       }
 
   pub lawful_listing : (old new : Refusing F) (shown : List (Result DirEntry FsError)) → PassesListing see path old shown new → Lists path.key (seen_behind see old) shown (seen_behind see new)
@@ -179,8 +179,8 @@ module _ {F : Type 0} (see : F → Store) (path : PathValue) where
     };
     listed = h.shown;
     same = h.behind.same;
-    told = ap (map logged_of) h.records ∙ map-append logged_of (records_of old) (record_on ReadDir (path ∷ []) Granted ∷ hidden_by (plan_of old) path h.behind.children h.hidden)
-        ∙ ap (λ l. map logged_of (records_of old) ++ logged ReadDir (path.key ∷ []) Granted ∷ l) (told-keys (plan_of old) path h.behind.children h.hidden h.told);
+    recorded = ap (map logged_of) h.records ∙ map-append logged_of (records_of old) (record_on ReadDir (path ∷ []) Granted ∷ hidden_by (plan_of old) path h.behind.children h.hidden)
+        ∙ ap (λ l. map logged_of (records_of old) ++ logged ReadDir (path.key ∷ []) Granted ∷ l) (recorded-keys (plan_of old) path h.behind.children h.hidden h.recorded);
     fixed = ap all_allowed h.behind.fixed;
   }
 

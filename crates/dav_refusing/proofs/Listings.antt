@@ -26,22 +26,22 @@ pub record Underway (plan : Plan) (directory : PathValue) (children : List Child
   pub ahead : drop i listing ≡ map shown_of rest
   pub still : map logged_of hidden ≡ filter_map (unseen_record directory.key) rest
   pub shown : take i listing ++ map shown_of (shown_by plan directory.key rest) ≡ map shown_of (shown_by plan directory.key children)
-  pub told : unseen ++ hidden_by plan directory rest hidden ≡ hidden_by plan directory children all_hidden
+  pub recorded : unseen ++ hidden_by plan directory rest hidden ≡ hidden_by plan directory children all_hidden
   pub called : refused ++ refused_calls plan directory.key rest ≡ refused_calls plan directory.key children
 
 pub ends : (plan : Plan) (directory : PathValue) (children : List Child) (all_hidden : List Record) (i : ℕ) (listing : List Shown) (unseen : List Record) (refused : List Call) (hidden : List Record)
     → Underway plan directory children all_hidden i listing unseen refused hidden → length listing ≤ i → IsLetBy plan directory children all_hidden listing unseen refused
-ends plan directory children all_hidden i listing unseen refused hidden u all = by_rest u.rest u.ahead u.shown u.told u.called
+ends plan directory children all_hidden i listing unseen refused hidden u all = by_rest u.rest u.ahead u.shown u.recorded u.called
   where
     by_rest : (rest : List Child) → drop i listing ≡ map shown_of rest → take i listing ++ map shown_of (shown_by plan directory.key rest) ≡ map shown_of (shown_by plan directory.key children)
         → unseen ++ hidden_by plan directory rest hidden ≡ hidden_by plan directory children all_hidden
         → refused ++ refused_calls plan directory.key rest ≡ refused_calls plan directory.key children → IsLetBy plan directory children all_hidden listing unseen refused
-    by_rest [] ahead shown told called = record {
+    by_rest [] ahead shown recorded called = record {
       shown = sym (take_all i listing all) ∙ sym (append-nil (take i listing)) ∙ shown;
-      told = sym (append-nil unseen) ∙ told;
+      recorded = sym (append-nil unseen) ∙ recorded;
       refused_are = sym (append-nil refused) ∙ called;
     }
-    by_rest (c ∷ rest) ahead shown told called = absurd (let none : [] ≡ shown_of c ∷ map shown_of rest = sym (drop_all i listing all) ∙ ahead in cc)
+    by_rest (c ∷ rest) ahead shown recorded called = absurd (let none : [] ≡ shown_of c ∷ map shown_of rest = sym (drop_all i listing all) ∙ ahead in cc)
 
 module _ (plan : Plan) (directory : PathValue) (children : List Child) (all_hidden : List Record) (i : ℕ) (listing next_listing : List Shown) (unseen : List Record) (refused : List Call) (hidden : List Record) (x y : Shown)
     (is : x ≡ get_or listing i x) (inside : i < length listing) (set_is : next_listing ≡ set listing i y) where
@@ -57,16 +57,16 @@ module _ (plan : Plan) (directory : PathValue) (children : List Child) (all_hidd
   -- a member that the store behind doesn't show
   pub still_hidden : Underway plan directory children all_hidden i listing unseen refused hidden → (e : FsError) (h : Record) (others next_unseen : List Record) (next_refused : List Call) → x ≡ Err e → y ≡ x → hidden ≡ h ∷ others
       → next_unseen ≡ unseen ++ h ∷ [] → next_refused ≡ refused → Underway plan directory children all_hidden (i + 1) next_listing next_unseen next_refused others
-  still_hidden u e h others next_unseen next_refused err same some told_is refused_is =
-      by_rest u.rest u.named (sym ahead_is ∙ u.ahead) (ap (map logged_of) (sym some) ∙ u.still) u.shown (ap (λ l. unseen ++ hidden_by plan directory u.rest l) (sym some) ∙ u.told) u.called
+  still_hidden u e h others next_unseen next_refused err same some recorded_is refused_is =
+      by_rest u.rest u.named (sym ahead_is ∙ u.ahead) (ap (map logged_of) (sym some) ∙ u.still) u.shown (ap (λ l. unseen ++ hidden_by plan directory u.rest l) (sym some) ∙ u.recorded) u.called
     where
       by_rest : (rest : List Child) → AreNamed rest → x ∷ drop (i + 1) listing ≡ map shown_of rest → logged_of h ∷ map logged_of others ≡ filter_map (unseen_record directory.key) rest
           → take i listing ++ map shown_of (shown_by plan directory.key rest) ≡ map shown_of (shown_by plan directory.key children)
           → unseen ++ hidden_by plan directory rest (h ∷ others) ≡ hidden_by plan directory children all_hidden
           → refused ++ refused_calls plan directory.key rest ≡ refused_calls plan directory.key children → Underway plan directory children all_hidden (i + 1) next_listing next_unseen next_refused others
-      by_rest [] named ahead still shown told called = absurd cc
-      by_rest ((name, Ok entry) ∷ rest) named ahead still shown told called = absurd (let one : x ≡ Ok entry = cc in let no : Err e ≡ Ok entry = sym err ∙ one in cc)
-      by_rest ((name, Err e') ∷ rest) named ahead still shown told called =
+      by_rest [] named ahead still shown recorded called = absurd cc
+      by_rest ((name, Ok entry) ∷ rest) named ahead still shown recorded called = absurd (let one : x ≡ Ok entry = cc in let no : Err e ≡ Ok entry = sym err ∙ one in cc)
+      by_rest ((name, Err e') ∷ rest) named ahead still shown recorded called =
           let one : x ≡ Err e' = cc in
           record {
             rest = rest;
@@ -74,7 +74,7 @@ module _ (plan : Plan) (directory : PathValue) (children : List Child) (all_hidd
             ahead = drop_next ∙ (let more : drop (i + 1) listing ≡ map shown_of rest = cc in more);
             still = (let more : map logged_of others ≡ filter_map (unseen_record directory.key) rest = cc in more);
             shown = take_next (map shown_of (shown_by plan directory.key rest)) ∙ ap (λ s. take i listing ++ s ∷ map shown_of (shown_by plan directory.key rest)) (same ∙ one) ∙ shown;
-            told = ap (λ l. l ++ hidden_by plan directory rest others) told_is ∙ append_assoc unseen (h ∷ []) (hidden_by plan directory rest others) ∙ told;
+            recorded = ap (λ l. l ++ hidden_by plan directory rest others) recorded_is ∙ append_assoc unseen (h ∷ []) (hidden_by plan directory rest others) ∙ recorded;
             called = ap (λ l. l ++ refused_calls plan directory.key rest) refused_is ∙ called;
           }
 
@@ -92,15 +92,15 @@ module _ (plan : Plan) (directory : PathValue) (children : List Child) (all_hidd
       → x ≡ Ok entry → y ≡ shown_as error entry → error ≡ refusal_for Entry (member directory.key entry.name) plan
       → next_unseen ≡ unseen ++ refused_record directory entry.name error → next_refused ≡ refused ++ refused_call directory.key entry.name error → next_hidden ≡ hidden
       → Underway plan directory children all_hidden (i + 1) next_listing next_unseen next_refused next_hidden
-  let_be_seen u entry error next_unseen next_refused next_hidden ok seen why told_is refused_is hidden_is = by_rest u.rest u.named (sym ahead_is ∙ u.ahead) u.still u.shown u.told u.called
+  let_be_seen u entry error next_unseen next_refused next_hidden ok seen why recorded_is refused_is hidden_is = by_rest u.rest u.named (sym ahead_is ∙ u.ahead) u.still u.shown u.recorded u.called
     where
       by_rest : (rest : List Child) → AreNamed rest → x ∷ drop (i + 1) listing ≡ map shown_of rest → map logged_of hidden ≡ filter_map (unseen_record directory.key) rest
           → take i listing ++ map shown_of (shown_by plan directory.key rest) ≡ map shown_of (shown_by plan directory.key children)
           → unseen ++ hidden_by plan directory rest hidden ≡ hidden_by plan directory children all_hidden
           → refused ++ refused_calls plan directory.key rest ≡ refused_calls plan directory.key children → Underway plan directory children all_hidden (i + 1) next_listing next_unseen next_refused next_hidden
-      by_rest [] named ahead still shown told called = absurd cc
-      by_rest ((name, Err e) ∷ rest) named ahead still shown told called = absurd (let one : x ≡ Err e = cc in let no : Ok entry ≡ Err e = sym ok ∙ one in cc)
-      by_rest ((name, Ok entry') ∷ rest) named ahead still shown told called =
+      by_rest [] named ahead still shown recorded called = absurd cc
+      by_rest ((name, Err e) ∷ rest) named ahead still shown recorded called = absurd (let one : x ≡ Err e = cc in let no : Ok entry ≡ Err e = sym ok ∙ one in cc)
+      by_rest ((name, Ok entry') ∷ rest) named ahead still shown recorded called =
           let one : x ≡ Ok entry' = cc in
           let same : entry ≡ entry' = (let both : Ok entry ≡ Ok entry' = sym ok ∙ one in cc) in
           let name_is : entry.name ≡ name = ap (λ n. n.name) same ∙ named (name, Ok entry') (inl refl) in
@@ -114,10 +114,10 @@ module _ (plan : Plan) (directory : PathValue) (children : List Child) (all_hidd
                 ∙ ap (λ s. take i listing ++ s ∷ map shown_of (shown_by plan directory.key rest)) seen
                 ∙ (λ j. take i listing ++ shown_as (error_is j) (same j) ∷ map shown_of (shown_by plan directory.key rest))
                 ∙ shown;
-            told = ap (λ l. l ++ hidden_by plan directory rest next_hidden) told_is
+            recorded = ap (λ l. l ++ hidden_by plan directory rest next_hidden) recorded_is
                 ∙ append_assoc unseen (refused_record directory entry.name error) (hidden_by plan directory rest next_hidden)
                 ∙ (λ j. unseen ++ (refused_record directory (name_is j) (error_is j) ++ hidden_by plan directory rest (hidden_is j)))
-                ∙ told;
+                ∙ recorded;
             called = ap (λ l. l ++ refused_calls plan directory.key rest) refused_is
                 ∙ append_assoc refused (refused_call directory.key entry.name error) (refused_calls plan directory.key rest)
                 ∙ (λ j. refused ++ (refused_call directory.key (name_is j) (error_is j) ++ refused_calls plan directory.key rest))

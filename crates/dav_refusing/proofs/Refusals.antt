@@ -86,8 +86,8 @@ after-passed op key pending free =
     λ i. record { numbered = one_later pending.numbered; plan = plan i }
 
 -- where nothing behind changes, and no record is added, nothing changes that is seen
-pub looks_kept : {F : Type 0} (see : F → Store) (old new : Refusing F) → see (inner_of new) ≡ see (inner_of old) → records_of new ≡ records_of old → seen_behind see new ≡ seen_behind see old
-looks_kept see old new inner records = λ i. seen_with (inner i) (map logged_of (records i))
+pub seen_kept : {F : Type 0} (see : F → Store) (old new : Refusing F) → see (inner_of new) ≡ see (inner_of old) → records_of new ≡ records_of old → seen_behind see new ≡ seen_behind see old
+seen_kept see old new inner records = λ i. seen_with (inner i) (map logged_of (records i))
 
 -- ---- the calls of a store behind
 
@@ -95,14 +95,14 @@ looks_kept see old new inner records = λ i. seen_with (inner i) (map logged_of 
 pub record WritesOne {A : Type 0} (op : Op) (keys : List Key) (statuses : List ℕ) (Behind : Store → Result A FsError → Store → Type 0) (old : Store) (answer : Result A FsError) (new : Store) : Type 0 where
   pub not_memory : answer ≢ Err Memory
   pub outcome : Outcome
-  pub told : new.log ≡ old.log ++ record { op = op; keys = keys; outcome = outcome; statuses = statuses } ∷ []
+  pub recorded : new.log ≡ old.log ++ record { op = op; keys = keys; outcome = outcome; statuses = statuses } ∷ []
   pub over : (log : List Logged) → Behind (seen_with old log) answer (seen_with new (log ++ record { op = op; keys = keys; outcome = outcome; statuses = statuses } ∷ []))
 
 -- what is known of each call but a listing that is granted
 pub record IsCall {A : Type 0} (op : Op) (keys : List Key) (statuses : Result A FsError → List ℕ) (Behind : Store → Result A FsError → Store → Type 0) : Type 0 where
   pub unmet : (s : Store) → Behind s (Err Memory) s
   pub refused : (s : Store) (e : FsError) → IsOwn e → Behind s (Err e) (record s { log = s.log ++ logged op keys (Refused e) ∷ [] })
-  pub tells : (old new : Store) (answer : Result A FsError) → Behind old answer new → ((answer ≡ Err Memory) × (new ≡ old)) ⊎ WritesOne op keys (statuses answer) Behind old answer new
+  pub records_one : (old new : Store) (answer : Result A FsError) → Behind old answer new → ((answer ≡ Err Memory) × (new ≡ old)) ⊎ WritesOne op keys (statuses answer) Behind old answer new
 
 abbrev pub no_statuses : {A : Type 0} → Result A FsError → List ℕ
 no_statuses answer = []
@@ -114,29 +114,29 @@ module _ {A : Type 0} (op : Op) (keys : List Key) (bar : Bool → Contents → O
   abbrev Behind : Store → Result A FsError → Store → Type 0
   Behind = CallBehind op keys bar Effect
 
-  told_by : (old new : Store) (answer : Result A FsError) → Behind old answer new → ((answer ≡ Err Memory) × (new ≡ old)) ⊎ WritesOne op keys [] Behind old answer new
-  told_by old new (Ok a) h = inr (record {
+  recorded_by : (old new : Store) (answer : Result A FsError) → Behind old answer new → ((answer ≡ Err Memory) × (new ≡ old)) ⊎ WritesOne op keys [] Behind old answer new
+  recorded_by old new (Ok a) h = inr (record {
     not_memory = λ e. absurd cc;
     outcome = Granted;
-    told = h.granted.told;
-    over = λ log. record { granted = record { allowed = h.granted.allowed; effect = h.granted.effect; told = refl; fixed = ap all_allowed h.granted.fixed }; declined = tt };
+    recorded = h.granted.recorded;
+    over = λ log. record { granted = record { allowed = h.granted.allowed; effect = h.granted.effect; recorded = refl; fixed = ap all_allowed h.granted.fixed }; declined = tt };
   })
-  told_by old new (Err e) h = by_cause h.declined
+  recorded_by old new (Err e) h = by_cause h.declined
     where
       by_cause : ((e ≡ Memory) × (new ≡ old)) ⊎ Declines (record { op = op; keys = keys; bar = bar old.facts.keeps_properties old.contents }) e old new → (◌≡◌ {A = Result A FsError} (Err e) (Err Memory) × (new ≡ old)) ⊎ WritesOne op keys [] Behind old (Err e) new
       by_cause (inl p) = inl (ap Err p.0, p.1)
       by_cause (inr d) = inr (record {
         not_memory = λ m. d.not_memory (let same : e ≡ Memory = cc in same);
         outcome = d.outcome;
-        told = d.told;
-        over = λ log. record { granted = tt; declined = inr (record { outcome = d.outcome; cause = d.cause; lawful = d.lawful; not_memory = d.not_memory; same = d.same; told = refl; fixed = ap all_allowed d.fixed }) };
+        recorded = d.recorded;
+        over = λ log. record { granted = tt; declined = inr (record { outcome = d.outcome; cause = d.cause; lawful = d.lawful; not_memory = d.not_memory; same = d.same; recorded = refl; fixed = ap all_allowed d.fixed }) };
       })
 
   pub answers_call : IsCall op keys no_statuses Behind
   answers_call = record {
     unmet = λ s. record { granted = tt; declined = inl (refl, refl) };
-    refused = λ s e own. record { granted = tt; declined = inr (record { outcome = Refused e; cause = refl; lawful = own; not_memory = own.not_memory; same = refl; told = refl; fixed = refl }) };
-    tells = told_by;
+    refused = λ s e own. record { granted = tt; declined = inr (record { outcome = Refused e; cause = refl; lawful = own; not_memory = own.not_memory; same = refl; recorded = refl; fixed = refl }) };
+    records_one = recorded_by;
   }
 
 -- the statuses that a change of properties answers
@@ -152,38 +152,38 @@ module _ (key : Key) (patches : List Patch) where
   abbrev PatchesBehind : Store → Result (Vec ℕ Global) FsError → Store → Type 0
   PatchesBehind old = PatchesProps old key patches
 
-  patches_told_by : (old new : Store) (answer : Result (Vec ℕ Global) FsError) → PatchesBehind old answer new → ((answer ≡ Err Memory) × (new ≡ old)) ⊎ WritesOne PatchProps (key ∷ []) (answered_statuses answer) PatchesBehind old answer new
-  patches_told_by old new (Ok statuses) h = by_form h.granted
+  patches_recorded_by : (old new : Store) (answer : Result (Vec ℕ Global) FsError) → PatchesBehind old answer new → ((answer ≡ Err Memory) × (new ≡ old)) ⊎ WritesOne PatchProps (key ∷ []) (answered_statuses answer) PatchesBehind old answer new
+  patches_recorded_by old new (Ok statuses) h = by_form h.granted
     where
       by_form : Patches key patches statuses.items old new ⊎ DropsPatches key patches statuses.items old new → (◌≡◌ {A = Result (Vec ℕ Global) FsError} (Ok statuses) (Err Memory) × (new ≡ old)) ⊎ WritesOne PatchProps (key ∷ []) statuses.items PatchesBehind old (Ok statuses) new
       by_form (inl g) = inr (record {
         not_memory = λ e. absurd cc;
         outcome = Granted;
-        told = g.told;
-        over = λ log. record { granted = inl (record { allowed = g.allowed; answered = g.answered; effect = g.effect; told = refl; fixed = ap all_allowed g.fixed }); declined = tt };
+        recorded = g.recorded;
+        over = λ log. record { granted = inl (record { allowed = g.allowed; answered = g.answered; effect = g.effect; recorded = refl; fixed = ap all_allowed g.fixed }); declined = tt };
       })
       by_form (inr d) = inr (record {
         not_memory = λ e. absurd cc;
         outcome = Refused GeneralFailure;
-        told = d.told;
-        over = λ log. record { granted = inr (record { answered = d.answered; not_all = d.not_all; same = d.same; told = refl; fixed = ap all_allowed d.fixed }); declined = tt };
+        recorded = d.recorded;
+        over = λ log. record { granted = inr (record { answered = d.answered; not_all = d.not_all; same = d.same; recorded = refl; fixed = ap all_allowed d.fixed }); declined = tt };
       })
-  patches_told_by old new (Err e) h = by_cause h.declined
+  patches_recorded_by old new (Err e) h = by_cause h.declined
     where
       by_cause : ((e ≡ Memory) × (new ≡ old)) ⊎ Declines (patch_props_call old key) e old new → (◌≡◌ {A = Result (Vec ℕ Global) FsError} (Err e) (Err Memory) × (new ≡ old)) ⊎ WritesOne PatchProps (key ∷ []) [] PatchesBehind old (Err e) new
       by_cause (inl p) = inl (ap Err p.0, p.1)
       by_cause (inr d) = inr (record {
         not_memory = λ m. d.not_memory (let same : e ≡ Memory = cc in same);
         outcome = d.outcome;
-        told = d.told;
-        over = λ log. record { granted = tt; declined = inr (record { outcome = d.outcome; cause = d.cause; lawful = d.lawful; not_memory = d.not_memory; same = d.same; told = refl; fixed = ap all_allowed d.fixed }) };
+        recorded = d.recorded;
+        over = λ log. record { granted = tt; declined = inr (record { outcome = d.outcome; cause = d.cause; lawful = d.lawful; not_memory = d.not_memory; same = d.same; recorded = refl; fixed = ap all_allowed d.fixed }) };
       })
 
   pub patches_call : IsCall PatchProps (key ∷ []) answered_statuses PatchesBehind
   patches_call = record {
     unmet = λ s. record { granted = tt; declined = inl (refl, refl) };
-    refused = λ s e own. record { granted = tt; declined = inr (record { outcome = Refused e; cause = refl; lawful = own; not_memory = own.not_memory; same = refl; told = refl; fixed = refl }) };
-    tells = patches_told_by;
+    refused = λ s e own. record { granted = tt; declined = inr (record { outcome = Refused e; cause = refl; lawful = own; not_memory = own.not_memory; same = refl; recorded = refl; fixed = refl }) };
+    records_one = patches_recorded_by;
   }
 
 -- ---- such a call of a store that refuses
@@ -194,48 +194,48 @@ module _ {F : Type 0} (see : F → Store) (op : Op) (paths : List PathValue) {A 
       → (answer ≢ Err Memory → pending_of new ≡ passed_by (pending_of old))
       → (answer ≢ Err Memory → records_of new ≡ records_of old ++ record_with op paths (last_outcome (see (inner_of new)).log) (statuses answer) ∷ [])
       → Follows see op paths Behind old answer new
-  goes old new answer free behind memory left records = by_telling (call.tells (see (inner_of old)) (see (inner_of new)) answer behind)
+  goes old new answer free behind memory left records = by_record (call.records_one (see (inner_of old)) (see (inner_of new)) answer behind)
     where
-      by_telling : ((answer ≡ Err Memory) × (see (inner_of new) ≡ see (inner_of old))) ⊎ WritesOne op (map (λ (p : PathValue). p.key) paths) (statuses answer) Behind (see (inner_of old)) answer (see (inner_of new)) → Follows see op paths Behind old answer new
-      by_telling (inl (m, same)) = inl (m, record { inner = same; pending = (memory m).0; records = (memory m).1 })
-      by_telling (inr w) = inr (
+      by_record : ((answer ≡ Err Memory) × (see (inner_of new) ≡ see (inner_of old))) ⊎ WritesOne op (map (λ (p : PathValue). p.key) paths) (statuses answer) Behind (see (inner_of old)) answer (see (inner_of new)) → Follows see op paths Behind old answer new
+      by_record (inl (m, same)) = inl (m, record { inner = same; pending = (memory m).0; records = (memory m).1 })
+      by_record (inr w) = inr (
         w.not_memory,
         subst (λ r. GoesByPlan op paths (Passes see op paths Behind) r old answer new) (sym free) (record {
           behind = behind;
           left = left w.not_memory ∙ sym (after-passed op (first_key paths) (pending_of old) free);
           outcome = w.outcome;
           statuses = statuses answer;
-          told = w.told;
+          recorded = w.recorded;
           records = records w.not_memory
               ∙ ap (λ o. records_of old ++ record_with op paths o (statuses answer) ∷ [])
-              (ap last_outcome w.told ∙ last_outcome-push (see (inner_of old)).log (record { op = op; keys = map (λ (p : PathValue). p.key) paths; outcome = w.outcome; statuses = statuses answer }));
+              (ap last_outcome w.recorded ∙ last_outcome-push (see (inner_of old)).log (record { op = op; keys = map (λ (p : PathValue). p.key) paths; outcome = w.outcome; statuses = statuses answer }));
         }),
       )
 
   -- a call between the room for its record and the record
-  pub passes : (old begun ended : Refusing F) (called : F) (taken : List PathValue) (told : Record) (outcome : Outcome) (log : List Record) (answer result : Result A FsError)
+  pub passes : (old begun ended : Refusing F) (called : F) (taken : List PathValue) (recorded : Record) (outcome : Outcome) (log : List Record) (answer result : Result A FsError)
       → taken ≡ paths → due op (first_key taken) (pending_of old) ≡ None → IsWhollyKept old begun → Behind (see (inner_of begun)) answer (see called)
-      → told ≡ record_with op taken outcome (statuses answer) → map logged_of log ≡ (see called).log → outcome ≡ last_outcome (map logged_of log)
+      → recorded ≡ record_with op taken outcome (statuses answer) → map logged_of log ≡ (see called).log → outcome ≡ last_outcome (map logged_of log)
       → result ≡ answer → inner_of ended ≡ called
       → (answer ≡ Err Memory → (pending_of ended ≡ pending_of begun) × (records_of ended ≡ records_of begun))
       → (answer ≢ Err Memory → pending_of ended ≡ passed_by (pending_of begun))
-      → (answer ≢ Err Memory → records_of ended ≡ records_of begun ++ told ∷ [])
+      → (answer ≢ Err Memory → records_of ended ≡ records_of begun ++ recorded ∷ [])
       → Follows see op paths Behind old result ended
-  passes old begun ended called taken told outcome log answer result ps free kept behind told_is logs is same inner memory left records =
+  passes old begun ended called taken recorded outcome log answer result ps free kept behind recorded_is logs is same inner memory left records =
       let last : outcome ≡ last_outcome (see (inner_of ended)).log = is ∙ ap last_outcome (logs ∙ ap (λ x. (see x).log) (sym inner)) in
       subst (λ r. Follows see op paths Behind old r ended) (sym same) (goes old ended answer
       (subst (λ p. due op (first_key p) (pending_of old) ≡ None) ps free)
       (subst (λ x. Behind (see (inner_of old)) answer (see x)) (sym inner) (subst (λ x. Behind (see x) answer (see called)) kept.inner behind))
       (λ m. ((memory m).0 ∙ kept.pending, (memory m).1 ∙ kept.records))
       (λ m. left m ∙ ap passed_by kept.pending)
-      (λ m. records m ∙ (λ i. kept.records i ++ told_is i ∷ []) ∙ (λ i. records_of old ++ record_with op (ps i) (last i) (statuses answer) ∷ [])))
+      (λ m. records m ∙ (λ i. kept.records i ++ recorded_is i ∷ []) ∙ (λ i. records_of old ++ record_with op (ps i) (last i) (statuses answer) ∷ [])))
 
   -- ---- and that is lawful
 
   pub lawful : (old new : Refusing F) (answer : Result A FsError) → Follows see op paths Behind old answer new → Behind (seen_behind see old) answer (seen_behind see new)
   lawful old new answer (inl (m, kept)) =
       subst (λ r. Behind (seen_behind see old) r (seen_behind see new)) (sym m)
-      (subst (Behind (seen_behind see old) (Err Memory)) (sym (looks_kept see old new kept.inner kept.records)) (call.unmet (seen_behind see old)))
+      (subst (Behind (seen_behind see old) (Err Memory)) (sym (seen_kept see old new kept.inner kept.records)) (call.unmet (seen_behind see old)))
   lawful old new answer (inr (not_memory, goes)) = by_due (due op (first_key paths) (pending_of old)) refl goes
     where
       refused : (e : FsError) → IsOwn e → Refuses op paths e old new → Behind (seen_behind see old) (Err e) (seen_behind see new)
@@ -245,12 +245,12 @@ module _ {F : Type 0} (see : F → Store) (op : Op) (paths : List PathValue) {A 
           subst (Behind (seen_behind see old) (Err e)) (sym after) (call.refused (seen_behind see old) e own)
 
       passed : Passes see op paths Behind old answer new → Behind (seen_behind see old) answer (seen_behind see new)
-      passed h = by_telling (call.tells (see (inner_of old)) (see (inner_of new)) answer h.behind)
+      passed h = by_record (call.records_one (see (inner_of old)) (see (inner_of new)) answer h.behind)
         where
-          by_telling : ((answer ≡ Err Memory) × (see (inner_of new) ≡ see (inner_of old))) ⊎ WritesOne op (map (λ (p : PathValue). p.key) paths) (statuses answer) Behind (see (inner_of old)) answer (see (inner_of new)) → Behind (seen_behind see old) answer (seen_behind see new)
-          by_telling (inl (m, same)) = absurd (not_memory m)
-          by_telling (inr w) =
-              let one = same_last (see (inner_of old)).log (logged_of (record_with op paths h.outcome h.statuses)) (record { op = op; keys = map (λ (p : PathValue). p.key) paths; outcome = w.outcome; statuses = statuses answer }) (sym h.told ∙ w.told) in
+          by_record : ((answer ≡ Err Memory) × (see (inner_of new) ≡ see (inner_of old))) ⊎ WritesOne op (map (λ (p : PathValue). p.key) paths) (statuses answer) Behind (see (inner_of old)) answer (see (inner_of new)) → Behind (seen_behind see old) answer (seen_behind see new)
+          by_record (inl (m, same)) = absurd (not_memory m)
+          by_record (inr w) =
+              let one = same_last (see (inner_of old)).log (logged_of (record_with op paths h.outcome h.statuses)) (record { op = op; keys = map (λ (p : PathValue). p.key) paths; outcome = w.outcome; statuses = statuses answer }) (sym h.recorded ∙ w.recorded) in
               let log = logged-push (record_with op paths h.outcome h.statuses) (records_of old) (records_of new) h.records ∙ ap (λ r. map logged_of (records_of old) ++ r ∷ []) one in
               subst (λ l. Behind (seen_behind see old) answer (seen_with (see (inner_of new)) l)) (sym log) (w.over (map logged_of (records_of old)))
 

@@ -142,12 +142,12 @@ AreNamed children = (c : Child) → IsIn c children → IsNamed c
 pub record IsListingOf (directory : Key) (children : List Child) (listing : List (Result DirEntry FsError)) (hidden : List Record) : Type 0 where
   pub named : AreNamed children
   pub listed : listing ≡ map (λ c. c.1) children
-  pub told : map logged_of hidden ≡ filter_map (unseen_record directory) children
+  pub recorded : map logged_of hidden ≡ filter_map (unseen_record directory) children
 
 -- the listing is as the plan leaves it; these are the records of the members that are not listed now, and the calls that the plan refuses
 pub record IsLetBy (plan : Plan) (directory : PathValue) (children : List Child) (hidden : List Record) (listing : List (Result DirEntry FsError)) (unseen : List Record) (refused : List Call) : Type 0 where
   pub shown : listing ≡ map (λ c. c.1) (shown_by plan directory.key children)
-  pub told : unseen ≡ hidden_by plan directory children hidden
+  pub recorded : unseen ≡ hidden_by plan directory children hidden
   pub refused_are : refused ≡ refused_calls plan directory.key children
 
 -- the plan is followed for the members of the listing, whichever they are

@@ -68,7 +68,7 @@ module _ {F : Type 0} where
     pub records : records_of new ≡ records_of old
 
   -- nothing changes that contracts see, here or in the wrapped store
-  pub record LooksKept (see : F → Store) (old new : Refusing F) : Type 0 where
+  pub record IsSeenKept (see : F → Store) (old new : Refusing F) : Type 0 where
     pub inner : see (inner_of new) ≡ see (inner_of old)
     pub pending : pending_of new ≡ pending_of old
     pub records : records_of new ≡ records_of old
@@ -87,7 +87,7 @@ module _ {F : Type 0} where
     pub left : pending_of new ≡ after_call op (first_key paths) (pending_of old)
     pub outcome : Outcome
     pub statuses : List ℕ
-    pub told : (see (inner_of new)).log ≡ (see (inner_of old)).log ++ logged_of (record_with op paths outcome statuses) ∷ []
+    pub recorded : (see (inner_of new)).log ≡ (see (inner_of old)).log ++ logged_of (record_with op paths outcome statuses) ∷ []
     pub records : records_of new ≡ records_of old ++ record_with op paths outcome statuses ∷ []
 
   -- a call for which an error is due is refused with it; each other call is passed on
@@ -102,7 +102,7 @@ module _ {F : Type 0} where
 
   -- a call of the wrapped store goes by the plan; if memory runs out, nothing changes that contracts see
   abbrev pub Follows : {A : Type 0} → (F → Store) → Op → List PathValue → (Store → Result A FsError → Store → Type 0) → Refusing F → Result A FsError → Refusing F → Type 0
-  Follows see op paths Behind = FollowsPlan (LooksKept see) op paths (Passes see op paths Behind)
+  Follows see op paths Behind = FollowsPlan (IsSeenKept see) op paths (Passes see op paths Behind)
 
   -- ---- read_dir
 
@@ -115,7 +115,7 @@ module _ {F : Type 0} where
     pub shown : answer ≡ map (λ c. c.1) (shown_by (plan_of old) path.key behind.children)
     pub left : pending_of new ≡ record (after_call ReadDir path.key (pending_of old)) { plan = left_by (plan_of old) path.key behind.children }
     pub hidden : List Record
-    pub told : map logged_of hidden ≡ filter_map (unseen_record path.key) behind.children
+    pub recorded : map logged_of hidden ≡ filter_map (unseen_record path.key) behind.children
     pub records : records_of new ≡ records_of old ++ record_on ReadDir (path ∷ []) Granted ∷ hidden_by (plan_of old) path behind.children hidden
 
   abbrev pub PassesReadDir : (F → Store) → PathValue → Refusing F → Result (Vec (Result DirEntry FsError) Global) FsError → Refusing F → Type 0

@@ -2,7 +2,7 @@
 ghost use Rattle.std.specs.Prelude.{◌≡◌, ◌≢◌, refl, ◌⊎◌, ◌<◌, ◌≤◌, ◌+◌, ◌-◌, ◌^◌, [], ◌∷◌, ◌++◌, All, false, map, length, vec_len, vec_capacity, IfOk, IfErr, OnOk, OnErr, MatchResult, Some, None};
 ghost use Rattle.std.specs.Borrow.{sem};
 ghost use Rattle.dav_store.specs.Logged.{logged_of};
-ghost use Rattle.dav_store.specs.Calls.{IsOwn, Looks, MakesDirectory, Opens, ReadsBytes, Seeks, Writes, Flushes, LooksAtFile, place_of};
+ghost use Rattle.dav_store.specs.Calls.{IsOwn, LooksUp, MakesDirectory, Opens, ReadsBytes, Seeks, Writes, Flushes, LooksUpFile, place_of};
 ghost use Rattle.dav_store.specs.Members.{ReadsDir, RemovesFile, RemovesDir};
 ghost use Rattle.dav_store.specs.BodyCalls.{StartsBody, AddsToBody, with_body};
 ghost use Rattle.dav_store.specs.Transfers.{Copies, Renames};
@@ -165,7 +165,7 @@ impl<F> Refusing<F> {
         ensures inner { inner_of self.new ≡ inner_of self.old }
         ensures memory { answer ≡ Err FsError.Memory → (pending_of self.new ≡ pending_of self.old) × (records_of self.new ≡ records_of self.old) }
         ensures counted { answer ≢ Err FsError.Memory → pending_of self.new ≡ passed_by (pending_of self.old) }
-        ensures told { answer ≢ Err FsError.Memory → records_of self.new ≡ records_of self.old ++ call ∷ [] }
+        ensures recorded { answer ≢ Err FsError.Memory → records_of self.new ≡ records_of self.old ++ call ∷ [] }
     {
         match answer {
             Err(FsError::Memory) => {}
@@ -190,8 +190,8 @@ impl<C, F: GuardedFileSystem<C>> GuardedFileSystem<C> for Refusing<F> {
     ghost allowed = { λ store call within granted. refl };
 
     fn metadata(&mut self, path: &DavPath, credentials: &C) -> FsResult<Meta>
-        ensures seen { Looks (seen_behind F.seen self.old) path.now.key result (seen_behind F.seen self.new) }
-        ensures plan { Follows F.seen Op.Metadata (path.now ∷ []) (λ s. Looks s path.now.key) self.old result self.new }
+        ensures seen { LooksUp (seen_behind F.seen self.old) path.now.key result (seen_behind F.seen self.new) }
+        ensures plan { Follows F.seen Op.Metadata (path.now ∷ []) (λ s. LooksUp s path.now.key) self.old result self.new }
     {
         let paths = one_path(path)?;
         let mut call = self.begin(Op::Metadata, paths)?;
@@ -206,10 +206,10 @@ impl<C, F: GuardedFileSystem<C>> GuardedFileSystem<C> for Refusing<F> {
     {
         let paths = one_path(path)?;
         let mut call = self.begin(Op::ReadDir, paths)?;
-        let told = self.inner.records().len();
+        let recorded = self.inner.records().len();
         match self.inner.read_dir(path, credentials) {
             Ok(mut listing) => {
-                let hidden = &self.inner.records()[told + 1..];
+                let hidden = &self.inner.records()[recorded + 1..];
                 let unseen = refuse_members(path, self.pending.plan(), &mut listing, hidden)?;
                 self.keep_listing(call, unseen)?;
                 Ok(listing)
@@ -359,8 +359,8 @@ impl<C, F: GuardedFileSystem<C>> GuardedFileSystem<C> for Refusing<F> {
     }
 
     fn file_metadata(&mut self, file: &DavFile, credentials: &C) -> FsResult<Meta>
-        ensures seen { LooksAtFile (seen_behind F.seen self.old) file.now.path.key result (seen_behind F.seen self.new) }
-        ensures plan { Follows F.seen Op.FileMetadata (file.now.path ∷ []) (λ s. LooksAtFile s file.now.path.key) self.old result self.new }
+        ensures seen { LooksUpFile (seen_behind F.seen self.old) file.now.path.key result (seen_behind F.seen self.new) }
+        ensures plan { Follows F.seen Op.FileMetadata (file.now.path ∷ []) (λ s. LooksUpFile s file.now.path.key) self.old result self.new }
     {
         let paths = one_path(&file.path)?;
         let mut call = self.begin(Op::FileMetadata, paths)?;

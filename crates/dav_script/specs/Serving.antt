@@ -12,7 +12,7 @@ use Rattle.dav_memls.specs.MemLs.{locks_of}
 use Rattle.dav_memls.specs.declared.memory_locks.MemLs.{MemLs}
 use Rattle.dav_refusing.specs.Refusing.{seen_behind}
 use Rattle.dav_refusing.specs.declared.refusing.Refusing.{Refusing}
-use Rattle.dav_parts.specs.Reply.{Answer}
+use Rattle.dav_messages.specs.Reply.{Answer}
 use Rattle.dav_engine.specs.State.{Seen, seen_with}
 use Rattle.dav_engine.specs.Step.{Runs}
 use Rattle.dav_script.specs.Requests.{request_of}

@@ -5,7 +5,7 @@ use crate::quote::push_quoted_bytes;
 use crate::trouble::Stopped;
 use dav_memfs::MemFs;
 use dav_memls::MemLs;
-use dav_parts::timeout_text;
+use dav_messages::timeout_text;
 use dav_resource::{Body, DavProp, DavResult};
 use dav_store::DavLock;
 use http::{Response, StatusCode};

@@ -1,6 +1,6 @@
 //! Serves the blocks of a script.
 ghost use Rattle.std.specs.Prelude.{◌≡◌, map, string_bytes, IfOk, OnOk};
-ghost use Rattle.dav_parts.specs.Reply.{answer_of};
+ghost use Rattle.dav_messages.specs.Reply.{answer_of};
 ghost use Rattle.dav_script.specs.Serving.{AreRun, IsServed, RunsBelow, begun, first_shared, request_in, seen_over, shared_by, without_log};
 
 use crate::blocks::Block;

@@ -4,7 +4,7 @@ use Rattle.dav_resource.specs.declared.error.DavError.{DavError}
 use Rattle.dav_resource.specs.declared.error.DavError.TheVariants.{Memory}
 use Rattle.dav_resource.specs.declared.method.DavMethod.{DavMethod}
 use Rattle.dav_resource.specs.declared.request.DavRequest.{DavRequest}
-use Rattle.dav_parts.specs.Reply.{Answer}
+use Rattle.dav_messages.specs.Reply.{Answer}
 use Rattle.dav_store.specs.Store.{Store}
 use Rattle.dav_wire.specs.Frames.{RequestValue}
 use Rattle.dav_wire.specs.Frames as frames
@@ -23,7 +23,7 @@ use Rattle.dav_server.specs.State.{Rules, ServerState, unlogged_seen}
 pub serves_unlogged : (method : Option DavMethod) (settings : Settings) (old : Seen) (request : DavRequest) (answer : Answer) (new : Seen)
     → (h : Serves method settings old request answer new) → Serves method settings (unlogged_seen old) request answer (record { store = record new.store { log = h.records }; locks = new.locks })
 serves_unlogged method settings old request answer new h =
-    record { records = h.records; told = refl; fixed = h.fixed; step = h.step; guarded = h.guarded; law = h.law; compatible = h.compatible }
+    record { records = h.records; recorded = refl; fixed = h.fixed; step = h.step; guarded = h.guarded; law = h.law; compatible = h.compatible }
 
 -- why a frame carries no request
 pub unfit : (rules : Rules) (state : ServerState) (frame : RequestValue) (e : DavError) → (e ≡ Memory) ⊎ IsUnfit rules.prefix frame e → IsRejected rules state frame e

@@ -10,10 +10,10 @@ use Rattle.dav_resource.specs.declared.request.DavRequest.{DavRequest}
 use Rattle.dav_store.specs.Logged.{Logged}
 use Rattle.dav_store.specs.PropertyCalls as properties
 use Rattle.dav_store.specs.Store.{Contents, File}
-use Rattle.dav_parts.specs.Reply.{Answer}
+use Rattle.dav_messages.specs.Reply.{Answer}
 use Rattle.dav_engine.specs.Bounds.{may_change, KeepsElsewhere}
 use Rattle.dav_engine.specs.Law.{Law}
-use Rattle.dav_engine.specs.Laws.{MkcolLaw, tells_created}
+use Rattle.dav_engine.specs.Laws.{MkcolLaw, is_created}
 use Rattle.dav_engine.specs.Locking.{LockWorkBy, LockCutBy, FileLeaves, is_refresh}
 use Rattle.dav_engine.specs.Method.{StepBy, Refused, Done, CutShort, CutInWork}
 use Rattle.dav_engine.specs.Methods.{Step, lock_method, proppatch_method}
@@ -25,17 +25,17 @@ use Rattle.dav_server.specs.Guarantees.{may_rewrite}
 -- ---- PROPPATCH
 
 -- no file changes
-changes_keep : (keeps : Bool) (key : Key) (patches : List properties.Patch) (old new : Contents) (records : List Logged) (told : Result (List ℕ) FsError)
-    → MakesChanges keeps key patches old records told new → new.tree ≡ old.tree
-changes_keep keeps key [] old new records told none = ap (λ (c : Contents). c.tree) none.same
-changes_keep keeps key (patch ∷ patches) old new records told (inl all) = all.made.tree
-changes_keep keeps key (patch ∷ patches) old new records told (inr (inl none)) = ap (λ (c : Contents). c.tree) none.same
-changes_keep keeps key (patch ∷ patches) old new records told (inr (inr refused)) = ap (λ (c : Contents). c.tree) refused.same
+changes_keep : (keeps : Bool) (key : Key) (patches : List properties.Patch) (old new : Contents) (records : List Logged) (store_answer : Result (List ℕ) FsError)
+    → MakesChanges keeps key patches old records store_answer new → new.tree ≡ old.tree
+changes_keep keeps key [] old new records store_answer none = ap (λ (c : Contents). c.tree) none.same
+changes_keep keeps key (patch ∷ patches) old new records store_answer (inl all) = all.made.tree
+changes_keep keeps key (patch ∷ patches) old new records store_answer (inr (inl none)) = ap (λ (c : Contents). c.tree) none.same
+changes_keep keeps key (patch ∷ patches) old new records store_answer (inr (inr refused)) = ap (λ (c : Contents). c.tree) refused.same
 
 module _ (settings : Settings) (request : DavRequest) (old : State) (records : List Logged) (answer : Answer) (new : State) where
   proppatch_keeps : StepBy proppatch_method settings request old records answer new → new.contents.tree ≡ old.contents.tree
   proppatch_keeps (Refused h) = ap (λ (s : State). s.contents.tree) h.same
-  proppatch_keeps (Done h) = changes_keep _ request.path.key _ old.contents new.contents h.rest h.work.0.told h.work.0.stored
+  proppatch_keeps (Done h) = changes_keep _ request.path.key _ old.contents new.contents h.rest h.work.0.store_answer h.work.0.stored
   proppatch_keeps (CutShort h) = ap (λ (s : State). s.contents.tree) h.same
   proppatch_keeps (CutInWork h) = elim h.work.0 [ inl none ↦ ap (λ (c : Contents). c.tree) none.same | inr made ↦ changes_keep _ request.path.key _ old.contents new.contents h.rest _ made.1 ]
 
@@ -49,7 +49,7 @@ module _ (settings : Settings) (request : DavRequest) (old : State) (records : L
     lock_work_keeps : (refresh : Bool) (found : Option Meta) (rest : List Logged) → LockWorkBy refresh request found old rest answer new → new.contents.tree ≡ old.contents.tree
     lock_work_keeps true found rest work = ap (λ (c : Contents). c.tree) work.same
     lock_work_keeps false found rest work =
-        elim work.done [ inl grants ↦ leaves_keep rest grants.tells.leaves | inr denies ↦ ap (λ (s : State). s.contents.tree) denies.same ]
+        elim work.done [ inl grants ↦ leaves_keep rest grants.answers.leaves | inr denies ↦ ap (λ (s : State). s.contents.tree) denies.same ]
 
     lock_cut_keeps : (refresh : Bool) (found : Option Meta) (rest : List Logged) → LockCutBy refresh request found old rest new → new.contents.tree ≡ old.contents.tree
     lock_cut_keeps true found rest cut = ap (λ (c : Contents). c.tree) cut.same
@@ -64,11 +64,11 @@ module _ (settings : Settings) (request : DavRequest) (old : State) (records : L
     -- ---- MKCOL
 
     mkcol_keeps : MkcolLaw request old answer new → new.contents.tree ≡ old.contents.tree
-    mkcol_keeps law = by_answer (tells_created answer) refl
+    mkcol_keeps law = by_answer (is_created answer) refl
       where
-        by_answer : (b : Bool) → tells_created answer ≡ b → new.contents.tree ≡ old.contents.tree
-        by_answer true told = let no : Some (File bytes) ≡ None = sym file ∙ (law.made told).nothing in absurd cc
-        by_answer false told = ap (λ (c : Contents). c.tree) (law.unmade told).contents
+        by_answer : (b : Bool) → is_created answer ≡ b → new.contents.tree ≡ old.contents.tree
+        by_answer true recorded = let no : Some (File bytes) ≡ None = sym file ∙ (law.made recorded).nothing in absurd cc
+        by_answer false recorded = ap (λ (c : Contents). c.tree) (law.unmade recorded).contents
 
   -- ---- each method
 

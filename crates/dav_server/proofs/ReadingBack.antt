@@ -11,7 +11,7 @@ use Rattle.dav_resource.specs.declared.method.DavMethod.TheVariants.{Put, Patch,
 use Rattle.dav_resource.specs.declared.request.DavRequest.{DavRequest}
 use Rattle.dav_store.specs.Calls.{bytes_from}
 use Rattle.dav_store.specs.Store.{Store, Bodies, Contents, Node, File, Directory}
-use Rattle.dav_parts.specs.Reply.{Answer}
+use Rattle.dav_messages.specs.Reply.{Answer}
 use Rattle.dav_engine.specs.Law.{MethodLaw}
 use Rattle.dav_engine.specs.Put.{new_bytes}
 use Rattle.dav_engine.specs.State.{state_of}
@@ -67,7 +67,7 @@ put_writes : (rules : Rules) (frame : RequestValue) (put : DavRequest) (answer :
 put_writes rules frame put answer old new served whole =
     let step = served.executes.served in
     let law = subst (λ m. MethodLaw m (settings_at rules old) put (state_of old.seen) step.records answer (state_of served.executes.after)) whole.method step.law.own in
-    ap (λ (s : ServerState). node_at s put.path.key) served.executes.emptied ∙ law.whole whole.told (record { put = refl; no_range = whole.no_range })
+    ap (λ (s : ServerState). node_at s put.path.key) served.executes.emptied ∙ law.whole whole.transferred (record { put = refl; no_range = whole.no_range })
 
 -- ---- one action
 
@@ -128,7 +128,7 @@ module _ {F : Type 0} (see_store : F → Store) (is_honest : F → Bool) (rules 
   reply_from contents key asked (Part part) bytes store file (inl returns) = part_of contents key asked part bytes store file returns
   reply_from contents key asked Collection bytes store file (inl returns) = let no : Some Directory ≡ Some (File bytes) = sym returns ∙ file in absurd cc
   reply_from contents key asked (Failed status) bytes store file (inl (inl (missing, none))) = let no : None ≡ Some (File bytes) = sym none ∙ file in absurd cc
-  reply_from contents key asked (Failed status) bytes store file (inl (inr (inl (told, version)))) = inl (told, other_version asked.version version.meta.etag version.other)
+  reply_from contents key asked (Failed status) bytes store file (inl (inr (inl (recorded, version)))) = inl (recorded, other_version asked.version version.meta.etag version.other)
   reply_from contents key asked (Failed status) bytes store file (inl (inr (inr own))) = inr own
   reply_from contents key asked reply bytes store file (inl returns) = absurd returns
   reply_from contents key asked reply bytes store file (inr full) = subst (IsReplyFrom is_honest bytes asked) (sym full) (inr (inr refl))
@@ -212,8 +212,8 @@ module _ {F : Type 0} (see_store : F → Store) (is_honest : F → Bool) (rules 
   actions_of exchange old new h = by_answer h.answers
     where
       none : (status : ℕ) → exchange.answer ≡ bare_answer status → status ≢ 200 → new.seen.store ≡ old.seen.store → HasActions exchange old new
-      none status told other same =
-          record { actions = []; of = inr (record { status = λ h. other (sym (ap (λ (a : BatchAnswer). a.status) told) ∙ h); none = refl }); in_order = same }
+      none status recorded other same =
+          record { actions = []; of = inr (record { status = λ h. other (sym (ap (λ (a : BatchAnswer). a.status) recorded) ∙ h); none = refl }); in_order = same }
 
       skipped : (status : ℕ) → SkipsBatch status exchange.header exchange.answer old new → status ≢ 200 → HasActions exchange old new
       skipped status skips other = none status skips.answered other (ap (λ (s : ServerState). s.seen.store) skips.same)

@@ -10,7 +10,7 @@ use Rattle.dav_resource.specs.declared.request.DavRequest.{DavRequest}
 use Rattle.dav_store.specs.BodyCalls.{StartsBody, AddsToBody, with_body}
 use Rattle.dav_store.specs.Store.{Store}
 use Rattle.dav_memls.specs.Expiry.{earliest_expiry}
-use Rattle.dav_parts.specs.Reply.{Answer}
+use Rattle.dav_messages.specs.Reply.{Answer}
 use Rattle.dav_engine.specs.State.{Seen}
 use Rattle.dav_engine.specs.Step.{Serves}
 use Rattle.dav_wire.specs.Frames.{RequestValue, ReadValue, FrameValue}

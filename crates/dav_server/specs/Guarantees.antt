@@ -12,9 +12,9 @@ use Rattle.dav_store.specs.BodyCalls.{put_body, stored_bytes}
 use Rattle.dav_store.specs.Calls.{bytes_from}
 use Rattle.dav_store.specs.Locks.{is_at_or_below}
 use Rattle.dav_store.specs.Store.{Store, Bodies}
-use Rattle.dav_parts.specs.Reply.{Answer}
+use Rattle.dav_messages.specs.Reply.{Answer}
 use Rattle.dav_engine.specs.Bounds.{is_at_destination}
-use Rattle.dav_engine.specs.Laws.{tells_transferred}
+use Rattle.dav_engine.specs.Laws.{is_transferred}
 use Rattle.dav_engine.specs.Put.{new_bytes}
 use Rattle.dav_engine.specs.Settings.{Settings}
 use Rattle.dav_wire.specs.Batches.{batch}
@@ -82,7 +82,7 @@ rewrites settings key action = false
 pub record WritesWhole (put : DavRequest) (answer : Answer) : Type 0 where
   pub method : method_of put.method ≡ Some Put
   pub no_range : content_range_of put.headers ≡ Ok None
-  pub told : tells_transferred answer ≡ true
+  pub transferred : is_transferred answer ≡ true
 
 -- among these actions, a PUT of a whole file was answered 201 or 204, and the file was read later; no request between them may change it
 pub record WritesAndReads (settings : Settings) (actions : List Action) : Type 0 where

@@ -10,7 +10,7 @@ use Rattle.dav_headers.specs.LockToken.{lock_token_of}
 use Rattle.dav_store.specs.Locks.{has_token}
 use Rattle.dav_store.specs.Store.{Bodies}
 use Rattle.dav_store.specs.declared.lock.DavLock.{DavLock}
-use Rattle.dav_parts.specs.Conditions.{submitted_tokens}
+use Rattle.dav_messages.specs.Conditions.{submitted_tokens}
 use Rattle.dav_engine.specs.Locking.{is_refresh}
 use Rattle.dav_server.specs.State.{Rules, ServerState, locks_at}
 

@@ -3,12 +3,12 @@ ghost use Rattle.std.specs.Prelude.{◌≡◌, false, IfOk, IfErr, Some, bytes_e
 ghost use Rattle.std.specs.Option.{option_copied, option_eq, option_map_or, option_to_list as to_list};
 ghost use Rattle.dav_resource.specs.declared.error.DavError.TheVariants.{Memory};
 ghost use Rattle.dav_headers.specs.LockToken.{lock_token_of};
-ghost use Rattle.dav_parts.specs.Conditions.{submitted_tokens, token_of, tokens_in};
+ghost use Rattle.dav_messages.specs.Conditions.{submitted_tokens, token_of, tokens_in};
 ghost use Rattle.dav_server.specs.Owners.{is_of_another as is_lock_of_another, meddles as meddles_with, names_any};
 
 use crate::ExpiringLocks;
 use dav_engine::{IfItem, IfList, read_if, read_lock_token};
-use dav_parts::is_empty_body;
+use dav_messages::is_empty_body;
 use dav_resource::{DavMethod, DavRequest, DavResult, Text};
 use dav_store::GuardedFileSystem;
 use std::alloc::Global;

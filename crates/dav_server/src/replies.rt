@@ -1,7 +1,7 @@
 //! Replies to frames.
 ghost use Rattle.std.specs.Prelude.{◌≡◌, IfOk, map, option_map};
 ghost use Rattle.http_header.specs.HeaderMap.{pairs};
-ghost use Rattle.dav_parts.specs.Reply.{answer_of};
+ghost use Rattle.dav_messages.specs.Reply.{answer_of};
 ghost use Rattle.dav_wire.specs.Views.{reply_of as value_of, response_frame_of, behind, field_of as borrowed_field};
 ghost use Rattle.dav_wire.specs.Replies as replies;
 ghost use Rattle.dav_server.specs.Events.{started_reply};

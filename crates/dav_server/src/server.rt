@@ -1,7 +1,7 @@
 //! The state of a server, and how it serves one frame after another.
 ghost use Rattle.std.specs.Prelude.{◌≡◌, IfOk, IfErr, [], None, Some, option_map, string_bytes};
 ghost use Rattle.dav_resource.specs.declared.error.DavError.TheVariants.{Memory, Status};
-ghost use Rattle.dav_parts.specs.Reply.{answer_of};
+ghost use Rattle.dav_messages.specs.Reply.{answer_of};
 ghost use Rattle.dav_wire.specs.Views.{frame_of as frame_value, request_frame_of};
 ghost use Rattle.dav_wire.specs.Frames as frames;
 

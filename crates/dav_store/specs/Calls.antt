@@ -50,7 +50,7 @@ error_of (Refused e) = Some e
 pub record Grants (call : Call) (Effect : Contents → Contents → Type 0) (old new : Store) : Type 0 where
   pub allowed : call.bar ≡ None
   pub effect : Effect old.contents new.contents
-  pub told : new.log ≡ old.log ++ record_of call Granted ∷ []
+  pub recorded : new.log ≡ old.log ++ record_of call Granted ∷ []
   pub fixed : new.facts ≡ old.facts
 
 -- the call is not granted: one record is added to the log, and nothing else changes
@@ -60,7 +60,7 @@ pub record Declines (call : Call) (e : FsError) (old new : Store) : Type 0 where
   pub lawful : IsLawful call.bar outcome
   pub not_memory : e ≢ Memory
   pub same : new.contents ≡ old.contents
-  pub told : new.log ≡ old.log ++ record_of call outcome ∷ []
+  pub recorded : new.log ≡ old.log ++ record_of call outcome ∷ []
   pub fixed : new.facts ≡ old.facts
 
 -- the call is granted, or declined, or memory runs out and nothing changes
@@ -86,8 +86,8 @@ pub record IsMetaAt (key : Key) (meta : Meta) (old new : Contents) : Type 0 wher
   pub answer : old.metas key ≡ Some meta
   pub same : new ≡ old
 
-abbrev pub Looks : Store → Key → Result Meta FsError → Store → Type 0
-Looks old key = Answers (metadata_call old.contents key) (IsMetaAt key) old
+abbrev pub LooksUp : Store → Key → Result Meta FsError → Store → Type 0
+LooksUp old key = Answers (metadata_call old.contents key) (IsMetaAt key) old
 
 -- ---- create_dir
 
@@ -203,5 +203,5 @@ Writes old file more = Answers (file_call WriteBytes old.contents file.path.key)
 abbrev pub Flushes : Store → Key → Result (Unit {0}) FsError → Store → Type 0
 Flushes old key = FindsFile Flush old key
 
-abbrev pub LooksAtFile : Store → Key → Result Meta FsError → Store → Type 0
-LooksAtFile old key = Answers (file_call FileMetadata old.contents key) (IsMetaAt key) old
+abbrev pub LooksUpFile : Store → Key → Result Meta FsError → Store → Type 0
+LooksUpFile old key = Answers (file_call FileMetadata old.contents key) (IsMetaAt key) old

@@ -111,7 +111,7 @@ pub record Lists (directory : Key) (old : Store) (listing : List (Result DirEntr
   pub are : AreChildren old.facts.shows old.contents directory children
   pub listed : listing ≡ map (λ c. c.1) children
   pub same : new.contents ≡ old.contents
-  pub told : new.log ≡ old.log ++ record_of (read_dir_call old.contents directory) Granted ∷ filter_map (unseen_record directory) children
+  pub recorded : new.log ≡ old.log ++ record_of (read_dir_call old.contents directory) Granted ∷ filter_map (unseen_record directory) children
   pub fixed : new.facts ≡ old.facts
 
 -- the directory is listed, or the call is declined, or memory runs out and nothing changes

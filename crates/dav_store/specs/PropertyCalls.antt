@@ -112,7 +112,7 @@ pub record Patches (key : Key) (patches : List Patch) (statuses : List ℕ) (old
   pub allowed : (patch_props_call old key).bar ≡ None
   pub answered : statuses ≡ replicate (length patches) 200
   pub effect : IsPatchedAt key patches old.contents new.contents
-  pub told : new.log ≡ old.log ++ patch_record key Granted statuses ∷ []
+  pub recorded : new.log ≡ old.log ++ patch_record key Granted statuses ∷ []
   pub fixed : new.facts ≡ old.facts
 
 -- no change is made; there is a status for each, and not all are 200
@@ -120,7 +120,7 @@ pub record DropsPatches (key : Key) (patches : List Patch) (statuses : List ℕ)
   pub answered : length statuses ≡ length patches
   pub not_all : statuses ≢ replicate (length patches) 200
   pub same : new.contents ≡ old.contents
-  pub told : new.log ≡ old.log ++ patch_record key (Refused GeneralFailure) statuses ∷ []
+  pub recorded : new.log ≡ old.log ++ patch_record key (Refused GeneralFailure) statuses ∷ []
   pub fixed : new.facts ≡ old.facts
 
 -- all changes are made or none, with a status for each; or the call is declined, or memory runs out and nothing changes

@@ -2,7 +2,7 @@
 ghost use Rattle.std.specs.Prelude.{◌≡◌, ◌≢◌, ◌+◌, ◌<◌, ◌^◌, All, Bool, false, true, [], length, map, option_map, None, MatchResult};
 ghost use Rattle.dav_store.specs.Logged.{logged_of};
 ghost use Rattle.dav_store.specs.Store.{Store, IsWellFormed};
-ghost use Rattle.dav_store.specs.Calls.{Looks, MakesDirectory, Opens, ReadsBytes, Seeks, Writes, Flushes, LooksAtFile, place_of};
+ghost use Rattle.dav_store.specs.Calls.{LooksUp, MakesDirectory, Opens, ReadsBytes, Seeks, Writes, Flushes, LooksUpFile, place_of};
 ghost use Rattle.dav_store.specs.Members.{ReadsDir, RemovesFile, RemovesDir};
 ghost use Rattle.dav_store.specs.Allowed.{IsAllowed};
 ghost use Rattle.dav_store.specs.BodyCalls.{StartsBody, AddsToBody, with_body, stored_bytes};
@@ -49,7 +49,7 @@ pub trait GuardedFileSystem<C> {
 
     /// Returns the metadata of a file or directory. Barred: `NotFound` if nothing exists at the path.
     fn metadata(&mut self, path: &DavPath, credentials: &C) -> FsResult<Meta>
-        ensures { Looks (seen self.old) path.now.key result (seen self.new) };
+        ensures { LooksUp (seen self.old) path.now.key result (seen self.new) };
 
     /// Lists the members of a directory, each once, in any order.
     ///
@@ -179,7 +179,7 @@ pub trait GuardedFileSystem<C> {
 
     /// Returns the metadata of an open file. Barred: `NotFound` if no file exists at the handle's path.
     fn file_metadata(&mut self, file: &DavFile, credentials: &C) -> FsResult<Meta>
-        ensures { LooksAtFile (seen self.old) file.now.path.key result (seen self.new) };
+        ensures { LooksUpFile (seen self.old) file.now.path.key result (seen self.new) };
 
     /// Returns the element of a dead property, which is found by its namespace and name. Barred: `NotFound`
     /// if there is no such property.

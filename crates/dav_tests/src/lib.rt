@@ -2,7 +2,7 @@
 #![tactic(auto)]
 
 ghost use Rattle.std.specs.Prelude.{◌≡◌, map, IfOk, OnErr};
-ghost use Rattle.dav_parts.specs.Reply.{answer_of};
+ghost use Rattle.dav_messages.specs.Reply.{answer_of};
 ghost use Rattle.dav_engine.specs.State.{seen_with};
 ghost use Rattle.dav_engine.specs.Served.{AreServedOver};
 

@@ -1,4 +1,4 @@
-//! Tests what no script shows of COPY and MOVE: their handler called directly, and 300 nested directories.
+//! Tests what no script shows of COPY and MOVE: their handlers called directly, and 300 nested directories.
 use crate::fixture::{path_of, request, status};
 use dav_engine::{DavInner, DavRequest, GuardedFileSystem};
 use dav_memfs::MemFs;
@@ -8,25 +8,38 @@ use std::alloc::Global;
 use std::process::Abort;
 use std::test::Fail;
 
-/// Returns the status of a request, from the handler of both methods or else from `serve`.
-fn called<'a>(alloc: Global, store: &'a mut MemFs, both: bool, request: &DavRequest) -> u16 {
+/// What serves a request.
+#[derive(Clone, Copy, PartialEq)]
+enum Handler {
+    Serve,
+    Copy,
+    Move,
+}
+
+/// Returns the status of a request from this handler.
+fn called<'a>(alloc: Global, store: &'a mut MemFs, by: Handler, request: &DavRequest) -> u16 {
     let mut engine = DavInner::new(store, None::<&mut MemLs>, String::new(alloc), None, ());
-    let reply = if both {
-        engine.handle_copymove(request)
-    } else {
-        engine.serve(request)
+    let reply = match by {
+        Handler::Serve => engine.serve(request),
+        Handler::Copy => engine.handle_copy(request),
+        Handler::Move => engine.handle_move(request),
     };
     status(&reply)
 }
 
 #[test]
-fn each_method_but_copy_is_taken_as_move(rt: HostRuntime) -> Result<(), Fail> {
+fn each_handler_takes_any_method(rt: HostRuntime) -> Result<(), Fail> {
     let alloc = rt.alloc();
     let mut store = MemFs::new(alloc)?;
     make_directory(alloc, &mut store, "/f")?;
-    for (method, want) in [("COPY", 201), ("COPY", 204), ("DELETE", 204), ("MOVE", 404)] {
+    for (by, method, want) in [
+        (Handler::Copy, "COPY", 201),
+        (Handler::Copy, "MOVE", 204),
+        (Handler::Move, "COPY", 204),
+        (Handler::Move, "MOVE", 404),
+    ] {
         let request = request(alloc, method, "/f", &[("Destination", "/g")], "")?;
-        let status = called(alloc, &mut store, true, &request);
+        let status = called(alloc, &mut store, by, &request);
         assert!(rt; status == want, "{method}: {status}");
     }
     Ok(())
@@ -63,7 +76,7 @@ fn served(
     let place = HeaderValue::from_str(alloc, destination)?;
     request.headers.append(name, place)?;
     GuardedFileSystem::<()>::clear_log(store);
-    let status = called(alloc, store, false, &request);
+    let status = called(alloc, store, Handler::Serve, &request);
     let calls = GuardedFileSystem::<()>::records(store).len();
     Ok((status, calls, store.dump()?.len()))
 }

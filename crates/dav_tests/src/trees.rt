@@ -2,7 +2,7 @@
 use crate::fixture::{path_of, share, status, text_of};
 use crate::outline::{show, tree};
 use dav_memls::MemLs;
-use dav_parts::{build_lock_prop, list_lockdiscovery, list_supportedlock, multi_error};
+use dav_messages::{build_lock_prop, list_lockdiscovery, list_supportedlock, multi_error};
 use dav_resource::{Body, DavResult, Element};
 use http::{Response, StatusCode};
 use std::alloc::Global;

@@ -14,7 +14,7 @@ use Rattle.dav_store.specs.Store.{Contents, Node, Store, IsWellFormed, MetaFits}
 use Rattle.dav_store.specs.Calls.{Declines}
 use Rattle.dav_store.specs.Members.{Child, AreChildren, IsIn, names_of, member, Lists, read_dir_call}
 use Rattle.dav_store.specs.MemberLaws.{come_from, IsIn-permuted, IsIn-unpermuted}
-use Rattle.dav_parts.specs.Dialogues.{unlike}
+use Rattle.dav_messages.specs.Dialogues.{unlike}
 use Rattle.dav_walks.specs.Counting.{total, count_below}
 use Rattle.dav_walks.specs.Frames.{path_of_entry}
 use Rattle.dav_walks.specs.Listing.{listed, unlisted, Listed, resource_of, shown_in, in_turn, AreThere, waiting_count}
@@ -67,15 +67,15 @@ shown_segment old directory cs are formed entry i =
 
 -- a member that is shown is there
 pub shown_there : {shows : Key → Bool} (old : Contents) (directory : PathValue) (cs : List Child) → AreChildren shows old directory.key cs → (r : Resource) → IsIn r (shown_in directory (map (λ (c : Child). c.1) cs)) → old.metas r.path.key ≡ Some r.meta
-shown_there old directory cs are r i = told (come_from (resource_of directory) (map (λ (c : Child). c.1) cs) r i)
+shown_there old directory cs are r i = is_there (come_from (resource_of directory) (map (λ (c : Child). c.1) cs) r i)
   where
-    told : (s : Shown) × IsIn s (map (λ (c : Child). c.1) cs) × (resource_of directory s ≡ Some r) → old.metas r.path.key ≡ Some r.meta
-    told (Ok entry, inside, is) =
+    is_there : (s : Shown) × IsIn s (map (λ (c : Child). c.1) cs) × (resource_of directory s ≡ Some r) → old.metas r.path.key ≡ Some r.meta
+    is_there (Ok entry, inside, is) =
         let f = shown_child cs (Ok entry) inside in
         let so = are.shown (f.0, Ok entry) f.1 in
         let same : r ≡ record { path = path_of_entry directory entry; meta = entry.meta } = cc in
         ap (λ (v : Resource). old.metas v.path.key) same ∙ ap (λ name. old.metas (member directory.key name)) so.0 ∙ so.1 ∙ ap Some (sym (ap (λ (v : Resource). v.meta) same))
-    told (Err e, inside, is) = absurd cc
+    is_there (Err e, inside, is) = absurd cc
 
 -- and each that waited before
 pub all_there : {shows : Key → Bool} (old : Contents) (directory : PathValue) (cs : List Child) (before after : List Resource) → AreChildren shows old directory.key cs → in_turn after ≡ shown_in directory (map (λ (c : Child). c.1) cs) ++ in_turn before
@@ -143,7 +143,7 @@ pub listing_shown : (directory : PathValue) (old : Store) (listing : List Shown)
 listing_shown directory old listing new lists = record {
   records = _;
   lists = listed lists.children lists.allowed lists.are lists.listed refl;
-  told = lists.told;
+  recorded = lists.recorded;
   same = lists.same;
   fixed = lists.fixed;
 }
@@ -152,7 +152,7 @@ pub listing_declined : (directory : PathValue) (old : Store) (e : FsError) (new 
 listing_declined directory old e new declined = record {
   records = _;
   lists = unlisted declined.outcome (unlike e declined.outcome declined.cause) declined.lawful refl refl;
-  told = declined.told;
+  recorded = declined.recorded;
   same = declined.same;
   fixed = declined.fixed;
 }

@@ -60,15 +60,15 @@ module _ (path : PathValue) (old new : Store) where
     pub alone_all : (had has : Names) (removed : Bool) → RemovesOne dir path old new had has removed → RemovesAll Zero path old new had has
     alone_all had has true (g, same) =
         let granted : Grants call (IsRemovedAt path.key) old new = subst (λ c. Grants c (IsRemovedAt path.key) old new) by_kind g in
-        record { records = record_of call Granted ∷ []; told = granted.told; fixed = granted.fixed; names = []; added = same ∙ sym (append-nil had); removes = alone_granted granted }
+        record { records = record_of call Granted ∷ []; recorded = granted.recorded; fixed = granted.fixed; names = []; added = same ∙ sym (append-nil had); removes = alone_granted granted }
     alone_all had has false r =
         let declined : Declines call r.error old new = subst (λ c. Declines c r.error old new) by_kind r.declined in
-        record { records = record_of call declined.outcome ∷ []; told = declined.told; fixed = declined.fixed; names = (path, fs_status r.error) ∷ []; added = r.named; removes = alone_declined r.error declined }
+        record { records = record_of call declined.outcome ∷ []; recorded = declined.recorded; fixed = declined.fixed; names = (path, fs_status r.error) ∷ []; added = r.named; removes = alone_declined r.error declined }
 
     pub alone_off : (had : Names) → IsCut (removal_by dir old.contents path.key) old new → BreaksOff Zero path old new had had
     alone_off had (inl same) = record {
       records = [];
-      told = ap (λ (s : Store). s.log) same ∙ sym (append-nil old.log);
+      recorded = ap (λ (s : Store). s.log) same ∙ sym (append-nil old.log);
       fixed = ap (λ (s : Store). s.facts) same;
       stops = stopped had [] (inl (refl, ap (λ (s : Store). s.contents) same)) (ap (λ (s : Store). s.contents) same);
     }
@@ -76,7 +76,7 @@ module _ (path : PathValue) (old new : Store) where
         let declined : Declines call d.0 old new = subst (λ c. Declines c d.0 old new) by_kind d.1 in
         record {
           records = record_of call declined.outcome ∷ [];
-          told = declined.told;
+          recorded = declined.recorded;
           fixed = declined.fixed;
           stops = stopped had (record_of call declined.outcome ∷ []) (inr ((path, fs_status d.0) ∷ [], alone_declined d.0 declined)) declined.same;
         }

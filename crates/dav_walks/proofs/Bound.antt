@@ -9,7 +9,7 @@ use Rattle.dav_resource.specs.declared.record.Outcome.{Outcome}
 use Rattle.dav_store.specs.Store.{Tree}
 use Rattle.dav_store.specs.Members.{IsIn}
 use Rattle.dav_walks.specs.KeyCall.{KeyCall, same_key, calls_at, path_to, keys_below}
-use Rattle.dav_walks.specs.Deletion.{look_below, calls_below, IsReached, is_call}
+use Rattle.dav_walks.specs.Deletion.{subtree, calls_below, IsReached, is_call}
 use Rattle.dav_walks.proofs.Keys.{same_key_itself, calls_at-IsIn}
 use Rattle.dav_walks.specs.Counting.{total, one}
 use Rattle.dav_walks.proofs.Counting.{total-plus, total-same, total-most, total-at_least, path_below, path_is}
@@ -71,7 +71,7 @@ no_entry_call : (op : Op) → is_call op ≡ true → op ≡ Entry → ⊥
 no_entry_call op e is = let p : false ≡ true = ap is_call (sym is) ∙ e in cc
 
 pub call_bound : (old : Tree) (p : Key) (calls : List KeyCall) → ((r : KeyCall) → IsIn r calls → (x : Key) × (r.key ≡ p ++ x))
-    → ((x : Key) (c : Op × Outcome) → IsIn c (calls_below calls p x) → (c.0 ≡ Entry) ⊎ IsReached (look_below old p) (calls_below calls p) x)
+    → ((x : Key) (c : Op × Outcome) → IsIn c (calls_below calls p x) → (c.0 ≡ Entry) ⊎ IsReached (subtree old p) (calls_below calls p) x)
     → ((x : Key) → length (calls_below calls p x) ≤ 2) → length (filter (λ r. is_call r.op) calls) ≤ 2 * length (keys_below old p)
 call_bound old p calls within reached few =
     let works = filter (λ (r : KeyCall). is_call r.op) calls in
@@ -86,7 +86,7 @@ call_bound old p calls within reached few =
         let c : IsIn (r.op, r.outcome) (calls_below calls p w.0) = subst (λ (k : Key). IsIn (r.op, r.outcome) (calls_at calls k)) w.1 (calls_at-IsIn calls r f.0) in
         go w.0 w.1 f.1 (reached w.0 (r.op, r.outcome) c)
       where
-        go : (x : Key) → r.key ≡ p ++ x → is_call r.op ≡ true → (r.op ≡ Entry) ⊎ IsReached (look_below old p) (calls_below calls p) x → IsIn r.key (keys_below old p)
+        go : (x : Key) → r.key ≡ p ++ x → is_call r.op ≡ true → (r.op ≡ Entry) ⊎ IsReached (subtree old p) (calls_below calls p) x → IsIn r.key (keys_below old p)
         go x e call (inl entry) = absurd (no_entry_call r.op call entry)
         go x e call (inr is) = subst (λ k. IsIn k (keys_below old p)) (sym e) (IsIn-filter (λ q. is_some (path_to p q)) (p ++ x) (trees.keys old) (stands_among old (p ++ x) is.0) (ap is_some (path_below p x)))
 

@@ -17,7 +17,7 @@ use Rattle.dav_store.specs.Transfers.{copy_call, IsCopiedTo}
 use Rattle.dav_walks.specs.Trace.{HasKind}
 use Rattle.dav_walks.specs.Frames.{IsCut}
 use Rattle.dav_walks.specs.Copied.{placing_call, IsPlaced, refusal_names, EndsAlone, PlacesAlone, CopiesAlone, CopiesInPart, StopsCopy}
-use Rattle.dav_walks.specs.CopyFrames.{LooksAt, CopiesFile, Finds, CopiesWhole, BreaksOffCopy}
+use Rattle.dav_walks.specs.CopyFrames.{LooksUpAt, CopiesFile, Finds, CopiesWhole, BreaksOffCopy}
 use Rattle.dav_walks.proofs.Listings.{kind_of_meta}
 use Rattle.dav_walks.proofs.Single.{Names}
 use Rattle.dav_walks.proofs.CopyEnter.{kind_present}
@@ -49,33 +49,33 @@ stopped : (source dest : PathValue) (top : Key) (old new : Contents) (had : Name
 stopped source dest top old new had records part same = record { part = part; alone = λ _. same; names = []; added = sym (append-nil had); named = refl }
 
 module _ (source dest : PathValue) (top : Key) {old : Store} (formed : IsWellFormed old.contents) where
-  -- the look is refused
-  unlooked_alone : {new : Store} {had has : Names} (refusal : LooksAt source old new had has None) → CopiesAlone source dest old.contents new.contents (record_of (metadata_call old.contents source.key) refusal.declined.outcome ∷ []) ((source, fs_status refusal.error) ∷ [])
+  -- the lookup is refused
+  unlooked_alone : {new : Store} {had has : Names} (refusal : LooksUpAt source old new had has None) → CopiesAlone source dest old.contents new.contents (record_of (metadata_call old.contents source.key) refusal.declined.outcome ∷ []) ((source, fs_status refusal.error) ∷ [])
   unlooked_alone refusal =
       let dec = refusal.declined in
       inl (record { outcome = dec.outcome; error = refusal.error; cause = dec.cause; called = refl; lawful = dec.lawful; same = dec.same; named = refl })
 
-  pub unlooked_whole : {new : Store} {had has : Names} → LooksAt source old new had has None → CopiesWhole Zero source dest top old new had has
+  pub unlooked_whole : {new : Store} {had has : Names} → LooksUpAt source old new had has None → CopiesWhole Zero source dest top old new had has
   unlooked_whole {new} {had} {has} refusal =
       let dec = refusal.declined in
-      record { records = record_of (metadata_call old.contents source.key) dec.outcome ∷ []; told = dec.told; fixed = dec.fixed; names = (source, fs_status refusal.error) ∷ []; added = refusal.named; copies = unlooked_alone refusal }
+      record { records = record_of (metadata_call old.contents source.key) dec.outcome ∷ []; recorded = dec.recorded; fixed = dec.fixed; names = (source, fs_status refusal.error) ∷ []; added = refusal.named; copies = unlooked_alone refusal }
 
   pub look_off : {new : Store} (had : Names) → IsCut (metadata_call old.contents source.key) old new → BreaksOffCopy Zero source dest top old new had had
   look_off had (inl same) = record {
     records = [];
-    told = ap (λ (s : Store). s.log) same ∙ sym (append-nil old.log);
+    recorded = ap (λ (s : Store). s.log) same ∙ sym (append-nil old.log);
     fixed = ap (λ (s : Store). s.facts) same;
     stops = stopped source dest top _ _ had [] (inl (inl refl, ap (λ (s : Store). s.contents) same)) (ap (λ (s : Store). s.contents) same);
   }
   look_off had (inr (e, dec)) = record {
     records = record_of (metadata_call old.contents source.key) dec.outcome ∷ [];
-    told = dec.told;
+    recorded = dec.recorded;
     fixed = dec.fixed;
     stops = stopped source dest top _ _ had (record_of (metadata_call old.contents source.key) dec.outcome ∷ [])
         (inr ((source, fs_status e) ∷ [], inl (record { outcome = dec.outcome; error = e; cause = dec.cause; called = refl; lawful = dec.lawful; same = dec.same; named = refl }))) dec.same;
   }
 
-  -- the look is granted
+  -- the lookup is granted
   module _ {mid : Store} {dir : Bool} (found : Finds dir source old mid) where
     same : mid.contents ≡ old.contents
     same = found.looked.effect.same
@@ -86,7 +86,7 @@ module _ (source dest : PathValue) (top : Key) {old : Store} (formed : IsWellFor
     module _ (call : Call) (is : placing_call old.contents source.key dest.key ≡ call) (new : Store) where
       log_of : (outcome : Outcome) → new.log ≡ mid.log ++ record_of call outcome ∷ []
           → new.log ≡ old.log ++ (record_of (metadata_call old.contents source.key) Granted ∷ record_of (placing_call old.contents source.key dest.key) outcome ∷ [])
-      log_of outcome told = told ∙ ap (λ l. l ++ record_of call outcome ∷ []) found.looked.told ∙ append_assoc old.log _ _ ∙ ap (λ (c : Call). old.log ++ (record_of (metadata_call old.contents source.key) Granted ∷ record_of c outcome ∷ [])) (sym is)
+      log_of outcome recorded = recorded ∙ ap (λ l. l ++ record_of call outcome ∷ []) found.looked.recorded ∙ append_assoc old.log _ _ ∙ ap (λ (c : Call). old.log ++ (record_of (metadata_call old.contents source.key) Granted ∷ record_of c outcome ∷ [])) (sym is)
 
       places : (outcome : Outcome) (names : Names) → IsLawful call.bar outcome → EndsAlone source dest old.contents new.contents names outcome
           → PlacesAlone source dest old.contents new.contents (record_of (metadata_call old.contents source.key) Granted ∷ record_of (placing_call old.contents source.key dest.key) outcome ∷ []) names
@@ -100,9 +100,9 @@ module _ (source dest : PathValue) (top : Key) {old : Store} (formed : IsWellFor
 
       placed_whole : {had has : Names} (outcome : Outcome) (names : Names) → IsLawful call.bar outcome → EndsAlone source dest old.contents new.contents names outcome → new.log ≡ mid.log ++ record_of call outcome ∷ []
           → new.facts ≡ mid.facts → has ≡ had ++ names → CopiesWhole Zero source dest top old new had has
-      placed_whole outcome names lawful ended told fixed added = record {
+      placed_whole outcome names lawful ended recorded fixed added = record {
         records = record_of (metadata_call old.contents source.key) Granted ∷ record_of (placing_call old.contents source.key dest.key) outcome ∷ [];
-        told = log_of outcome told;
+        recorded = log_of outcome recorded;
         fixed = fixed ∙ found.looked.fixed;
         names = names;
         added = added;
@@ -113,13 +113,13 @@ module _ (source dest : PathValue) (top : Key) {old : Store} (formed : IsWellFor
       pub placed_off : (had : Names) → IsCut call mid new → BreaksOffCopy Zero source dest top old new had had
       placed_off had (inl at_mid) = record {
         records = record_of (metadata_call old.contents source.key) Granted ∷ [];
-        told = ap (λ (s : Store). s.log) at_mid ∙ found.looked.told;
+        recorded = ap (λ (s : Store). s.log) at_mid ∙ found.looked.recorded;
         fixed = ap (λ (s : Store). s.facts) at_mid ∙ found.looked.fixed;
         stops = stopped source dest top _ _ had (record_of (metadata_call old.contents source.key) Granted ∷ []) (inl (inr refl, ap (λ (s : Store). s.contents) at_mid ∙ same)) (ap (λ (s : Store). s.contents) at_mid ∙ same);
       }
       placed_off had (inr (e, dec)) = record {
         records = record_of (metadata_call old.contents source.key) Granted ∷ record_of (placing_call old.contents source.key dest.key) dec.outcome ∷ [];
-        told = log_of dec.outcome dec.told;
+        recorded = log_of dec.outcome dec.recorded;
         fixed = dec.fixed ∙ found.looked.fixed;
         stops = stopped source dest top _ _ had (record_of (metadata_call old.contents source.key) Granted ∷ record_of (placing_call old.contents source.key dest.key) dec.outcome ∷ [])
             (inr (refusal_names source dest (get old.contents.tree source.key) e, inr (places dec.outcome _ dec.lawful (ends_refused source dest old.contents new.contents _ dec.outcome e dec.cause (dec.same ∙ same) refl)))) (dec.same ∙ same);
@@ -137,11 +137,11 @@ module _ (source dest : PathValue) (top : Key) {old : Store} (formed : IsWellFor
     is_copied new effect = rw (kind found).1 (subst (λ (c : Contents). IsCopiedTo source.key dest.key c new.contents) (same found) effect)
 
     pub file_whole : (new : Store) (had near has : Names) (done : Bool) → near ≡ had → CopiesFile source dest mid new near has done → CopiesWhole Zero source dest top old new had has
-    file_whole new had near has true unnamed (g, named) = placed_whole found (copy_call mid.contents source.key dest.key) file_call new Granted [] g.allowed (is_copied new g.effect, refl) g.told g.fixed (named ∙ unnamed ∙ sym (append-nil had))
+    file_whole new had near has true unnamed (g, named) = placed_whole found (copy_call mid.contents source.key dest.key) file_call new Granted [] g.allowed (is_copied new g.effect, refl) g.recorded g.fixed (named ∙ unnamed ∙ sym (append-nil had))
     file_whole new had near has false unnamed refusal =
         let dec = refusal.declined in
         placed_whole found (copy_call mid.contents source.key dest.key) file_call new dec.outcome ((source, fs_status refusal.error) ∷ []) dec.lawful
-        (ends_refused source dest old.contents new.contents _ dec.outcome refusal.error dec.cause (dec.same ∙ same found) (sym (file_refusal source dest _ refusal.error (kind found)))) dec.told dec.fixed (refusal.named ∙ ap (λ l. l ++ (source, fs_status refusal.error) ∷ []) unnamed)
+        (ends_refused source dest old.contents new.contents _ dec.outcome refusal.error dec.cause (dec.same ∙ same found) (sym (file_refusal source dest _ refusal.error (kind found)))) dec.recorded dec.fixed (refusal.named ∙ ap (λ l. l ++ (source, fs_status refusal.error) ∷ []) unnamed)
 
   -- a directory
   module _ {mid : Store} (found : Finds true source old mid) where
@@ -155,11 +155,11 @@ module _ (source dest : PathValue) (top : Key) {old : Store} (formed : IsWellFor
     place_off {new} had cut = placed_off found (create_dir_call mid.contents dest.key) place_call new had cut
 
     pub place_whole : (new : Store) (had : Names) → Grants (create_dir_call mid.contents dest.key) (IsMadeAt dest.key) mid new → CopiesWhole Zero source dest top old new had had
-    place_whole new had g = placed_whole found (create_dir_call mid.contents dest.key) place_call new Granted [] g.allowed (is_made new g.effect, refl) g.told g.fixed (sym (append-nil had))
+    place_whole new had g = placed_whole found (create_dir_call mid.contents dest.key) place_call new Granted [] g.allowed (is_made new g.effect, refl) g.recorded g.fixed (sym (append-nil had))
 
     pub refused_whole : (new : Store) (had has : Names) (error : FsError) → Declines (create_dir_call mid.contents dest.key) error mid new → has ≡ had ++ refusal_names source dest (Some Directory) error → CopiesWhole Zero source dest top old new had has
     refused_whole new had has error dec named = placed_whole found (create_dir_call mid.contents dest.key) place_call new dec.outcome (refusal_names source dest (Some Directory) error) dec.lawful
-        (ends_refused source dest old.contents new.contents _ dec.outcome error dec.cause (dec.same ∙ same found) (ap (λ (n : Option Node). refusal_names source dest n error) (sym (kind found)))) dec.told dec.fixed named
+        (ends_refused source dest old.contents new.contents _ dec.outcome error dec.cause (dec.same ∙ same found) (ap (λ (n : Option Node). refusal_names source dest n error) (sym (kind found)))) dec.recorded dec.fixed named
 
 -- a call that had memory was declined
 pub was_declined : {call : Call} {error : FsError} {old new : Store} → ((error ≡ Memory) × (new ≡ old)) ⊎ Declines call error old new → error ≢ Memory → Declines call error old new

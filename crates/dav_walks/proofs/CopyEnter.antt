@@ -11,10 +11,10 @@ use Rattle.dav_resource.specs.declared.record.Outcome.TheVariants.{Granted, Refu
 use Rattle.dav_resource.specs.declared.error.FsError.{FsError}
 use Rattle.dav_store.specs.Store.{Store, Contents, Node, File, Directory}
 use Rattle.dav_store.specs.Members.{IsIn, member, Child, AreChildren}
-use Rattle.dav_parts.specs.Multistatus.{Item}
+use Rattle.dav_messages.specs.Multistatus.{Item}
 use Rattle.dav_walks.specs.declared.copy_frame.CopyFrame.{CopyFrame}
 use Rattle.dav_walks.specs.KeyCall.{same_key}
-use Rattle.dav_walks.specs.Deletion.{WasRefused, path_at, Look}
+use Rattle.dav_walks.specs.Deletion.{WasRefused, path_at, Subtree}
 use Rattle.dav_walks.specs.Trace.{HasKind}
 use Rattle.dav_walks.specs.Copying.{CopyStep, snapshot, IsAsked, IsGranted, IsDenied, HasUnseen, IsMade, IsListed, is_directory_node, names_of_copy}
 use Rattle.dav_walks.proofs.Keys.{append-nothing, same_key_is, IsIn-append}
@@ -107,7 +107,7 @@ unseen_only p ((m, Err error) ∷ cs) step (inr i) n e = let found = unseen_only
 -- ---- what comes of it
 
 -- a key whose copy is to begin: it is of this kind, the walk has come to it, and nothing was called on it yet
-pub record InHand (snap : Look) (steps : Steps) (p : Key) : Type 0 where
+pub record InHand (snap : Subtree) (steps : Steps) (p : Key) : Type 0 where
   pub slash : Bool
   pub kind : HasKind slash (snap p)
   pub come : (p ≡ []) ⊎ IsListed p steps
@@ -156,7 +156,7 @@ pub record Went (source dest : PathValue) (top : Key) (old new : Store) (has fin
   pub listing : IsGranted CreateDir p more → IsAsked ReadDir p more
   pub anew : StartsAnew source dest (snapshot old.contents.tree source.key top) more
   pub given : Names
-  pub told : finally ≡ has ++ given
+  pub appended : finally ≡ has ++ given
   pub names : names_of_copy source dest (snapshot old.contents.tree source.key top) more ≡ given ++ owed_by opened
   pub opens : Opens source dest new.contents p more opened
   pub unseen_named : (x : Key) → HasUnseen x more → IsNamedIn source x (names_of_copy source dest (snapshot old.contents.tree source.key top) more)

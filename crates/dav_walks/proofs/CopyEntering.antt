@@ -9,7 +9,7 @@ use Rattle.dav_store.specs.Members.{read_dir_call}
 use Rattle.dav_store.specs.Transfers.{copy_call}
 use Rattle.dav_walks.specs.declared.copy_frame.CopyFrame.{CopyFrame}
 use Rattle.dav_walks.specs.Frames.{IsCut}
-use Rattle.dav_walks.specs.CopyFrames.{LooksAt, CopiesFile, MakesPlace, ListsSource, Finds, MakesPlaceOf, IsNextOf, EntersCopy, filed, unmade, after_made, IsCutCopy, at_file, at_place, at_listing}
+use Rattle.dav_walks.specs.CopyFrames.{LooksUpAt, CopiesFile, MakesPlace, ListsSource, Finds, MakesPlaceOf, IsNextOf, EntersCopy, filed, unmade, after_made, IsCutCopy, at_file, at_place, at_listing}
 use Rattle.dav_walks.proofs.Listings.{Shown}
 use Rattle.dav_walks.proofs.Single.{Names}
 
@@ -26,10 +26,10 @@ on_err_further (Err e) P Q further is = further is
 pub next_of : (frame : CopyFrame) (at_index shown : Shown) → frame.next < length frame.listing.items → at_index ≡ get_or frame.listing.items frame.next at_index → at_index ≡ shown → IsNextOf frame shown
 next_of frame at_index shown small is same = (small, subst (λ s. get_or frame.listing.items frame.next s ≡ s) same (sym is))
 
-pub found : {source : PathValue} {old mid : Store} {had near : Names} {meta : Meta} → LooksAt source old mid had near (Some meta) → (dir : Bool) → meta.dir ≡ dir → Finds dir source old mid
+pub found : {source : PathValue} {old mid : Store} {had near : Names} {meta : Meta} → LooksUpAt source old mid had near (Some meta) → (dir : Bool) → meta.dir ≡ dir → Finds dir source old mid
 found {meta = meta} looked dir kind = record { meta = meta; kind = kind; looked = looked.0 }
 
-module _ {source dest : PathValue} {old mid : Store} {had near : Names} {meta : Meta} (looked : LooksAt source old mid had near (Some meta)) where
+module _ {source dest : PathValue} {old mid : Store} {had near : Names} {meta : Meta} (looked : LooksUpAt source old mid had near (Some meta)) where
   module _ (file : meta.dir ≡ false) where
     pub file_entered : (new : Store) (has : Names) (done : Bool) → CopiesFile source dest mid new near has done → EntersCopy source dest old new had has None
     file_entered new has done copies = filed mid done (found looked false file) (subst (λ (ns : Names). CopiesFile source dest mid new ns has done) looked.1 copies)

@@ -12,7 +12,7 @@ use Rattle.dav_store.specs.Store.{Contents}
 use Rattle.dav_store.specs.Calls.{IsLawful, IsOwn, limit_of}
 use Rattle.dav_store.specs.Members.{IsIn, AreDistinct, member, Child, names_of}
 use Rattle.dav_walks.specs.KeyCall.{standing}
-use Rattle.dav_walks.specs.Deletion.{Look}
+use Rattle.dav_walks.specs.Deletion.{Subtree}
 use Rattle.dav_walks.specs.Copying.{CopyStep, IsGranted, IsMade, NothingMade, IsListed, IsCalledFor, copied, snapshot}
 use Rattle.dav_walks.proofs.Keys.{below_cancel, IsIn-left, IsIn-right, IsIn-append}
 
@@ -61,7 +61,7 @@ module _ (steps more : Steps) where
   come_later x (inl e) = inl e
   come_later x (inr is) = inr (listed_later x is)
 
-  pub called_later : (snap : Look) (op : Op) (x : Key) → IsCalledFor snap op x steps → IsCalledFor snap op x (steps ++ more)
+  pub called_later : (snap : Subtree) (op : Op) (x : Key) → IsCalledFor snap op x steps → IsCalledFor snap op x (steps ++ more)
   called_later snap Metadata x is = (is.0, come_later x is.1)
   called_later snap Copy x is = (is.0, IsIn-left _ steps more is.1)
   called_later snap CreateDir x is = (is.0, IsIn-left _ steps more is.1)

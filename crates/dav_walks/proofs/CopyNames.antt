@@ -14,8 +14,8 @@ use Rattle.dav_resource.specs.declared.record.Outcome.TheVariants.{Granted}
 use Rattle.dav_resource.specs.declared.error.FsError.{FsError}
 use Rattle.dav_store.specs.Calls.{error_of}
 use Rattle.dav_store.specs.Members.{IsIn, Child}
-use Rattle.dav_parts.specs.Multistatus.{Item}
-use Rattle.dav_walks.specs.Deletion.{Look, path_at, is_call}
+use Rattle.dav_messages.specs.Multistatus.{Item}
+use Rattle.dav_walks.specs.Deletion.{Subtree, path_at, is_call}
 use Rattle.dav_walks.specs.Copying.{path_of_step, named_once, names_behind, names_of_copy}
 use Rattle.dav_walks.proofs.Keys.{parent-child}
 use Rattle.dav_walks.proofs.Listings.{Shown}
@@ -52,42 +52,42 @@ cons_append : {X : Type 0} (o : Option X) (xs ys : List X) → cons_option o (xs
 cons_append None xs ys = refl
 cons_append (Some x) xs ys = refl
 
-module _ (source dest : PathValue) (snap : Look) where
+module _ (source dest : PathValue) (snap : Subtree) where
   abbrev pub StartsAnew : Steps → Type 0
-  StartsAnew more = (told : Bool) → names_behind source dest snap told more ≡ names_of_copy source dest snap more
+  StartsAnew more = (after_unseen : Bool) → names_behind source dest snap after_unseen more ≡ names_of_copy source dest snap more
 
-  append_behind : (told : Bool) (steps more : Steps) → StartsAnew more → names_behind source dest snap told (steps ++ more) ≡ names_behind source dest snap told steps ++ names_of_copy source dest snap more
-  append_behind told [] more anew = anew told
-  append_behind told (step ∷ steps) more anew =
+  append_behind : (after_unseen : Bool) (steps more : Steps) → StartsAnew more → names_behind source dest snap after_unseen (steps ++ more) ≡ names_behind source dest snap after_unseen steps ++ names_of_copy source dest snap more
+  append_behind after_unseen [] more anew = anew after_unseen
+  append_behind after_unseen (step ∷ steps) more anew =
       let behind : Bool = not (is_call step.op) in
-      ap (λ ns. cons_option (named_once source dest snap told step) ns) (append_behind behind steps more anew)
-      ∙ cons_append (named_once source dest snap told step) (names_behind source dest snap behind steps) (names_of_copy source dest snap more)
+      ap (λ ns. cons_option (named_once source dest snap after_unseen step) ns) (append_behind behind steps more anew)
+      ∙ cons_append (named_once source dest snap after_unseen step) (names_behind source dest snap behind steps) (names_of_copy source dest snap more)
 
   pub names_append : (steps more : Steps) → StartsAnew more → names_of_copy source dest snap (steps ++ more) ≡ names_of_copy source dest snap steps ++ names_of_copy source dest snap more
   names_append steps more anew = append_behind false steps more anew
 
   -- a granted call names nothing
-  pub granted_anew : (p : Key) (op : Op) (more : Steps) → is_call op ≡ true → (told : Bool) → names_behind source dest snap told (step_on p op Granted ∷ more) ≡ names_behind source dest snap false more
+  pub granted_anew : (p : Key) (op : Op) (more : Steps) → is_call op ≡ true → (after_unseen : Bool) → names_behind source dest snap after_unseen (step_on p op Granted ∷ more) ≡ names_behind source dest snap false more
   granted_anew p op more call true = rw call refl
   granted_anew p op more call false = rw call refl
 
   -- one that wasn't granted names its path
-  pub refused_anew : (p : Key) (op : Op) (outcome : Outcome) (error : FsError) → is_call op ≡ true → error_of outcome ≡ Some error → (told : Bool)
-      → names_behind source dest snap told (step_on p op outcome ∷ []) ≡ (path_of_step source dest snap op p, fs_status error) ∷ []
+  pub refused_anew : (p : Key) (op : Op) (outcome : Outcome) (error : FsError) → is_call op ≡ true → error_of outcome ≡ Some error → (after_unseen : Bool)
+      → names_behind source dest snap after_unseen (step_on p op outcome ∷ []) ≡ (path_of_step source dest snap op p, fs_status error) ∷ []
   refused_anew p op outcome error call is true = rw (call, is) refl
   refused_anew p op outcome error call is false = rw is refl
 
   -- of the members that aren't shown the first is named
-  told_already : (p : Key) (cs : List Child) → names_behind source dest snap true (unseen_steps p cs) ≡ []
-  told_already p [] = refl
-  told_already p ((n, Ok entry) ∷ cs) = told_already p cs
-  told_already p ((n, Err error) ∷ cs) = told_already p cs
+  reported_already : (p : Key) (cs : List Child) → names_behind source dest snap true (unseen_steps p cs) ≡ []
+  reported_already p [] = refl
+  reported_already p ((n, Ok entry) ∷ cs) = reported_already p cs
+  reported_already p ((n, Err error) ∷ cs) = reported_already p cs
 
   pub first_unseen : (p : Key) (cs : List Child) → names_behind source dest snap false (unseen_steps p cs) ≡ owed_in (path_at source true (source.key ++ p)) (map (λ (c : Child). c.1) cs)
   unfolding owed_in
   first_unseen p [] = refl
   first_unseen p ((n, Ok entry) ∷ cs) = first_unseen p cs
-  first_unseen p ((n, Err error) ∷ cs) = (λ i. (path_at source true (source.key ++ parent-child p n i), fs_status error) ∷ told_already p cs i)
+  first_unseen p ((n, Err error) ∷ cs) = (λ i. (path_at source true (source.key ++ parent-child p n i), fs_status error) ∷ reported_already p cs i)
 
 -- what is named, and what is owed, when more of both come
 pub bag_further : (all more names owed given due : Names) → IsPermutation all (names ++ owed) → more ≡ given ++ due → IsPermutation (all ++ more) ((names ++ given) ++ (due ++ owed))

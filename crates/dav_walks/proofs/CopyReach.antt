@@ -38,8 +38,8 @@ IsNew p op steps = IsIn (p, op) (map call_of steps) → ⊥
 
 log_grows : (s d : Key) (before mid after : List Logged) (steps more : Steps) (records : List Logged) → mid ≡ before ++ map (logged_step s d) steps → after ≡ mid ++ records → records ≡ map (logged_step s d) more
     → after ≡ before ++ map (logged_step s d) (steps ++ more)
-log_grows s d before mid after steps more records had told same =
-    told ∙ (λ i. had i ++ same i) ∙ append_assoc before (map (logged_step s d) steps) (map (logged_step s d) more) ∙ ap (λ l. before ++ l) (sym (map-append (logged_step s d) steps more))
+log_grows s d before mid after steps more records had recorded same =
+    recorded ∙ (λ i. had i ++ same i) ∙ append_assoc before (map (logged_step s d) steps) (map (logged_step s d) more) ∙ ap (λ l. before ++ l) (sym (map-append (logged_step s d) steps more))
 
 pub granted_of_made : (p q : Key) (op : Op) (outcome : Outcome) → IsMade q (step_on p op outcome ∷ []) → outcome ≡ Granted
 granted_of_made p q op outcome (inl i) = ap (λ (t : CopyStep). t.outcome) (only_one _ _ i)
@@ -64,8 +64,8 @@ module _ {s top d : Key} {old : Store} (room : HasRoom s top d old.contents) (fo
   -- one that wasn't granted
   declined : (op : Op) (call : Call) (error : FsError) → call.bar ≡ None → ((outcome : Outcome) → record_of call outcome ≡ logged_step s d (step_on p op outcome)) → IsCalledFor (snapshot old.contents.tree s top) op p steps
       → IsNew p op steps → (dec : Declines call error mid new) → Reached s top d old new (steps ++ step_on p op dec.outcome ∷ [])
-  declined op call error bar recorded called fresh dec = record {
-    log = log_grows s d old.log mid.log new.log steps (step_on p op dec.outcome ∷ []) _ reached.log dec.told (ap (λ r. r ∷ []) (recorded dec.outcome));
+  declined op call error bar is_recorded called fresh dec = record {
+    log = log_grows s d old.log mid.log new.log steps (step_on p op dec.outcome ∷ []) _ reached.log dec.recorded (ap (λ r. r ∷ []) (is_recorded dec.outcome));
     sound = grow_quiet reached.sound new.contents (step_on p op dec.outcome) dec.same called (subst (λ b. IsLawful b dec.outcome) bar dec.lawful) (λ i. refused (granted_of_seen p p op dec.outcome i)) fresh (λ m. refused (granted_of_made p p op dec.outcome m));
   }
     where
@@ -75,14 +75,14 @@ module _ {s top d : Key} {old : Store} (room : HasRoom s top d old.contents) (fo
   -- one that was granted, and changes nothing
   granted : (op : Op) → (op ≡ Entry → ⊥) → (op ≡ Copy → ⊥) → (op ≡ CreateDir → ⊥) → (r : Logged) → r ≡ logged_step s d (step_on p op Granted) → new.log ≡ mid.log ++ r ∷ [] → new.contents ≡ mid.contents
       → IsCalledFor (snapshot old.contents.tree s top) op p steps → IsNew p op steps → Reached s top d old new (steps ++ step_on p op Granted ∷ [])
-  granted op no_entry no_copy no_place r is told same called fresh = record {
-    log = log_grows s d old.log mid.log new.log steps (step_on p op Granted ∷ []) _ reached.log told (ap (λ t. t ∷ []) is);
+  granted op no_entry no_copy no_place r is recorded same called fresh = record {
+    log = log_grows s d old.log mid.log new.log steps (step_on p op Granted ∷ []) _ reached.log recorded (ap (λ t. t ∷ []) is);
     sound = grow_quiet reached.sound new.contents (step_on p op Granted) same called refl (λ i. no_entry (op_of_seen p p op Granted i)) fresh (λ m. elim (op_of_made p p op Granted m) [ inl e ↦ no_copy e | inr e ↦ no_place e ]);
   }
 
   module _ (k : Key) (key : k ≡ s ++ p) (there : snap_at ≢ None) (come : (p ≡ []) ⊎ IsListed p steps) (fresh : IsNew p Metadata steps) where
     pub looked : (Effect : Contents → Contents → Type 0) → (Effect mid.contents new.contents → new.contents ≡ mid.contents) → Grants (metadata_call mid.contents k) Effect mid new → Reached s top d old new (steps ++ step_on p Metadata Granted ∷ [])
-    looked Effect same g = granted Metadata (λ e. cc) (λ e. cc) (λ e. cc) _ (ap (λ j. logged Metadata (j ∷ []) Granted) key) g.told (same g.effect) (there, come) fresh
+    looked Effect same g = granted Metadata (λ e. cc) (λ e. cc) (λ e. cc) _ (ap (λ j. logged Metadata (j ∷ []) Granted) key) g.recorded (same g.effect) (there, come) fresh
 
     pub unlooked : (error : FsError) (dec : Declines (metadata_call mid.contents k) error mid new) → Reached s top d old new (steps ++ step_on p Metadata dec.outcome ∷ [])
     unlooked error dec = declined Metadata (metadata_call mid.contents k) error (look_free _ here) (λ o. ap (λ j. logged Metadata (j ∷ []) o) key) (there, come) fresh dec
@@ -102,7 +102,7 @@ module _ {s top d : Key} {old : Store} (room : HasRoom s top d old.contents) (fo
 
     pub copied_file : Grants (copy_call mid.contents k q) (IsCopiedTo k q) mid new → Reached s top d old new (steps ++ step_on p Copy Granted ∷ [])
     copied_file g = record {
-      log = log_grows s d old.log mid.log new.log steps (step_on p Copy Granted ∷ []) _ reached.log g.told (λ i. logged Copy (key i ∷ place i ∷ []) Granted ∷ []);
+      log = log_grows s d old.log mid.log new.log steps (step_on p Copy Granted ∷ []) _ reached.log g.recorded (λ i. logged Copy (key i ∷ place i ∷ []) Granted ∷ []);
       sound = grow reached.sound new.contents (step_on p Copy Granted) (file, seen) refl (λ i. absurd (no_entry (op_of_seen p p Copy Granted i))) fresh (λ m. (unmade, made)) others g.effect.limit (λ none. absurd (none (inl (inl refl))));
     }
       where
@@ -135,7 +135,7 @@ module _ {s top d : Key} {old : Store} (room : HasRoom s top d old.contents) (fo
 
     pub placed : Grants (create_dir_call mid.contents q) (IsMadeAt q) mid new → Reached s top d old new (steps ++ step_on p CreateDir Granted ∷ [])
     placed g = record {
-      log = log_grows s d old.log mid.log new.log steps (step_on p CreateDir Granted ∷ []) _ reached.log g.told (ap (λ j. logged CreateDir (j ∷ []) Granted ∷ []) place);
+      log = log_grows s d old.log mid.log new.log steps (step_on p CreateDir Granted ∷ []) _ reached.log g.recorded (ap (λ j. logged CreateDir (j ∷ []) Granted ∷ []) place);
       sound = grow reached.sound new.contents (step_on p CreateDir Granted) (directory, seen) refl (λ i. absurd (no_entry (op_of_seen p p CreateDir Granted i))) fresh (λ m. (unmade, made)) others g.effect.limit (λ none. absurd (none (inr (inl refl))));
     }
       where
@@ -170,11 +170,11 @@ module _ {s top d : Key} {old : Store} (room : HasRoom s top d old.contents) (fo
     unseen_logged ((n, Ok entry) ∷ cs) = unseen_logged cs
     unseen_logged ((n, Err error) ∷ cs) = λ i. logged Entry ((ap (λ j. member j n) key ∙ append_assoc s p (n ∷ [])) i ∷ []) (Refused error) ∷ unseen_logged cs i
 
-    -- its members that weren't shown are told of behind it
+    -- the members that it did not show are recorded after it
     pub listed : (listing : List (Result DirEntry FsError)) (lists : Lists k mid listing new) → AreDistinct (names_of lists.children) → ((n : List ℕ) → IsNew (member p n) Entry steps)
         → Reached s top d old new (steps ++ step_on p ReadDir Granted ∷ unseen_steps p lists.children)
     listed listing lists once unlisted_yet = record {
-      log = log_grows s d old.log mid.log new.log steps (step_on p ReadDir Granted ∷ unseen_steps p lists.children) _ reached.log lists.told (λ i. logged ReadDir (key i ∷ []) Granted ∷ unseen_logged lists.children i);
+      log = log_grows s d old.log mid.log new.log steps (step_on p ReadDir Granted ∷ unseen_steps p lists.children) _ reached.log lists.recorded (λ i. logged ReadDir (key i ∷ []) Granted ∷ unseen_logged lists.children i);
       sound = subst (Sound s top d old.contents new.contents) (append_assoc steps (step_on p ReadDir Granted ∷ []) (unseen_steps p lists.children))
           (grow_unseen (steps ++ step_on p ReadDir Granted ∷ []) first p (IsIn-right _ steps _ (inl refl)) lists.children once next (λ n error i. lists.are.shown (n, Err error) i));
     }

@@ -15,7 +15,7 @@ use Rattle.dav_store.specs.MemberLaws.{parent-member}
 use Rattle.dav_store.specs.Store.{Store, IsWellFormed}
 use Rattle.dav_store.specs.Members.{IsIn, AreDistinct, member, Child, names_of}
 use Rattle.dav_walks.specs.declared.copy_frame.CopyFrame.{CopyFrame}
-use Rattle.dav_walks.specs.Deletion.{path_at, Look}
+use Rattle.dav_walks.specs.Deletion.{path_at, Subtree}
 use Rattle.dav_walks.specs.Trace.{HasKind}
 use Rattle.dav_walks.specs.Copying.{snapshot, IsAsked, IsGranted, HasUnseen, HasRoom, names_of_copy}
 use Rattle.dav_walks.proofs.Keys.{append-nothing, below_cancel, child_below, parent-append, IsIn-left, IsIn-right, IsIn-append}
@@ -69,12 +69,12 @@ shown_once ((m, Err error) ∷ cs) so once = shown_once cs (λ c f j. so c f (in
 -- ---- open directories
 
 -- a member that waits in the listing of a directory
-pub record Waits (source : PathValue) (top : Key) (snap : Look) (steps : Steps) (x : Key) (entry : DirEntry) : Type 0 where
+pub record Waits (source : PathValue) (top : Key) (snap : Subtree) (steps : Steps) (x : Key) (entry : DirEntry) : Type 0 where
   pub segment : IsSegment entry.name
   pub kind : member (source.key ++ x) entry.name ≢ top → HasKind entry.meta.dir (snap (member x entry.name))
   pub clear : IsClear (member x entry.name) steps
 
-pub record IsOpen (source dest : PathValue) (top : Key) (snap : Look) (steps : Steps) (frame : CopyFrame) : Type 0 where
+pub record IsOpen (source dest : PathValue) (top : Key) (snap : Subtree) (steps : Steps) (frame : CopyFrame) : Type 0 where
   pub at : Key
   pub source_at : frame.source ≡ path_at source true (source.key ++ at)
   pub dest_at : frame.dest ≡ path_at dest true (dest.key ++ at)
@@ -83,7 +83,7 @@ pub record IsOpen (source dest : PathValue) (top : Key) (snap : Look) (steps : S
   pub unseen : (error : FsError) → IsIn {X = Shown} (Err error) (rest frame) → HasUnseen at steps
   pub once : AreDistinct (shown_names (rest frame))
 
-pub open_key : {source dest : PathValue} {top : Key} {snap : Look} {steps : Steps} {frame : CopyFrame} → (is : IsOpen source dest top snap steps frame) → frame.source.key ≡ source.key ++ is.at
+pub open_key : {source dest : PathValue} {top : Key} {snap : Subtree} {steps : Steps} {frame : CopyFrame} → (is : IsOpen source dest top snap steps frame) → frame.source.key ≡ source.key ++ is.at
 open_key {source} is = ap (λ (v : PathValue). v.key) is.source_at ∙ path_at-key source true (source.key ++ is.at)
 
 abbrev pub key_of : CopyFrame → Key
@@ -148,7 +148,7 @@ further steps more op x asked = (asked.0, IsIn-right _ steps more asked.1)
 module _ (source dest : PathValue) {top : Key} {old mid new : Store} {had has finally : Names} {steps : Steps} {frames : List CopyFrame} {p : Key} {opened : Option CopyFrame}
     (room : HasRoom source.key top dest.key old.contents) (formed : IsWellFormed old.contents) (underway : Underway source dest top old mid had has steps frames (p ∷ []))
     (hand : InHand (snapshot old.contents.tree source.key top) steps p) (beside_all : IsBeside source frames p) (went : Went source dest top old new has finally steps p opened) (sound : IsWellFormed new.contents) where
-  abbrev snap : Look
+  abbrev snap : Subtree
   snap = snapshot old.contents.tree source.key top
 
   abbrev after : Steps
@@ -333,7 +333,7 @@ module _ (source dest : PathValue) {top : Key} {old mid new : Store} {had has fi
     listings = λ x i. leads CreateDir ReadDir (λ e. cc) (λ x. Unit {0}) (λ y u j. underway.listings y j) (λ u j. went.listing j) x tt i;
     members = members_after;
     names = underway.names ++ went.given;
-    named = went.told ∙ ap (λ l. l ++ went.given) underway.named ∙ append_assoc had underway.names went.given;
+    named = went.appended ∙ ap (λ l. l ++ went.given) underway.named ∙ append_assoc had underway.names went.given;
     bag = subst₂ IsPermutation (sym (names_append source dest snap steps went.more went.anew)) (ap (λ l. (underway.names ++ went.given) ++ l) (sym (owed_with opened frames)))
         (bag_further _ _ underway.names (owed_all frames) went.given (owed_by opened) underway.bag went.names);
     are_open = open_after opened went.opens;

@@ -16,7 +16,7 @@ use Rattle.dav_store.specs.MemberLaws.{kept_in}
 use Rattle.dav_store.specs.Store.{Store, Node, File, Directory}
 use Rattle.dav_store.specs.Members.{IsIn, AreDistinct, member}
 use Rattle.dav_walks.specs.declared.copy_frame.CopyFrame.{CopyFrame}
-use Rattle.dav_walks.specs.Deletion.{Look}
+use Rattle.dav_walks.specs.Deletion.{Subtree}
 use Rattle.dav_walks.specs.Copying.{snapshot, IsAsked, HasUnseen, HasRoom, names_of_copy, is_directory_node}
 use Rattle.dav_walks.specs.Trace.{HasKind}
 use Rattle.dav_walks.proofs.Keys.{append-nothing, below_cancel}
@@ -89,7 +89,7 @@ dropped {source} {dest} {top} {old} y none underway = record {
 -- ---- a directory goes on
 
 module _ (source dest : PathValue) {top : Key} {old mid : Store} {had has : Names} {steps : Steps} {frame : CopyFrame} {frames : List CopyFrame} (underway : Underway source dest top old mid had has steps (frame ∷ frames) []) where
-  abbrev snap : Look
+  abbrev snap : Subtree
   snap = snapshot old.contents.tree source.key top
 
   abbrev pub own : IsOpen source dest top snap steps frame
@@ -120,7 +120,7 @@ module _ (source dest : PathValue) {top : Key} {old mid : Store} {had has : Name
 
     pub replaced : (finally given : Names) (hand : List Key) → ((entry : DirEntry) → IsIn {X = Shown} (Ok entry) (rest frame) → IsIn {X = Shown} (Ok entry) (rest after) ⊎ IsIn (member own.at entry.name) hand ⊎ HasUnseen own.at steps)
         → finally ≡ has ++ given → owed frame ≡ given ++ owed after → Underway source dest top old mid had finally steps (after ∷ frames) hand
-    replaced finally given hand left told owes = record {
+    replaced finally given hand left appended owes = record {
       reached = underway.reached;
       files = underway.files;
       directories = underway.directories;
@@ -133,7 +133,7 @@ module _ (source dest : PathValue) {top : Key} {old mid : Store} {had has : Name
         ]
       ];
       names = underway.names ++ given;
-      named = told ∙ ap (λ l. l ++ given) underway.named ∙ append_assoc had underway.names given;
+      named = appended ∙ ap (λ l. l ++ given) underway.named ∙ append_assoc had underway.names given;
       bag = subst (λ l. IsPermutation (names_of_copy source dest snap steps) ((underway.names ++ given) ++ l)) (sym (owed_all-cons after frames))
           (bag_paid _ underway.names given (owed after ++ owed_all frames) (subst (λ l. IsPermutation (names_of_copy source dest snap steps) (underway.names ++ l))
           (owed_all-cons frame frames ∙ ap (λ l. l ++ owed_all frames) owes ∙ append_assoc given (owed after) (owed_all frames)) underway.bag));
@@ -223,8 +223,8 @@ module _ (source dest : PathValue) {top : Key} {old mid : Store} {had has : Name
 
   module _ (after : CopyFrame) (same_source : after.source ≡ frame.source) (same_dest : after.dest ≡ frame.dest) (error : FsError) (more : List Shown) (next : rest frame ≡ Err error ∷ more) (ends : rest after ≡ []) where
     pub unshown : (finally : Names) → finally ≡ has ++ (frame.source, fs_status error) ∷ [] → Underway source dest top old mid had finally steps (after ∷ frames) []
-    unshown finally told = replaced after same_source same_dest (λ shown i. absurd (subst (IsIn shown) ends i)) (subst (λ (l : List Shown). AreDistinct (shown_names l)) (sym ends) tt) finally ((frame.source, fs_status error) ∷ []) []
-        (λ entry i. inr (inr (own.unseen error (subst (IsIn {X = Shown} (Err error)) (sym next) (inl refl))))) told owes
+    unshown finally appended = replaced after same_source same_dest (λ shown i. absurd (subst (IsIn shown) ends i)) (subst (λ (l : List Shown). AreDistinct (shown_names l)) (sym ends) tt) finally ((frame.source, fs_status error) ∷ []) []
+        (λ entry i. inr (inr (own.unseen error (subst (IsIn {X = Shown} (Err error)) (sym next) (inl refl))))) appended owes
       where
         owes : owed frame ≡ (frame.source, fs_status error) ∷ owed after
         owes = (λ i. owed_in frame.source (next i)) ∙ owed_unshown frame.source error more ∙ ap (λ l. (frame.source, fs_status error) ∷ l) (sym ((λ i. owed_in after.source (ends i)) ∙ owed_none after.source))

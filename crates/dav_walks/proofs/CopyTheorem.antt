@@ -20,8 +20,8 @@ use Rattle.dav_store.specs.MemberLaws.{IsIn-permuted}
 use Rattle.dav_store.specs.Store.{Store, Directory, IsWellFormed}
 use Rattle.dav_store.specs.Calls.{error_of}
 use Rattle.dav_store.specs.Members.{IsIn, member}
-use Rattle.dav_parts.specs.Multistatus.{Item}
-use Rattle.dav_walks.specs.Deletion.{Look, is_call}
+use Rattle.dav_messages.specs.Multistatus.{Item}
+use Rattle.dav_walks.specs.Deletion.{Subtree, is_call}
 use Rattle.dav_walks.specs.Trace.{HasKind}
 use Rattle.dav_walks.specs.Copying.{CopyStep, logged_step, snapshot, HasOutcome, IsAsked, IsGranted, HasUnseen, IsMade, path_of_step, named_once, names_behind, names_of_copy, IsUnderName, CopiesTree, is_directory_node}
 use Rattle.dav_walks.specs.declared.copy_frame.CopyFrame.{CopyFrame}
@@ -42,12 +42,12 @@ behind_option None x xs i = i
 behind_option (Some y) x xs i = inr i
 
 -- each refused call is named
-named_among : (source dest : PathValue) (snap : Look) (told : Bool) (steps : Steps) (op : Op) (x : Key) (outcome : Outcome) (e : FsError) → is_call op ≡ true → error_of outcome ≡ Some e → HasOutcome op outcome x steps
-    → IsIn (path_of_step source dest snap op x, fs_status e) (names_behind source dest snap told steps)
-named_among source dest snap told [] op x outcome e call is i = absurd i
-named_among source dest snap told (step ∷ steps) op x outcome e call is (inr i) = behind_option (named_once source dest snap told step) _ _ (named_among source dest snap (not (is_call step.op)) steps op x outcome e call is i)
-named_among source dest snap told (step ∷ steps) op x outcome e call is (inl same) =
-    subst (λ (t : CopyStep). IsIn (path_of_step source dest snap op x, fs_status e) (cons_option (named_once source dest snap told t) (names_behind source dest snap (not (is_call t.op)) steps))) (sym same) (first told)
+named_among : (source dest : PathValue) (snap : Subtree) (after_unseen : Bool) (steps : Steps) (op : Op) (x : Key) (outcome : Outcome) (e : FsError) → is_call op ≡ true → error_of outcome ≡ Some e → HasOutcome op outcome x steps
+    → IsIn (path_of_step source dest snap op x, fs_status e) (names_behind source dest snap after_unseen steps)
+named_among source dest snap after_unseen [] op x outcome e call is i = absurd i
+named_among source dest snap after_unseen (step ∷ steps) op x outcome e call is (inr i) = behind_option (named_once source dest snap after_unseen step) _ _ (named_among source dest snap (not (is_call step.op)) steps op x outcome e call is i)
+named_among source dest snap after_unseen (step ∷ steps) op x outcome e call is (inl same) =
+    subst (λ (t : CopyStep). IsIn (path_of_step source dest snap op x, fs_status e) (cons_option (named_once source dest snap after_unseen t) (names_behind source dest snap (not (is_call t.op)) steps))) (sym same) (first after_unseen)
   where
     first : (b : Bool) → IsIn (path_of_step source dest snap op x, fs_status e) (cons_option (named_once source dest snap b (step_on x op outcome)) (names_behind source dest snap (not (is_call op)) steps))
     first false = rw is (inl refl)
@@ -60,7 +60,7 @@ came_of op x steps (Barred e, i) = inr (Barred e, e, refl, i)
 came_of op x steps (Refused e, i) = inr (Refused e, e, refl, i)
 
 module _ (source dest : PathValue) (top : Key) (old mid : Store) (had has : Names) (steps : Steps) (formed : IsWellFormed old.contents) (underway : Underway source dest top old mid had has steps [] []) where
-  abbrev snap : Look
+  abbrev snap : Subtree
   snap = snapshot old.contents.tree source.key top
 
   all_named : IsPermutation (names_of_copy source dest snap steps) underway.names
@@ -171,7 +171,7 @@ module _ (source dest : PathValue) (top : Key) (old mid : Store) (had has : Name
   pub whole : mid.facts ≡ old.facts → IsAsked Metadata [] steps → CopiesWhole Infinity source dest top old mid had has
   whole fixed begun = record {
     records = map (logged_step source.key dest.key) steps;
-    told = underway.reached.log;
+    recorded = underway.reached.log;
     fixed = fixed;
     names = underway.names;
     added = underway.named;
@@ -186,7 +186,7 @@ pub breaks_off : {source dest : PathValue} {top : Key} {old mid : Store} {had ha
     → BreaksOffCopy Infinity source dest top old new had has
 breaks_off {source} {dest} {top} {old} {mid} {had} {has} {steps} {frames} underway new fixed more reached anew = record {
   records = map (logged_step source.key dest.key) (steps ++ more);
-  told = reached.log;
+  recorded = reached.log;
   fixed = fixed;
   stops = record {
     part = (steps ++ more, refl, lawful_all reached.sound);

@@ -133,13 +133,13 @@ module _ (source dest : PathValue) {top : Key} {old mid : Store} {had has : Name
   GoesOn new finally opened then = Going source dest top old new had finally (with_opened opened (then ∷ frames)) × (left top old (with_opened opened (then ∷ frames)) < left top old (frame ∷ frames))
 
   pub visited : (new : Store) → IsWellFormed new.contents → (finally : Names) (then : CopyFrame) (opened : Option CopyFrame) → VisitsMember frame top then mid new has finally opened → GoesOn new finally opened then
-  visited new sound_new finally then opened (unshown e next same told is) =
+  visited new sound_new finally then opened (unshown e next same appended is) =
       subst (GoesOn new finally None) (sym is) (subst (λ (s : Store). GoesOn s finally None (record frame { next = length frame.listing.items })) (sym same) (
-        record { steps = going.steps; underway = steps_of.unshown source dest underway (record frame { next = length frame.listing.items }) refl refl e _ (next_rest frame (Err e) next) (drop-length frame.listing.items) finally told; begun = going.begun },
+        record { steps = going.steps; underway = steps_of.unshown source dest underway (record frame { next = length frame.listing.items }) refl refl e _ (next_rest frame (Err e) next) (drop-length frame.listing.items) finally appended; begun = going.begun },
         none_left (all_keys top old.contents.tree) frame (record frame { next = length frame.listing.items }) e _ frames (next_rest frame (Err e) next) (drop-length frame.listing.items),
       ))
-  visited new sound_new finally then opened (skipped entry next at_top same told is) =
-      subst (GoesOn new finally None) (sym is) (subst (λ (s : Store). GoesOn s finally None after) (sym same) (subst (λ (ns : Names). GoesOn mid ns None after) (sym told) (
+  visited new sound_new finally then opened (skipped entry next at_top same appended is) =
+      subst (GoesOn new finally None) (sym is) (subst (λ (s : Store). GoesOn s finally None after) (sym same) (subst (λ (ns : Names). GoesOn mid ns None after) (sym appended) (
         record { steps = going.steps; underway = steps_of.skipped source dest underway after refl refl entry (there entry next) at_top; begun = going.begun },
         shorter entry next,
       )))
@@ -148,13 +148,13 @@ module _ (source dest : PathValue) {top : Key} {old mid : Store} {had has : Name
 
   -- memory was lacking
   pub visit_cut : (new : Store) → new.facts ≡ old.facts → IsCutMember frame top mid new → BreaksOffCopy Infinity source dest top old new had has
-  visit_cut new fixed (inl same) = breaks_off underway new fixed [] (subst (λ (t : Store). Reached source.key top dest.key old t (going.steps ++ [])) (sym same) (subst (Reached source.key top dest.key old mid) (sym (append-nil going.steps)) underway.reached)) (λ told. refl)
+  visit_cut new fixed (inl same) = breaks_off underway new fixed [] (subst (λ (t : Store). Reached source.key top dest.key old t (going.steps ++ [])) (sym same) (subst (Reached source.key top dest.key old mid) (sym (append-nil going.steps)) underway.reached)) (λ appended. refl)
   visit_cut new fixed (inr (entry, next, other, cut)) = member_cut entry next other new fixed cut
 
 -- ---- the begin, and the end
 
 pub going_off : {source dest : PathValue} {top : Key} {old mid : Store} {had has : Names} {frames : List CopyFrame} → Going source dest top old mid had has frames → mid.facts ≡ old.facts → BreaksOffCopy Infinity source dest top old mid had has
-going_off {source} {dest} {top} {old} {mid} going fixed = breaks_off going.underway mid fixed [] (subst (Reached source.key top dest.key old mid) (sym (append-nil going.steps)) going.underway.reached) (λ told. refl)
+going_off {source} {dest} {top} {old} {mid} going fixed = breaks_off going.underway mid fixed [] (subst (Reached source.key top dest.key old mid) (sym (append-nil going.steps)) going.underway.reached) (λ appended. refl)
 
 pub none_next : (frame : CopyFrame) → length frame.listing.items ≤ frame.next → rest frame ≡ []
 none_next frame short = drop_of_length-le frame.listing.items short
@@ -195,4 +195,4 @@ back_to {source} {dest} {top} {old} {mid} {had} {has} same going = subst (Going 
 pub unbegun : (source dest : PathValue) (top : Key) (old : Store) (had : Names) → HasRoom source.key top dest.key old.contents → BreaksOffCopy Infinity source dest top old old had had
 unbegun source dest top old had room =
     let none = steps_of.begins source dest top old had room in
-    breaks_off none old refl [] none.reached (λ told. refl)
+    breaks_off none old refl [] none.reached (λ appended. refl)

@@ -14,10 +14,10 @@ use Rattle.dav_store.specs.Store.{Store, Contents, IsWellFormed}
 use Rattle.dav_store.specs.Calls.{IsMetaAt}
 use Rattle.dav_store.specs.Members.{IsIn, member, Child, AreChildren}
 use Rattle.dav_walks.specs.declared.copy_frame.CopyFrame.{CopyFrame}
-use Rattle.dav_walks.specs.Deletion.{WasRefused, path_at, Look, is_call}
+use Rattle.dav_walks.specs.Deletion.{WasRefused, path_at, Subtree, is_call}
 use Rattle.dav_walks.specs.Trace.{HasKind}
 use Rattle.dav_walks.specs.Copying.{CopyStep, snapshot, IsAsked, IsGranted, HasUnseen, IsMade, IsListed, HasRoom, path_of_step, names_behind, names_of_copy}
-use Rattle.dav_walks.specs.CopyFrames.{LooksAt, CopiesFile, MakesPlace, ListsSource, Finds, MakesPlaceOf, EntersCopy, unlooked, filed, unmade, after_made, IsCutCopy, at_look, at_file, at_place, at_listing}
+use Rattle.dav_walks.specs.CopyFrames.{LooksUpAt, CopiesFile, MakesPlace, ListsSource, Finds, MakesPlaceOf, EntersCopy, unlooked, filed, unmade, after_made, IsCutCopy, at_look, at_file, at_place, at_listing}
 use Rattle.dav_walks.proofs.Keys.{IsIn-right}
 use Rattle.dav_walks.proofs.Listings.{Shown, kind_of_meta, children_once}
 use Rattle.dav_walks.proofs.Single.{Names, has_error, beside}
@@ -31,7 +31,7 @@ use Rattle.dav_walks.proofs.CopyEnter.{path_at-key, member_above, kind_same, kin
 module _ (source dest : PathValue) {top : Key} {old mid : Store} {steps : Steps} {p : Key} (room : HasRoom source.key top dest.key old.contents) (formed : IsWellFormed old.contents)
     (reached : Reached source.key top dest.key old mid steps) (sound : IsWellFormed mid.contents) (hand : InHand (snapshot old.contents.tree source.key top) steps p)
     (from to : PathValue) (at_source : from ≡ path_at source hand.slash (source.key ++ p)) (at_dest : to ≡ path_at dest hand.slash (dest.key ++ p)) where
-  abbrev snap : Look
+  abbrev snap : Subtree
   snap = snapshot old.contents.tree source.key top
 
   from_key : from.key ≡ source.key ++ p
@@ -43,7 +43,7 @@ module _ (source dest : PathValue) {top : Key} {old mid : Store} {steps : Steps}
   there : snap p ≢ None
   there = kind_present hand.slash (snap p) hand.kind
 
-  -- what the look says of its kind
+  -- what the lookup says of its kind
   kind_found : {dir : Bool} {new : Store} → Finds dir from mid new → hand.slash ≡ dir
   kind_found {dir} found =
       let is : HasKind found.meta.dir (get mid.contents.tree from.key) = kind_of_meta _ (mid.contents.metas from.key) found.meta (sound.metas from.key) found.looked.effect.answer in
@@ -53,7 +53,7 @@ module _ (source dest : PathValue) {top : Key} {old mid : Store} {steps : Steps}
   kind_at : {dir : Bool} {new : Store} → Finds dir from mid new → HasKind dir (snap p)
   kind_at found = subst (λ b. HasKind b (snap p)) (kind_found found) hand.kind
 
-  -- the look was granted
+  -- the lookup was granted
   after_look : {dir : Bool} {new : Store} → Finds dir from mid new → Reached source.key top dest.key old new (steps ++ step_on p Metadata Granted ∷ [])
   after_look {dir} {new} found = reach.looked room formed reached new p from.key from_key there hand.come (clear_new p Metadata steps hand.clear) _ (λ (e : IsMetaAt from.key found.meta mid.contents new.contents). e.same) found.looked
 
@@ -96,9 +96,9 @@ module _ (source dest : PathValue) {top : Key} {old mid : Store} {steps : Steps}
   from_named : from ≡ path_of_step source dest snap Metadata p
   from_named = at_source ∙ ap (λ b. path_at source b (source.key ++ p)) (sym (kind_said hand.slash (snap p) hand.kind))
 
-  -- ---- the look is refused
+  -- ---- the lookup is refused
 
-  went_unlooked : (new : Store) (has finally : Names) → LooksAt from mid new has finally None → Went source dest top old new has finally steps p None
+  went_unlooked : (new : Store) (has finally : Names) → LooksUpAt from mid new has finally None → Went source dest top old new has finally steps p None
   went_unlooked new has finally refusal =
       let dec = refusal.declined in
       let refused : WasRefused dec.outcome = has_error dec.outcome refusal.error dec.cause in
@@ -110,9 +110,9 @@ module _ (source dest : PathValue) {top : Key} {old mid : Store} {steps : Steps}
         file = λ kind i. not_granted p p Metadata Metadata dec.outcome refused (only_one _ _ i);
         directory = λ kind i. not_granted p p Metadata Metadata dec.outcome refused (only_one _ _ i);
         listing = λ i. op_apart p p Metadata CreateDir dec.outcome Granted (λ e. cc) (only_one _ _ i);
-        anew = λ told. refused_anew source dest snap p Metadata dec.outcome refusal.error refl dec.cause told ∙ sym (refused_anew source dest snap p Metadata dec.outcome refusal.error refl dec.cause false);
+        anew = λ after_unseen. refused_anew source dest snap p Metadata dec.outcome refusal.error refl dec.cause after_unseen ∙ sym (refused_anew source dest snap p Metadata dec.outcome refusal.error refl dec.cause false);
         given = (from, fs_status refusal.error) ∷ [];
-        told = refusal.named;
+        appended = refusal.named;
         names = refused_anew source dest snap p Metadata dec.outcome refusal.error refl dec.cause false ∙ ap (λ (v : PathValue). (v, fs_status refusal.error) ∷ []) (sym from_named);
         opens = λ i. op_apart p p Metadata ReadDir dec.outcome Granted (λ e. cc) (only_one _ _ i);
         unseen_named = λ x u. op_apart p (member x u.0) Metadata Entry dec.outcome u.1.0 (λ e. cc) (only_one _ _ u.1.2);
@@ -131,8 +131,8 @@ module _ (source dest : PathValue) {top : Key} {old mid : Store} {steps : Steps}
 
   module _ {middle : Store} (found : Finds false from mid middle) (new : Store) (has finally : Names) where
     went_file : (outcome : Outcome) (given : Names) → Reached source.key top dest.key old new ((steps ++ step_on p Metadata Granted ∷ []) ++ step_on p Copy outcome ∷ []) → finally ≡ has ++ given
-        → ((told : Bool) → names_behind source dest snap told (step_on p Copy outcome ∷ []) ≡ given) → Went source dest top old new has finally steps p None
-    went_file outcome given came told names = record {
+        → ((after_unseen : Bool) → names_behind source dest snap after_unseen (step_on p Copy outcome ∷ []) ≡ given) → Went source dest top old new has finally steps p None
+    went_file outcome given came appended names = record {
       more = step_on p Metadata Granted ∷ step_on p Copy outcome ∷ [];
       reached = subst (Reached source.key top dest.key old new) (two _ _) came;
       near = near_two Copy outcome;
@@ -142,7 +142,7 @@ module _ (source dest : PathValue) {top : Key} {old mid : Store} {steps : Steps}
       listing = λ i. elim (in_two _ _ _ i) [ inl e ↦ op_apart p p Metadata CreateDir Granted Granted (λ q. cc) e | inr e ↦ op_apart p p Copy CreateDir outcome Granted (λ q. cc) e ];
       anew = λ t. granted_anew source dest snap p Metadata (step_on p Copy outcome ∷ []) refl t ∙ sym (granted_anew source dest snap p Metadata (step_on p Copy outcome ∷ []) refl false);
       given = given;
-      told = told;
+      appended = appended;
       names = granted_anew source dest snap p Metadata (step_on p Copy outcome ∷ []) refl false ∙ names false ∙ sym (append-nil given);
       opens = λ i. elim (in_two _ _ _ i) [ inl e ↦ op_apart p p Metadata ReadDir Granted Granted (λ q. cc) e | inr e ↦ op_apart p p Copy ReadDir outcome Granted (λ q. cc) e ];
       unseen_named = λ x u. elim (in_two _ _ _ u.1.2) [ inl e ↦ op_apart p (member x u.0) Metadata Entry Granted u.1.0 (λ q. cc) e | inr e ↦ op_apart p (member x u.0) Copy Entry outcome u.1.0 (λ q. cc) e ];
@@ -150,11 +150,11 @@ module _ (source dest : PathValue) {top : Key} {old mid : Store} {steps : Steps}
 
     went_filed : (done : Bool) → CopiesFile from to middle new has finally done → Went source dest top old new has finally steps p None
     went_filed true (g, same) = went_file Granted [] (reach.copied_file room formed (after_look found) new p from.key to.key from_key to_key (kind_at found) come_seen seen_there new_copy unmade_seen g)
-        (same ∙ sym (append-nil has)) (λ told. granted_anew source dest snap p Copy [] refl told)
+        (same ∙ sym (append-nil has)) (λ after_unseen. granted_anew source dest snap p Copy [] refl after_unseen)
     went_filed false refusal =
         let dec = refusal.declined in
         went_file dec.outcome ((from, fs_status refusal.error) ∷ []) (reach.uncopied room formed (after_look found) new p from.key to.key from_key to_key (kind_at found) come_seen seen_there new_copy unmade_seen refusal.error dec)
-        refusal.named (λ told. refused_anew source dest snap p Copy dec.outcome refusal.error refl dec.cause told ∙ ap (λ (v : PathValue). (v, fs_status refusal.error) ∷ []) (sym from_named))
+        refusal.named (λ after_unseen. refused_anew source dest snap p Copy dec.outcome refusal.error refl dec.cause after_unseen ∙ ap (λ (v : PathValue). (v, fs_status refusal.error) ∷ []) (sym from_named))
 
   -- ---- a directory that the store didn't make
 
@@ -163,8 +163,8 @@ module _ (source dest : PathValue) {top : Key} {old mid : Store} {steps : Steps}
       let dec = refusal.declined in
       let refused : WasRefused dec.outcome = has_error dec.outcome refusal.error dec.cause in
       let place : to ≡ path_at dest true (dest.key ++ p) = at_dest ∙ ap (λ b. path_at dest b (dest.key ++ p)) (kind_found found) in
-      let last : (told : Bool) → names_behind source dest snap told (step_on p CreateDir dec.outcome ∷ []) ≡ (path_at dest true (dest.key ++ p), fs_status refusal.error) ∷ []
-      = λ told. refused_anew source dest snap p CreateDir dec.outcome refusal.error refl dec.cause told in
+      let last : (after_unseen : Bool) → names_behind source dest snap after_unseen (step_on p CreateDir dec.outcome ∷ []) ≡ (path_at dest true (dest.key ++ p), fs_status refusal.error) ∷ []
+      = λ after_unseen. refused_anew source dest snap p CreateDir dec.outcome refusal.error refl dec.cause after_unseen in
       record {
         more = step_on p Metadata Granted ∷ step_on p CreateDir dec.outcome ∷ [];
         reached = subst (Reached source.key top dest.key old new) (two _ _) (reach.unplaced room formed (after_look found) new p to.key to_key (kind_at found) come_seen seen_there new_place unmade_seen refusal.error dec);
@@ -175,7 +175,7 @@ module _ (source dest : PathValue) {top : Key} {old mid : Store} {steps : Steps}
         listing = λ i. elim (in_two _ _ _ i) [ inl e ↦ op_apart p p Metadata CreateDir Granted Granted (λ q. cc) e | inr e ↦ not_granted p p CreateDir CreateDir dec.outcome refused e ];
         anew = λ t. granted_anew source dest snap p Metadata (step_on p CreateDir dec.outcome ∷ []) refl t ∙ sym (granted_anew source dest snap p Metadata (step_on p CreateDir dec.outcome ∷ []) refl false);
         given = (to, fs_status refusal.error) ∷ [];
-        told = refusal.named;
+        appended = refusal.named;
         names = granted_anew source dest snap p Metadata (step_on p CreateDir dec.outcome ∷ []) refl false ∙ last false ∙ ap (λ (v : PathValue). (v, fs_status refusal.error) ∷ []) (sym place);
         opens = λ i. elim (in_two _ _ _ i) [ inl e ↦ op_apart p p Metadata ReadDir Granted Granted (λ q. cc) e | inr e ↦ op_apart p p CreateDir ReadDir dec.outcome Granted (λ q. cc) e ];
         unseen_named = λ x u. elim (in_two _ _ _ u.1.2) [ inl e ↦ op_apart p (member x u.0) Metadata Entry Granted u.1.0 (λ q. cc) e | inr e ↦ op_apart p (member x u.0) CreateDir Entry dec.outcome u.1.0 (λ q. cc) e ];
@@ -191,8 +191,8 @@ module _ (source dest : PathValue) {top : Key} {old mid : Store} {steps : Steps}
     near_three more near step (inr (inl e)) = inl (sym (ap (λ (t : CopyStep). t.at) e))
     near_three more near step (inr (inr i)) = near step i
 
-    names_three : (more : Steps) (told : Bool) → names_behind source dest snap told (step_on p Metadata Granted ∷ step_on p CreateDir Granted ∷ more) ≡ names_of_copy source dest snap more
-    names_three more told = granted_anew source dest snap p Metadata (step_on p CreateDir Granted ∷ more) refl told ∙ granted_anew source dest snap p CreateDir more refl false
+    names_three : (more : Steps) (after_unseen : Bool) → names_behind source dest snap after_unseen (step_on p Metadata Granted ∷ step_on p CreateDir Granted ∷ more) ≡ names_of_copy source dest snap more
+    names_three more after_unseen = granted_anew source dest snap p Metadata (step_on p CreateDir Granted ∷ more) refl after_unseen ∙ granted_anew source dest snap p CreateDir more refl false
 
     source_slash : from ≡ path_at source true (source.key ++ p)
     source_slash = at_source ∙ ap (λ b. path_at source b (source.key ++ p)) (kind_found made.found)
@@ -201,7 +201,7 @@ module _ (source dest : PathValue) {top : Key} {old mid : Store} {steps : Steps}
         → ((step : CopyStep) → IsIn step more → (step.at ≡ p) ⊎ ((n : List ℕ) × (step.at ≡ member p n) × (step.op ≡ Entry))) → IsAsked ReadDir p more → finally ≡ has ++ given → names_of_copy source dest snap more ≡ given ++ owed_by opened
         → Opens source dest new.contents p (step_on p Metadata Granted ∷ step_on p CreateDir Granted ∷ more) opened → ((x : Key) → HasUnseen x more → IsNamedIn source x (names_of_copy source dest snap more))
         → Went source dest top old new has finally steps p opened
-    went_behind more opened given came near asked told names opens unseen = record {
+    went_behind more opened given came near asked appended names opens unseen = record {
       more = step_on p Metadata Granted ∷ step_on p CreateDir Granted ∷ more;
       reached = subst (Reached source.key top dest.key old new) (three _ _ more) came;
       near = near_three more near;
@@ -211,7 +211,7 @@ module _ (source dest : PathValue) {top : Key} {old mid : Store} {steps : Steps}
       listing = λ i. (asked.0, inr (inr asked.1));
       anew = λ t. names_three more t ∙ sym (names_three more false);
       given = given;
-      told = told;
+      appended = appended;
       names = names_three more false ∙ names;
       opens = opens;
       unseen_named = λ x u. subst (IsNamedIn source x) (sym (names_three more false)) (unseen x (u.0, (u.1.0, u.1.1, entry_behind x u.0 u.1.0 u.1.2)));
@@ -295,7 +295,7 @@ module _ (source dest : PathValue) {top : Key} {old mid : Store} {steps : Steps}
   -- ---- in all
 
   pub went : (new : Store) (has finally : Names) (opened : Option CopyFrame) → EntersCopy from to mid new has finally opened → Went source dest top old new has finally steps p opened
-  went new has finally opened (unlooked look) = went_unlooked new has finally look
+  went new has finally opened (unlooked look_up) = went_unlooked new has finally look_up
   went new has finally opened (filed middle done found file) = went_filed found new has finally done file
   went new has finally opened (unmade middle found place) = went_unmade found new has finally place
   went new has finally opened (after_made middle None made lists) = went_unlisted made new has finally lists
@@ -310,10 +310,10 @@ module _ (source dest : PathValue) {top : Key} {old mid : Store} {steps : Steps}
   one_anew op outcome call false = refl
 
   two_anew : (op : Op) (outcome : Outcome) (more : Steps) → StartsAnew source dest snap (step_on p Metadata Granted ∷ step_on p op outcome ∷ more)
-  two_anew op outcome more told = granted_anew source dest snap p Metadata (step_on p op outcome ∷ more) refl told ∙ sym (granted_anew source dest snap p Metadata (step_on p op outcome ∷ more) refl false)
+  two_anew op outcome more after_unseen = granted_anew source dest snap p Metadata (step_on p op outcome ∷ more) refl after_unseen ∙ sym (granted_anew source dest snap p Metadata (step_on p op outcome ∷ more) refl false)
 
   pub went_cut : (new : Store) → IsCutCopy from to mid new → Cut new
-  went_cut new (at_look (inl same)) = ([], subst (λ (t : Store). Reached source.key top dest.key old t (steps ++ [])) (sym same) (subst (Reached source.key top dest.key old mid) (sym (append-nil steps)) reached), (λ told. refl))
+  went_cut new (at_look (inl same)) = ([], subst (λ (t : Store). Reached source.key top dest.key old t (steps ++ [])) (sym same) (subst (Reached source.key top dest.key old mid) (sym (append-nil steps)) reached), (λ after_unseen. refl))
   went_cut new (at_look (inr (e, dec))) = (step_on p Metadata dec.outcome ∷ [], reach.unlooked room formed reached new p from.key from_key there hand.come (clear_new p Metadata steps hand.clear) e dec, one_anew Metadata dec.outcome refl)
   went_cut new (at_file middle found (inl same)) = (step_on p Metadata Granted ∷ [], subst (λ (t : Store). Reached source.key top dest.key old t (steps ++ step_on p Metadata Granted ∷ [])) (sym same) (after_look found), one_anew Metadata Granted refl)
   went_cut new (at_file middle found (inr (e, dec))) =

@@ -121,7 +121,7 @@ walked_all path old new had has clean formed fixed walks =
     let whole = walk_deletes path old.contents new.contents old.log new.log had has clean formed walks in
     record {
       records = map logged_call whole.calls;
-      told = whole.log;
+      recorded = whole.log;
       fixed = fixed;
       names = whole.names;
       added = whole.added;
@@ -131,7 +131,7 @@ walked_all path old new had has clean formed fixed walks =
 pub halted_off : (path : PathValue) (old new : Store) (had has : Names) → new.facts ≡ old.facts → Halts path old.contents new.contents old.log new.log had has path.key → BreaksOff Infinity path old new had has
 halted_off path old new had has fixed halts = record {
   records = map logged_call halts.calls;
-  told = halts.log;
+  recorded = halts.log;
   fixed = fixed;
   stops = record {
     part = (halts.calls, refl, halt_lawful path old.contents new.contents old.log new.log had has path.key halts);

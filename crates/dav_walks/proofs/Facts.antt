@@ -7,7 +7,7 @@ use Rattle.dav_resource.specs.declared.record.Outcome.{Outcome}
 use Rattle.dav_resource.specs.declared.record.Outcome.TheVariants.{Granted, Barred, Refused}
 use Rattle.dav_store.specs.Store.{Node, File, Directory}
 use Rattle.dav_store.specs.Members.{IsIn}
-use Rattle.dav_walks.specs.Deletion.{Calls, Look, under, WasRefused, IsUnseen, IsUnlisted, IsHidden, IsReached, IsMemberOfReached, AreDifferent}
+use Rattle.dav_walks.specs.Deletion.{Calls, Subtree, under, WasRefused, IsUnseen, IsUnlisted, IsHidden, IsReached, IsMemberOfReached, AreDifferent}
 use Rattle.dav_walks.specs.Trace.{HasKind, Leaves, Walked, absent, unseen, file, unlisted, kept, emptied, Partly, over, waiting, halted}
 
 abbrev pub Call : Type 0
@@ -66,7 +66,7 @@ names_itself : (calls : Calls) (c : Call) → IsIn c (calls []) → WasRefused c
 names_itself calls c i refused other = ([], c, i, refused, λ q e. other q)
 
 -- what is there afterwards has a name at or below it, or is hidden
-pub left_only : {old new : Look} {calls : Calls} → Walked old new calls → (x : Key) → new x ≢ None → HasName calls x ⊎ IsHidden calls x
+pub left_only : {old new : Subtree} {calls : Calls} → Walked old new calls → (x : Key) → new x ≢ None → HasName calls x ⊎ IsHidden calls x
 left_only (absent none same) x there = absurd (there ((same x).same ∙ none x))
 left_only (unseen error was e same below) [] there = inr (Refused error, first_call _ _ _ e, λ p. cc)
 left_only (unseen error was e same below) (n ∷ x) there = inr (inl (Refused error, first_call _ _ _ e, λ p. cc))
@@ -84,7 +84,7 @@ left_only {calls = calls} (emptied (Refused error) is e leaves quiet deep) [] th
 left_only {calls = calls} (emptied outcome is e leaves quiet deep) (n ∷ x) there = further_down calls n x (left_only (deep n) x there)
 
 -- what has a refusal at or below it, or is hidden, stands as it was
-pub left_stays : {old new : Look} {calls : Calls} → Walked old new calls → (x : Key) → HasRefusal calls x ⊎ IsHidden calls x → new x ≡ old x
+pub left_stays : {old new : Subtree} {calls : Calls} → Walked old new calls → (x : Key) → HasRefusal calls x ⊎ IsHidden calls x → new x ≡ old x
 left_stays (absent none same) x why = (same x).same
 left_stays (unseen error was e same below) [] why = same
 left_stays (unseen error was e same below) (n ∷ x) why = (below n x).same
@@ -130,7 +130,7 @@ pub directory_there : (node : Option Node) → node ≡ Some Directory → node 
 directory_there it is none = let p : None ≡ Some Directory = sym none ∙ is in cc
 
 -- a call that isn't an entry's is on a key that is reached
-pub on_reached : {old new : Look} {calls : Calls} → Walked old new calls → (x : Key) (c : Call) → IsIn c (calls x) → (c.0 ≡ Entry) ⊎ IsReached old calls x
+pub on_reached : {old new : Subtree} {calls : Calls} → Walked old new calls → (x : Key) (c : Call) → IsIn c (calls x) → (c.0 ≡ Entry) ⊎ IsReached old calls x
 on_reached (absent none same) x c i = absurd (no_call c _ (same x).uncalled i)
 on_reached (unseen error was e same below) [] c i = inl (ap (λ (d : Call). d.0) (only_call _ _ _ e i))
 on_reached (unseen error was e same below) (n ∷ x) c i = absurd (no_call c _ (below n x).uncalled i)
@@ -182,7 +182,7 @@ listing_and_removal o p cs e = subst AreFew (sym e) ((apart, ((λ d i. absurd i)
     apart d (inl is) same = listing_is_no_removal (sym same ∙ sym (ap (λ (c : Call). c.0) is))
     apart d (inr i) same = i
 
-pub few_calls : {old new : Look} {calls : Calls} → Walked old new calls → (x : Key) → AreFew (calls x)
+pub few_calls : {old new : Subtree} {calls : Calls} → Walked old new calls → (x : Key) → AreFew (calls x)
 few_calls (absent gone same) x = no_calls _ (same x).uncalled
 few_calls (unseen error was e same below) [] = single_call _ _ e
 few_calls (unseen error was e same below) (n ∷ x) = no_calls _ (below n x).uncalled
@@ -196,7 +196,7 @@ few_calls (emptied outcome is e leaves quiet deep) [] = listing_and_removal _ _ 
 few_calls (emptied outcome is e leaves quiet deep) (n ∷ x) = few_calls (deep n) x
 
 -- what a walk leaves stands as it was
-pub kept_or_gone : {old new : Look} {calls : Calls} → Walked old new calls → (x : Key) → (new x ≡ old x) ⊎ (new x ≡ None)
+pub kept_or_gone : {old new : Subtree} {calls : Calls} → Walked old new calls → (x : Key) → (new x ≡ old x) ⊎ (new x ≡ None)
 kept_or_gone {old} {new} {calls} w x = go (new x) refl
   where
     why : HasName calls x ⊎ IsHidden calls x → HasRefusal calls x ⊎ IsHidden calls x
@@ -208,19 +208,19 @@ kept_or_gone {old} {new} {calls} w x = go (new x) refl
     go (Some node) e = inl (left_stays w x (why (left_only w x (λ none. let p : None ≡ Some node = sym none ∙ e in cc))))
 
 -- the same of a walk that was broken off
-pub partly_kept_or_gone : {old new : Look} {calls : Calls} → Partly old new calls → (x : Key) → (new x ≡ old x) ⊎ (new x ≡ None)
+pub partly_kept_or_gone : {old new : Subtree} {calls : Calls} → Partly old new calls → (x : Key) → (new x ≡ old x) ⊎ (new x ≡ None)
 partly_kept_or_gone (over w) x = kept_or_gone w x
 partly_kept_or_gone (waiting same) x = inl (same x).same
 partly_kept_or_gone (halted is e same deep) [] = inl same
 partly_kept_or_gone (halted is e same deep) (n ∷ x) = partly_kept_or_gone (deep n) x
 
-pub partly_few_calls : {old new : Look} {calls : Calls} → Partly old new calls → (x : Key) → AreFew (calls x)
+pub partly_few_calls : {old new : Subtree} {calls : Calls} → Partly old new calls → (x : Key) → AreFew (calls x)
 partly_few_calls (over w) x = few_calls w x
 partly_few_calls (waiting same) x = no_calls _ (same x).uncalled
 partly_few_calls (halted is e same deep) [] = single_call _ _ e
 partly_few_calls (halted is e same deep) (n ∷ x) = partly_few_calls (deep n) x
 
-pub partly_on_reached : {old new : Look} {calls : Calls} → Partly old new calls → (x : Key) (c : Call) → IsIn c (calls x) → (c.0 ≡ Entry) ⊎ IsReached old calls x
+pub partly_on_reached : {old new : Subtree} {calls : Calls} → Partly old new calls → (x : Key) (c : Call) → IsIn c (calls x) → (c.0 ≡ Entry) ⊎ IsReached old calls x
 partly_on_reached (over w) x c i = on_reached w x c i
 partly_on_reached (waiting same) x c i = absurd (no_call c _ (same x).uncalled i)
 partly_on_reached (halted is e same deep) [] c i = inr (directory_there _ is, λ u. absurd (entry_is_no_listing (ap (λ (d : Call). d.0) (only_call _ _ _ e u.1))))
@@ -254,15 +254,15 @@ pub file_is_no_entry : RemoveFile ≡ Entry → ⊥
 file_is_no_entry p = cc
 
 -- from a directory that was listed down to a child
-reach_down : (old : Look) (calls : Calls) (n : List ℕ) (x : Key) → (IsUnseen (calls []) → ⊥) → (IsUnlisted (calls []) → ⊥) → IsReached (under old n) (under calls n) x → IsReached old calls (n ∷ x)
+reach_down : (old : Subtree) (calls : Calls) (n : List ℕ) (x : Key) → (IsUnseen (calls []) → ⊥) → (IsUnlisted (calls []) → ⊥) → IsReached (under old n) (under calls n) x → IsReached old calls (n ∷ x)
 reach_down old calls n x seen listed r = (r.0, elim [ inl u ↦ seen u | inr (inl u) ↦ listed u | inr (inr h) ↦ r.1 h ])
 
-entry_down : (old : Look) (calls : Calls) (n : List ℕ) (x : Key) → IsReached old calls [] → (IsUnlisted (calls []) → ⊥) → (x ≡ []) ⊎ IsMemberOfReached (under old n) (under calls n) x → IsMemberOfReached old calls (n ∷ x)
+entry_down : (old : Subtree) (calls : Calls) (n : List ℕ) (x : Key) → IsReached old calls [] → (IsUnlisted (calls []) → ⊥) → (x ≡ []) ⊎ IsMemberOfReached (under old n) (under calls n) x → IsMemberOfReached old calls (n ∷ x)
 entry_down old calls n x here listed (inl e) = ([], n, ap (λ y. n ∷ y) e, here)
 entry_down old calls n x here listed (inr c) = (n ∷ c.0, c.1, ap (λ y. n ∷ y) c.2, reach_down old calls n c.0 here.1 listed c.3)
 
 -- what wasn't shown is a child of a key that is reached, if it isn't where the walk began
-pub entry_at : {old new : Look} {calls : Calls} → Walked old new calls → (x : Key) (o : Outcome) → IsIn (Entry, o) (calls x) → (x ≡ []) ⊎ IsMemberOfReached old calls x
+pub entry_at : {old new : Subtree} {calls : Calls} → Walked old new calls → (x : Key) (o : Outcome) → IsIn (Entry, o) (calls x) → (x ≡ []) ⊎ IsMemberOfReached old calls x
 entry_at (absent gone same) x o i = absurd (no_call _ _ (same x).uncalled i)
 entry_at (unseen error was e same below) [] o i = inl refl
 entry_at (unseen error was e same below) (n ∷ x) o i = absurd (no_call _ _ (below n x).uncalled i)
@@ -278,7 +278,7 @@ entry_at {old = old} {calls = calls} (emptied outcome is e leaves quiet deep) (n
     inr (entry_down old calls n x (directory_there _ is, λ u. no_entry_two ReadDir RemoveDir Granted outcome _ e listing_is_no_entry removal_is_no_entry u.0 u.1)
     (λ u. elim (two_calls _ _ _ _ e u.1) [ inl p ↦ u.2 (ap (λ (d : Call). d.1) p) | inr p ↦ listing_is_no_removal (ap (λ (d : Call). d.0) p) ]) (entry_at (deep n) x o i))
 
-pub partly_entry_at : {old new : Look} {calls : Calls} → Partly old new calls → (x : Key) (o : Outcome) → IsIn (Entry, o) (calls x) → (x ≡ []) ⊎ IsMemberOfReached old calls x
+pub partly_entry_at : {old new : Subtree} {calls : Calls} → Partly old new calls → (x : Key) (o : Outcome) → IsIn (Entry, o) (calls x) → (x ≡ []) ⊎ IsMemberOfReached old calls x
 partly_entry_at (over w) x o i = entry_at w x o i
 partly_entry_at (waiting same) x o i = absurd (no_call _ _ (same x).uncalled i)
 partly_entry_at (halted is e same deep) [] o i = absurd (no_entry_one _ _ _ e listing_is_no_entry o i)
@@ -286,6 +286,6 @@ partly_entry_at {old = old} {calls = calls} (halted is e same deep) (n ∷ x) o 
     inr (entry_down old calls n x (directory_there _ is, λ u. no_entry_one ReadDir Granted _ e listing_is_no_entry u.0 u.1) (λ u. u.2 (ap (λ (d : Call). d.1) (only_call _ _ _ e u.1))) (partly_entry_at (deep n) x o i))
 
 -- which is no entry itself
-pub entry_below : (old : Look) (calls : Calls) (x : Key) (o : Outcome) → ((p : Outcome) → IsIn (Entry, p) (calls []) → ⊥) → IsIn (Entry, o) (calls x) → (x ≡ []) ⊎ IsMemberOfReached old calls x → IsMemberOfReached old calls x
+pub entry_below : (old : Subtree) (calls : Calls) (x : Key) (o : Outcome) → ((p : Outcome) → IsIn (Entry, p) (calls []) → ⊥) → IsIn (Entry, o) (calls x) → (x ≡ []) ⊎ IsMemberOfReached old calls x → IsMemberOfReached old calls x
 entry_below old calls x o none i (inl e) = absurd (none o (subst (λ (y : Key). IsIn (Entry, o) (calls y)) e i))
 entry_below old calls x o none i (inr c) = c

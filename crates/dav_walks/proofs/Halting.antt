@@ -16,7 +16,7 @@ use Rattle.dav_store.specs.Store.{Store, Contents, Directory, IsWellFormed}
 use Rattle.dav_store.specs.Calls.{IsOwn}
 use Rattle.dav_store.specs.Members.{IsIn, AreDistinct, member, Child, names_of, AreChildren}
 use Rattle.dav_walks.specs.KeyCall.{KeyCall, logged_call, same_key, calls_at, standing}
-use Rattle.dav_walks.specs.Deletion.{look_below, calls_below, under, named_by, named_in, NothingRemoved, AreSomeOf}
+use Rattle.dav_walks.specs.Deletion.{subtree, calls_below, under, named_by, named_in, NothingRemoved, AreSomeOf}
 use Rattle.dav_walks.specs.Trace.{unseen, IsKept, Walks, Partly, over, waiting, halted, Halts}
 use Rattle.dav_walks.proofs.Keys.{same_key_itself, other_key, child_below, below_cancel, append-nothing, IsIn-left, IsIn-right, IsIn-append, calls_at-append, calls_at-none}
 use Rattle.dav_walks.proofs.Kept.{kept_itself, kept_further}
@@ -74,7 +74,7 @@ pub record Pausing (path : PathValue) (old new : Contents) (had has : Names) (k 
   pub own : (r : KeyCall) (error : FsError) → IsIn r calls → r.outcome ≡ Refused error → IsOwn error
   pub others : (q : Key) → ((n : List ℕ) (entry : DirEntry) (x : Key) → IsIn {X = Child} (n, Ok entry) seen → q ≢ k ++ n ∷ x) → standing new q ≡ standing old q
   pub is_kept : IsKept old new
-  pub partly : (n : List ℕ) (entry : DirEntry) → IsIn {X = Child} (n, Ok entry) seen → Partly (look_below old.tree (member k n)) (look_below new.tree (member k n)) (calls_below calls (member k n))
+  pub partly : (n : List ℕ) (entry : DirEntry) → IsIn {X = Child} (n, Ok entry) seen → Partly (subtree old.tree (member k n)) (subtree new.tree (member k n)) (calls_below calls (member k n))
   pub names : Names
   pub named : has ≡ had ++ names
   pub some : AreSomeOf names (filter_map (unseen_name path k) seen ++ named_in path calls)
@@ -116,14 +116,14 @@ pause_child {path} {old} {mid} {new} {before} {after} {had} {has} {finally} {k} 
   untouched = λ none. h.untouched (λ r i. none r (IsIn-right r calls h.calls i)) ∙ came.untouched (λ r i. none r (IsIn-left r calls h.calls i));
 }
   where
-    earlier : (m : List ℕ) (e : DirEntry) → IsIn {X = Child} (m, Ok e) seen → Partly (look_below old.tree (member k m)) (look_below new.tree (member k m)) (calls_below (calls ++ h.calls) (member k m))
+    earlier : (m : List ℕ) (e : DirEntry) → IsIn {X = Child} (m, Ok e) seen → Partly (subtree old.tree (member k m)) (subtree new.tree (member k m)) (calls_below (calls ++ h.calls) (member k m))
     earlier m e j =
         let apart : (x y : Key) → member k m ++ x ≢ member k n ++ y = λ x y p. fresh (subst (λ a. IsIn a (names_of seen)) (same_head k m n x y (sym (child_below k m x) ∙ p ∙ child_below k n y)) (IsIn-name (m, Ok e) seen j)) in
         same_look Partly (came.partly m e j) (λ x. refl) (λ x. node_of (h.outside (member k m ++ x) (apart x)))
         (λ x. calls_at-append calls h.calls (member k m ++ x) ∙ ap (λ l. calls_at calls (member k m ++ x) ++ l) (calls_at-none h.calls _ (λ r i p. let v = h.within r i in apart x v.0 (sym p ∙ v.1))) ∙ append-nil _)
 
-    latest : (m : List ℕ) → n ≡ m → Partly (look_below old.tree (member k m)) (look_below new.tree (member k m)) (calls_below (calls ++ h.calls) (member k m))
-    latest m p = subst (λ a. Partly (look_below old.tree (member k a)) (look_below new.tree (member k a)) (calls_below (calls ++ h.calls) (member k a))) p
+    latest : (m : List ℕ) → n ≡ m → Partly (subtree old.tree (member k m)) (subtree new.tree (member k m)) (calls_below (calls ++ h.calls) (member k m))
+    latest m p = subst (λ a. Partly (subtree old.tree (member k a)) (subtree new.tree (member k a)) (calls_below (calls ++ h.calls) (member k a))) p
         (same_look Partly h.partly (λ x. sym (node_of (came.others (member k n ++ x) (λ a e y i q. fresh (subst (λ b. IsIn b (names_of seen)) (sym (same_head k n a x y (sym (child_below k n x) ∙ q))) (IsIn-name (a, Ok e) seen i))))))
         (λ x. refl)
         (λ x. calls_at-append calls h.calls (member k n ++ x) ∙ ap (λ l. l ++ calls_at h.calls (member k n ++ x)) (calls_at-none calls _ (λ r i q. let v = came.within r i in
@@ -149,7 +149,7 @@ module _ {shows : Key → Bool} {path : PathValue} {old new : Contents} {had has
       ap (λ b. cond b ((ReadDir, Granted) ∷ calls_at (filter_map (unseen_call k) cs ++ calls) (k ++ n ∷ x)) (calls_at (filter_map (unseen_call k) cs ++ calls) (k ++ n ∷ x))) (other_key k (k ++ n ∷ x) (beside k n x))
       ∙ calls_at-append (filter_map (unseen_call k) cs) calls (k ++ n ∷ x)
 
-  child_partly : (n : List ℕ) → Partly (under (look_below old.tree k) n) (under (look_below new.tree k) n) (under (calls_below (listed k cs ++ calls) k) n)
+  child_partly : (n : List ℕ) → Partly (under (subtree old.tree k) n) (under (subtree new.tree k) n) (under (calls_below (listed k cs ++ calls) k) n)
   child_partly n = go (find_child cs n) (find_child seen n)
     where
       shown_alone : (entry : DirEntry) → IsIn {X = Child} (n, Ok entry) cs → (x : Key) → calls_at (filter_map (unseen_call k) cs) (k ++ n ∷ x) ≡ []
@@ -159,7 +159,7 @@ module _ {shows : Key → Bool} {path : PathValue} {old new : Contents} {had has
       longer j m x p = cc
 
       go : ((s : Shown) × IsIn {X = Child} (n, s) cs) ⊎ (IsIn n (names_of cs) → ⊥) → ((s : Shown) × IsIn {X = Child} (n, s) seen) ⊎ (IsIn n (names_of seen) → ⊥)
-          → Partly (under (look_below old.tree k) n) (under (look_below new.tree k) n) (under (calls_below (listed k cs ++ calls) k) n)
+          → Partly (under (subtree old.tree k) n) (under (subtree new.tree k) n) (under (calls_below (listed k cs ++ calls) k) n)
       go (inl (Ok entry, i)) (inl (Ok e, j)) = same_look Partly (came.partly n e j)
           (λ x. ap (get old.tree) (sym (child_below k n x)))
           (λ x. ap (get new.tree) (sym (child_below k n x)))

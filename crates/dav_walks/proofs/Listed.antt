@@ -18,7 +18,7 @@ use Rattle.dav_store.specs.Store.{Store, Contents, Directory, IsWellFormed}
 use Rattle.dav_store.specs.Calls.{Grants, Declines}
 use Rattle.dav_store.specs.Members.{IsIn, AreDistinct, member, Child, names_of, AreChildren, Lists, remove_dir_call, IsRemovedAt}
 use Rattle.dav_walks.specs.KeyCall.{KeyCall, logged_call, calls_at}
-use Rattle.dav_walks.specs.Deletion.{look_below, calls_below, path_at, named_by, named_in}
+use Rattle.dav_walks.specs.Deletion.{subtree, calls_below, path_at, named_by, named_in}
 use Rattle.dav_walks.specs.Trace.{HasKind, Walked, Walks}
 use Rattle.dav_walks.proofs.Keys.{child_below, IsIn-left, IsIn-right, IsIn-append, calls_at-append, calls_at-none}
 use Rattle.dav_walks.proofs.Kept.{kept_itself, kept_further}
@@ -127,14 +127,14 @@ progress_child path old mid new before after had has finally k seen calls clean 
   untouched = λ none. w.untouched (λ r i. none r (IsIn-right r calls w.calls i)) ∙ came.untouched (λ r i. none r (IsIn-left r calls w.calls i));
 }
   where
-    earlier : (m : List ℕ) (e : DirEntry) → IsIn {X = Child} (m, Ok e) seen → Walked (look_below old.tree (member k m)) (look_below new.tree (member k m)) (calls_below (calls ++ w.calls) (member k m))
+    earlier : (m : List ℕ) (e : DirEntry) → IsIn {X = Child} (m, Ok e) seen → Walked (subtree old.tree (member k m)) (subtree new.tree (member k m)) (calls_below (calls ++ w.calls) (member k m))
     earlier m e j =
         let apart : (x y : Key) → member k m ++ x ≢ member k n ++ y = λ x y p. fresh (subst (λ a. IsIn a (names_of seen)) (same_head k m n x y (sym (child_below k m x) ∙ p ∙ child_below k n y)) (IsIn-name (m, Ok e) seen j)) in
         same_walk (came.walked m e j) (λ x. refl) (λ x. node_of (w.outside (member k m ++ x) (apart x)))
         (λ x. calls_at-append calls w.calls (member k m ++ x) ∙ ap (λ l. calls_at calls (member k m ++ x) ++ l) (calls_at-none w.calls _ (λ r i p. let v = w.within r i in apart x v.0 (sym p ∙ v.1))) ∙ append-nil _)
 
-    latest : (m : List ℕ) → n ≡ m → Walked (look_below old.tree (member k m)) (look_below new.tree (member k m)) (calls_below (calls ++ w.calls) (member k m))
-    latest m p = subst (λ a. Walked (look_below old.tree (member k a)) (look_below new.tree (member k a)) (calls_below (calls ++ w.calls) (member k a))) p
+    latest : (m : List ℕ) → n ≡ m → Walked (subtree old.tree (member k m)) (subtree new.tree (member k m)) (calls_below (calls ++ w.calls) (member k m))
+    latest m p = subst (λ a. Walked (subtree old.tree (member k a)) (subtree new.tree (member k a)) (calls_below (calls ++ w.calls) (member k a))) p
         (same_walk w.walked (λ x. sym (node_of (came.others (member k n ++ x) (λ a e y i q. fresh (subst (λ b. IsIn b (names_of seen)) (sym (same_head k n a x y (sym (child_below k n x) ∙ q))) (IsIn-name (a, Ok e) seen i))))))
         (λ x. refl)
         (λ x. calls_at-append calls w.calls (member k n ++ x) ∙ ap (λ l. l ++ calls_at w.calls (member k n ++ x)) (calls_at-none calls _ (λ r i q. let v = came.within r i in
@@ -237,11 +237,11 @@ module _ {path : PathValue} {old mid : Store} {had has : Names} {k : Key} {listi
 
   module _ {new : Store} (e : clean ≡ true) where
     pub listed_emptied : Grants (remove_dir_call mid.contents k) (IsRemovedAt k) mid new → IsWellFormed new.contents → Walks path old.contents new.contents old.log new.log had has k true
-    listed_emptied g sound = walk_emptied path old.contents mid.contents had has k so_far.children so_far.calls clean so_far.formed so_far.is so_far.are all_children old.log mid.log new.log so_far.log e new.contents g.effect sound g.told
+    listed_emptied g sound = walk_emptied path old.contents mid.contents had has k so_far.children so_far.calls clean so_far.formed so_far.is so_far.are all_children old.log mid.log new.log so_far.log e new.contents g.effect sound g.recorded
 
     pub listed_stuck : {finally : Names} (error : FsError) → Declines (remove_dir_call mid.contents k) error mid new → finally ≡ has ++ (path_at path true k, fs_status error) ∷ [] → Walks path old.contents new.contents old.log new.log had finally k false
     listed_stuck {finally} error d named = subst (λ t. Walks path old.contents t old.log new.log had finally k false) (sym d.same)
-        (walk_stuck path old.contents mid.contents had has k so_far.children so_far.calls clean so_far.formed so_far.is so_far.are all_children old.log mid.log new.log so_far.log e d.outcome error finally d.cause d.lawful d.told named)
+        (walk_stuck path old.contents mid.contents had has k so_far.children so_far.calls clean so_far.formed so_far.is so_far.are all_children old.log mid.log new.log so_far.log e d.outcome error finally d.cause d.lawful d.recorded named)
 
 -- before the first entry
 pub listed_none : (path : PathValue) (old new : Store) (names : Names) (k : Key) (listing : List Shown) → IsWellFormed old.contents → get old.contents.tree k ≡ Some Directory → Lists k old listing new → Listed path old new names names k listing 0 true
@@ -252,6 +252,6 @@ listed_none path old new names k listing formed is lists = record {
   are = lists.are;
   shown = lists.listed;
   calls = [];
-  log = lists.told ∙ ap (λ l. old.log ++ logged_call (call_on k ReadDir Granted) ∷ l) (sym (logged_unseen k lists.children)) ∙ sym (append-nil _);
+  log = lists.recorded ∙ ap (λ l. old.log ++ logged_call (call_on k ReadDir Granted) ∷ l) (sym (logged_unseen k lists.children)) ∙ sym (append-nil _);
   came = subst (λ t. Progress path old.contents t names names k [] [] true) (sym lists.same) (progress_none path old.contents names k formed);
 }

@@ -18,9 +18,9 @@ use Rattle.dav_store.specs.Logged.{Logged}
 use Rattle.dav_store.specs.Store.{Contents, Node, File, Directory, IsWellFormed, MetaFits}
 use Rattle.dav_store.specs.Members.{IsIn, AreDistinct, member, Child, names_of, AreChildren, unseen_record, remove_dir_bar}
 use Rattle.dav_store.specs.MemberLaws.{AreDistinct-permuted, IsIn-permuted, IsIn-unpermuted, members_distinct, members_there, there_members}
-use Rattle.dav_parts.specs.Multistatus.{Item}
+use Rattle.dav_messages.specs.Multistatus.{Item}
 use Rattle.dav_walks.specs.KeyCall.{KeyCall, logged_call, same_key, calls_at}
-use Rattle.dav_walks.specs.Deletion.{Calls, Look, path_at, named_in}
+use Rattle.dav_walks.specs.Deletion.{Calls, Subtree, path_at, named_in}
 use Rattle.dav_walks.specs.Trace.{HasKind, Walked, IsKept}
 use Rattle.dav_walks.proofs.Keys.{same_key_itself, other_key, parent-child, IsIn-right, calls_at-none}
 use Rattle.dav_walks.proofs.Single.{call_on, same_head, node_of}
@@ -46,11 +46,11 @@ abbrev pub SomeUnseen : List Child → Type 0
 SomeUnseen seen = (n : List ℕ) × (error : FsError) × IsIn {X = Child} (n, Err error) seen
 
 -- what holds of a tree's part and its calls holds of parts and calls that answer alike
-pub same_look : {o n o' n' : Look} {c c' : Calls} (P : Look → Look → Calls → Type 0) → P o n c → ((x : Key) → o' x ≡ o x) → ((x : Key) → n' x ≡ n x) → ((x : Key) → c' x ≡ c x) → P o' n' c'
+pub same_look : {o n o' n' : Subtree} {c c' : Calls} (P : Subtree → Subtree → Calls → Type 0) → P o n c → ((x : Key) → o' x ≡ o x) → ((x : Key) → n' x ≡ n x) → ((x : Key) → c' x ≡ c x) → P o' n' c'
 same_look {o} {n} {o'} {n'} {c} {c'} P w old new calls =
-    subst (λ (f : Look). P f n' c') (sym (fun_ext old)) (subst (λ (f : Look). P o f c') (sym (fun_ext new)) (subst (λ (f : Calls). P o n f) (sym (fun_ext calls)) w))
+    subst (λ (f : Subtree). P f n' c') (sym (fun_ext old)) (subst (λ (f : Subtree). P o f c') (sym (fun_ext new)) (subst (λ (f : Calls). P o n f) (sym (fun_ext calls)) w))
 
-pub same_walk : {o n o' n' : Look} {c c' : Calls} → Walked o n c → ((x : Key) → o' x ≡ o x) → ((x : Key) → n' x ≡ n x) → ((x : Key) → c' x ≡ c x) → Walked o' n' c'
+pub same_walk : {o n o' n' : Subtree} {c c' : Calls} → Walked o n c → ((x : Key) → o' x ≡ o x) → ((x : Key) → n' x ≡ n x) → ((x : Key) → c' x ≡ c x) → Walked o' n' c'
 same_walk = same_look Walked
 
 -- what stands afterwards stood before

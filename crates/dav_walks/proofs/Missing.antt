@@ -4,7 +4,7 @@ use Rattle.std.specs.Prelude.{IsPermutation}
 use Rattle.std.proofs.lemmas.List.{append-nil}
 use Rattle.std.proofs.lemmas.List.Sorted.{IsPermutation-append, IsPermutation-append_left, IsPermutation-append_right, IsPermutation-append_comm, IsPermutation-trans}
 use mathlib.Core.Path.{subst₂}
-use Rattle.dav_parts.specs.Multistatus.{Item}
+use Rattle.dav_messages.specs.Multistatus.{Item}
 use Rattle.dav_walks.specs.Deletion.{AreSomeOf}
 
 -- none is missing

@@ -21,7 +21,7 @@ use Rattle.dav_store.specs.Calls.{IsLawful, IsOwn, error_of}
 use Rattle.dav_store.specs.Members.{IsIn, AreDistinct, members, member, Child, names_of, AreChildren, remove_dir_bar, IsRemovedAt}
 use Rattle.dav_store.specs.MemberLaws.{no_members}
 use Rattle.dav_walks.specs.KeyCall.{KeyCall, logged_call, same_key, calls_at, standing}
-use Rattle.dav_walks.specs.Deletion.{look_below, calls_below, under, WasRefused, path_at, named_by, named_in, IsHidden, NothingRemoved}
+use Rattle.dav_walks.specs.Deletion.{subtree, calls_below, under, WasRefused, path_at, named_by, named_in, IsHidden, NothingRemoved}
 use Rattle.dav_walks.specs.Trace.{Leaves, IsGrantedBelow, Walked, absent, unseen, kept, emptied, AllGranted, SomeRefused, IsKept, Walks}
 use Rattle.dav_walks.specs.ClearedLaws.{record_of_call}
 use Rattle.dav_walks.proofs.Keys.{same_key_itself, other_key, child_below, below_cancel, append-nothing, IsIn-left, IsIn-right, IsIn-append, calls_at-append, calls_at-none, calls_at-IsIn}
@@ -38,7 +38,7 @@ pub record Progress (path : PathValue) (old new : Contents) (had has : Names) (k
   pub named : has ≡ had ++ names
   pub bag : IsPermutation (filter_map (unseen_name path k) seen ++ named_in path calls) names
   pub others : (q : Key) → ((n : List ℕ) (entry : DirEntry) (x : Key) → IsIn {X = Child} (n, Ok entry) seen → q ≢ k ++ n ∷ x) → standing new q ≡ standing old q
-  pub walked : (n : List ℕ) (entry : DirEntry) → IsIn {X = Child} (n, Ok entry) seen → Walked (look_below old.tree (member k n)) (look_below new.tree (member k n)) (calls_below calls (member k n))
+  pub walked : (n : List ℕ) (entry : DirEntry) → IsIn {X = Child} (n, Ok entry) seen → Walked (subtree old.tree (member k n)) (subtree new.tree (member k n)) (calls_below calls (member k n))
   pub is_kept : IsKept old new
   pub well_formed : IsWellFormed new
   pub granted : clean ≡ true → AllGranted calls × AllShown seen
@@ -64,10 +64,10 @@ module _ {shows : Key → Bool} (path : PathValue) (old mid : Contents) (had has
         ap (λ b. cond b ((ReadDir, Granted) ∷ calls_at (filter_map (unseen_call k) cs ++ rest) (k ++ n ∷ x)) (calls_at (filter_map (unseen_call k) cs ++ rest) (k ++ n ∷ x))) (other_key k (k ++ n ∷ x) (beside k n x))
         ∙ calls_at-append (filter_map (unseen_call k) cs) rest (k ++ n ∷ x) ∙ ap (λ l. calls_at (filter_map (unseen_call k) cs) (k ++ n ∷ x) ++ l) (same_rest n x)
 
-    child_walked : (n : List ℕ) → Walked (under (look_below old.tree k) n) (under (look_below final.tree k) n) (under (calls_below (listed k cs ++ rest) k) n)
+    child_walked : (n : List ℕ) → Walked (under (subtree old.tree k) n) (under (subtree final.tree k) n) (under (calls_below (listed k cs ++ rest) k) n)
     child_walked n = go (find_child cs n)
       where
-        go : ((s : Shown) × IsIn {X = Child} (n, s) cs) ⊎ (IsIn n (names_of cs) → ⊥) → Walked (under (look_below old.tree k) n) (under (look_below final.tree k) n) (under (calls_below (listed k cs ++ rest) k) n)
+        go : ((s : Shown) × IsIn {X = Child} (n, s) cs) ⊎ (IsIn n (names_of cs) → ⊥) → Walked (under (subtree old.tree k) n) (under (subtree final.tree k) n) (under (calls_below (listed k cs ++ rest) k) n)
         go (inl (Ok entry, i)) = same_walk (came.walked n entry i)
             (λ x. ap (get old.tree) (sym (child_below k n x)))
             (λ x. same_final n x ∙ ap (get mid.tree) (sym (child_below k n x)))

@@ -9,7 +9,7 @@ use Rattle.dav_resource.specs.declared.record.Outcome.TheVariants.{Granted, Barr
 use Rattle.dav_store.specs.Store.{Node, Directory, Tree}
 use Rattle.dav_store.specs.Members.{IsIn}
 use Rattle.dav_walks.specs.KeyCall.{KeyCall, calls_at}
-use Rattle.dav_walks.specs.Deletion.{Calls, Look, calls_below, Fits, IsRemoval, WasRemoved}
+use Rattle.dav_walks.specs.Deletion.{Calls, Subtree, calls_below, Fits, IsRemoval, WasRemoved}
 use Rattle.dav_walks.specs.Trace.{HasKind, Leaves, Walked, absent, unseen, file, unlisted, kept, emptied, Partly, over, waiting, halted}
 use Rattle.dav_walks.proofs.Keys.{calls_at-IsIn}
 use Rattle.dav_walks.proofs.Facts.{Call, only_call, two_calls, no_call, first_call, second_call}
@@ -38,7 +38,7 @@ both_fit node outcome c cs e is i = elim (two_calls c _ _ cs e i) [
   | inr p ↦ subst (Fits node) (sym (ap (λ (d : Call). d.0) p)) (removal_fits node is)
 ]
 
-pub walked_fits : {old new : Look} {calls : Calls} → Walked old new calls → (x : Key) (c : Call) → IsIn c (calls x) → Fits (old x) c.0
+pub walked_fits : {old new : Subtree} {calls : Calls} → Walked old new calls → (x : Key) (c : Call) → IsIn c (calls x) → Fits (old x) c.0
 walked_fits (absent none same) x c i = absurd (no_call c _ (same x).uncalled i)
 walked_fits (unseen error was e same below) [] c i = one_fits _ _ _ c _ e (entry_fits _ was) i
 walked_fits (unseen error was e same below) (n ∷ x) c i = absurd (no_call c _ (below n x).uncalled i)
@@ -51,7 +51,7 @@ walked_fits (kept is e same some deep) (n ∷ x) c i = walked_fits (deep n) x c 
 walked_fits (emptied outcome is e leaves quiet deep) [] c i = both_fit _ _ c _ e is i
 walked_fits (emptied outcome is e leaves quiet deep) (n ∷ x) c i = walked_fits (deep n) x c i
 
-pub partly_fits : {old new : Look} {calls : Calls} → Partly old new calls → (x : Key) (c : Call) → IsIn c (calls x) → Fits (old x) c.0
+pub partly_fits : {old new : Subtree} {calls : Calls} → Partly old new calls → (x : Key) (c : Call) → IsIn c (calls x) → Fits (old x) c.0
 partly_fits (over w) x c i = walked_fits w x c i
 partly_fits (waiting same) x c i = absurd (no_call c _ (same x).uncalled i)
 partly_fits (halted is e same deep) [] c i = one_fits _ _ _ c _ e (listing_fits _ is) i
@@ -87,7 +87,7 @@ granted_there : (old new : Option Node) (outcome : Outcome) → Granted ≡ outc
 granted_there old new outcome is leaves = subst (λ o. Leaves o old new) (sym is) leaves
 
 -- where a removal was granted nothing stands
-pub removed_gone : {old new : Look} {calls : Calls} → Walked old new calls → (x : Key) → WasRemoved (calls x) → new x ≡ None
+pub removed_gone : {old new : Subtree} {calls : Calls} → Walked old new calls → (x : Key) → WasRemoved (calls x) → new x ≡ None
 removed_gone (absent none same) x r = none_removed _ (same x).uncalled r
 removed_gone (unseen error was e same below) [] r = unseen_only _ _ e r
 removed_gone (unseen error was e same below) (n ∷ x) r = none_removed _ (below n x).uncalled r
@@ -103,7 +103,7 @@ removed_gone (emptied outcome is e leaves quiet deep) [] r = elim (two_calls _ _
 ]
 removed_gone (emptied outcome is e leaves quiet deep) (n ∷ x) r = removed_gone (deep n) x r
 
-pub partly_removed_gone : {old new : Look} {calls : Calls} → Partly old new calls → (x : Key) → WasRemoved (calls x) → new x ≡ None
+pub partly_removed_gone : {old new : Subtree} {calls : Calls} → Partly old new calls → (x : Key) → WasRemoved (calls x) → new x ≡ None
 partly_removed_gone (over w) x r = removed_gone w x r
 partly_removed_gone (waiting same) x r = none_removed _ (same x).uncalled r
 partly_removed_gone (halted is e same deep) [] r = listed_only _ _ e r
@@ -113,7 +113,7 @@ still : {A : Type 0} {old new : Option Node} → new ≡ old → old ≢ None �
 still same there none = absurd (there (sym same ∙ none))
 
 -- where nothing stands any more a removal was granted
-pub gone_removed : {old new : Look} {calls : Calls} → Walked old new calls → (x : Key) → old x ≢ None → new x ≡ None → WasRemoved (calls x)
+pub gone_removed : {old new : Subtree} {calls : Calls} → Walked old new calls → (x : Key) → old x ≢ None → new x ≡ None → WasRemoved (calls x)
 gone_removed (absent none same) x there gone = absurd (there (none x))
 gone_removed (unseen error was e same below) [] there gone = still same there gone
 gone_removed (unseen error was e same below) (n ∷ x) there gone = still (below n x).same there gone
@@ -130,7 +130,7 @@ gone_removed (emptied (Barred error) is e leaves quiet deep) [] there gone = sti
 gone_removed (emptied (Refused error) is e leaves quiet deep) [] there gone = still leaves there gone
 gone_removed (emptied outcome is e leaves quiet deep) (n ∷ x) there gone = gone_removed (deep n) x there gone
 
-pub partly_gone_removed : {old new : Look} {calls : Calls} → Partly old new calls → (x : Key) → old x ≢ None → new x ≡ None → WasRemoved (calls x)
+pub partly_gone_removed : {old new : Subtree} {calls : Calls} → Partly old new calls → (x : Key) → old x ≢ None → new x ≡ None → WasRemoved (calls x)
 partly_gone_removed (over w) x there gone = gone_removed w x there gone
 partly_gone_removed (waiting same) x there gone = still (same x).same there gone
 partly_gone_removed (halted is e same deep) [] there gone = still same there gone

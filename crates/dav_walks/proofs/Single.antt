@@ -18,9 +18,9 @@ use Rattle.dav_store.specs.Logged.{Logged}
 use Rattle.dav_store.specs.Store.{Store, Contents, Node, File, Directory, IsWellFormed}
 use Rattle.dav_store.specs.Calls.{Grants, Declines, IsLawful, IsOwn, error_of, must_be_file}
 use Rattle.dav_store.specs.Members.{IsIn, member, IsRemovedAt, remove_file_call, read_dir_call, read_dir_bar}
-use Rattle.dav_parts.specs.Multistatus.{Item}
+use Rattle.dav_messages.specs.Multistatus.{Item}
 use Rattle.dav_walks.specs.KeyCall.{KeyCall, logged_call, same_key, standing}
-use Rattle.dav_walks.specs.Deletion.{look_below, calls_below, WasRefused, named_path, path_at, IsRootRemoval}
+use Rattle.dav_walks.specs.Deletion.{subtree, calls_below, WasRefused, named_path, path_at, IsRootRemoval}
 use Rattle.dav_walks.specs.Trace.{HasKind, Leaves, Walked, file, unlisted, Walks}
 use Rattle.dav_walks.proofs.Keys.{same_key_itself, other_key, look_removed, child_below, below_cancel, append-nothing, parent-child}
 use Rattle.dav_walks.proofs.Kept.{none_or, kept_itself, removal_others, removal_keeps}
@@ -108,7 +108,7 @@ pub one_refusal : (path : PathValue) (old : Contents) (before after : List Logge
     → IsWellFormed old → after ≡ before ++ logged_call (call_on k op outcome) ∷ [] → error_of outcome ≡ Some error
     → ((e : FsError) → outcome ≡ Barred e → IsRootRemoval (call_on k op outcome) e) → ((e : FsError) → outcome ≡ Refused e → IsOwn e)
     → has ≡ had ++ (named_path path op k, fs_status error) ∷ [] → (op ≡ Entry → ⊥)
-    → Walked (look_below old.tree k) (look_below old.tree k) (calls_below (call_on k op outcome ∷ []) k) → Walks path old old before after had has k false
+    → Walked (subtree old.tree k) (subtree old.tree k) (calls_below (call_on k op outcome ∷ []) k) → Walks path old old before after had has k false
 one_refusal path old before after had has k op outcome error formed log is root own named other walked = record {
   calls = call_on k op outcome ∷ [];
   log = log;
@@ -130,7 +130,7 @@ one_refusal path old before after had has k op outcome error formed log is root 
 
 -- a file that the store wouldn't remove
 refused_file : (old : Contents) → IsWellFormed old → (k : Key) → HasKind false (get old.tree k) → (outcome : Outcome) (error : FsError) → error_of outcome ≡ Some error
-    → Walked (look_below old.tree k) (look_below old.tree k) (calls_below (call_on k RemoveFile outcome ∷ []) k)
+    → Walked (subtree old.tree k) (subtree old.tree k) (calls_below (call_on k RemoveFile outcome ∷ []) k)
 refused_file old formed k is outcome error refused = file outcome (subst (λ (j : Key). HasKind false (get old.tree j)) (sym (append-nothing k)) is) (alone k RemoveFile outcome) (stays outcome error _ refused)
     (none_below_file old formed k is) (λ n x. record { uncalled = alone_below k RemoveFile outcome n x; same = refl })
 
@@ -145,7 +145,7 @@ module _ (path : PathValue) (old new : Store) (k : Key) (formed : IsWellFormed o
       → Walks path old.contents new.contents old.log new.log had had k true
   file_removed had sound is g = record {
     calls = call_on k RemoveFile Granted ∷ [];
-    log = g.told;
+    log = g.recorded;
     within = λ r i. ([], ap (λ (s : KeyCall). s.key) (sym (only_call _ _ i)) ∙ sym (append-nothing k));
     barred = λ r e i b. let p : Granted ≡ Barred e = ap (λ (s : KeyCall). s.outcome) (only_call _ _ i) ∙ b in absurd (cc);
     own = λ r e i b. let p : Granted ≡ Refused e = ap (λ (s : KeyCall). s.outcome) (only_call _ _ i) ∙ b in absurd (cc);
@@ -167,14 +167,14 @@ module _ (path : PathValue) (old new : Store) (k : Key) (formed : IsWellFormed o
   pub file_kept : (had has : Names) (error : FsError) → HasKind false (get old.contents.tree k) → Declines (remove_file_call old.contents k) error old new
       → has ≡ had ++ (path_at path false k, fs_status error) ∷ [] → Walks path old.contents new.contents old.log new.log had has k false
   file_kept had has error is d named = subst (λ t. Walks path old.contents t old.log new.log had has k false) (sym d.same)
-      (one_refusal path old.contents old.log new.log had has k RemoveFile d.outcome error formed d.told d.cause (λ e b. absurd (no_file_bar _ e is (bar_of _ _ e d.lawful b))) (λ e b. own_of _ _ e d.lawful b) named file_is_no_entry
+      (one_refusal path old.contents old.log new.log had has k RemoveFile d.outcome error formed d.recorded d.cause (λ e b. absurd (no_file_bar _ e is (bar_of _ _ e d.lawful b))) (λ e b. own_of _ _ e d.lawful b) named file_is_no_entry
       (refused_file old.contents formed k is d.outcome error d.cause))
 
   -- a directory whose listing was refused
   pub listing_refused : (had has : Names) (error : FsError) → get old.contents.tree k ≡ Some Directory → Declines (read_dir_call old.contents k) error old new
       → has ≡ had ++ (path_at path true k, fs_status error) ∷ [] → Walks path old.contents new.contents old.log new.log had has k false
   listing_refused had has error is d named = subst (λ t. Walks path old.contents t old.log new.log had has k false) (sym d.same)
-      (one_refusal path old.contents old.log new.log had has k ReadDir d.outcome error formed d.told d.cause (λ e b. absurd (no_listing_bar _ e is (bar_of _ _ e d.lawful b))) (λ e b. own_of _ _ e d.lawful b) named listing_is_no_entry
+      (one_refusal path old.contents old.log new.log had has k ReadDir d.outcome error formed d.recorded d.cause (λ e b. absurd (no_listing_bar _ e is (bar_of _ _ e d.lawful b))) (λ e b. own_of _ _ e d.lawful b) named listing_is_no_entry
       (unlisted d.outcome (has_error d.outcome error d.cause) (ap (get old.contents.tree) (append-nothing k) ∙ is) (alone k ReadDir d.outcome) refl (λ n x. record { uncalled = alone_below k ReadDir d.outcome n x; same = refl })))
 
 pub kind_there : (dir : Bool) (node : Option Node) → HasKind dir node → node ≢ None

@@ -18,7 +18,7 @@ use Rattle.dav_store.specs.Store.{Contents, IsWellFormed}
 use Rattle.dav_store.specs.Calls.{error_of}
 use Rattle.dav_store.specs.Members.{IsIn}
 use Rattle.dav_store.specs.MemberLaws.{kept_in, come_from, IsIn-permuted, IsIn-unpermuted}
-use Rattle.dav_parts.specs.Multistatus.{Item}
+use Rattle.dav_messages.specs.Multistatus.{Item}
 use Rattle.dav_walks.specs.KeyCall.{KeyCall, same_key, calls_at}
 use Rattle.dav_walks.specs.Deletion.{calls_below, WasRefused, IsHidden, path_at, named_path, named_by, named_in, IsLeft, IsLawfulRemoval}
 use Rattle.dav_walks.specs.Trace.{AllGranted, SomeRefused, Walks, Halts, WalksWhole}

@@ -18,7 +18,7 @@ use Rattle.dav_store.specs.Logged.{Logged}
 use Rattle.dav_store.specs.Store.{Contents, Node}
 use Rattle.dav_store.specs.Members.{IsIn, IsRemovedAt}
 use Rattle.dav_store.specs.MemberLaws.{come_from, kept_in, IsIn-permuted, IsIn-unpermuted}
-use Rattle.dav_parts.specs.Multistatus.{Item}
+use Rattle.dav_messages.specs.Multistatus.{Item}
 use Rattle.dav_walks.specs.KeyCall.{KeyCall, calls_at, same_key}
 use Rattle.dav_walks.specs.Deletion.{Calls, under, calls_below, WasRefused, IsHidden, IsLeft, named_path, named_by, named_in, Deletes, Removes}
 

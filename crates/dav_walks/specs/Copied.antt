@@ -16,8 +16,8 @@ use Rattle.dav_store.specs.Logged.{Logged}
 use Rattle.dav_store.specs.Store.{Store, Contents, Node, File, Directory}
 use Rattle.dav_store.specs.Calls.{Call, record_of, IsLawful, error_of, metadata_call, create_dir_call, IsMadeAt}
 use Rattle.dav_store.specs.Transfers.{copy_call, IsCopiedTo}
-use Rattle.dav_parts.specs.Multistatus.{Item}
-use Rattle.dav_walks.specs.Deletion.{AreSomeOf, told_by_names}
+use Rattle.dav_messages.specs.Multistatus.{Item}
+use Rattle.dav_walks.specs.Deletion.{AreSomeOf, first_failure}
 use Rattle.dav_walks.specs.Copying.{CopyStep, logged_step, snapshot, names_of_copy, IsLawfulCopy, CopiesTree}
 
 -- ---- only the resource at the source
@@ -107,12 +107,12 @@ pub record StopsCopy (depth : Depth) (source dest : PathValue) (top : Key) (old 
 -- it came to its end and added these items, or it was stopped because memory ran out
 abbrev pub CopiesOrStops : Depth → PathValue → PathValue → Key → Contents → Contents → List Logged → List Item → List Item → Result (Unit {0}) DavError → Type 0
 CopiesOrStops depth source dest top old new records had has answer =
-    ((names : List Item) × (has ≡ had ++ names) × CopiesAll depth source dest top old new records names × (answer ≡ told_by_names names))
+    ((names : List Item) × (has ≡ had ++ names) × CopiesAll depth source dest top old new records names × (answer ≡ first_failure names))
     ⊎ ((answer ≡ Err Memory) × StopsCopy depth source dest top old new records had has)
 
 -- the same between two stores, with the reported items before it (`had`) and after it (`has`)
 pub record Copying (depth : Depth) (source dest : PathValue) (top : Key) (old new : Store) (had has : List Item) (answer : Result (Unit {0}) DavError) : Type 0 where
   pub records : List Logged
-  pub told : new.log ≡ old.log ++ records
+  pub recorded : new.log ≡ old.log ++ records
   pub fixed : new.facts ≡ old.facts
   pub done : CopiesOrStops depth source dest top old.contents new.contents records had has answer

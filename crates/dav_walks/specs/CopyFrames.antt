@@ -12,7 +12,7 @@ use Rattle.dav_store.specs.Store.{Store, Contents}
 use Rattle.dav_store.specs.Calls.{Call, Grants, metadata_call, IsMetaAt, create_dir_call, IsMadeAt}
 use Rattle.dav_store.specs.Members.{read_dir_call, Lists}
 use Rattle.dav_store.specs.Transfers.{copy_call, IsCopiedTo}
-use Rattle.dav_parts.specs.Multistatus.{Item}
+use Rattle.dav_messages.specs.Multistatus.{Item}
 use Rattle.dav_walks.specs.declared.copy_frame.CopyFrame.{CopyFrame}
 use Rattle.dav_walks.specs.Frames.{NamesRefusal, IsCut, path_of_entry}
 use Rattle.dav_walks.specs.Copied.{CopiesAll, StopsCopy}
@@ -25,9 +25,9 @@ Makes call Effect path old new had has false = NamesRefusal call path old new ha
 -- ---- the start of a key's copy
 
 -- a lookup of a path
-abbrev pub LooksAt : PathValue → Store → Store → List Item → List Item → Option Meta → Type 0
-LooksAt path old new had has (Some meta) = Grants (metadata_call old.contents path.key) (IsMetaAt path.key meta) old new × (has ≡ had)
-LooksAt path old new had has None = NamesRefusal (metadata_call old.contents path.key) path old new had has
+abbrev pub LooksUpAt : PathValue → Store → Store → List Item → List Item → Option Meta → Type 0
+LooksUpAt path old new had has (Some meta) = Grants (metadata_call old.contents path.key) (IsMetaAt path.key meta) old new × (has ≡ had)
+LooksUpAt path old new had has None = NamesRefusal (metadata_call old.contents path.key) path old new had has
 
 abbrev pub CopiesFile : PathValue → PathValue → Store → Store → List Item → List Item → Bool → Type 0
 CopiesFile source dest old = Makes (copy_call old.contents source.key dest.key) (IsCopiedTo source.key dest.key) source old
@@ -62,7 +62,7 @@ pub record MakesPlaceOf (source dest : PathValue) (old new : Store) : Type 0 whe
 -- The source is looked up. Then a file is copied, or a directory is made at the destination and the source is listed. The first call that is declined
 -- ends this, and is reported.
 pub data EntersCopy (source dest : PathValue) (old new : Store) (had has : List Item) : Option CopyFrame → Type 0 where
-  unlooked : LooksAt source old new had has None → EntersCopy source dest old new had has None
+  unlooked : LooksUpAt source old new had has None → EntersCopy source dest old new had has None
   filed : (mid : Store) (done : Bool) → Finds false source old mid → CopiesFile source dest mid new had has done → EntersCopy source dest old new had has None
   unmade : (mid : Store) → Finds true source old mid → MakesPlace dest mid new had has false → EntersCopy source dest old new had has None
   after_made : (mid : Store) (opened : Option CopyFrame) → MakesPlaceOf source dest old mid → ListsSource source dest mid new had has opened → EntersCopy source dest old new had has opened
@@ -101,7 +101,7 @@ IsCutMember frame top old new =
 -- the copy of this depth came to its end
 pub record CopiesWhole (depth : Depth) (source dest : PathValue) (top : Key) (old new : Store) (had has : List Item) : Type 0 where
   pub records : List Logged
-  pub told : new.log ≡ old.log ++ records
+  pub recorded : new.log ≡ old.log ++ records
   pub fixed : new.facts ≡ old.facts
   pub names : List Item
   pub added : has ≡ had ++ names
@@ -110,6 +110,6 @@ pub record CopiesWhole (depth : Depth) (source dest : PathValue) (top : Key) (ol
 -- the copy of this depth was stopped because memory ran out
 pub record BreaksOffCopy (depth : Depth) (source dest : PathValue) (top : Key) (old new : Store) (had has : List Item) : Type 0 where
   pub records : List Logged
-  pub told : new.log ≡ old.log ++ records
+  pub recorded : new.log ≡ old.log ++ records
   pub fixed : new.facts ≡ old.facts
   pub stops : StopsCopy depth source dest top old.contents new.contents records had has

@@ -18,9 +18,9 @@ use Rattle.dav_store.specs.Calls.{IsMadeAt}
 use Rattle.dav_store.specs.Transfers.{IsCopiedTo}
 use Rattle.dav_store.specs.Members.{IsIn}
 use Rattle.dav_store.specs.MemberLaws.{IsIn-unpermuted}
-use Rattle.dav_parts.specs.Multistatus.{Item}
+use Rattle.dav_messages.specs.Multistatus.{Item}
 use Rattle.dav_walks.specs.KeyCall.{standing}
-use Rattle.dav_walks.specs.Deletion.{Look, is_call}
+use Rattle.dav_walks.specs.Deletion.{Subtree, is_call}
 use Rattle.dav_walks.specs.Copying.{CopyStep, IsMade, copied, snapshot, named_by_step, named_once, names_behind, IsLawfulCopy, CopiesTree}
 use Rattle.dav_walks.specs.Copied.{IsPlaced, refusal_names, EndsAlone, CopiesAlone, CopiesAll, CopiesInPart}
 use Rattle.dav_walks.specs.PutLaws.{put_elsewhere, put_at_elsewhere}
@@ -68,7 +68,7 @@ copies_within Default source dest top old new records c q apart = c.2.others q (
 
 -- ---- each reported status is the status of a store error
 
-module _ (source dest : PathValue) (snap : Look) where
+module _ (source dest : PathValue) (snap : Subtree) where
   named_refusal : (step : CopyStep) (outcome : Outcome) (item : Item) → outcome ≡ step.outcome → IsIn item (cons_option (named_by_step source dest snap (record step { outcome = outcome })) []) → (e : FsError) × (fs_status e ≡ item.1)
   named_refusal step Granted item is i = absurd i
   named_refusal step (Barred e) item is (inl same) = (e, ap (λ (t : Item). t.1) same)
@@ -76,21 +76,21 @@ module _ (source dest : PathValue) (snap : Look) where
   named_refusal step (Refused e) item is (inl same) = (e, ap (λ (t : Item). t.1) same)
   named_refusal step (Refused e) item is (inr i) = absurd i
 
-  first_or_later : (told : Bool) (step : CopyStep) (item : Item) (names : List Item) → IsIn item (cons_option (named_once source dest snap told step) names) → IsIn item (cons_option (named_by_step source dest snap step) []) ⊎ IsIn item names
-  first_or_later told step item names i = by_told (told && not (is_call step.op)) i
+  first_or_later : (after_unseen : Bool) (step : CopyStep) (item : Item) (names : List Item) → IsIn item (cons_option (named_once source dest snap after_unseen step) names) → IsIn item (cons_option (named_by_step source dest snap step) []) ⊎ IsIn item names
+  first_or_later after_unseen step item names i = by_unseen (after_unseen && not (is_call step.op)) i
     where
       by_option : (o : Option Item) → IsIn item (cons_option o names) → IsIn item (cons_option o []) ⊎ IsIn item names
       by_option None j = inr j
       by_option (Some first) (inl e) = inl (inl e)
       by_option (Some first) (inr j) = inr j
 
-      by_told : (b : Bool) → IsIn item (cons_option (if b then None else named_by_step source dest snap step) names) → IsIn item (cons_option (named_by_step source dest snap step) []) ⊎ IsIn item names
-      by_told true j = inr j
-      by_told false j = by_option (named_by_step source dest snap step) j
+      by_unseen : (b : Bool) → IsIn item (cons_option (if b then None else named_by_step source dest snap step) names) → IsIn item (cons_option (named_by_step source dest snap step) []) ⊎ IsIn item names
+      by_unseen true j = inr j
+      by_unseen false j = by_option (named_by_step source dest snap step) j
 
-  names_refused_behind : (told : Bool) (steps : List CopyStep) (item : Item) → IsIn item (names_behind source dest snap told steps) → (e : FsError) × (fs_status e ≡ item.1)
-  names_refused_behind told [] item i = absurd i
-  names_refused_behind told (step ∷ steps) item i = go (first_or_later told step item (names_behind source dest snap (not (is_call step.op)) steps) i) (names_refused_behind (not (is_call step.op)) steps item)
+  names_refused_behind : (after_unseen : Bool) (steps : List CopyStep) (item : Item) → IsIn item (names_behind source dest snap after_unseen steps) → (e : FsError) × (fs_status e ≡ item.1)
+  names_refused_behind after_unseen [] item i = absurd i
+  names_refused_behind after_unseen (step ∷ steps) item i = go (first_or_later after_unseen step item (names_behind source dest snap (not (is_call step.op)) steps) i) (names_refused_behind (not (is_call step.op)) steps item)
     where
       go : IsIn item (cons_option (named_by_step source dest snap step) []) ⊎ IsIn item (names_behind source dest snap (not (is_call step.op)) steps)
           → (IsIn item (names_behind source dest snap (not (is_call step.op)) steps) → (e : FsError) × (fs_status e ≡ item.1)) → (e : FsError) × (fs_status e ≡ item.1)

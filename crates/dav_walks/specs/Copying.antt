@@ -15,15 +15,15 @@ use Rattle.dav_store.specs.Logged.{Logged, logged}
 use Rattle.dav_store.specs.Store.{Contents, Node, File, Directory, Tree, PropertyMap}
 use Rattle.dav_store.specs.Calls.{IsLawful, error_of, limit_of}
 use Rattle.dav_store.specs.Members.{IsIn, AreDistinct, member}
-use Rattle.dav_parts.specs.Multistatus.{Item}
+use Rattle.dav_messages.specs.Multistatus.{Item}
 use Rattle.dav_walks.specs.KeyCall.{standing, keys_below}
-use Rattle.dav_walks.specs.Deletion.{Look, WasRefused, path_at, is_call}
+use Rattle.dav_walks.specs.Deletion.{Subtree, WasRefused, path_at, is_call}
 use Rattle.dav_walks.specs.Trace.{HasKind}
 
 -- ---- the snapshot
 
 -- the nodes at the source and below it, without those at the top destination or below that
-abbrev pub snapshot : Tree → Key → Key → Look
+abbrev pub snapshot : Tree → Key → Key → Subtree
 snapshot tree s top = λ x. if is_at_or_below (s ++ x) top then None else get tree (s ++ x)
 
 -- the keys of the snapshot
@@ -79,7 +79,7 @@ IsListed x steps = (above : Key) × (name : List ℕ) × (x ≡ member above nam
 
 -- When a call is made: the source and the members of listed directories are looked up. After that a file is copied, or a directory is made at its
 -- destination and, once it is made, the source directory is listed.
-abbrev pub IsCalledFor : Look → Op → Key → List CopyStep → Type 0
+abbrev pub IsCalledFor : Subtree → Op → Key → List CopyStep → Type 0
 IsCalledFor snap Metadata x steps = (snap x ≢ None) × ((x ≡ []) ⊎ IsListed x steps)
 IsCalledFor snap Copy x steps = HasKind false (snap x) × IsGranted Metadata x steps
 IsCalledFor snap CreateDir x steps = HasKind true (snap x) × IsGranted Metadata x steps
@@ -119,25 +119,25 @@ is_directory_node None = false
 
 -- A call that was not granted reports the path of its key, except that `create_dir` reports the destination. A member that the store did not list
 -- reports the directory above it.
-abbrev pub path_of_step : PathValue → PathValue → Look → Op → Key → PathValue
+abbrev pub path_of_step : PathValue → PathValue → Subtree → Op → Key → PathValue
 path_of_step source dest snap CreateDir x = path_at dest true (dest.key ++ x)
 path_of_step source dest snap Entry x = path_at source true (source.key ++ parent x)
 path_of_step source dest snap _ x = path_at source (is_directory_node (snap x)) (source.key ++ x)
 
 -- It is reported with the status of the error. A granted call reports nothing.
-abbrev pub named_by_step : PathValue → PathValue → Look → CopyStep → Option Item
+abbrev pub named_by_step : PathValue → PathValue → Subtree → CopyStep → Option Item
 named_by_step source dest snap step = option_map (λ e. (path_of_step source dest snap step.op step.at, fs_status e)) (error_of step.outcome)
 
--- of consecutive members that the store did not list only the first is reported (`told`: the step before was such a member)
-abbrev pub named_once : PathValue → PathValue → Look → Bool → CopyStep → Option Item
-named_once source dest snap told step = if told && not (is_call step.op) then None else named_by_step source dest snap step
+-- of consecutive members that the store did not list only the first is reported (`after_unseen`: the step before was such a member)
+abbrev pub named_once : PathValue → PathValue → Subtree → Bool → CopyStep → Option Item
+named_once source dest snap after_unseen step = if after_unseen && not (is_call step.op) then None else named_by_step source dest snap step
 
--- The items that the steps report, in order. `told` says whether the step before them was a member that the store did not list.
-abbrev pub names_behind : PathValue → PathValue → Look → Bool → List CopyStep → List Item
-names_behind source dest snap told [] = []
-names_behind source dest snap told (step ∷ steps) = cons_option (named_once source dest snap told step) (names_behind source dest snap (not (is_call step.op)) steps)
+-- The items that the steps report, in order. `after_unseen` says whether the step before them was a member that the store did not list.
+abbrev pub names_behind : PathValue → PathValue → Subtree → Bool → List CopyStep → List Item
+names_behind source dest snap after_unseen [] = []
+names_behind source dest snap after_unseen (step ∷ steps) = cons_option (named_once source dest snap after_unseen step) (names_behind source dest snap (not (is_call step.op)) steps)
 
-abbrev pub names_of_copy : PathValue → PathValue → Look → List CopyStep → List Item
+abbrev pub names_of_copy : PathValue → PathValue → Subtree → List CopyStep → List Item
 names_of_copy source dest snap steps = names_behind source dest snap false steps
 
 -- ---- a whole copy
@@ -145,7 +145,7 @@ names_of_copy source dest snap steps = names_behind source dest snap false steps
 -- Nothing is left out: each of these calls is made, whatever its outcome. The source is looked up. After a granted lookup a file is copied, and a
 -- directory is made at its destination. A directory that was made is listed. Each member of a listed directory that is in the snapshot is looked up,
 -- unless the store did not list some member of that directory.
-pub record IsWholeCopy (snap : Look) (steps : List CopyStep) : Type 0 where
+pub record IsWholeCopy (snap : Subtree) (steps : List CopyStep) : Type 0 where
   pub source : IsAsked Metadata [] steps
   pub files : (x : Key) → HasKind false (snap x) → IsGranted Metadata x steps → IsAsked Copy x steps
   pub directories : (x : Key) → HasKind true (snap x) → IsGranted Metadata x steps → IsAsked CreateDir x steps

@@ -19,7 +19,7 @@ use Rattle.dav_store.specs.Logged.{Logged}
 use Rattle.dav_store.specs.Store.{Store, Contents, Node, File, Directory, Tree}
 use Rattle.dav_store.specs.Calls.{Call, record_of, IsLawful, IsOwn, error_of, limit_of}
 use Rattle.dav_store.specs.Members.{IsIn, remove_file_call, remove_dir_call, IsRemovedAt}
-use Rattle.dav_parts.specs.Multistatus.{Item}
+use Rattle.dav_messages.specs.Multistatus.{Item}
 use Rattle.dav_walks.specs.KeyCall.{KeyCall, logged_call, same_key, calls_at, standing, keys_below}
 
 -- the calls on each key, by its path from another key
@@ -27,11 +27,11 @@ abbrev pub Calls : Type 0
 Calls = Key → List (Op × Outcome)
 
 -- the node at each key, by its path from another key
-abbrev pub Look : Type 0
-Look = Key → Option Node
+abbrev pub Subtree : Type 0
+Subtree = Key → Option Node
 
-abbrev pub look_below : Tree → Key → Look
-look_below tree p = λ x. get tree (p ++ x)
+abbrev pub subtree : Tree → Key → Subtree
+subtree tree p = λ x. get tree (p ++ x)
 
 abbrev pub calls_below : List KeyCall → Key → Calls
 calls_below calls p = λ x. calls_at calls (p ++ x)
@@ -59,10 +59,10 @@ IsHidden calls [] = IsUnseen (calls [])
 IsHidden calls (name ∷ x) = IsUnseen (calls []) ⊎ IsUnlisted (calls []) ⊎ IsHidden (under calls name) x
 
 -- a key that the deletion reaches: a node was there, and the key is not hidden
-abbrev pub IsReached : Look → Calls → Key → Type 0
+abbrev pub IsReached : Subtree → Calls → Key → Type 0
 IsReached old calls x = (old x ≢ None) × (IsHidden calls x → ⊥)
 
-abbrev pub IsMemberOfReached : Look → Calls → Key → Type 0
+abbrev pub IsMemberOfReached : Subtree → Calls → Key → Type 0
 IsMemberOfReached old calls x = (y : Key) × (name : List ℕ) × (x ≡ y ++ name ∷ []) × IsReached old calls y
 
 -- ---- what is reported
@@ -130,8 +130,8 @@ is_call _ = true
 pub record IsLawfulRemoval (p : Key) (old new : Contents) (calls : List KeyCall) : Type 0 where
   -- Each call is on a key at or below p that the deletion reaches. Each member that the store did not list is a member of such a key.
   pub within : (call : KeyCall) → IsIn call calls → (x : Key) × (call.key ≡ p ++ x)
-  pub reached : (x : Key) (c : Op × Outcome) → IsIn c (calls_below calls p x) → (c.0 ≡ Entry) ⊎ IsReached (look_below old.tree p) (calls_below calls p) x
-  pub entries : (x : Key) (outcome : Outcome) → IsIn (Entry, outcome) (calls_below calls p x) → IsMemberOfReached (look_below old.tree p) (calls_below calls p) x
+  pub reached : (x : Key) (c : Op × Outcome) → IsIn c (calls_below calls p x) → (c.0 ≡ Entry) ⊎ IsReached (subtree old.tree p) (calls_below calls p) x
+  pub entries : (x : Key) (outcome : Outcome) → IsIn (Entry, outcome) (calls_below calls p x) → IsMemberOfReached (subtree old.tree p) (calls_below calls p) x
   -- each call fits the node that was at its key
   pub fits : (call : KeyCall) → IsIn call calls → Fits (get old.tree call.key) call.op
   -- No kind of call is made twice on a key, and at most two are made on each. In all there are at most two for each key that existed at or below p.
@@ -201,9 +201,9 @@ NamesInPart Zero path records names = names ≡ []
 NamesInPart depth path records names = (calls : List KeyCall) × (records ≡ map logged_call calls) × AreSomeOf names (named_in path calls)
 
 -- the result: `Ok` if nothing is reported, else an error with the status of the first item
-abbrev pub told_by_names : List Item → Result (Unit {0}) DavError
-told_by_names [] = Ok tt
-told_by_names (item ∷ names) = Err (Status item.1)
+abbrev pub first_failure : List Item → Result (Unit {0}) DavError
+first_failure [] = Ok tt
+first_failure (item ∷ names) = Err (Status item.1)
 
 -- it was stopped because memory ran out: with Depth 0 nothing was removed, and some reported items may be missing
 pub record StopsRemoval (depth : Depth) (path : PathValue) (old new : Contents) (records : List Logged) (had has : List Item) : Type 0 where
@@ -216,12 +216,12 @@ pub record StopsRemoval (depth : Depth) (path : PathValue) (old new : Contents) 
 -- it came to its end and added these items, or it was stopped because memory ran out
 abbrev pub RemovesOrStops : Depth → PathValue → Contents → Contents → List Logged → List Item → List Item → Result (Unit {0}) DavError → Type 0
 RemovesOrStops depth path old new records had has answer =
-    ((names : List Item) × (has ≡ had ++ names) × Removes depth path old new records names × (answer ≡ told_by_names names))
+    ((names : List Item) × (has ≡ had ++ names) × Removes depth path old new records names × (answer ≡ first_failure names))
     ⊎ ((answer ≡ Err Memory) × StopsRemoval depth path old new records had has)
 
 -- the same between two stores, with the reported items before it (`had`) and after it (`has`)
 pub record Removal (depth : Depth) (path : PathValue) (old new : Store) (had has : List Item) (answer : Result (Unit {0}) DavError) : Type 0 where
   pub records : List Logged
-  pub told : new.log ≡ old.log ++ records
+  pub recorded : new.log ≡ old.log ++ records
   pub fixed : new.facts ≡ old.facts
   pub done : RemovesOrStops depth path old.contents new.contents records had has answer

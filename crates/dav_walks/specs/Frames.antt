@@ -11,7 +11,7 @@ use Rattle.dav_store.specs.Logged.{Logged}
 use Rattle.dav_store.specs.Store.{Store, Contents}
 use Rattle.dav_store.specs.Calls.{Call, Grants, Declines}
 use Rattle.dav_store.specs.Members.{IsRemovedAt, remove_file_call, remove_dir_call, read_dir_call, Lists}
-use Rattle.dav_parts.specs.Multistatus.{Item}
+use Rattle.dav_messages.specs.Multistatus.{Item}
 use Rattle.dav_walks.specs.declared.frame.Frame.{Frame}
 use Rattle.dav_walks.specs.declared.frame.Entered.{Entered}
 use Rattle.dav_walks.specs.declared.frame.Entered.TheVariants.{Over, Opened}
@@ -108,7 +108,7 @@ Closes true path old new had has removed = RemovesOne true path old new had has 
 -- the deletion of this depth came to its end
 pub record RemovesAll (depth : Depth) (path : PathValue) (old new : Store) (had has : List Item) : Type 0 where
   pub records : List Logged
-  pub told : new.log ≡ old.log ++ records
+  pub recorded : new.log ≡ old.log ++ records
   pub fixed : new.facts ≡ old.facts
   pub names : List Item
   pub added : has ≡ had ++ names
@@ -117,6 +117,6 @@ pub record RemovesAll (depth : Depth) (path : PathValue) (old new : Store) (had 
 -- the deletion of this depth was stopped because memory ran out
 pub record BreaksOff (depth : Depth) (path : PathValue) (old new : Store) (had has : List Item) : Type 0 where
   pub records : List Logged
-  pub told : new.log ≡ old.log ++ records
+  pub recorded : new.log ≡ old.log ++ records
   pub fixed : new.facts ≡ old.facts
   pub stops : StopsRemoval depth path old.contents new.contents records had has

@@ -46,7 +46,7 @@ in_turn waiting = reverse waiting
 pub record Listed (directory : PathValue) (old : Store) (listing : List Shown) (new : Store) : Type 0 where
   pub records : List Logged
   pub lists : ListsAt old.facts.shows old.contents directory.key records listing
-  pub told : new.log ≡ old.log ++ records
+  pub recorded : new.log ≡ old.log ++ records
   pub same : new.contents ≡ old.contents
   pub fixed : new.facts ≡ old.facts
 

@@ -14,7 +14,7 @@ use Rattle.dav_store.specs.Store.{Contents}
 use Rattle.dav_resource.specs.Errors.{fs_status}
 use Rattle.dav_store.specs.Calls.{error_of}
 use Rattle.dav_store.specs.Members.{IsRemovedAt}
-use Rattle.dav_parts.specs.Multistatus.{Item}
+use Rattle.dav_messages.specs.Multistatus.{Item}
 use Rattle.dav_walks.specs.KeyCall.{standing}
 use Rattle.dav_walks.specs.Deletion.{Removes, RemovesInPart, RemovesAlone, IsLawfulRemoval}
 

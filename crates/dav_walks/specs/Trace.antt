@@ -12,9 +12,9 @@ use Rattle.dav_store.specs.Logged.{Logged}
 use Rattle.dav_store.specs.Store.{Contents, Node, File, Directory, IsWellFormed}
 use Rattle.dav_store.specs.Calls.{IsOwn, limit_of}
 use Rattle.dav_store.specs.Members.{IsIn}
-use Rattle.dav_parts.specs.Multistatus.{Item}
+use Rattle.dav_messages.specs.Multistatus.{Item}
 use Rattle.dav_walks.specs.KeyCall.{KeyCall, logged_call, standing}
-use Rattle.dav_walks.specs.Deletion.{Calls, Look, look_below, calls_below, under, WasRefused, named_in, IsRootRemoval, NothingRemoved, AreSomeOf, Deletes}
+use Rattle.dav_walks.specs.Deletion.{Calls, Subtree, subtree, calls_below, under, WasRefused, named_in, IsRootRemoval, NothingRemoved, AreSomeOf, Deletes}
 
 -- the node is a file, or a directory
 abbrev pub HasKind : Bool → Option Node → Type 0
@@ -22,12 +22,12 @@ HasKind false node = (bytes : List ℕ) × (node ≡ Some (File bytes))
 HasKind true node = node ≡ Some Directory
 
 -- no call was made on the key, and its node is unchanged
-pub record IsUntouched (old new : Look) (calls : Calls) (x : Key) : Type 0 where
+pub record IsUntouched (old new : Subtree) (calls : Calls) (x : Key) : Type 0 where
   pub uncalled : calls x ≡ []
   pub same : new x ≡ old x
 
 -- the same for every key strictly below
-abbrev pub IsUntouchedBelow : Look → Look → Calls → Type 0
+abbrev pub IsUntouchedBelow : Subtree → Subtree → Calls → Type 0
 IsUntouchedBelow old new calls = (name : List ℕ) (x : Key) → IsUntouched old new calls (name ∷ x)
 
 -- the node after a removal with this outcome
@@ -44,18 +44,18 @@ IsRefusedWithin calls = (x : Key) × (c : Op × Outcome) × IsIn c (calls x) × 
 abbrev pub IsGrantedBelow : Calls → Type 0
 IsGrantedBelow calls = (name : List ℕ) (x : Key) (c : Op × Outcome) → IsIn c (calls (name ∷ x)) → c.1 ≡ Granted
 
-pub data Walked : Look → Look → Calls → Type 0 where
+pub data Walked : Subtree → Subtree → Calls → Type 0 where
   -- no node was at the key or below it
-  absent : {old new : Look} {calls : Calls} → ((x : Key) → old x ≡ None) → ((x : Key) → IsUntouched old new calls x) → Walked old new calls
+  absent : {old new : Subtree} {calls : Calls} → ((x : Key) → old x ≡ None) → ((x : Key) → IsUntouched old new calls x) → Walked old new calls
   -- the store did not list it in its directory
-  unseen : {old new : Look} {calls : Calls} (e : FsError) → old [] ≢ None → calls [] ≡ (Entry, Refused e) ∷ [] → new [] ≡ old [] → IsUntouchedBelow old new calls → Walked old new calls
-  file : {old new : Look} {calls : Calls} (outcome : Outcome) → HasKind false (old []) → calls [] ≡ (RemoveFile, outcome) ∷ [] → Leaves outcome (old []) (new []) → ((name : List ℕ) (x : Key) → old (name ∷ x) ≡ None) → IsUntouchedBelow old new calls → Walked old new calls
+  unseen : {old new : Subtree} {calls : Calls} (e : FsError) → old [] ≢ None → calls [] ≡ (Entry, Refused e) ∷ [] → new [] ≡ old [] → IsUntouchedBelow old new calls → Walked old new calls
+  file : {old new : Subtree} {calls : Calls} (outcome : Outcome) → HasKind false (old []) → calls [] ≡ (RemoveFile, outcome) ∷ [] → Leaves outcome (old []) (new []) → ((name : List ℕ) (x : Key) → old (name ∷ x) ≡ None) → IsUntouchedBelow old new calls → Walked old new calls
   -- a directory whose listing was not granted
-  unlisted : {old new : Look} {calls : Calls} (outcome : Outcome) → WasRefused outcome → old [] ≡ Some Directory → calls [] ≡ (ReadDir, outcome) ∷ [] → new [] ≡ old [] → IsUntouchedBelow old new calls → Walked old new calls
+  unlisted : {old new : Subtree} {calls : Calls} (outcome : Outcome) → WasRefused outcome → old [] ≡ Some Directory → calls [] ≡ (ReadDir, outcome) ∷ [] → new [] ≡ old [] → IsUntouchedBelow old new calls → Walked old new calls
   -- a listed directory below which something was not granted: its removal is not called
-  kept : {old new : Look} {calls : Calls} → old [] ≡ Some Directory → calls [] ≡ (ReadDir, Granted) ∷ [] → new [] ≡ old [] → IsRefusedWithin calls → ((name : List ℕ) → Walked (under old name) (under new name) (under calls name)) → Walked old new calls
+  kept : {old new : Subtree} {calls : Calls} → old [] ≡ Some Directory → calls [] ≡ (ReadDir, Granted) ∷ [] → new [] ≡ old [] → IsRefusedWithin calls → ((name : List ℕ) → Walked (under old name) (under new name) (under calls name)) → Walked old new calls
   -- a listed directory below which everything was granted: its removal is called
-  emptied : {old new : Look} {calls : Calls} (outcome : Outcome) → old [] ≡ Some Directory → calls [] ≡ (ReadDir, Granted) ∷ (RemoveDir, outcome) ∷ [] → Leaves outcome (old []) (new []) → IsGrantedBelow calls → ((name : List ℕ) → Walked (under old name) (under new name) (under calls name)) → Walked old new calls
+  emptied : {old new : Subtree} {calls : Calls} (outcome : Outcome) → old [] ≡ Some Directory → calls [] ≡ (ReadDir, Granted) ∷ (RemoveDir, outcome) ∷ [] → Leaves outcome (old []) (new []) → IsGrantedBelow calls → ((name : List ℕ) → Walked (under old name) (under new name) (under calls name)) → Walked old new calls
 
 abbrev pub AllGranted : List KeyCall → Type 0
 AllGranted calls = (call : KeyCall) → IsIn call calls → call.outcome ≡ Granted
@@ -83,7 +83,7 @@ pub record Walks (path : PathValue) (old new : Contents) (before after : List Lo
   pub named : has ≡ had ++ names
   pub bag : IsPermutation (named_in path calls) names
   pub outside : (key : Key) → ((x : Key) → key ≢ k ++ x) → standing new key ≡ standing old key
-  pub walked : Walked (look_below old.tree k) (look_below new.tree k) (calls_below calls k)
+  pub walked : Walked (subtree old.tree k) (subtree new.tree k) (calls_below calls k)
   pub is_kept : IsKept old new
   pub well_formed : IsWellFormed new
   pub granted : clean ≡ true → AllGranted calls
@@ -91,10 +91,10 @@ pub record Walks (path : PathValue) (old new : Contents) (before after : List Lo
   pub untouched : NothingRemoved calls → new ≡ old
 
 -- a walk that may have been stopped: it is over, or not begun, or a directory is listed and for each member one of these is true
-pub data Partly : Look → Look → Calls → Type 0 where
-  over : {old new : Look} {calls : Calls} → Walked old new calls → Partly old new calls
-  waiting : {old new : Look} {calls : Calls} → ((x : Key) → IsUntouched old new calls x) → Partly old new calls
-  halted : {old new : Look} {calls : Calls} → old [] ≡ Some Directory → calls [] ≡ (ReadDir, Granted) ∷ [] → new [] ≡ old [] → ((name : List ℕ) → Partly (under old name) (under new name) (under calls name)) → Partly old new calls
+pub data Partly : Subtree → Subtree → Calls → Type 0 where
+  over : {old new : Subtree} {calls : Calls} → Walked old new calls → Partly old new calls
+  waiting : {old new : Subtree} {calls : Calls} → ((x : Key) → IsUntouched old new calls x) → Partly old new calls
+  halted : {old new : Subtree} {calls : Calls} → old [] ≡ Some Directory → calls [] ≡ (ReadDir, Granted) ∷ [] → new [] ≡ old [] → ((name : List ℕ) → Partly (under old name) (under new name) (under calls name)) → Partly old new calls
 
 -- The same, from the old contents, log and reported items to the new ones. Some reported items may be missing.
 pub record Halts (path : PathValue) (old new : Contents) (before after : List Logged) (had has : List Item) (k : Key) : Type 0 where
@@ -106,7 +106,7 @@ pub record Halts (path : PathValue) (old new : Contents) (before after : List Lo
   pub no_entry : (outcome : Outcome) → IsIn (Entry, outcome) (calls_below calls k []) → ⊥
   pub outside : (key : Key) → ((x : Key) → key ≢ k ++ x) → standing new key ≡ standing old key
   pub is_kept : IsKept old new
-  pub partly : Partly (look_below old.tree k) (look_below new.tree k) (calls_below calls k)
+  pub partly : Partly (subtree old.tree k) (subtree new.tree k) (calls_below calls k)
   pub names : List Item
   pub named : has ≡ had ++ names
   pub some : AreSomeOf names (named_in path calls)

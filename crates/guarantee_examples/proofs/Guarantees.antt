@@ -20,8 +20,8 @@ use Rattle.dav_store.specs.Logged.{Logged}
 use Rattle.dav_store.specs.Members.{IsIn}
 use Rattle.dav_store.specs.Store.{Node, File, Directory}
 use Rattle.dav_store.specs.declared.lock.DavLock.{DavLock}
-use Rattle.dav_parts.specs.Conditions.{submitted_tokens}
-use Rattle.dav_parts.specs.Reply.{Answer}
+use Rattle.dav_messages.specs.Conditions.{submitted_tokens}
+use Rattle.dav_messages.specs.Reply.{Answer}
 use Rattle.dav_walks.specs.KeyCall.{standing}
 use Rattle.dav_engine.specs.Bounds.{is_at_destination, may_change, may_change_lock}
 use Rattle.dav_engine.specs.Guarded.{IsPermitted, IsLockedFile}
@@ -280,11 +280,11 @@ run_keeps settings (request ∷ requests) old new records (answer ∷ answers) l
 
 first_put_kept : (settings : Settings) (put : DavRequest) (requests : List DavRequest) (old new : State) (records : List Logged) (answer : Answer) (answers : List Answer)
     → Run settings old (put ∷ requests) records (answer ∷ answers) new → KeepsFirstPut settings (put ∷ requests) (answer ∷ answers) old new
-first_put_kept settings put requests old new records answer answers run lock protected whole told without =
+first_put_kept settings put requests old new records answer answers run lock protected whole transferred without =
     let law = subst (λ m. MethodLaw m settings put old run.0 answer run.2) whole.put run.4.law.own in
     run_keeps settings requests run.2 new run.1 answers lock put.path.key (new_bytes settings.facts.bodies put.body) run.5
     (still_protected settings put old run.2 run.0 answer lock put.path.key run.4 (ap (λ m. may_change_lock m settings put lock) whole.put) protected) without
-    (law.whole told (record { put = refl; no_range = whole.no_range }))
+    (law.whole transferred (record { put = refl; no_range = whole.no_range }))
 
 keeps_first_put : (settings : Settings) (requests : List DavRequest) (old new : State) (records : List Logged) (answers : List Answer) → Run settings old requests records answers new → KeepsFirstPut settings requests answers old new
 keeps_first_put settings [] old new records [] run = tt

@@ -13,11 +13,11 @@ use Rattle.dav_headers.specs.Range.{content_range_of}
 use Rattle.dav_store.specs.Locks.{is_at_or_below, covers}
 use Rattle.dav_store.specs.Store.{File}
 use Rattle.dav_store.specs.declared.lock.DavLock.{DavLock}
-use Rattle.dav_parts.specs.Conditions.{submitted_tokens}
-use Rattle.dav_parts.specs.Reply.{Answer}
+use Rattle.dav_messages.specs.Conditions.{submitted_tokens}
+use Rattle.dav_messages.specs.Reply.{Answer}
 use Rattle.dav_walks.specs.KeyCall.{standing}
 use Rattle.dav_engine.specs.Bounds.{HasLock, is_at_destination}
-use Rattle.dav_engine.specs.Laws.{tells_transferred}
+use Rattle.dav_engine.specs.Laws.{is_transferred}
 use Rattle.dav_engine.specs.Put.{new_bytes}
 use Rattle.dav_engine.specs.Settings.{Settings}
 use Rattle.dav_engine.specs.State.{State}
@@ -60,6 +60,6 @@ pub record IsWholePut (request : DavRequest) : Type 0 where
 -- the file has exactly the body of the PUT at the end.
 abbrev pub KeepsFirstPut : Settings → List DavRequest → List Answer → State → State → Type 0
 KeepsFirstPut settings (put ∷ requests) (answer ∷ answers) old new =
-    (lock : DavLock) → IsProtected put.path.key lock old → IsWholePut put → tells_transferred answer ≡ true → AreWithout lock.token requests
+    (lock : DavLock) → IsProtected put.path.key lock old → IsWholePut put → is_transferred answer ≡ true → AreWithout lock.token requests
     → get new.contents.tree put.path.key ≡ Some (File (new_bytes settings.facts.bodies put.body))
 KeepsFirstPut settings _ _ old new = Unit {0}

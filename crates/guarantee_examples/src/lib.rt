@@ -2,7 +2,7 @@
 #![tactic(auto)]
 
 ghost use Rattle.std.specs.Prelude.{IfOk, map};
-ghost use Rattle.dav_parts.specs.Reply.{answer_of};
+ghost use Rattle.dav_messages.specs.Reply.{answer_of};
 ghost use Rattle.dav_engine.specs.DavInner.{settings_by, state_by};
 ghost use Rattle.guarantee_examples.specs.Guarantees.{KeepsUnreached, KeepsFirstPut};
 

@@ -1,7 +1,7 @@
 //! The records that an in-memory store writes of its calls.
 ghost use Rattle.std.specs.Prelude.{◌≡◌, ◌<◌, ◌∷◌, ◌++◌, [], vec_len, vec_capacity, OnOk, IfOk, IfErr};
 ghost use Rattle.dav_memfs.specs.MemFs.{memory_of};
-ghost use Rattle.dav_memfs.specs.MemoryCalls.{Tells, TellsWith, outcome_of};
+ghost use Rattle.dav_memfs.specs.MemoryCalls.{Records, RecordsWith, outcome_of};
 ghost use Rattle.dav_store.specs.Logged.{record_with};
 
 use super::MemFs;
@@ -52,7 +52,7 @@ impl MemFs {
         requires { vec_len self.old.log < vec_capacity self.old.log }
         ensures answer { result ≡ answer }
         ensures memory { memory_of self.new ≡ memory_of self.old }
-        ensures record { Tells op paths answer self.old.log.items self.new.log.items }
+        ensures record { Records op paths answer self.old.log.items self.new.log.items }
     {
         let none = Items::from_vec(Vec::new(*self.log.allocator()));
         self.end_record_with(op, paths, none, answer)
@@ -70,21 +70,21 @@ impl MemFs {
         requires { vec_len self.old.log < vec_capacity self.old.log }
         ensures answer { result ≡ answer }
         ensures memory { memory_of self.new ≡ memory_of self.old }
-        ensures record { TellsWith (λ _. statuses) op paths answer self.old.log.items self.new.log.items }
+        ensures record { RecordsWith (λ _. statuses) op paths answer self.old.log.items self.new.log.items }
     {
         match &answer {
-            Ok(_) => self.tell(op, paths, Outcome::Granted, statuses),
+            Ok(_) => self.write_record(op, paths, Outcome::Granted, statuses),
             Err(FsError::Memory) => {}
             Err(error) => {
                 let none = Items::from_vec(Vec::new(*self.log.allocator()));
-                self.tell(op, paths, outcome_of(*error), none);
+                self.write_record(op, paths, outcome_of(*error), none);
             }
         }
         answer
     }
 
     /// Appends a record to the log.
-    fn tell(&mut self, op: Op, paths: Paths, outcome: Outcome, statuses: Items<StatusCode>)
+    fn write_record(&mut self, op: Op, paths: Paths, outcome: Outcome, statuses: Items<StatusCode>)
         requires { vec_len self.old.log < vec_capacity self.old.log }
         ensures memory { memory_of self.new ≡ memory_of self.old }
         ensures record { self.new.log.items ≡ self.old.log.items ++ record_with op paths outcome statuses ∷ [] }

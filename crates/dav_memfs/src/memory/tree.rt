@@ -179,7 +179,7 @@ impl MemFs {
 
     /// Returns the number of bytes in all files, at most `u64::MAX`, and the quota's limit. Returns
     /// `NotImplemented` if there is no quota.
-    pub(super) fn tell_quota(&self) -> FsResult<(u64, Option<u64>)>
+    pub(super) fn read_quota(&self) -> FsResult<(u64, Option<u64>)>
         ensures quota { IfOk result (λ quota. quota_of (memory_of self.now) ≡ Some (record { used = quota.0; total = quota.1 })) }
         ensures answer { Gives (quota_error (memory_of self.now)) kept (memory_of self.now) result (memory_of self.now) }
     {

@@ -77,7 +77,7 @@ fn refuse_member(
 ) -> FsResult<Option<FsError>>
     requires { IsSegment entry.now.name }
     ensures error { IfOk result (λ error. error ≡ refusal_for Op.Entry (member path.now.key entry.now.name) (plan_in plan.now.queues)) }
-    ensures told { IfOk result (λ error. unseen.new.records.items ≡ unseen.old.records.items ++ refused_record path.now entry.now.name error) }
+    ensures recorded { IfOk result (λ error. unseen.new.records.items ≡ unseen.old.records.items ++ refused_record path.now entry.now.name error) }
     ensures refused { IfOk result (λ error. map slot_call unseen.new.refused.items ≡ map slot_call unseen.old.refused.items ++ refused_call path.now.key entry.now.name error) }
     ensures err { IfErr result (λ e. e ≡ FsError.Memory) }
 {

@@ -21,6 +21,6 @@ loop-status-preserved c =
 
 pub returns-clause-groups : goal.returns-clause-groups
 returns-clause-groups c =
-    let given = YieldsList-from_vec {s = c.into_iter-status-iterator.result} c.args.told.items c.into_iter-status-iterator.ensures.into_iter_gives.0 (c.into_iter-status-iterator.ensures.into_iter_gives.1 ∙ c.args.told.ok.0) in
+    let given = YieldsList-from_vec {s = c.into_iter-status-iterator.result} c.args.reported.items c.into_iter-status-iterator.ensures.into_iter_gives.0 (c.into_iter-status-iterator.ensures.into_iter_gives.1 ∙ c.args.reported.ok.0) in
     let all = YieldsList-end given c.loop-status.yielded c.loop-status.status-iterator c.loop-status.yielded_by _ c.next.new.self c.in-None.is c.next.ensures.steps in
     grouping-is _ _ c.loop-status.invariant.grouping ∙ ap grouped (sym (map-same c.loop-status.yielded) ∙ all.0)

@@ -4,7 +4,7 @@ use Rattle.std.proofs.lemmas.Iterator.Search.{any_from_yields_List}
 use Rattle.std.specs.List.{list_any}
 use Rattle.dav_headers.specs.IfHeader.{if_of}
 use Rattle.dav_headers.specs.declared.if_header.IfList.{IfList}
-use Rattle.dav_parts.specs.Conditions.{all_tokens, tokens_in}
+use Rattle.dav_messages.specs.Conditions.{all_tokens, tokens_in}
 use Rattle.dav_server.specs.Owners.{is_of_another}
 use Rattle.dav_server.proofs.AnyLemmas.{list_any-flat_map}
 use Rattle.dav_server.proofs.owners.refreshes_anothers.Goals as goal

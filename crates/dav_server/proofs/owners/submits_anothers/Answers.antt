@@ -3,7 +3,7 @@ use Rattle.std.proofs.lemmas.Iterator.{YieldsList-from_slice}
 use Rattle.std.proofs.lemmas.Iterator.Search.{any_from_yields_List}
 use Rattle.std.specs.Option.{option_map_or}
 use Rattle.dav_headers.specs.declared.if_header.IfCondition.{IfCondition}
-use Rattle.dav_parts.specs.Conditions.{token_of}
+use Rattle.dav_messages.specs.Conditions.{token_of}
 use Rattle.dav_server.specs.Owners.{is_of_another}
 use Rattle.dav_server.proofs.AnyLemmas.{list_any-filter_map}
 use Rattle.dav_server.proofs.owners.submits_anothers.Goals as goal

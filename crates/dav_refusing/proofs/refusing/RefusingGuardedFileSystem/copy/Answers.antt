@@ -12,7 +12,7 @@ returns-clause-plan g c =
     c.args.self.now c.begin.new.self c.finish.new.self c.copy-answer.new.self c.in_ok-paths.paths (record c.in_ok-call.call { outcome = c.last_outcome-call.result }) c.last_outcome-call.result c.records.result.now c.copy-answer.result c.finish.result
     c.in_ok-paths.ensures c.in_ok-call.ensures.free c.in_ok-call.ensures.kept c.copy-answer.ensures
     (ap (λ (r : Record). record r { outcome = c.last_outcome-call.result }) c.in_ok-call.ensures.call) c.records.ensures c.last_outcome-call.ensures
-    c.finish.ensures.answer c.finish.ensures.inner c.finish.ensures.memory c.finish.ensures.counted c.finish.ensures.told
+    c.finish.ensures.answer c.finish.ensures.inner c.finish.ensures.memory c.finish.ensures.counted c.finish.ensures.recorded
 
 pub returns-clause-seen : goal.returns-clause-seen
 returns-clause-seen g c =

@@ -12,7 +12,7 @@ returns-clause-plan g c =
     c.in_ok-paths.ensures c.in_ok-call.ensures.free c.in_ok-call.ensures.kept
     (rw c.finish.ensures.inner c.read_bytes-answer.ensures)
     (ap (λ (r : Record). record r { outcome = c.last_outcome-call.result }) c.in_ok-call.ensures.call) c.records.ensures c.last_outcome-call.ensures
-    c.finish.ensures.answer c.finish.ensures.inner c.finish.ensures.memory c.finish.ensures.counted c.finish.ensures.told
+    c.finish.ensures.answer c.finish.ensures.inner c.finish.ensures.memory c.finish.ensures.counted c.finish.ensures.recorded
 
 pub returns-clause-seen : goal.returns-clause-seen
 returns-clause-seen g c =

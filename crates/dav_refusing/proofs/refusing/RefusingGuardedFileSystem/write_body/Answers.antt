@@ -15,7 +15,7 @@ returns-clause-plan g c =
     c.in_ok-paths.ensures c.in_ok-call.ensures.free c.in_ok-call.ensures.kept
     (subst (λ store. Writes (g.F.GuardedFileSystem.seen c.begin.new.self.inner) c.args.file.now (stored_bytes (g.F.GuardedFileSystem.seen store).facts.bodies c.args.number) c.write_body-answer.result (g.F.GuardedFileSystem.seen c.write_body-answer.new.self)) c.in_ok-call.ensures.kept.inner c.write_body-answer.ensures.written)
     (ap (λ (r : Record). record r { outcome = c.last_outcome-call.result }) c.in_ok-call.ensures.call) c.records.ensures c.last_outcome-call.ensures
-    c.finish.ensures.answer c.finish.ensures.inner c.finish.ensures.memory c.finish.ensures.counted c.finish.ensures.told
+    c.finish.ensures.answer c.finish.ensures.inner c.finish.ensures.memory c.finish.ensures.counted c.finish.ensures.recorded
 
 pub returns-clause-written : goal.returns-clause-written
 returns-clause-written g c =

@@ -17,7 +17,7 @@ loop-shown-preserved c =
             let_be_seen (plan_in c.args.plan.now.queues) c.args.path.now children c.args.hidden.now c.loop-shown.shown-index c.loop-shown.listing c.match-shown.listing c.loop-shown.unseen.records.items (map slot_call c.loop-shown.unseen.refused.items) c.loop-shown.rest.now
             c.shown-item.result (Err w.in-Some.error) c.shown-item.is inside w.listing-is (c.loop-shown.invariant.under children is)
             w.in-Ok.entry w.in_ok-error-in-Ok.field-0 c.match-shown.unseen.records.items (map slot_call c.match-shown.unseen.refused.items) c.match-shown.rest.now (c.shown-item.is ∙ w.in-Ok.is) (sym (ap (λ o. shown_as o w.in-Ok.entry) w.in-Some.is))
-            w.in_ok-error-in-Ok.ensures.error (ap (λ u. u.records.items) w.unseen-is ∙ w.in_ok-error-in-Ok.ensures.told) (ap (λ u. map slot_call u.refused.items) w.unseen-is ∙ w.in_ok-error-in-Ok.ensures.refused) (ap (λ v. v.now) w.rest-is);
+            w.in_ok-error-in-Ok.ensures.error (ap (λ u. u.records.items) w.unseen-is ∙ w.in_ok-error-in-Ok.ensures.recorded) (ap (λ u. map slot_call u.refused.items) w.unseen-is ∙ w.in_ok-error-in-Ok.ensures.refused) (ap (λ v. v.now) w.rest-is);
       }
       | in-Ok+in_ok-error-in-Ok+in-Some+in-Ok+in-None-1 w ↦ record {
         names = names_stay c.loop-shown.shown-index c.loop-shown.listing c.match-shown.listing (Err w.in-Some.error) w.listing-is c.loop-shown.invariant.names tt;
@@ -25,7 +25,7 @@ loop-shown-preserved c =
             let_be_seen (plan_in c.args.plan.now.queues) c.args.path.now children c.args.hidden.now c.loop-shown.shown-index c.loop-shown.listing c.match-shown.listing c.loop-shown.unseen.records.items (map slot_call c.loop-shown.unseen.refused.items) c.loop-shown.rest.now
             c.shown-item.result (Err w.in-Some.error) c.shown-item.is inside w.listing-is (c.loop-shown.invariant.under children is)
             w.in-Ok.entry w.in_ok-error-in-Ok.field-0 c.match-shown.unseen.records.items (map slot_call c.match-shown.unseen.refused.items) c.match-shown.rest.now (c.shown-item.is ∙ w.in-Ok.is) (sym (ap (λ o. shown_as o w.in-Ok.entry) w.in-Some.is))
-            w.in_ok-error-in-Ok.ensures.error (ap (λ u. u.records.items) w.unseen-is ∙ w.in_ok-error-in-Ok.ensures.told) (ap (λ u. map slot_call u.refused.items) w.unseen-is ∙ w.in_ok-error-in-Ok.ensures.refused) (ap (λ v. v.now) w.rest-is);
+            w.in_ok-error-in-Ok.ensures.error (ap (λ u. u.records.items) w.unseen-is ∙ w.in_ok-error-in-Ok.ensures.recorded) (ap (λ u. map slot_call u.refused.items) w.unseen-is ∙ w.in_ok-error-in-Ok.ensures.refused) (ap (λ v. v.now) w.rest-is);
       }
       | in-Ok+in_ok-error-in-Ok+in-Some+in-Err-1 w ↦ record {
         names = names_stay c.loop-shown.shown-index c.loop-shown.listing c.match-shown.listing (Err w.in-Some.error) w.listing-is c.loop-shown.invariant.names tt;
@@ -33,7 +33,7 @@ loop-shown-preserved c =
             let_be_seen (plan_in c.args.plan.now.queues) c.args.path.now children c.args.hidden.now c.loop-shown.shown-index c.loop-shown.listing c.match-shown.listing c.loop-shown.unseen.records.items (map slot_call c.loop-shown.unseen.refused.items) c.loop-shown.rest.now
             c.shown-item.result (Err w.in-Some.error) c.shown-item.is inside w.listing-is (c.loop-shown.invariant.under children is)
             w.in-Ok.entry w.in_ok-error-in-Ok.field-0 c.match-shown.unseen.records.items (map slot_call c.match-shown.unseen.refused.items) c.match-shown.rest.now (c.shown-item.is ∙ w.in-Ok.is) (sym (ap (λ o. shown_as o w.in-Ok.entry) w.in-Some.is))
-            w.in_ok-error-in-Ok.ensures.error (ap (λ u. u.records.items) w.unseen-is ∙ w.in_ok-error-in-Ok.ensures.told) (ap (λ u. map slot_call u.refused.items) w.unseen-is ∙ w.in_ok-error-in-Ok.ensures.refused) (ap (λ v. v.now) w.rest-is);
+            w.in_ok-error-in-Ok.ensures.error (ap (λ u. u.records.items) w.unseen-is ∙ w.in_ok-error-in-Ok.ensures.recorded) (ap (λ u. map slot_call u.refused.items) w.unseen-is ∙ w.in_ok-error-in-Ok.ensures.refused) (ap (λ v. v.now) w.rest-is);
       }
       | in-Ok+in_ok-error-in-Ok+in_default w ↦ record {
         names = names_stay c.loop-shown.shown-index c.loop-shown.listing c.match-shown.listing (Ok w.in-Ok.entry) w.listing-is c.loop-shown.invariant.names (subst (λ s. IfOk s (λ entry. IsSegment entry.name)) w.in-Ok.is (c.loop-shown.invariant.names c.loop-shown.shown-index c.shown-item.result inside));
@@ -41,7 +41,7 @@ loop-shown-preserved c =
             let_be_seen (plan_in c.args.plan.now.queues) c.args.path.now children c.args.hidden.now c.loop-shown.shown-index c.loop-shown.listing c.match-shown.listing c.loop-shown.unseen.records.items (map slot_call c.loop-shown.unseen.refused.items) c.loop-shown.rest.now
             c.shown-item.result (Ok w.in-Ok.entry) c.shown-item.is inside w.listing-is (c.loop-shown.invariant.under children is)
             w.in-Ok.entry w.in_ok-error-in-Ok.field-0 c.match-shown.unseen.records.items (map slot_call c.match-shown.unseen.refused.items) c.match-shown.rest.now (c.shown-item.is ∙ w.in-Ok.is) (sym (ap (λ o. shown_as o w.in-Ok.entry) w.in_default.is))
-            w.in_ok-error-in-Ok.ensures.error (ap (λ u. u.records.items) w.unseen-is ∙ w.in_ok-error-in-Ok.ensures.told) (ap (λ u. map slot_call u.refused.items) w.unseen-is ∙ w.in_ok-error-in-Ok.ensures.refused) (ap (λ v. v.now) w.rest-is);
+            w.in_ok-error-in-Ok.ensures.error (ap (λ u. u.records.items) w.unseen-is ∙ w.in_ok-error-in-Ok.ensures.recorded) (ap (λ u. map slot_call u.refused.items) w.unseen-is ∙ w.in_ok-error-in-Ok.ensures.refused) (ap (λ v. v.now) w.rest-is);
       }
       | in-Err+in-Some-split_first+in_ok-clone-in-Err+in_ok-push-in-Err w ↦ record {
         names = names_stay c.loop-shown.shown-index c.loop-shown.listing c.match-shown.listing (get_or c.loop-shown.listing c.loop-shown.shown-index c.shown-item.result) w.listing-is c.loop-shown.invariant.names (c.loop-shown.invariant.names c.loop-shown.shown-index c.shown-item.result inside);

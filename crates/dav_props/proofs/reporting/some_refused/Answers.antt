@@ -4,7 +4,7 @@ use Rattle.std.proofs.lemmas.Iterator.Search.{any_from_yields_List}
 use Rattle.dav_props.specs.Update.{change_of, is_refused}
 use Rattle.dav_props.specs.declared.update.PropertyChange.{PropertyChange}
 use Rattle.dav_props.proofs.ChangeLists.{any-map}
-use Rattle.dav_props.proofs.telling.some_refused.Goals as goal
+use Rattle.dav_props.proofs.reporting.some_refused.Goals as goal
 
 pub returns : goal.returns
 returns c =

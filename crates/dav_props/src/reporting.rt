@@ -4,7 +4,7 @@ ghost use Rattle.std.specs.Prelude.{◌≡◌, map, filter, IfOk};
 ghost use Rattle.dav_props.specs.Groups.{groups_of, AreStatuses};
 ghost use Rattle.dav_props.specs.Property.{bare};
 ghost use Rattle.dav_props.specs.Propstat.{grouped};
-ghost use Rattle.dav_props.specs.Update.{change_of, is_dead as is_dead_change, is_refused as is_refused_change, some_refused as some_refused_of, patch_of, patches_of, failed as failed_change, told_failed, live_made, told_made};
+ghost use Rattle.dav_props.specs.Update.{change_of, is_dead as is_dead_change, is_refused as is_refused_change, some_refused as some_refused_of, patch_of, patches_of, failed as failed_change, failed_report, live_made, made_report};
 
 use crate::property::{bare_element, element_to_davprop, element_to_davprop_full};
 use crate::propstat::group_by_status;
@@ -41,43 +41,43 @@ pub fn patches(
 /// Groups the properties by status if a change was rejected. Every change that was not itself rejected is
 /// reported with 424. A property that the store would have set is reported with its value, every other one by
 /// name. Fails only if memory runs out.
-pub fn tell_failed(
+pub fn report_failed(
     alloc: Global,
     changes: &[PropertyChange<'_>],
 ) -> Result<BTreeMap<u16, Vec<Element>>, AllocError>
-    ensures groups { IfOk result (λ groups. groups_of groups ≡ grouped (told_failed (map change_of changes.now))) }
+    ensures groups { IfOk result (λ groups. groups_of groups ≡ grouped (failed_report (map change_of changes.now))) }
     ensures statuses { IfOk result AreStatuses }
 {
-    let mut told = Vec::new(alloc);
+    let mut reported = Vec::new(alloc);
     for change in changes {
         if !is_dead(change) {
-            told.push(failed(alloc, change)?)?;
+            reported.push(failed(alloc, change)?)?;
         }
     }
     for change in changes {
         if is_dead(change) {
-            told.push(failed(alloc, change)?)?;
+            reported.push(failed(alloc, change)?)?;
         }
     }
-    group_by_status(alloc, told)
+    group_by_status(alloc, reported)
 }
 
 /// Groups the properties by status if the store was called. `statuses` are those that it returned for the
 /// changes that it had to make, in order. Every other change has its own status. Fails only if memory runs
 /// out.
-pub fn tell_made(
+pub fn report_made(
     alloc: Global,
     changes: &[PropertyChange<'_>],
     statuses: &[StatusCode],
 ) -> Result<BTreeMap<u16, Vec<Element>>, AllocError>
-    ensures groups { IfOk result (λ groups. groups_of groups ≡ grouped (told_made (map change_of changes.now) statuses.now)) }
+    ensures groups { IfOk result (λ groups. groups_of groups ≡ grouped (made_report (map change_of changes.now) statuses.now)) }
     ensures statuses { IfOk result AreStatuses }
 {
-    let mut told = tell_live(alloc, changes)?;
+    let mut reported = report_live(alloc, changes)?;
     for (status, element) in statuses.iter().zip(dead_elements(alloc, changes)?) {
-        told.push((*status, element))?;
+        reported.push((*status, element))?;
     }
-    group_by_status(alloc, told)
+    group_by_status(alloc, reported)
 }
 
 /// Returns the elements, without values, of the properties that the store has to change.
@@ -94,25 +94,25 @@ fn dead_elements(alloc: Global, changes: &[PropertyChange<'_>]) -> Result<Vec<El
 }
 
 /// Returns the elements, without values, of all other properties, each with its own status.
-fn tell_live(
+fn report_live(
     alloc: Global,
     changes: &[PropertyChange<'_>],
 ) -> Result<Vec<(StatusCode, Element)>, AllocError>
-    ensures { IfOk result (λ told. told.items ≡ live_made (map change_of changes.now)) }
+    ensures { IfOk result (λ reported. reported.items ≡ live_made (map change_of changes.now)) }
 {
-    let mut told = Vec::new(alloc);
+    let mut reported = Vec::new(alloc);
     for change in changes {
         if !is_dead(change) {
-            told.push((change.status, bare_element(alloc, change.element)?))?;
+            reported.push((change.status, bare_element(alloc, change.element)?))?;
         }
     }
-    Ok(told)
+    Ok(reported)
 }
 
 /// Returns how a change is reported if some change was rejected: with its own status if it was this one, else
 /// with 424.
 fn failed(alloc: Global, change: &PropertyChange<'_>) -> Result<(StatusCode, Element), AllocError>
-    ensures { IfOk result (λ told. told ≡ failed_change (change_of change.now)) }
+    ensures { IfOk result (λ reported. reported ≡ failed_change (change_of change.now)) }
 {
     if is_refused(change) {
         return Ok((change.status, bare_element(alloc, change.element)?));

@@ -2,7 +2,7 @@ use Rattle.std.proofs.Common.{◌≡◌, map, take}
 use Rattle.std.specs.Prelude.{filter}
 use Rattle.dav_props.specs.Property.{bare}
 use Rattle.dav_props.specs.Update.{Change, change_of, is_dead}
-use Rattle.dav_props.proofs.telling.dead_elements.Given as goal
+use Rattle.dav_props.proofs.reporting.dead_elements.Given as goal
 
 -- those of the changes so far
 abbrev pub invariant-loop-change : goal.invariant-loop-change
