@@ -15,7 +15,7 @@ use Rattle.dav_messages.specs.Reply.{Reply, Answer}
 use Rattle.dav_props.specs.Propstat.{grouped}
 use Rattle.dav_props.specs.Update.{Change, update_verdict, some_refused, live_first, patches_of, failed_report, made_report}
 use Rattle.dav_walks.specs.PutLaws.{put_at_here, put_at_elsewhere}
-use Rattle.dav_engine.specs.Laws.{status_beside_refused, statuses_of, returned, all_ok, ChangesNothing, AreStored, StoresAllOrNothing, ReportsStored, KeepsUnlessReported, StoresNothingBesideRefused, ProppatchLaw}
+use Rattle.dav_engine.specs.Laws.{status_beside_refused, statuses_of, returned, all_ok, ChangesNothing, AreStored, StoresAllOrNothing, ReportsStored, ErrorsChangeNothing, StoresNothingBesideRefused, ProppatchLaw}
 use Rattle.dav_engine.specs.Method.{StepBy, Refused, Done, CutShort, CutInWork}
 use Rattle.dav_engine.specs.Methods.{proppatch_method}
 use Rattle.dav_engine.specs.Proppatch.{Update, found_rules, unless_some_refused, proppatch_rules, proppatch_reply, stored_answer, MakesChanges}
@@ -193,7 +193,7 @@ module _ (settings : Settings) (request : DavRequest) (old : State) (records : L
   patch_tells answer new (CutShort h) reply is = let no = sym is ∙ h.answered in absurd cc
   patch_tells answer new (CutInWork h) reply is = let no = sym is ∙ h.answered in absurd cc
 
-  patch_kept : (answer : Answer) (new : State) → StepBy proppatch_method settings request old records answer new → KeepsUnlessReported old answer new
+  patch_kept : (answer : Answer) (new : State) → StepBy proppatch_method settings request old records answer new → ErrorsChangeNothing old answer new
   patch_kept answer new (Refused h) e is other = same_state old new h.same
   patch_kept answer new (Done h) e is other = by_reported h.work.0.store_answer (patches_of h.found.1) h.work.0.stored h.work.0.answered
     where

@@ -24,11 +24,23 @@ use Rattle.dav_engine.specs.Patching.{Patching}
 use Rattle.dav_engine.specs.Proppatch.{Update}
 use Rattle.dav_engine.specs.Put.{PutWork, PutCut, new_bytes}
 use Rattle.dav_engine.specs.State.{State, ChangesLocks, KeepsLocks, IsRefusedByLocks}
-use Rattle.dav_engine.specs.Transferring.{Names, ClearsIf, ClearsInPart}
+use Rattle.dav_engine.specs.Transferring.{Names, Clearing}
 use Rattle.dav_engine.specs.Work.{Performs, WorksOnStore}
 use Rattle.dav_engine.specs.declared.inner.DavInner.{DavInner}
 use Rattle.dav_engine.specs.declared.target.Target.{Target}
 use Rattle.dav_engine.specs.declared.transfer.Transfer.{Transfer}
+
+-- ---- what a call needs
+
+-- written at the target, these bytes end below 2^64
+abbrev pub EndsInRange : Target → List ℕ → Type 0
+EndsInRange target bytes = (if target.part then target.start else 0) + length bytes < 2 ^ 64
+
+-- a source that is not `topdest` itself may be copied (`HasRoom`), if the Depth is not 0
+abbrev pub HasRoomToCopy : Depth → PathValue → PathValue → PathValue → Contents → Type 0
+HasRoomToCopy depth source topdest dest contents = source.key ≢ topdest.key → depth ≢ Zero → HasRoom source.key topdest.key dest.key contents
+
+-- ---- what a call does
 
 module _ {C F L : Type 0} where
   -- the engine borrows the same store and lock system, and is as it was created (`fixed_parts`)
@@ -40,7 +52,7 @@ module _ {C F L : Type 0} (see_store : F → Store) where
   abbrev pub StoreWorkBy : (Contents → List Logged → Answer → Contents → Type 0) → (Contents → List Logged → Contents → Type 0) → DavInner C F L → Answer → DavInner C F L → Type 0
   StoreWorkBy Done Cut old answer new = WorksOnStore Done Cut (see_store (lent old)) answer (see_store (lent new))
 
-  -- the bytes of a request's body
+  -- the bytes of a request's body, which may be one that the store holds
   abbrev pub bytes_by : DavInner C F L → ReqBody → List ℕ
   bytes_by engine = new_bytes (bodies_by see_store engine)
 
@@ -57,14 +69,6 @@ module _ {C F L : Type 0} (see_store : F → Store) where
   abbrev pub WritesBy : Bool → DavRequest → Option Meta → DavInner C F L → Answer → DavInner C F L → Type 0
   WritesBy partial request found old =
       StoreWorkBy (PutWork (bodies_by see_store old) partial request found) (PutCut (bodies_by see_store old) partial request found) old
-
--- written at the target, these bytes end below 2^64
-abbrev pub EndsInRange : Target → List ℕ → Type 0
-EndsInRange target bytes = (if target.part then target.start else 0) + length bytes < 2 ^ 64
-
--- a source that is not `topdest` itself may be copied (`HasRoom`), if the Depth is not 0
-abbrev pub HasRoomToCopy : Depth → PathValue → PathValue → PathValue → Contents → Type 0
-HasRoomToCopy depth source topdest dest contents = source.key ≢ topdest.key → depth ≢ Zero → HasRoom source.key topdest.key dest.key contents
 
 module _ {C F L : Type 0} (see_store : F → Store) (see_locks : L → Locks) where
   -- the rules, of the state before the call, were checked to this verdict, and nothing changed except the log (`Judges`)
@@ -86,7 +90,7 @@ module _ {C F L : Type 0} (see_store : F → Store) (see_locks : L → Locks) wh
 
   -- what exists at the destination is removed, if something does (`there`), and each failure is reported (`Clearing`)
   abbrev pub ClearedBy : Bool → PathValue → DavInner C F L → List Item → List Item → Result (Unit {0}) DavError → DavInner C F L → Type 0
-  ClearedBy there destination = NamedBy (ClearsIf there destination) (ClearsInPart there destination)
+  ClearedBy there destination old had has answer new = Clearing there destination (seen_by see_store see_locks old) had has answer (seen_by see_store see_locks new)
 
   -- what exists at the destination is replaced by a copy of the source (`Copies`)
   abbrev pub CopiedBy : Depth → PathValue → Transfer → DavInner C F L → List Item → List Item → Result (Unit {0}) DavError → DavInner C F L → Type 0

@@ -340,8 +340,8 @@ ReportsStored settings request old records answer new =
     (reply : Reply) → answer ≡ Ok reply → StoresAllOrNothing settings request old records reply new
 
 -- an error other than `Memory` changes nothing
-abbrev pub KeepsUnlessReported : State → Answer → State → Type 0
-KeepsUnlessReported old answer new = (e : DavError) → answer ≡ Err e → e ≢ Memory → ChangesNothing old new
+abbrev pub ErrorsChangeNothing : State → Answer → State → Type 0
+ErrorsChangeNothing old answer new = (e : DavError) → answer ≡ Err e → e ≢ Memory → ChangesNothing old new
 
 -- a body in which some change is rejected before the store is asked (`some_refused`) changes nothing
 abbrev pub StoresNothingBesideRefused : Settings → DavRequest → State → State → Type 0
@@ -352,7 +352,7 @@ StoresNothingBesideRefused settings request old new =
 pub record ProppatchLaw (settings : Settings) (request : DavRequest) (old : State) (records : List Logged) (answer : Answer) (new : State)
     : Type 0 where
   pub stored : ReportsStored settings request old records answer new
-  pub kept : KeepsUnlessReported old answer new
+  pub kept : ErrorsChangeNothing old answer new
   pub refused : StoresNothingBesideRefused settings request old new
 
 -- ---- PROPFIND

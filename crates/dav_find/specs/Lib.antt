@@ -8,6 +8,7 @@ pub mod Response
 pub mod Finder
 pub mod Visiting
 pub mod Writing
+pub mod ByFinder
 pub mod Range
 pub mod RangeKeys
 pub mod RangeSteps

@@ -1,5 +1,5 @@
 -- How properties are distinguished by their names (Namespaces in XML 1.0, section 2.1): this project's own choice.
-use Rattle.std.specs.Prelude.{◌≡◌, ◌&&◌, ℕ, Bool, List, map, bytes_eq}
+use Rattle.std.specs.Prelude.{◌≡◌, ◌&&◌, ℕ, Bool, not, List, [], ◌∷◌, ◌++◌, map, bytes_eq}
 use Rattle.std.specs.Cmp.Lexicographic.{slice_cmp}
 use Rattle.std.specs.List.{list_any}
 use Rattle.std.specs.Option.{option_cmp, option_copied, option_eq}
@@ -10,6 +10,7 @@ use denote.Ref.{Bor}
 use Rattle.dav_resource.specs.Tree.{Tree}
 use Rattle.dav_find.specs.declared.names.PropertyName.{PropertyName}
 use Rattle.dav_find.specs.declared.search.AskedProperty.{AskedProperty}
+use Rattle.dav_find.specs.Asked.{is_among}
 
 -- strings compare byte by byte
 abbrev pub text_cmp : Bor (List ℕ) → Bor (List ℕ) → Ordering
@@ -26,6 +27,14 @@ is_named_by name element = option_eq bytes_eq (option_copied name.namespace) ele
 -- a name is in the set if and only if one of these elements names the property that has it
 abbrev pub AreNamesOf : BTreeSet PropertyName → List Tree → Type 0
 AreNamesOf names elements = (name : PropertyName) → contains name_cmp names name ≡ list_any (is_named_by name) elements
+
+-- the element names a property that is not among those whose names are in the set
+abbrev pub IsNewAmong : BTreeSet PropertyName → Tree → Bool → Type 0
+IsNewAmong names element added = (elements : List Tree) → AreNamesOf names elements → added ≡ not (is_among element elements)
+
+-- the name of the property that the element names is added to the set
+abbrev pub AddsName : BTreeSet PropertyName → Tree → BTreeSet PropertyName → Type 0
+AddsName old element new = (elements : List Tree) → AreNamesOf old elements → AreNamesOf new (elements ++ element ∷ [])
 
 -- the elements that name these properties
 abbrev pub elements_in : List AskedProperty → List Tree

@@ -37,6 +37,7 @@ abbrev pub is_listed : Depth → Bool
 is_listed Zero = false
 is_listed _ = true
 
+-- everything below the members is reported too
 abbrev pub is_infinite : Depth → Bool
 is_infinite Infinity = true
 is_infinite _ = false

@@ -1,11 +1,10 @@
 -- What a writer has written after resources were reported: this project's own choice.
-use Rattle.std.specs.Prelude.{◌≡◌, ◌++◌, ◌<◌, List, map, Option, Some, None, Result, Ok, Err, IfOk}
+use Rattle.std.specs.Prelude.{◌≡◌, ◌++◌, ◌<◌, List, map, Option, Some, None, Result, Ok, Err}
 use Rattle.std.specs.FinMap.{keys}
 use Rattle.dav_resource.specs.Tree.{Tree}
 use Rattle.dav_resource.specs.declared.error.DavError.{DavError}
 use Rattle.dav_resource.specs.declared.error.DavError.TheVariants.{Memory}
 use Rattle.dav_resource.specs.declared.request.Depth.{Depth}
-use Rattle.dav_store.specs.Locks.{Locks}
 use Rattle.dav_store.specs.Logged.{Logged}
 use Rattle.dav_store.specs.Store.{Store, Contents}
 use Rattle.dav_messages.specs.DavElement.{with_elements}
@@ -14,8 +13,6 @@ use Rattle.dav_walks.specs.Counting.{count_below}
 use Rattle.dav_walks.specs.Listing.{AreFewer, in_turn}
 use Rattle.dav_walks.specs.declared.listing.Resource.{Resource}
 use Rattle.dav_find.specs.declared.search.AskedProperty.{AskedProperty}
-use Rattle.dav_find.specs.declared.finding.Finder.{Finder}
-use Rattle.dav_find.specs.Finder.{view_of}
 use Rattle.dav_find.specs.Finding.{View, QuotaAnswer}
 use Rattle.dav_find.specs.Visiting.{Visit, response_of, Shows, Visits, VisitsInPart, VisitsAll, VisitsFrom, is_shown}
 
@@ -68,29 +65,6 @@ module _ (view : View) (asked : List AskedProperty) where
     pub end : Option (List Visit)
     pub read : IsRead (λ records. VisitsFrom view old.contents asked target depth records end) old new
     pub writes : Writes before answer end
-
--- ---- by a finder, over a lock system
-
-module _ {C L : Type 0} (seen : L → Locks) (finder : Finder C L) where
-  -- a writer and a quota are returned after the resource was reported
-  abbrev pub ShowsBy : Depth → Resource → Option QuotaAnswer → PropWriter → Store → Result (PropWriter × Option QuotaAnswer) DavError → Store → Type 0
-  ShowsBy depth here quota before old result new =
-      IfOk result (λ after.
-      IsShown (view_of seen finder old.facts) finder.search.now.asked.items depth here quota before.tree old after.0 after.1 new)
-
-  -- the same, after its members have become the next pending resources
-  abbrev pub VisitsBy : Depth → Resource → Option QuotaAnswer → List Resource → PropWriter → Store → Result (PropWriter × Option QuotaAnswer) DavError
-      → List Resource → Store → Type 0
-  VisitsBy depth here quota waits before old result wait new =
-      IfOk result (λ after.
-      IsVisited (view_of seen finder old.facts) finder.search.now.asked.items depth here quota waits before.tree old after.0 after.1 wait new)
-
-  abbrev pub StopsBy : Depth → Resource → Option QuotaAnswer → Store → Store → Type 0
-  StopsBy depth here quota old new = IsVisitedInPart (view_of seen finder old.facts) finder.search.now.asked.items depth here quota old new
-
-  abbrev pub WritesAllBy : Depth → List Resource → Option QuotaAnswer → Tree → Store → Result PropWriter DavError → Store → Type 0
-  WritesAllBy depth waiting quota before old answer new =
-      WritesAll (view_of seen finder old.facts) finder.search.now.asked.items depth waiting quota before old answer new
 
 -- if the resource exists, fewer keys are pending afterwards than before it was taken
 abbrev pub TakesAway : Contents → Resource → List Resource → List Resource → Type 0

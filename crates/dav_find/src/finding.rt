@@ -5,8 +5,9 @@ ghost use Rattle.dav_resource.specs.declared.error.DavError.TheVariants.{Memory}
 ghost use Rattle.dav_store.specs.Store.{Facts};
 ghost use Rattle.dav_messages.specs.Dialogue.{Judges};
 ghost use Rattle.dav_find.specs.Finder.{view_of};
-ghost use Rattle.dav_find.specs.Finding.{find_one as rules_of_one, find_quota as rules_of_quota, find_kept as rules_of_kept, ask_quota as rules_of_asking, live_result as live_result_of, is_looked_up as is_looked_up_in, is_all_sought as is_all_sought_in, quota_in as quota_in_answer, quota_status as status_of_quota};
-ghost use Rattle.dav_find.specs.Response.{FindsEach, FindsStored};
+ghost use Rattle.dav_find.specs.Finding.{ask_quota as rules_of_asking, is_looked_up as is_looked_up_in, is_all_sought as is_all_sought_in, quota_in as quota_in_answer, quota_status as status_of_quota};
+ghost use Rattle.dav_find.specs.Response.{FindsStored};
+ghost use Rattle.dav_find.specs.ByFinder.{FindsOne, FindsQuota, FindsKept, IsLiveResult, FindsAsked};
 
 use crate::refusal::returned_by;
 use crate::search::{AskedProperty, Search};
@@ -63,7 +64,7 @@ impl<'r, C, L: DavLockSystem> Finder<'r, C, L> {
         element: &Element,
         quota: Option<QuotaAnswer>,
     ) -> DavResult<(Result<Element, StatusCode>, Option<QuotaAnswer>)>
-        ensures rules { Judges (rules_of_one (view_of L.seen self.now (F.seen fs.old).facts) (F.seen fs.old).contents here.now element.now quota) (F.seen fs.old) result (F.seen fs.new) }
+        ensures rules { FindsOne L.seen self.now here.now element.now quota (F.seen fs.old) result (F.seen fs.new) }
         ensures err { IfErr result (λ e. e ≡ Memory) }
     {
         match LiveProperty::of_element(element) {
@@ -84,7 +85,7 @@ impl<'r, C, L: DavLockSystem> Finder<'r, C, L> {
         property: LiveProperty,
         quota: Option<QuotaAnswer>,
     ) -> DavResult<(Result<Element, StatusCode>, Option<QuotaAnswer>)>
-        ensures rules { Judges (rules_of_quota (view_of L.seen self.now (F.seen fs.old).facts) (F.seen fs.old).contents here.now element.now property quota) (F.seen fs.old) result (F.seen fs.new) }
+        ensures rules { FindsQuota L.seen self.now here.now element.now property quota (F.seen fs.old) result (F.seen fs.new) }
         ensures err { IfErr result (λ e. e ≡ Memory) }
     {
         let quota = Some(self.ask_quota(fs, quota)?);
@@ -119,7 +120,7 @@ impl<'r, C, L: DavLockSystem> Finder<'r, C, L> {
         property: LiveProperty,
         quota: &Option<QuotaAnswer>,
     ) -> DavResult<Result<Element, StatusCode>>
-        ensures ok { (facts : Facts) → IfOk result (λ value. value ≡ live_result_of (view_of L.seen self.now facts) here.now element.now property quota.now) }
+        ensures ok { IfOk result (IsLiveResult L.seen self.now here.now element.now property quota.now) }
         ensures err { IfErr result (λ e. e ≡ Memory) }
     {
         let viewer = Viewer {
@@ -144,7 +145,7 @@ impl<'r, C, L: DavLockSystem> Finder<'r, C, L> {
         here: &Resource,
         element: &Element,
     ) -> DavResult<Result<Element, StatusCode>>
-        ensures rules { Judges (rules_of_kept (view_of L.seen self.now (F.seen fs.old).facts) (F.seen fs.old).contents here.now element.now) (F.seen fs.old) result (F.seen fs.new) }
+        ensures rules { FindsKept L.seen self.now here.now element.now (F.seen fs.old) result (F.seen fs.new) }
         ensures err { IfErr result (λ e. e ≡ Memory) }
     {
         if !self.is_looked_up(fs.have_props(), element) {
@@ -163,7 +164,7 @@ impl<'r, C, L: DavLockSystem> Finder<'r, C, L> {
         here: &Resource,
         mut quota: Option<QuotaAnswer>,
     ) -> DavResult<(Items<Found<'r>>, Option<QuotaAnswer>)>
-        ensures rules { FindsEach (view_of L.seen self.now (F.seen fs.old).facts) here.now self.now.search.now.asked.items quota (F.seen fs.old) result (F.seen fs.new) }
+        ensures rules { FindsAsked L.seen self.now here.now quota (F.seen fs.old) result (F.seen fs.new) }
         ensures err { IfErr result (λ e. e ≡ Memory) }
     {
         let mut found = Vec::new(self.alloc);

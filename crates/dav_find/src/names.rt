@@ -1,9 +1,9 @@
 //! The names of properties.
-ghost use Rattle.std.specs.Prelude.{◌≡◌, ◌++◌, ◌∷◌, List, [], not, IfOk, OnOk};
+ghost use Rattle.std.specs.Prelude.{◌≡◌, List, [], IfOk, OnOk};
 ghost use Rattle.std.specs.Option.{option_copied};
 ghost use Rattle.dav_resource.specs.Tree.{Tree};
 ghost use Rattle.dav_find.specs.Asked.{is_among};
-ghost use Rattle.dav_find.specs.Names.{AreNamesOf};
+ghost use Rattle.dav_find.specs.Names.{AreNamesOf, IsNewAmong, AddsName};
 
 use dav_resource::Element;
 use std::alloc::{AllocError, Global};
@@ -49,8 +49,8 @@ impl<'e> PropertyNames<'e> {
     /// Adds the name of the property that an element names, and returns whether it is new. Fails only if
     /// memory runs out.
     pub(crate) fn insert(&mut self, element: &'e Element) -> Result<bool, AllocError>
-        ensures added { (elements : List Tree) → AreNamesOf self.old.names elements → IfOk result (λ added. added ≡ not (is_among element.now elements)) }
-        ensures names { (elements : List Tree) → AreNamesOf self.old.names elements → OnOk result (AreNamesOf self.new.names (elements ++ element.now ∷ [])) }
+        ensures added { IfOk result (IsNewAmong self.old.names element.now) }
+        ensures names { OnOk result (AddsName self.old.names element.now self.new.names) }
     {
         Ok(self.names.insert(PropertyName::of(element))?)
     }

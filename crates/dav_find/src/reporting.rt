@@ -1,8 +1,8 @@
 //! The report of what was found for a resource.
-ghost use Rattle.std.specs.Prelude.{◌≡◌, ◌++◌, ◌∷◌, [], not, map, filter, IfOk};
+ghost use Rattle.std.specs.Prelude.{◌≡◌, ◌++◌, map, IfOk};
 ghost use Rattle.std.specs.List.{flat_map};
 ghost use Rattle.dav_props.specs.Property.{bare};
-ghost use Rattle.dav_find.specs.Asked.{is_among};
+ghost use Rattle.dav_find.specs.declared.search.FindKind.TheVariants.{AllProp};
 ghost use Rattle.dav_find.specs.Finding.{finding_of};
 ghost use Rattle.dav_find.specs.Names.{AreNamesOf};
 ghost use Rattle.dav_find.specs.Reporting.{kept_in as kept_of, missing_status as status_of_missing, report_one as report_of_one, given_in, report_stored as report_of_stored, report_of};
@@ -129,7 +129,7 @@ fn report_values<'e>(
     found: &'e [Found<'_>],
     kept: &'e [SharedElement],
 ) -> Result<Vec<PropertyStatus>, AllocError>
-    ensures { IfOk result (λ more. more.items ≡ reported.items ++ map (λ element. (200, element)) (filter (λ element. not (is_among element (given_in (map finding_of found.now)))) kept.now)) }
+    ensures { IfOk result (λ more. more.items ≡ reported.items ++ report_of_stored AllProp (map finding_of found.now) kept.now) }
 {
     let given = names_given(alloc, found)?;
     for element in kept {

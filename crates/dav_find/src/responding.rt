@@ -1,8 +1,7 @@
 //! The properties that are reported for one resource.
 ghost use Rattle.std.specs.Prelude.{◌≡◌, IfErr};
 ghost use Rattle.dav_resource.specs.declared.error.DavError.TheVariants.{Memory};
-ghost use Rattle.dav_find.specs.Finder.{view_of};
-ghost use Rattle.dav_find.specs.Response.{IsResponse};
+ghost use Rattle.dav_find.specs.ByFinder.{RespondsBy};
 
 use crate::finding::{Finder, QuotaAnswer};
 use crate::reporting::{PropertyStatus, report};
@@ -19,7 +18,7 @@ impl<'r, C, L: DavLockSystem> Finder<'r, C, L> {
         here: &Resource,
         quota: Option<QuotaAnswer>,
     ) -> DavResult<(Items<PropertyStatus>, Option<QuotaAnswer>)>
-        ensures response { IsResponse (view_of L.seen self.now (F.seen fs.old).facts) self.now.search.now.asked.items here.now quota (F.seen fs.old) result (F.seen fs.new) }
+        ensures response { RespondsBy L.seen self.now here.now quota (F.seen fs.old) result (F.seen fs.new) }
         ensures err { IfErr result (λ e. e ≡ Memory) }
     {
         let (found, quota) = self.find_each(fs, here, quota)?;

@@ -2,9 +2,9 @@
 ghost use Rattle.std.specs.Prelude.{◌≡◌, ◌&&◌, Some, IfErr, OnOk, OnErr};
 ghost use Rattle.dav_resource.specs.declared.error.DavError.TheVariants.{Memory};
 ghost use Rattle.dav_walks.specs.Listing.{AreThere, in_turn};
-ghost use Rattle.dav_find.specs.Finder.{view_of};
 ghost use Rattle.dav_find.specs.Visiting.{is_shown as is_shown_at, is_listed as is_listed_at, member_depth as member_depth_at};
-ghost use Rattle.dav_find.specs.Writing.{ShowsBy, VisitsBy, StopsBy, TakesAway, WritesAllBy, WritesFrom};
+ghost use Rattle.dav_find.specs.ByFinder.{ShowsBy, VisitsBy, StopsBy, WritesAllBy, WritesFromBy};
+ghost use Rattle.dav_find.specs.Writing.{TakesAway};
 
 use crate::finding::{Finder, QuotaAnswer};
 use dav_props::{PropWriter, group_by_status};
@@ -34,7 +34,7 @@ impl<'r, C, L: DavLockSystem> Finder<'r, C, L> {
         writer: PropWriter,
     ) -> DavResult<PropWriter>
         requires there { (F.seen fs.old).contents.metas target.now.path.key ≡ Some target.now.meta }
-        ensures { WritesFrom (view_of L.seen self.now (F.seen fs.old).facts) self.now.search.now.asked.items target.now depth writer.tree (F.seen fs.old) result (F.seen fs.new) }
+        ensures { WritesFromBy L.seen self.now target.now depth writer.tree (F.seen fs.old) result (F.seen fs.new) }
     {
         let mut waiting = Vec::new(self.alloc);
         let (writer, quota) = self.visit(fs, target, depth, None, writer, &mut waiting)?;
