@@ -1,5 +1,5 @@
 -- Parts of flat texts.
-use Rattle.std.proofs.Common.{Bor, ◌≡◌, ◌≢◌, ℕ, zero, suc, ◌<◌, ◌≤◌, ◌-◌, ◌+◌, List, [], ◌∷◌, ◌++◌, true, Result, Ok, Err, length, take, drop, get_or, Option, Some, None, ◌⊎◌, inl, inr, refl, sym, ap, ◌∙◌, subst, arith}
+use Rattle.std.proofs.Common.{Bor, ◌≡◌, ◌≢◌, ℕ, zero, suc, ◌<◌, ◌≤◌, ◌-◌, ◌+◌, List, [], ◌∷◌, ◌++◌, Bool, true, Result, Ok, Err, length, take, drop, get_or, Option, Some, None, ◌⊎◌, inl, inr, refl, sym, ap, ◌∙◌, subst, arith}
 use Rattle.std.specs.Prelude.{All, bytes_eq}
 use Rattle.std.specs.List.{starts_with}
 use Rattle.std.specs.Option.{MatchOption, IfSome, unwrap_or}
@@ -14,7 +14,7 @@ use Rattle.std.proofs.lemmas.List.Prefix.{front_reads}
 use Rattle.std.proofs.lemmas.Slice.Eq.{slice_eq-Decides, bytes_eq-Decides}
 use Rattle.dav_key.specs.Key.{Key, parent}
 use Rattle.dav_key.specs.Flat.{flat, segments_of, length_above, IsFlatSegment, IsFlatKey, IsFlatText}
-use Rattle.dav_key.specs.FlatLaws.{flat-append, flat-push, segments_of-flat}
+use Rattle.dav_key.specs.FlatLaws.{flat-append, flat-push, segments_of-flat, flat-injective}
 
 -- ---- keys of such segments
 
@@ -352,3 +352,10 @@ length_flat (s ∷ key) =
 
 pub segments_fit : (text : List ℕ) → IsFlatText text → length (segments_of text) ≤ length text
 segments_fit text is = subst (λ t. length (segments_of text) ≤ length t) is.same (length_flat (segments_of text))
+
+-- ---- texts that are compared
+
+-- equal texts are those of equal keys
+pub same_texts : (r : Bool) (s t : List ℕ) (a b : Key) → IsFlatKey a → IsFlatKey b → s ≡ flat a → t ≡ flat b → r ≡ bytes_eq s t → (r ≡ true → a ≡ b) × (a ≡ b → r ≡ true)
+same_texts r s t a b is_a is_b s_is t_is tested =
+    (λ same. flat-injective a b is_a is_b (sym s_is ∙ ((bytes_eq-Decides s t).0 (sym tested ∙ same) ∙ t_is)), λ same. tested ∙ (bytes_eq-Decides s t).1 (s_is ∙ (ap flat same ∙ sym t_is)))

@@ -5,3 +5,5 @@ pub mod FlatLaws
 pub mod FlatKey
 pub mod Segments
 pub mod KeyBuilder
+pub mod Below
+pub mod Members

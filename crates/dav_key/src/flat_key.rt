@@ -101,7 +101,8 @@ impl FlatKey {
 
     /// The text of the parent. The parent of the root is the root.
     pub fn parent_str(&self) -> &str
-        ensures { result.now ≡ flat (parent self.now) }
+        ensures text { result.now ≡ flat (parent self.now) }
+        ensures key { IsFlatKey self.now }
     {
         let (above, _name) = self.text.as_str().split_at(self.above);
         above
@@ -142,6 +143,20 @@ impl FlatKey {
         self.text.as_bytes() == other.text.as_bytes()
     }
 
+    /// Whether both keys have the same parent.
+    pub fn has_parent_of(&self, other: &FlatKey) -> bool
+        ensures { IsTrue result ↔ (parent self.now ≡ parent other.now) }
+    {
+        self.parent_str().as_bytes() == other.parent_str().as_bytes()
+    }
+
+    /// Whether this key is the parent of the other. The root is its own parent.
+    pub fn is_parent_of(&self, other: &FlatKey) -> bool
+        ensures { IsTrue result ↔ (self.now ≡ parent other.now) }
+    {
+        self.as_str().as_bytes() == other.parent_str().as_bytes()
+    }
+
     /// Whether this key is the other or is below it: it begins with the other's segments.
     pub fn is_at_or_below(&self, other: &FlatKey) -> bool
         ensures { result ≡ starts_with bytes_eq self.now other.now }
@@ -156,6 +171,13 @@ impl FlatKey {
         ensures bound { length result < 2 ^ 64 }
     {
         Segments::of(self.text.as_str())
+    }
+
+    /// The segments of the parent, first to last. The parent of the root is the root.
+    pub fn parent_segments(&self) -> Segments<'_>
+        ensures { result ≡ parent self.now }
+    {
+        Segments::of(self.parent_str())
     }
 
     /// Returns the key without the segments of the prefix, with a text of its own. It is `None` if the key is

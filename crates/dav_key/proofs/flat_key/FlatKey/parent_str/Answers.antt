@@ -6,6 +6,6 @@ pub split_at-requires : goal.split_at-requires
 split_at-requires c =
     rw (c.as_str.ensures.value, c.deref.ensures, c.self.invariant.above) (IsCharBoundary-above (string_bytes c.self.inside.text.value) c.self.invariant.text)
 
-pub returns : goal.returns
-returns c =
+pub returns-clause-text : goal.returns-clause-text
+returns-clause-text c =
     rw (c.split_at.ensures.front, c.as_str.ensures.value, c.deref.ensures, c.self.invariant.above, ← c.self.view_is) (take-above (string_bytes c.self.inside.text.value) c.self.invariant.text)
