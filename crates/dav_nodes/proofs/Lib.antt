@@ -1,0 +1,13 @@
+mod NodeSteps
+mod Walks
+mod KeyMaps
+mod Linking
+mod BelowKeys
+mod KeyMoves
+mod Moving
+mod Outcomes
+mod MemberEntries
+mod Subtrees
+mod NodeMembers
+mod Listings
+pub mod FlatKeys

@@ -1,0 +1,15 @@
+//! Values by the keys of resources, as a tree of nodes that have numbers.
+#![tactic(auto)]
+
+mod links;
+mod lookup;
+mod members;
+mod memo;
+mod node;
+mod nodes;
+mod place;
+#[cfg(test)]
+mod tests;
+
+pub use members::Members;
+pub use nodes::Nodes;

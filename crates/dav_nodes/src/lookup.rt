@@ -1,0 +1,41 @@
+//! Lookups of keys, which first try the places that were looked up last.
+ghost use Rattle.std.specs.Prelude.{◌≡◌};
+ghost use Rattle.slab.specs.Slab.{get};
+ghost use Rattle.dav_key.specs.Key.{parent};
+ghost use Rattle.dav_nodes.specs.Links.{place, member_at};
+ghost use Rattle.dav_nodes.specs.Memo.{AreKnown};
+
+use crate::links;
+use crate::memo::Memo;
+use crate::node::Node;
+use dav_key::FlatKey;
+use slab::Slab;
+
+/// Returns the number of a key, and remembers its place.
+pub(crate) fn find<R>(nodes: &Slab<Node<R>>, memo: &mut Memo, key: &FlatKey) -> Option<usize>
+    requires { AreKnown (place (member_at (get nodes.now))) memo.old }
+    ensures number { result ≡ place (member_at (get nodes.now)) key.now }
+    ensures known { AreKnown (place (member_at (get nodes.now))) memo.new }
+{
+    if let Some(number) = memo.number_of(key) {
+        return Some(number);
+    }
+    let Some(name) = key.name() else {
+        return Some(0);
+    };
+    let above = find_above(nodes, memo, key)?;
+    let number = links::member(nodes, above, name);
+    memo.note_at(key, above, number);
+    number
+}
+
+/// Returns the number of a key's parent.
+pub(crate) fn find_above<R>(nodes: &Slab<Node<R>>, memo: &Memo, key: &FlatKey) -> Option<usize>
+    requires { AreKnown (place (member_at (get nodes.now))) memo.now }
+    ensures { result ≡ place (member_at (get nodes.now)) (parent key.now) }
+{
+    match memo.number_above(key) {
+        Some(number) => Some(number),
+        None => links::find(nodes, key.parent_segments()),
+    }
+}
