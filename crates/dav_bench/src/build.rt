@@ -55,6 +55,44 @@ pub fn lock_info(alloc: Global) -> Result<Element, AllocError> {
     Ok(info)
 }
 
+/// Returns the XML body of a PROPFIND that requests these properties of the namespace `DAV:` by name.
+pub fn find_live(alloc: Global, names: &[&str]) -> Result<Element, AllocError> {
+    let mut prop = dav_element(alloc, "D:prop")?;
+    for name in names {
+        prop.push_element(dav_element(alloc, name)?)?;
+    }
+    enclosing(alloc, "D:propfind", prop)
+}
+
+/// Returns the XML body of a PROPFIND that requests the dead property which `set_dead` sets.
+pub fn find_dead(alloc: Global) -> Result<Element, AllocError> {
+    let prop = enclosing(alloc, "D:prop", dead_property(alloc)?)?;
+    enclosing(alloc, "D:propfind", prop)
+}
+
+/// Returns the XML body of a PROPPATCH that sets a dead property. The value contains `number`.
+pub fn set_dead(alloc: Global, number: u64) -> Result<Element, AllocError> {
+    let value = format!(in alloc; "value {number}")?;
+    let property = dead_property(alloc)?.text(value.as_str())?;
+    let prop = enclosing(alloc, "D:prop", property)?;
+    let set = enclosing(alloc, "D:set", prop)?;
+    enclosing(alloc, "D:propertyupdate", set)
+}
+
+/// Returns an empty element with the name of the dead property.
+fn dead_property(alloc: Global) -> Result<Element, AllocError> {
+    let mut property = Element::new2(alloc, "Z:color")?;
+    property.namespace = Some(String::from_str(alloc, "urn:z")?);
+    Ok(property)
+}
+
+/// Returns an element of the namespace `DAV:` with this single child.
+fn enclosing(alloc: Global, name: &str, child: Element) -> Result<Element, AllocError> {
+    let mut element = dav_element(alloc, name)?;
+    element.push_element(child)?;
+    Ok(element)
+}
+
 fn dav_element(alloc: Global, name: &str) -> Result<Element, AllocError> {
     let mut element = Element::new2(alloc, name)?;
     element.namespace = Some(String::from_str(alloc, "DAV:")?);
