@@ -10,4 +10,5 @@ mod MemberEntries
 mod Subtrees
 mod NodeMembers
 mod Listings
+mod Counts
 pub mod FlatKeys

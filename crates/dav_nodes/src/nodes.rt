@@ -1,5 +1,5 @@
 //! Values by key, in nodes that refer to their members by number.
-ghost use Rattle.std.specs.Prelude.{◌≡◌, ◌≢◌, ℕ, [], Some, None, is_some, IsSome, IfOk, OnOk, OnErr};
+ghost use Rattle.std.specs.Prelude.{◌≡◌, ◌≢◌, ◌≤◌, ℕ, [], Some, None, is_some, IsSome, IfOk, OnOk, OnErr};
 ghost use Rattle.std.specs.Option.{option_copied};
 ghost use Rattle.std.specs.FinMap as map;
 ghost use Rattle.slab.specs.Slab.{get};
@@ -72,6 +72,13 @@ impl<R> Nodes<R> {
         ensures there { is_some result ≡ is_some (map.get self.now.values (parent key.now)) }
     {
         lookup::find_above(&self.nodes, &self.memo, key)
+    }
+
+    /// A number that is not less than the number of keys that have a value.
+    pub fn max_len(&self) -> usize
+        ensures { map.len self.now.values ≤ result }
+    {
+        self.nodes.capacity()
     }
 
     /// Returns the value with a number.
