@@ -1,7 +1,6 @@
 pub mod Ascending
 pub mod ExpirySets
 pub mod Reached
-pub mod KeyTexts
 pub mod ByKeys
 pub mod LockRows
 pub mod LockFound

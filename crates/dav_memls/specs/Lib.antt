@@ -1,7 +1,5 @@
 pub mod Numbers
 pub mod KeyEntries
-pub mod KeyText
-pub mod TextProps
 pub mod ByKey
 pub mod Expiries
 pub mod LockIndex

@@ -1,5 +1,6 @@
 pub mod Errors
 pub mod Gives
+pub mod Key
 pub mod PathText
 pub mod PathForms
 pub mod PathLaws

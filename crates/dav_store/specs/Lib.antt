@@ -1,3 +1,4 @@
+pub mod Below
 pub mod Logged
 pub mod Store
 pub mod Calls
