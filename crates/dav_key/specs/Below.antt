@@ -4,9 +4,11 @@ use Rattle.std.specs.List.{starts_with}
 use Rattle.std.specs.FinMap.{FinMap, get, insert, remove}
 use Rattle.dav_key.specs.Key.{Key, key_cmp, is_same_key}
 
+-- the key is the other one, or begins with its segments
 abbrev pub is_at_or_below : Key → Key → Bool
 is_at_or_below key above = starts_with bytes_eq key above
 
+-- the key is at or below the other one, and is not it
 abbrev pub is_below : Key → Key → Bool
 is_below key above = is_at_or_below key above && not (is_same_key key above)
 

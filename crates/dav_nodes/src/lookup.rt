@@ -39,3 +39,14 @@ pub(crate) fn find_above<R>(nodes: &Slab<Node<R>>, memo: &Memo, key: &FlatKey) -
         None => links::find(nodes, key.parent_segments()),
     }
 }
+
+/// Returns the number of a key, as `find` does, but remembers no place.
+pub(crate) fn number_at<R>(nodes: &Slab<Node<R>>, memo: &Memo, key: &FlatKey) -> Option<usize>
+    requires { AreKnown (place (member_at (get nodes.now))) memo.now }
+    ensures { result ≡ place (member_at (get nodes.now)) key.now }
+{
+    match memo.number_of(key) {
+        Some(number) => Some(number),
+        None => links::find(nodes, key.segments()),
+    }
+}

@@ -9,7 +9,7 @@ ghost use Rattle.dav_nodes.specs.Links.{place, member_at};
 ghost use Rattle.dav_nodes.specs.Memo.{AreKnown};
 ghost use Rattle.dav_nodes.specs.Listing.{members_of, seen, children, node_members, HasFlatKeys, HasFlatNames};
 
-use crate::links;
+use crate::lookup;
 use crate::members::Members;
 use crate::memo::Memo;
 use crate::node::Node;
@@ -68,17 +68,6 @@ impl<R> Nodes<R> {
     }
 }
 
-/// Returns the number of a key. It first tries the places that were looked up last.
-fn number_at<R>(nodes: &Slab<Node<R>>, memo: &Memo, key: &FlatKey) -> Option<usize>
-    requires { AreKnown (place (member_at (get nodes.now))) memo.now }
-    ensures { result ≡ place (member_at (get nodes.now)) key.now }
-{
-    match memo.number_of(key) {
-        Some(number) => Some(number),
-        None => links::find(nodes, key.segments()),
-    }
-}
-
 /// Returns the members of the node at a key.
 fn members_at<'a, R>(
     nodes: &'a Slab<Node<R>>,
@@ -88,7 +77,7 @@ fn members_at<'a, R>(
     requires { AreKnown (place (member_at (get nodes.now))) memo.now }
     ensures { option_copied result ≡ node_members (get nodes.now) key.now }
 {
-    let number = number_at(nodes, memo, key)?;
+    let number = lookup::number_at(nodes, memo, key)?;
     let node = nodes.get(number)?;
     Some(&node.members)
 }

@@ -1,7 +1,7 @@
 use Rattle.std.proofs.Common.{◌≡◌, Some, IfSome, sym, subst}
 use Rattle.slab.specs.Slab.{get}
 use Rattle.dav_nodes.specs.Links.{place, member_at}
-use Rattle.dav_nodes.proofs.nodes.listing.number_at.Goals as goal
+use Rattle.dav_nodes.proofs.lookup.number_at.Goals as goal
 
 pub returns-in-Some : goal.returns-in-Some
 returns-in-Some g c =
