@@ -1,5 +1,5 @@
 -- Keys at or below another key (RFC 4918, section 5.1), and values of finite maps at keys: this project's own choice.
-use Rattle.std.specs.Prelude.{◌≡◌, Bool, false, if◌then◌else◌, bytes_eq, not, ◌&&◌, ◌++◌, [], ◌∷◌, Option, Some, None}
+use Rattle.std.specs.Prelude.{◌≡◌, Bool, false, bytes_eq, not, ◌&&◌, ◌++◌, Option, Some, None}
 use Rattle.std.specs.List.{starts_with}
 use Rattle.std.specs.FinMap.{FinMap, get, insert, remove}
 use Rattle.dav_key.specs.Key.{Key, key_cmp, is_same_key}
@@ -16,12 +16,6 @@ is_below key above = is_at_or_below key above && not (is_same_key key above)
 pub record AreApart (one other : Key) : Type 0 where
   pub one_other : is_at_or_below one other ≡ false
   pub other_one : is_at_or_below other one ≡ false
-
--- the segments of a key after those of the key above it; none if the one is not at or below the other
-abbrev pub strip : Key → Key → Option Key
-strip [] key = Some key
-strip (segment ∷ above) [] = None
-strip (segment ∷ above) (first ∷ key) = if bytes_eq segment first then strip above key else None
 
 -- the map with this value at a key, or with no value there
 abbrev pub put_at : {X : Type 0} → FinMap key_cmp X → Key → Option X → FinMap key_cmp X

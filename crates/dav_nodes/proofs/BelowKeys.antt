@@ -3,11 +3,18 @@ use Rattle.std.proofs.Common.{ℕ, ◌≡◌, ◌≢◌, ◌&&◌, ◌⊎◌, in
 use Rattle.std.proofs.lemmas.List.{append-nil, append_cancel_left}
 use Rattle.std.specs.Cmp.Lexicographic.{bytes_decides}
 use Rattle.dav_key.specs.Key.{Key}
-use Rattle.dav_key.specs.Below.{is_at_or_below, AreApart, strip}
+use Rattle.dav_key.specs.Below.{is_at_or_below, AreApart}
 use Rattle.dav_nodes.proofs.KeyMaps.{same_above, same_last}
+
+-- what is left of a key below another one (`stripped`), segment by segment
+abbrev pub strip : Key → Key → Option Key
+strip [] key = Some key
+strip (segment ∷ above) [] = None
+strip (segment ∷ above) (first ∷ key) = if bytes_eq segment first then strip above key else None
 
 -- ---- at or below
 
+-- a key that continues another one is at or below it
 pub below-append : (above x : Key) → is_at_or_below (above ++ x) above ≡ true
 below-append [] x = refl
 below-append (s ∷ above) x = ap (λ b. b && is_at_or_below (above ++ x) above) ((bytes_decides s s).1 refl) ∙ below-append above x

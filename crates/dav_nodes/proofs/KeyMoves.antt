@@ -5,8 +5,8 @@ use Rattle.std.specs.Ordering.{eq_by_cmp}
 use Rattle.std.specs.FinMap.{FinMap, get, find, from_entries, entries, get-entries, get-from_entries}
 use Rattle.std.proofs.lemmas.Bool.{false_from_ne_true}
 use Rattle.dav_key.specs.Key.{Key, key_cmp, key_cmp_total, tied_decides}
-use Rattle.dav_key.specs.Below.{is_at_or_below, AreApart, strip, IsMoved}
-use Rattle.dav_nodes.proofs.BelowKeys.{not_below, apart_below, strip_is, strip_none, same_below}
+use Rattle.dav_key.specs.Below.{is_at_or_below, AreApart, IsMoved}
+use Rattle.dav_nodes.proofs.BelowKeys.{strip, not_below, apart_below, strip_is, strip_none, same_below}
 
 untied : (a b : Key) → a ≢ b → eq_by_cmp key_cmp a b ≡ false
 untied a b apart = false_from_ne_true (eq_by_cmp key_cmp a b) (λ e. apart ((tied_decides a b).0 e))
