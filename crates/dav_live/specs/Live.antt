@@ -4,12 +4,15 @@ use Rattle.std.specs.Option.{option_map}
 use Rattle.dav_resource.specs.Key.{Key}
 use Rattle.dav_resource.specs.Tree.{Tree, prefixed_element}
 use Rattle.dav_resource.specs.declared.meta.Meta.{Meta}
+use Rattle.dav_store.specs.Locks.{Locks}
 use Rattle.dav_store.specs.declared.lock.DavLock.{DavLock}
+use Rattle.dav_messages.specs.Conditions.{locks_in}
 use Rattle.dav_messages.specs.DavElement.{with_elements, text_element}
 use Rattle.dav_messages.specs.LockTree.{lock_discovery, covering_in, supported_lock}
-use Rattle.dav_live.specs.Viewing.{Asker}
+use Rattle.dav_live.specs.Viewing.{Asker, asker_of}
 use Rattle.dav_live.specs.Names.{shown_name}
 use Rattle.dav_live.specs.Rows.{live_text}
+use Rattle.dav_live.specs.declared.viewer.Viewer.{Viewer}
 use Rattle.dav_live.specs.declared.property.LiveProperty.{LiveProperty}
 use Rattle.dav_live.specs.declared.property.LiveProperty.TheVariants.{LockDiscovery, ResourceType, SupportedLock, CurrentUserPrincipal}
 
@@ -42,3 +45,7 @@ live_value CurrentUserPrincipal asked names_only asker locks key meta = current_
 live_value LockDiscovery asked names_only asker locks key meta = Some (locks_of names_only locks key)
 live_value SupportedLock asked names_only asker locks key meta = Some (lock_kinds names_only (is_some locks))
 live_value property asked names_only asker locks key meta = text_property (shown_name property) names_only (live_text property asker key meta)
+
+-- the same for this viewer, with the locks of this lock system, if there is one
+abbrev pub value_shown : {L : Type 0} → (L → Locks) → LiveProperty → Tree → Bool → Viewer → Option L → Key → Meta → Option Tree
+value_shown seen property asked names_only viewer ls key meta = live_value property asked names_only (asker_of viewer) (locks_in seen ls) key meta

@@ -2,9 +2,7 @@
 ghost use Rattle.std.specs.Prelude.{◌≡◌, IfOk, IfErr};
 ghost use Rattle.std.specs.Option.{option_copied};
 ghost use Rattle.dav_resource.specs.declared.error.DavError.TheVariants.{Memory};
-ghost use Rattle.dav_messages.specs.Conditions.{locks_in};
-ghost use Rattle.dav_live.specs.Viewing.{asker_of};
-ghost use Rattle.dav_live.specs.Live.{live_value};
+ghost use Rattle.dav_live.specs.Live.{value_shown};
 
 use crate::property::LiveProperty;
 use crate::text::live_text;
@@ -31,7 +29,7 @@ pub fn live_element<L: DavLockSystem>(
     path: &DavPath,
     meta: &Meta,
 ) -> DavResult<Option<Element>>
-    ensures ok { IfOk result (λ reported. reported ≡ live_value property asked.now names_only (asker_of viewer.now) (locks_in L.seen (option_copied ls.entry)) path.now.key meta.now) }
+    ensures ok { IfOk result (λ reported. reported ≡ value_shown L.seen property asked.now names_only viewer.now (option_copied ls.entry) path.now.key meta.now) }
     ensures err { IfErr result (λ e. e ≡ Memory) }
 {
     match property {
