@@ -1,7 +1,7 @@
 -- What holds of every method: where it may change something, and by which calls.
 use Rattle.std.proofs.Common.{◌≡◌, ◌⊎◌, ◌∙◌, Bool, true, false, if◌then◌else◌, List, ◌++◌, Option, Some, None, is_some, Result, Ok, Err, ℕ, inl, inr, refl, sym, ap, subst}
 use Rattle.std.specs.List.{list_any}
-use Rattle.dav_resource.specs.Key.{Key, is_same_key}
+use Rattle.dav_key.specs.Key.{Key, is_same_key}
 use Rattle.dav_resource.specs.PathText.{PathValue}
 use Rattle.dav_resource.specs.declared.error.DavError.{DavError}
 use Rattle.dav_resource.specs.declared.error.DavError.TheVariants.{Memory}
@@ -10,7 +10,7 @@ use Rattle.dav_resource.specs.declared.method.DavMethod.{DavMethod}
 use Rattle.dav_resource.specs.declared.method.DavMethod.TheVariants as methods
 use Rattle.dav_resource.specs.declared.request.DavRequest.{DavRequest}
 use Rattle.dav_headers.specs.Destination.{destination_of}
-use Rattle.dav_store.specs.Below.{is_at_or_below}
+use Rattle.dav_key.specs.Below.{is_at_or_below}
 use Rattle.dav_store.specs.Logged.{Logged}
 use Rattle.dav_store.specs.PropertyCalls.{Patch}
 use Rattle.dav_store.specs.declared.lock.DavLock.{DavLock}

@@ -5,7 +5,7 @@ use Rattle.std.proofs.lemmas.Bool.Decides.{nat_tests}
 use Rattle.std.proofs.lemmas.Grind.{flat_map-append}
 use Rattle.std.proofs.lemmas.List.{map-append, length-map}
 use Rattle.std.proofs.lemmas.List.Folds.{list_all-append}
-use Rattle.dav_resource.specs.Key.{Key, same_key_decides}
+use Rattle.dav_key.specs.Key.{Key, same_key_decides}
 use Rattle.dav_resource.specs.Tree.{Tree, Tag, Nodes}
 use Rattle.dav_resource.specs.declared.error.FsError.TheVariants.{GeneralFailure}
 use Rattle.dav_resource.specs.declared.record.Outcome.{Outcome}

@@ -1,7 +1,7 @@
 -- What follows for its caller from each step of a DELETE.
 use Rattle.std.proofs.Common.{◌≡◌, ◌≢◌, ◌⊎◌, ◌∙◌, ◌≤◌, ℕ, Bool, true, false, cond, not, List, [], ◌∷◌, ◌++◌, Option, Some, None, Ok, Err, inl, inr, refl, sym, ap, subst, append-nil, option_map, if◌then◌else◌, arith}
 use Rattle.std.specs.FinMap.{get}
-use Rattle.dav_resource.specs.Key.{Key, is_same_key, same_key_decides}
+use Rattle.dav_key.specs.Key.{Key, is_same_key, same_key_decides}
 use Rattle.dav_resource.specs.PathText.{PathValue}
 use Rattle.dav_resource.specs.Errors.{fs_status, dav_status, from_fs}
 use Rattle.dav_resource.specs.declared.error.DavError.{DavError}

@@ -6,7 +6,7 @@ use Rattle.std.specs.Result.{IsErrAnd}
 use Rattle.std.specs.FinMap.{get, insert}
 use Rattle.http.specs.declared.response.Response.{Response}
 use Rattle.dav_resource.specs.Gives.{GivesBy}
-use Rattle.dav_resource.specs.Key.{parent}
+use Rattle.dav_key.specs.Key.{parent}
 use Rattle.dav_resource.specs.declared.error.DavError.{DavError}
 use Rattle.dav_resource.specs.declared.error.DavError.TheVariants.{Memory, Status}
 use Rattle.dav_resource.specs.declared.error.FsError.{FsError}

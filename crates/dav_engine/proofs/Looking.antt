@@ -1,6 +1,6 @@
 -- The rules of every method make no call but lookups.
 use Rattle.std.proofs.Common.{◌≡◌, inl, inr, refl, sym, ap, Bool, true, false, if◌then◌else◌, List, [], ◌∷◌, ℕ, Option, Some, None, Result, Ok, Err, ◌∙◌}
-use Rattle.dav_resource.specs.Key.{Key}
+use Rattle.dav_key.specs.Key.{Key}
 use Rattle.dav_resource.specs.PathText.{PathValue}
 use Rattle.dav_resource.specs.declared.error.DavError.{DavError}
 use Rattle.dav_resource.specs.declared.error.FsError.{FsError}

@@ -4,7 +4,7 @@ use Rattle.std.specs.Prelude.{nat_lt, ◌+◌, ◌^◌, unwrap_or}
 use Rattle.std.specs.FinMap.{get}
 use Rattle.std.specs.Option.{ForSome}
 use Rattle.std.specs.Result.{result_ok}
-use Rattle.dav_resource.specs.Key.{Key, is_same_key, same_key_decides}
+use Rattle.dav_key.specs.Key.{Key, is_same_key, same_key_decides}
 use Rattle.dav_resource.specs.Errors.{from_fs}
 use Rattle.dav_resource.specs.declared.error.DavError.{DavError}
 use Rattle.dav_resource.specs.declared.error.DavError.TheVariants.{StatusClose}
@@ -16,7 +16,7 @@ use Rattle.dav_resource.specs.declared.record.Outcome.{Outcome}
 use Rattle.dav_resource.specs.declared.record.Outcome.TheVariants as outcomes
 use Rattle.dav_resource.specs.declared.request.DavRequest.{DavRequest}
 use Rattle.dav_resource.specs.declared.request.ReqBody.{ReqBody}
-use Rattle.dav_store.specs.Below.{is_at_or_below}
+use Rattle.dav_key.specs.Below.{is_at_or_below}
 use Rattle.dav_store.specs.Calls.{Call, record_of, IsLawful, create_dir_bar, create_dir_call, IsMadeAt, open_call, bytes_at, written_at}
 use Rattle.dav_store.specs.Logged.{Logged}
 use Rattle.dav_store.specs.Store.{Contents, Bodies, Node, File, Directory, IsWellFormed}

@@ -2,7 +2,7 @@
 use Rattle.std.proofs.Common.{◌≡◌, ◌≢◌, ◌⊎◌, ◌∙◌, ◌&&◌, ◌||◌, ℕ, Bool, true, false, List, [], ◌∷◌, ◌++◌, Option, Some, is_some, Result, Ok, Err, inl, inr, refl, sym, ap, subst, nat_eq, bytes_eq, if◌then◌else◌, arith}
 use Rattle.std.proofs.lemmas.Slice.Eq.{bytes_eq-Decides}
 use Rattle.dav_resource.specs.Errors.{fs_status}
-use Rattle.dav_resource.specs.Key.{Key, parent, is_same_key, same_key_decides}
+use Rattle.dav_key.specs.Key.{Key, parent, is_same_key, same_key_decides}
 use Rattle.dav_resource.specs.PathText.{PathValue}
 use Rattle.dav_resource.specs.declared.error.DavError.{DavError}
 use Rattle.dav_resource.specs.declared.error.DavError.TheVariants.{Memory}
@@ -12,7 +12,7 @@ use Rattle.dav_resource.specs.declared.record.Outcome.{Outcome}
 use Rattle.dav_resource.specs.declared.record.Outcome.TheVariants.{Granted, Barred, Refused}
 use Rattle.dav_resource.specs.declared.request.DavRequest.{DavRequest}
 use Rattle.dav_headers.specs.Destination.{destination_of}
-use Rattle.dav_store.specs.Below.{is_at_or_below, AreApart}
+use Rattle.dav_key.specs.Below.{is_at_or_below, AreApart}
 use Rattle.dav_store.specs.BelowLaws.{at_or_below-tail}
 use Rattle.dav_store.specs.Calls.{error_of, limit_of}
 use Rattle.dav_store.specs.Locks.{Reliable}

@@ -3,7 +3,7 @@ use Rattle.std.proofs.Common.{◌≡◌, ◌≢◌, ◌⊎◌, ◌∙◌, true, 
 use Rattle.std.specs.FinMap.{get}
 use Rattle.std.specs.Option.{option_map_or}
 use Rattle.dav_resource.specs.Errors.{fs_status}
-use Rattle.dav_resource.specs.Key.{Key, parent, is_same_key}
+use Rattle.dav_key.specs.Key.{Key, parent, is_same_key}
 use Rattle.dav_resource.specs.PathText.{PathValue}
 use Rattle.dav_resource.specs.declared.error.DavError.{DavError}
 use Rattle.dav_resource.specs.declared.error.DavError.TheVariants.{Memory, Status}
@@ -12,7 +12,7 @@ use Rattle.dav_resource.specs.declared.error.FsError.TheVariants as fs
 use Rattle.dav_resource.specs.declared.record.Outcome.{Outcome}
 use Rattle.dav_resource.specs.declared.record.Outcome.TheVariants.{Granted, Barred, Refused}
 use Rattle.dav_resource.specs.declared.request.DavRequest.{DavRequest}
-use Rattle.dav_store.specs.Below.{is_at_or_below, AreApart}
+use Rattle.dav_key.specs.Below.{is_at_or_below, AreApart}
 use Rattle.dav_store.specs.Calls.{Call, Grants, Declines, record_of, error_of}
 use Rattle.dav_store.specs.Locks.{Locks, all_reliable}
 use Rattle.dav_store.specs.Logged.{Logged}

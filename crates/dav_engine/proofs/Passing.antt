@@ -1,7 +1,7 @@
 -- What the rules have seen to, where they are passed.
 use Rattle.std.proofs.Common.{◌≡◌, ◌∙◌, ℕ, Bool, true, false, not, ◌&&◌, ◌||◌, if◌then◌else◌, List, [], ◌∷◌, Option, Some, None, is_some, Result, Ok, Err, refl, sym, ap, subst}
 use Rattle.std.specs.FinMap.{get}
-use Rattle.dav_resource.specs.Key.{Key, parent, is_same_key, same_key_decides}
+use Rattle.dav_key.specs.Key.{Key, parent, is_same_key, same_key_decides}
 use Rattle.dav_resource.specs.PathText.{PathValue}
 use Rattle.dav_resource.specs.declared.error.DavError.{DavError}
 use Rattle.dav_resource.specs.declared.error.DavError.TheVariants.{Status}
@@ -13,7 +13,7 @@ use Rattle.dav_resource.specs.declared.record.Outcome.TheVariants.{Granted, Barr
 use Rattle.dav_resource.specs.declared.request.DavRequest.{DavRequest}
 use Rattle.dav_resource.specs.declared.request.Depth.{Depth}
 use Rattle.dav_resource.specs.declared.request.Depth.TheVariants.{Zero, One, Infinity, Default}
-use Rattle.dav_store.specs.Below.{is_at_or_below, AreApart}
+use Rattle.dav_key.specs.Below.{is_at_or_below, AreApart}
 use Rattle.dav_store.specs.Calls.{IsLawful, metadata_bar}
 use Rattle.dav_store.specs.Logged.{Logged}
 use Rattle.dav_store.specs.Store.{Contents, Node, Directory, File, MetaFits, IsWellFormed}

@@ -3,7 +3,7 @@ use Rattle.std.proofs.Common.{◌≡◌, ◌≢◌, ◌⊎◌, ◌∙◌, Bool, 
 use Rattle.std.proofs.lemmas.List.Folds.{list_any-append}
 use Rattle.std.specs.FinMap.{get, insert}
 use Rattle.std.specs.List.{list_any}
-use Rattle.dav_resource.specs.Key.{Key, is_same_key, same_key_decides, tied_decides}
+use Rattle.dav_key.specs.Key.{Key, is_same_key, same_key_decides, tied_decides}
 use Rattle.dav_resource.specs.PathText.{PathValue}
 use Rattle.dav_resource.specs.declared.error.FsError.{FsError}
 use Rattle.dav_resource.specs.declared.record.Op.{Op}
@@ -13,7 +13,7 @@ use Rattle.dav_resource.specs.declared.record.Outcome.TheVariants.{Granted, Barr
 use Rattle.dav_resource.specs.declared.request.DavRequest.{DavRequest}
 use Rattle.dav_resource.specs.declared.request.Depth.{Depth}
 use Rattle.dav_resource.specs.declared.request.Depth.TheVariants.{Zero, One, Infinity, Default}
-use Rattle.dav_store.specs.Below.{is_at_or_below}
+use Rattle.dav_key.specs.Below.{is_at_or_below}
 use Rattle.dav_store.specs.BelowLaws.{at_or_below-tail}
 use Rattle.dav_store.specs.Calls.{IsMadeAt, record_of}
 use Rattle.dav_store.specs.Logged.{Logged, logged}

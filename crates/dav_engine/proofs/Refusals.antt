@@ -1,6 +1,6 @@
 -- By which errors rules refuse a request.
 use Rattle.std.proofs.Common.{◌≡◌, ◌≤◌, ℕ, Bool, true, false, List, [], ◌∷◌, Option, Some, None, is_some, Result, Ok, Err, refl, sym, subst, if◌then◌else◌, arith}
-use Rattle.dav_resource.specs.Key.{Key}
+use Rattle.dav_key.specs.Key.{Key}
 use Rattle.dav_resource.specs.PathText.{PathValue}
 use Rattle.dav_resource.specs.Methods.{method_of}
 use Rattle.dav_resource.specs.Errors.{fs_status, dav_status, from_fs}

@@ -5,7 +5,7 @@ use Rattle.std.specs.List.{cons_option}
 use Rattle.std.proofs.lemmas.List.Elements.{filter_map-append}
 use Rattle.std.proofs.lemmas.List.Sorted.{IsPermutation-refl, IsPermutation-append}
 use Rattle.dav_resource.specs.Errors.{fs_status}
-use Rattle.dav_resource.specs.Key.{Key, parent, tied_decides}
+use Rattle.dav_key.specs.Key.{Key, parent, tied_decides}
 use Rattle.dav_resource.specs.PathText.{PathValue}
 use Rattle.dav_resource.specs.declared.error.DavError.{DavError}
 use Rattle.dav_resource.specs.declared.error.DavError.TheVariants.{Memory}
@@ -20,7 +20,7 @@ use Rattle.dav_resource.specs.declared.request.DavRequest.{DavRequest}
 use Rattle.dav_resource.specs.declared.request.Depth.{Depth}
 use Rattle.dav_resource.specs.declared.request.Depth.TheVariants.{Zero, One, Infinity, Default}
 use Rattle.dav_headers.specs.Destination.{destination_of}
-use Rattle.dav_store.specs.Below.{is_at_or_below}
+use Rattle.dav_key.specs.Below.{is_at_or_below}
 use Rattle.dav_store.specs.BelowLaws.{at_or_below-append}
 use Rattle.dav_store.specs.Calls.{record_of, error_of}
 use Rattle.dav_store.specs.Logged.{Logged, logged}

@@ -3,7 +3,7 @@ use Rattle.std.proofs.Common.{◌≡◌, ◌≢◌, ◌⊎◌, ◌∙◌, inl, i
 use Rattle.std.specs.Ordering.{eq_by_cmp}
 use Rattle.std.specs.FinMap.{get}
 use Rattle.std.specs.Option.{ForSome}
-use Rattle.dav_resource.specs.Key.{Key, key_cmp, tied_decides}
+use Rattle.dav_key.specs.Key.{Key, key_cmp, tied_decides}
 use Rattle.dav_resource.specs.declared.error.DavError.{DavError}
 use Rattle.dav_resource.specs.declared.error.DavError.TheVariants.{Memory, Status}
 use Rattle.dav_resource.specs.declared.error.FsError.{FsError}

@@ -1,7 +1,7 @@
 -- The locks permit each change that a request makes to a file, a directory or a dead property, except the empty file of a LOCK (RFC 4918, section 7).
 use Rattle.std.specs.Prelude.{◌≡◌, ◌≢◌, ◌⊎◌, true, false, [], Option, Some, None}
 use Rattle.std.specs.FinMap.{get}
-use Rattle.dav_resource.specs.Key.{Key}
+use Rattle.dav_key.specs.Key.{Key}
 use Rattle.dav_resource.specs.declared.method.DavMethod.{DavMethod}
 use Rattle.dav_resource.specs.declared.method.DavMethod.TheVariants.{Lock}
 use Rattle.dav_resource.specs.declared.request.DavRequest.{DavRequest}

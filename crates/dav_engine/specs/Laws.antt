@@ -4,7 +4,7 @@ use Rattle.std.specs.Prelude.{◌≡◌, ◌≢◌, ◌⊎◌, ◌||◌, ℕ, na
 use Rattle.std.specs.FinMap.{get}
 use Rattle.std.specs.List.{list_all, flat_map}
 use Rattle.std.specs.Option.{ForSome}
-use Rattle.dav_resource.specs.Key.{Key, is_same_key}
+use Rattle.dav_key.specs.Key.{Key, is_same_key}
 use Rattle.dav_resource.specs.PathText.{PathValue}
 use Rattle.dav_resource.specs.Tree.{Tree}
 use Rattle.dav_resource.specs.Errors.{dav_status}
@@ -18,7 +18,7 @@ use Rattle.dav_headers.specs.Destination.{destination_of}
 use Rattle.dav_headers.specs.Client.{user_agent_of}
 use Rattle.dav_headers.specs.LockToken.{lock_token_of}
 use Rattle.dav_headers.specs.Range.{content_range_of}
-use Rattle.dav_store.specs.Below.{is_below}
+use Rattle.dav_key.specs.Below.{is_below}
 use Rattle.dav_store.specs.Calls.{bytes_at}
 use Rattle.dav_store.specs.LockCalls.{without_named}
 use Rattle.dav_store.specs.Locks.{is_at_or_below, at_or_below}

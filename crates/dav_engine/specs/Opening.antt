@@ -2,7 +2,7 @@
 -- when it is opened.
 use Rattle.std.specs.Prelude.{◌≡◌, ℕ, Bool, true, false, not, ◌||◌, if◌then◌else◌, List, Option, Some, None}
 use Rattle.std.specs.FinMap.{insert}
-use Rattle.dav_resource.specs.Key.{Key}
+use Rattle.dav_key.specs.Key.{Key}
 use Rattle.dav_resource.specs.Errors.{from_fs}
 use Rattle.dav_resource.specs.declared.etag.ETagList.{ETagList}
 use Rattle.dav_resource.specs.declared.etag.ETagList.TheVariants.{Star, Tags}

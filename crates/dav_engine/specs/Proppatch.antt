@@ -3,7 +3,7 @@ use Rattle.std.specs.Prelude.{◌≡◌, ◌≢◌, ◌⊎◌, ℕ, Bool, if◌t
 use Rattle.std.specs.FinMap.{get}
 use Rattle.http.specs.declared.version.TheConstants.Version.{HTTP_11}
 use Rattle.dav_resource.specs.Errors.{from_fs}
-use Rattle.dav_resource.specs.Key.{Key}
+use Rattle.dav_key.specs.Key.{Key}
 use Rattle.dav_resource.specs.PathText.{PathValue}
 use Rattle.dav_resource.specs.declared.error.FsError.{FsError}
 use Rattle.dav_resource.specs.declared.error.FsError.TheVariants.{GeneralFailure}

@@ -1,7 +1,7 @@
 -- The state that requests act on: the contents of the store and, if there is a lock system, its locks (RFC 4918, sections 5 and 6).
 use Rattle.std.specs.Prelude.{◌≡◌, ◌⊎◌, ℕ, false, List, Option, Some, is_some, option_map}
 use Rattle.std.specs.Option.{ForSome, option_map_or}
-use Rattle.dav_resource.specs.Key.{Key}
+use Rattle.dav_key.specs.Key.{Key}
 use Rattle.dav_resource.specs.declared.error.DavError.{DavError}
 use Rattle.dav_resource.specs.declared.error.DavError.TheVariants.{Memory, Status}
 use Rattle.dav_store.specs.Store.{Store, Contents, Facts, IsWellFormed}

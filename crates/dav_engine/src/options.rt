@@ -151,7 +151,7 @@ fn found_methods(path: &DavPath, found: &Option<Meta>) -> &'static [DavMethod]
     match found {
         None if path.is_star() => &FILE,
         None => &MISSING,
-        Some(_) if path.segments().is_empty() => &ROOT,
+        Some(_) if path.key().is_root() => &ROOT,
         Some(meta) if meta.dir => &DIRECTORY,
         Some(_) => &FILE,
     }

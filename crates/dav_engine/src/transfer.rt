@@ -2,7 +2,7 @@
 ghost use Rattle.std.specs.Prelude.{◌≡◌, true, Some, is_some, if◌then◌else◌, option_copied};
 ghost use Rattle.std.specs.Option.{ForSome};
 ghost use Rattle.dav_resource.specs.Gives.{GivesBy};
-ghost use Rattle.dav_resource.specs.Key.{is_same_key};
+ghost use Rattle.dav_key.specs.Key.{is_same_key};
 ghost use Rattle.dav_engine.specs.DavInner.{lent, lent_locks, state_by, settings_by};
 ghost use Rattle.dav_engine.specs.Transferring.{transfer_rules, asked_destination as asked_destination_of, reach_verdict, parent_verdict, must_have_parent as must_have_parent_of, look_up_destination as look_up_destination_of, see_destination as see_destination_of, found_or_absent as found_or_absent_of, place_verdict, is_misplaced as is_misplaced_by, may_overwrite as may_overwrite_by, permits_transfer as permits_transfer_by};
 ghost use Rattle.dav_engine.specs.ByEngine.{IsSameEngine, JudgesBy, ClearedBy};

@@ -2,7 +2,7 @@
 use Rattle.std.specs.Prelude.{ℕ, if◌then◌else◌, List, [], ◌++◌, codes, map, Option}
 use Rattle.std.specs.List.{find}
 use Rattle.std.specs.Option.{option_map_or}
-use Rattle.dav_resource.specs.Key.{Key}
+use Rattle.dav_key.specs.Key.{Key}
 use Rattle.dav_resource.specs.Tree.{Tree, elements_of}
 use Rattle.dav_resource.specs.declared.request.ReqBody.{ReqBody}
 use Rattle.dav_resource.specs.declared.request.ReqBody.TheVariants as bodies

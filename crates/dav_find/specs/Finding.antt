@@ -4,7 +4,7 @@ use Rattle.std.specs.Prelude.{ℕ, Bool, true, ◌&&◌, not, if◌then◌else�
 use Rattle.std.specs.FinMap.{get, entries}
 use Rattle.std.specs.Option.{option_map, ok_or}
 use Rattle.dav_resource.specs.Errors.{fs_status}
-use Rattle.dav_resource.specs.Key.{Key}
+use Rattle.dav_key.specs.Key.{Key}
 use Rattle.dav_resource.specs.Tree.{Tree}
 use Rattle.dav_resource.specs.declared.error.DavError.{DavError}
 use Rattle.dav_resource.specs.declared.record.Op.TheVariants.{GetProps}

@@ -6,7 +6,7 @@ use Rattle.std.specs.List.{after_first, flat_map}
 use Rattle.std.specs.Option.{option_map, ok_or, ForSome}
 use Rattle.std.proofs.lemmas.List.{map-append}
 use Rattle.std.proofs.lemmas.Slice.Eq.{bytes_eq-Decides}
-use Rattle.dav_resource.specs.Key.{Key, key_cmp}
+use Rattle.dav_key.specs.Key.{Key, key_cmp}
 use Rattle.dav_resource.specs.PathText.{PathValue}
 use Rattle.dav_resource.specs.Tree.{Tree, prefixed_element}
 use Rattle.dav_resource.specs.declared.meta.Meta.{Meta}

@@ -2,7 +2,7 @@
 -- or below the target `top` is given by the path x that leads from `top` down to it.
 use Rattle.std.specs.Prelude.{◌≡◌, ◌≢◌, ◌⊎◌, Bool, true, false, List, [], ◌∷◌, ◌++◌, filter_map, Option, None, Some}
 use Rattle.std.specs.FinMap.{get}
-use Rattle.dav_resource.specs.Key.{Key}
+use Rattle.dav_key.specs.Key.{Key}
 use Rattle.dav_resource.specs.declared.record.Op.{Op}
 use Rattle.dav_resource.specs.declared.record.Op.TheVariants.{ReadDir, Entry}
 use Rattle.dav_resource.specs.declared.record.Outcome.{Outcome}

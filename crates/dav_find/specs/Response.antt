@@ -1,6 +1,6 @@
 -- What is reported for one resource: a single response, with what was found (RFC 4918, sections 9.1 and 14.24).
 use Rattle.std.specs.Prelude.{ℕ, List, Option, Some, None, Result}
-use Rattle.dav_resource.specs.Key.{Key}
+use Rattle.dav_key.specs.Key.{Key}
 use Rattle.dav_resource.specs.Tree.{Tree}
 use Rattle.dav_store.specs.Logged.{Logged}
 use Rattle.dav_resource.specs.declared.error.DavError.{DavError}

@@ -37,6 +37,15 @@ impl KeyBuilder {
         }
     }
 
+    /// Begins at the root, with room for a text of this many bytes. Fails only if memory runs out.
+    pub fn with_capacity(alloc: Global, bytes: usize) -> Result<KeyBuilder, AllocError>
+        ensures { IfOk result (λ key. key ≡ []) }
+    {
+        Ok(KeyBuilder {
+            text: String::with_capacity(alloc, bytes)?,
+        })
+    }
+
     /// Appends a segment. The caller ensures that it may be a segment. Fails only if memory runs out, and the
     /// key is then unchanged.
     pub fn push(&mut self, segment: &str) -> Result<(), AllocError>

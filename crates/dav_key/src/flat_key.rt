@@ -1,6 +1,7 @@
 //! A key as one shared text.
 ghost use Rattle.std.specs.Prelude.{◌≡◌, ◌<◌, ◌^◌, ◌↔◌, ◌++◌, ◌∷◌, [], bytes_eq, length, refl, IsTrue, IfSome, IfOk, MatchOption, string_bytes};
 ghost use Rattle.std.specs.List.{starts_with};
+ghost use Rattle.std.specs.Rc.{rc_str_bytes};
 ghost use Rattle.std.specs.Cmp.{partial_equiv_from_equiv, partial_order_from_total};
 ghost use Rattle.std.proofs.lemmas.Cmp.{eq_by_cmp_equiv};
 ghost use Rattle.std.specs.Ordering.{as_partial_cmp, eq_by_cmp};
@@ -12,7 +13,7 @@ use crate::text;
 use std::alloc::{AllocError, Global};
 use std::cmp::Ordering;
 use std::marker::Model;
-use std::rc::Rc;
+use std::rc::RcStr;
 
 /// The key of a resource. In contracts its value is the list of its segments, each a list of bytes.
 ///
@@ -20,8 +21,9 @@ use std::rc::Rc;
 /// Copies share the text, so a copy allocates no memory. A method that makes another key says so.
 #[derive(Debug, Drop)]
 pub struct FlatKey {
-    text: Rc<String>,
+    text: RcStr,
     above: usize,
+    alloc: Global,
 }
 
 impl Model for FlatKey {
@@ -61,8 +63,9 @@ impl FlatKey {
     {
         let alloc = *text.allocator();
         Ok(FlatKey {
-            text: Rc::new(alloc, text)?,
+            text: RcStr::from_string(text)?,
             above,
+            alloc,
         })
     }
 
@@ -74,14 +77,20 @@ impl FlatKey {
         Ok(FlatKey {
             text: self.text.clone()?,
             above: self.above,
+            alloc: self.alloc,
         })
+    }
+
+    /// The allocator of the text.
+    pub fn allocator(&self) -> Global {
+        self.alloc
     }
 
     /// Whether this is the root: the key has no segments.
     pub fn is_root(&self) -> bool
         ensures { IsTrue result ↔ (self.now ≡ []) }
     {
-        self.text.is_empty()
+        self.text.as_str().is_empty()
     }
 
     /// The number of bytes of the text.
@@ -97,6 +106,15 @@ impl FlatKey {
         ensures key { IsFlatKey self.now }
     {
         self.text.as_str()
+    }
+
+    /// The text, as `as_str` returns it, in the form that maps hold. A copy of it shares the text and allocates
+    /// no memory.
+    pub fn shared_text(&self) -> &RcStr
+        ensures text { rc_str_bytes result.now ≡ flat self.now }
+        ensures key { IsFlatKey self.now }
+    {
+        &self.text
     }
 
     /// The text of the parent. The parent of the root is the root.
@@ -122,7 +140,7 @@ impl FlatKey {
     pub fn parent(&self) -> Result<FlatKey, AllocError>
         ensures { IfOk result (λ key. key ≡ parent self.now) }
     {
-        let text = String::from_str(*self.text.allocator(), self.parent_str())?;
+        let text = String::from_str(self.alloc, self.parent_str())?;
         FlatKey::of_text(text)
     }
 
@@ -132,7 +150,7 @@ impl FlatKey {
         requires { IsFlatSegment name.now }
         ensures { IfOk result (λ key. key ≡ self.now ++ name.now ∷ []) }
     {
-        let text = text::with_segment(*self.text.allocator(), self.as_str(), name)?;
+        let text = text::with_segment(self.alloc, self.as_str(), name)?;
         FlatKey::share(text, self.len())
     }
 
@@ -140,7 +158,7 @@ impl FlatKey {
     pub fn same(&self, other: &FlatKey) -> bool
         ensures { IsTrue result ↔ (self.now ≡ other.now) }
     {
-        self.text.as_bytes() == other.text.as_bytes()
+        self.text.as_str().as_bytes() == other.text.as_str().as_bytes()
     }
 
     /// Whether both keys have the same parent.
@@ -180,26 +198,33 @@ impl FlatKey {
         Segments::of(self.parent_str())
     }
 
-    /// Returns the key without the segments of the prefix, with a text of its own. It is `None` if the key is
-    /// neither the prefix nor below it. Fails only if memory runs out.
+    /// Returns the key without the segments of the prefix. It is `None` if the key is neither the prefix nor
+    /// below it. If the prefix is the root, the result shares this text, otherwise it has one of its own.
+    /// Fails only if memory runs out.
     pub fn strip(&self, prefix: &FlatKey) -> Result<Option<FlatKey>, AllocError>
         ensures { IfOk result (λ rest. rest ≡ stripped self.now prefix.now) }
     {
+        if prefix.is_root() {
+            return Ok(Some(self.clone()?));
+        }
         if !self.is_at_or_below(prefix) {
             return Ok(None);
         }
         let (_prefix, rest) = self.as_str().split_at(prefix.len());
-        let text = String::from_str(*self.text.allocator(), rest)?;
+        let text = String::from_str(self.alloc, rest)?;
         let key = FlatKey::of_text(text)?;
         Ok(Some(key))
     }
 
-    /// Returns the key with the segments of this one and then those of the other, with a text of its own.
-    /// Fails only if memory runs out.
+    /// Returns the key with the segments of this one and then those of the other. If this one is the root,
+    /// the result shares the other's text, otherwise it has one of its own. Fails only if memory runs out.
     pub fn join(&self, other: &FlatKey) -> Result<FlatKey, AllocError>
         ensures { IfOk result (λ key. key ≡ self.now ++ other.now) }
     {
-        let text = text::joined(*self.text.allocator(), self.as_str(), other.as_str())?;
+        if self.is_root() {
+            return other.clone();
+        }
+        let text = text::joined(self.alloc, self.as_str(), other.as_str())?;
         FlatKey::of_text(text)
     }
 }

@@ -66,20 +66,24 @@ fn keys_are_compared_by_segments(rt: HostRuntime) -> Result<(), Fail> {
 
 #[test]
 fn keys_are_cut_and_joined(rt: HostRuntime) -> Result<(), Fail> {
+    let root = FlatKey::root(rt.alloc())?;
     let prefix = key_of(&rt, rt.alloc(), &["a"])?;
     let key = key_of(&rt, rt.alloc(), &["a", "b", "c"])?;
     let rest = key.strip(&prefix)?.ok_or("not below")?;
     assert_eq!(rt; rest.as_str(), "\0b\0c");
+    assert_eq!(rt; rest.shared_text().as_str(), "\0b\0c");
     assert_eq!(rt; rest.parent_str(), "\0b");
     assert!(rt; key.strip(&key)?.ok_or("not below")?.is_root());
+    assert!(rt; key.strip(&root)?.ok_or("not below")?.same(&key));
     assert!(rt; prefix.strip(&key)?.is_none());
     assert_eq!(rt; prefix.join(&rest)?.as_str(), "\0a\0b\0c");
+    assert_eq!(rt; root.join(&rest)?.as_str(), "\0b\0c");
     Ok(())
 }
 
 #[test]
 fn a_builder_grows_and_shrinks(rt: HostRuntime) -> Result<(), Fail> {
-    let mut builder = KeyBuilder::new(rt.alloc());
+    let mut builder = KeyBuilder::with_capacity(rt.alloc(), 4)?;
     assert!(rt; !builder.pop());
     for segment in ["a", "b", "c"] {
         assert!(rt; crate::is_flat_segment(segment));

@@ -1,7 +1,7 @@
 -- A live property of one resource, as a response reports it (RFC 4918, sections 9.1 and 15; RFC 4331; RFC 5397, section 3).
 use Rattle.std.specs.Prelude.{ℕ, Bool, ◌&&◌, not, if◌then◌else◌, List, [], ◌∷◌, codes, Option, Some, is_some}
 use Rattle.std.specs.Option.{option_map}
-use Rattle.dav_resource.specs.Key.{Key}
+use Rattle.dav_key.specs.Key.{Key}
 use Rattle.dav_resource.specs.Tree.{Tree, prefixed_element}
 use Rattle.dav_resource.specs.declared.meta.Meta.{Meta}
 use Rattle.dav_store.specs.Locks.{Locks}

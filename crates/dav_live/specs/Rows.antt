@@ -2,7 +2,7 @@
 -- 5.6).
 use Rattle.std.specs.Prelude.{ℕ, List, Option, None}
 use Rattle.std.specs.Option.{option_map}
-use Rattle.dav_resource.specs.Key.{Key}
+use Rattle.dav_key.specs.Key.{Key}
 use Rattle.dav_resource.specs.declared.meta.Meta.{Meta}
 use Rattle.dav_dates.specs.Moment.{shown_moment}
 use Rattle.dav_dates.specs.HttpDate.{http_date_text}

@@ -58,10 +58,7 @@ pub(crate) fn used_text(
 fn used_bytes(used: u64, path: &DavPath, meta: &Meta) -> u64
     ensures { result ≡ used_at used path.now.key meta.now }
 {
-    match path.segments() {
-        [] => used,
-        [_, ..] => meta.len,
-    }
+    if path.key().is_root() { used } else { meta.len }
 }
 
 /// Formats a number with at least 14 digits.

@@ -20,7 +20,7 @@ use Rattle.dav_resource.specs.declared.record.Outcome.TheVariants.{Granted}
 use Rattle.dav_resource.specs.declared.record.Record.{Record}
 use Rattle.dav_resource.specs.declared.error.FsError.{FsError}
 use Rattle.dav_resource.specs.declared.error.FsError.TheVariants.{NotImplemented, GeneralFailure, Exists, NotFound, Forbidden, InsufficientStorage, LoopDetected, PathTooLong, TooLarge, IsRemote, Memory}
-use Rattle.dav_store.specs.Below.{put_at, is_below}
+use Rattle.dav_key.specs.Below.{put_at, is_below}
 use Rattle.dav_memfs.specs.EachLaws.{each-put_at, each-IsMoved, put_at-same}
 use Rattle.dav_store.specs.Logged.{logged_of}
 use Rattle.dav_store.specs.Store.{Node, File, Directory, Quota, Contents, Store}

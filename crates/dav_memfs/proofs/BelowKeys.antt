@@ -13,7 +13,7 @@ use Rattle.std.specs.FinMap as fin
 use Rattle.std.specs.FinMap.Entries.{is_sorted, below_all}
 use Rattle.dav_resource.specs.Key.{Key, key_cmp, tied_decides}
 use Rattle.dav_resource.specs.Texts.{texts}
-use Rattle.dav_store.specs.Below.{is_at_or_below, AreApart, strip}
+use Rattle.dav_key.specs.Below.{is_at_or_below, AreApart, strip}
 
 -- ---- at or below
 

@@ -9,7 +9,7 @@ use Rattle.std.specs.Map.{lookup, set_value}
 use Rattle.std.specs.BTreeMap.{BTreeMap, is_at}
 use Rattle.std.specs.FinMap as fin
 use Rattle.dav_resource.specs.Texts.{texts}
-use Rattle.dav_store.specs.Below.{put_at}
+use Rattle.dav_key.specs.Below.{put_at}
 use Rattle.dav_memfs.specs.Memory.{Stored, change_at}
 use Rattle.dav_memfs.specs.EachLaws.{put_at-same}
 use Rattle.dav_memfs.specs.Entries.{OwnKey, key_of, resources_of}

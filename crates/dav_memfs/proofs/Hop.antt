@@ -11,7 +11,7 @@ use Rattle.std.proofs.lemmas.List.Kept.{IsStrictlySortedBy-filter}
 use Rattle.std.proofs.lemmas.Map.Keys.{sorted_head}
 use Rattle.std.specs.FinMap as fin
 use Rattle.dav_resource.specs.Key.{Key, key_cmp, key_cmp_total, parent}
-use Rattle.dav_store.specs.Below.{strip}
+use Rattle.dav_key.specs.Below.{strip}
 use Rattle.dav_memfs.specs.Memory.{Resources}
 use Rattle.dav_store.specs.Members.{name_in, member}
 use Rattle.dav_store.specs.MemberLaws.{name_in-member, member-name_in, parent-member}

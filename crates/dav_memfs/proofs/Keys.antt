@@ -5,7 +5,7 @@ use Rattle.std.specs.declared.alloc.Global.{Global}
 use Rattle.std.specs.Bool.{Decides}
 use Rattle.std.proofs.lemmas.Bool.Decides.{nat_tests, same_from_decides}
 use Rattle.dav_resource.specs.Key.{Key, is_same_key, same_key_decides}
-use Rattle.dav_store.specs.Below.{is_at_or_below, is_below}
+use Rattle.dav_key.specs.Below.{is_at_or_below, is_below}
 use Rattle.dav_resource.specs.Texts.{texts}
 
 -- ---- the root

@@ -6,7 +6,7 @@ use Rattle.std.specs.Ordering.{eq_by_cmp}
 use Rattle.std.specs.FinMap.{empty, get, get-empty}
 use Rattle.dav_resource.specs.Key.{Key, key_cmp, tied_decides}
 use Rattle.dav_resource.specs.Tree.{Tree}
-use Rattle.dav_store.specs.Below.{put_at}
+use Rattle.dav_key.specs.Below.{put_at}
 use Rattle.dav_store.specs.Store.{PropertyMap, AreNamed, element_key}
 use Rattle.dav_store.specs.PropertyCalls.{Patch, patch, patched, name_of, IsWhole}
 use Rattle.dav_memfs.specs.EachLaws.{get-put_at}

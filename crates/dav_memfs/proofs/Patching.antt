@@ -9,7 +9,7 @@ use Rattle.std.specs.FinMap as fin
 use Rattle.std.specs.FinMap.Entries.{find, is_sorted, below_all}
 use Rattle.dav_resource.specs.Key.{Key, key_cmp, key_cmp_total, key_cmp_exact, tied_decides}
 use Rattle.dav_resource.specs.Tree.{Tree}
-use Rattle.dav_store.specs.Below.{put_at}
+use Rattle.dav_key.specs.Below.{put_at}
 use Rattle.dav_store.specs.Store.{PropertyMap}
 use Rattle.dav_store.specs.PropertyCalls.{Patch, name_of, patch, patched}
 use Rattle.dav_memfs.specs.EachLaws.{get-put_at, find_below, both_parts, or_none}

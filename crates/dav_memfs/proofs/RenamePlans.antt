@@ -12,7 +12,7 @@ use Rattle.std.proofs.lemmas.List.Kept.{IsStrictlySortedBy-filter}
 use Rattle.std.proofs.lemmas.Map.Keys.{sorted_head, sorted_tail}
 use Rattle.dav_resource.specs.Key.{Key, key_cmp}
 use Rattle.dav_resource.specs.Texts.{texts}
-use Rattle.dav_store.specs.Below.{strip}
+use Rattle.dav_key.specs.Below.{strip}
 use Rattle.dav_memfs.specs.Memory.{Stored}
 use Rattle.dav_memfs.specs.OrderedMaps.{seen_entries}
 use Rattle.dav_memfs.specs.Entries.{OwnKey, key_of, own_cmp, resources_of}

@@ -9,7 +9,7 @@ use Rattle.std.specs.List.Sorted.{IsStrictlySortedBy}
 use Rattle.std.proofs.lemmas.Map.Keys.{sorted_head, sorted_tail}
 use Rattle.std.specs.FinMap as fin
 use Rattle.dav_resource.specs.Key.{Key, key_cmp, key_cmp_total, tied_decides}
-use Rattle.dav_store.specs.Below.{AreApart, strip}
+use Rattle.dav_key.specs.Below.{AreApart, strip}
 use Rattle.dav_store.specs.Transfers.{IsMoved}
 use Rattle.dav_memfs.specs.Memory.{Stored, Resources}
 use Rattle.dav_memfs.specs.Moves.{Move, moves_of, hold, shift, put_from, holder, CanShift, AreFree}

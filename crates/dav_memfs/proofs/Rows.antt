@@ -17,7 +17,7 @@ use Rattle.dav_memfs.specs.Memory.{Stored, Resources, Memory, tree_of, made_when
 use Rattle.dav_memfs.specs.MemoryCalls.{Yields, Gives, change_error, create_dir_error, open_error, error_of_opening, opened, opened_from}
 use Rattle.dav_memfs.specs.Lawful.{node_in, get-tree}
 use Rattle.dav_store.specs.Calls.{create_dir_bar, open_bar, file_bar, bytes_at, place_of}
-use Rattle.dav_store.specs.Below.{is_below, put_at}
+use Rattle.dav_key.specs.Below.{is_below, put_at}
 use Rattle.dav_store.specs.Members.{members, remove_dir_bar}
 use Rattle.dav_store.specs.Transfers.{copy_bar, rename_bar}
 

@@ -9,7 +9,7 @@ use Rattle.dav_resource.specs.Key.{Key, key_cmp, key_cmp_total, parent, is_same_
 use Rattle.dav_resource.specs.PathText.{IsKey}
 use Rattle.dav_store.specs.Store.{Node, File, Directory, Tree, AreNamed}
 use Rattle.dav_store.specs.Calls.{bytes_at}
-use Rattle.dav_store.specs.Below.{put_at, is_at_or_below, is_below}
+use Rattle.dav_key.specs.Below.{put_at, is_at_or_below, is_below}
 use Rattle.dav_store.specs.PropertyCalls.{Patch, patched, IsWhole}
 use Rattle.dav_store.specs.BelowLaws.{at_or_below-append, at_or_below-tail}
 use Rattle.dav_store.specs.Members.{member, members, IsIn}

@@ -7,7 +7,7 @@ use Rattle.std.specs.FinMap.{FinMap, empty, from_entries, get, insert, remove, e
 use Rattle.dav_resource.specs.Key.{Key, key_cmp, parent}
 use Rattle.dav_resource.specs.PathText.{IsKey}
 use Rattle.dav_resource.specs.declared.meta.Meta.{Meta}
-use Rattle.dav_store.specs.Below.{put_at}
+use Rattle.dav_key.specs.Below.{put_at}
 use Rattle.dav_store.specs.Logged.{Logged}
 use Rattle.dav_store.specs.Store.{Node, File, Directory, Tree, PropertyMap, Properties, Quota, Contents, Bodies, Facts, Store, AreNamed}
 use Rattle.dav_store.specs.Calls.{bytes_at}

@@ -4,7 +4,7 @@ use Rattle.std.specs.Ordering.{eq_by_cmp}
 use Rattle.std.specs.FinMap.{get, insert, remove, keys}
 use Rattle.dav_resource.specs.Key.{Key, key_cmp}
 use Rattle.dav_resource.specs.Texts.{texts}
-use Rattle.dav_store.specs.Below.{strip}
+use Rattle.dav_key.specs.Below.{strip}
 use Rattle.dav_store.specs.Store.{Directory}
 use Rattle.dav_memfs.specs.Memory.{Stored, Resources, fresh}
 use Rattle.dav_memfs.specs.declared.memory.entries.renaming.Step.{Step}

@@ -4,7 +4,7 @@ use Rattle.std.proofs.lemmas.Bool.{and_from, and_parts}
 use Rattle.std.proofs.lemmas.Bool.Decides.{nat_tests}
 use Rattle.std.proofs.lemmas.Slice.Eq.{bytes_eq-Decides}
 use Rattle.std.specs.List.{filter, list_all, list_any}
-use Rattle.dav_resource.specs.Key.{Key, is_same_key, same_key_decides}
+use Rattle.dav_key.specs.Key.{Key, is_same_key, same_key_decides}
 use Rattle.dav_store.specs.declared.lock.DavLock.{DavLock}
 use Rattle.dav_store.specs.Locks.{is_at_or_below, covers, covering, conflicts, meet, permits_at, stand_together, are_compatible, AreCompatible}
 use Rattle.dav_store.specs.LockLaws.{compatible_filtered}

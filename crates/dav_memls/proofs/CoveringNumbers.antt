@@ -1,17 +1,19 @@
 -- The numbers of the locks that cover a key, found from the root on, in order.
-use Rattle.std.proofs.Common.{◌≡◌, ◌∙◌, ◌==◌, ◌<◌, ℕ, zero, suc, Bool, true, false, cond, ◌&&◌, ◌||◌, List, [], ◌∷◌, map, refl, sym, ap, ap₂, subst, length, take, take_all, arith}
+use Rattle.std.proofs.Common.{◌≡◌, ◌∙◌, ◌==◌, ◌<◌, ℕ, zero, suc, Bool, true, false, cond, ◌&&◌, ◌||◌, List, [], ◌∷◌, map, refl, sym, ap, ap₂, subst, length, arith}
 use Rattle.std.proofs.lemmas.Bool.Decides.{nat_tests}
 use Rattle.std.specs.BTreeSet.{BTreeSet, contains, InsertsAll}
 use Rattle.std.specs.List.{AllByRecursion, filter, list_any}
 use Rattle.std.specs.Map.{keys_of, values_of}
 use Rattle.std.specs.Ordering.{is_eq, nat_cmp}
-use Rattle.dav_resource.specs.Key.{Key, is_same_key}
+use Rattle.dav_key.specs.Key.{Key, is_same_key}
+use Rattle.dav_key.specs.Flat.{flat}
 use Rattle.dav_store.specs.declared.lock.DavLock.{DavLock}
 use Rattle.dav_store.specs.Locks.{is_at_or_below, covers, covering}
 use Rattle.dav_memls.specs.declared.memory_locks.index.Register.TheVariants.{Deep}
 use Rattle.dav_memls.specs.LockIndex.{Row, among, numbers_of, locks_of_numbers, is_of_key, HasNumbers, AddsNumbers}
 use Rattle.dav_memls.proofs.Ascending.{Rises, rises-head, rises-tail, rises-cons, rises-none, same, not_same, is_eq-same, all_weaker}
-use Rattle.dav_memls.proofs.Reached.{reached-more, reached-all}
+use Rattle.dav_memls.specs.KeyText.{ends_at}
+use Rattle.dav_memls.proofs.Reached.{reached-none, reached-more, reached-all}
 use Rattle.dav_memls.proofs.LockRows.{all_numbers, locks_found}
 use Rattle.dav_memls.proofs.LockFound.{is_reached, any-or}
 
@@ -92,23 +94,36 @@ any_numbers_or n a b rows =
     ∙ sym (ap₂ (λ x y. x || y) (any_map (λ m. n == m) (filter (λ (r : Row). a r.1) rows)) (any_map (λ m. n == m) (filter (λ (r : Row). b r.1) rows)))
 
 pub covers_own : (key : Key) (l : DavLock) → is_of_key key l ≡ reached_covers zero key l
-covers_own key l = none (is_of_key key l) l.deep
+covers_own key l = none (is_of_key key l) l.deep ∙ ap (λ b. is_of_key key l || (l.deep && b)) (sym (reached-none key l.path.key))
   where
     none : (own deep : Bool) → own ≡ (own || (deep && false))
     none true deep = refl
     none false true = refl
     none false false = refl
 
-pub covers_more : (d : ℕ) (key : Key) (l : DavLock) → (reached_covers d key l || among Deep (is_of_key (take d key)) l) ≡ reached_covers (suc d) key l
-covers_more d key l = moved (is_of_key key l) l.deep (is_reached d key l) (is_of_key (take d key) l) ∙ ap (λ b. is_of_key key l || (l.deep && b)) (sym (reached-more d key l.path.key))
+-- one key above has a text of this length
+pub covers_more : (n : ℕ) (key before : Key) (l : DavLock) → ends_at key n l.path.key ≡ is_of_key before l → (reached_covers n key l || among Deep (is_of_key before) l) ≡ reached_covers (suc n) key l
+covers_more n key before l only =
+    moved (is_of_key key l) l.deep (is_reached n key l) (is_of_key before l)
+    ∙ ap (λ b. is_of_key key l || (l.deep && (is_reached n key l || b))) (sym only)
+    ∙ ap (λ b. is_of_key key l || (l.deep && b)) (sym (reached-more n key l.path.key))
   where
     moved : (own deep before here : Bool) → ((own || (deep && before)) || (deep && here)) ≡ (own || (deep && (before || here)))
     moved true deep before here = refl
     moved false true before here = refl
     moved false false before here = refl
 
-pub covers_all : (key : Key) (l : DavLock) → reached_covers (length key) key l ≡ covers l key
-covers_all key l = elim l.deep as (λ b. (is_of_key key l || (b && is_reached (length key) key l)) ≡ cond b (is_at_or_below key l.path.key) (is_same_key key l.path.key)) [
+-- no key above has
+pub covers_same : (n : ℕ) (key : Key) (l : DavLock) → ends_at key n l.path.key ≡ false → reached_covers n key l ≡ reached_covers (suc n) key l
+covers_same n key l none =
+    ap (λ b. is_of_key key l || (l.deep && b)) (sym (or_false (is_reached n key l)) ∙ ap (λ b. is_reached n key l || b) (sym none) ∙ sym (reached-more n key l.path.key))
+  where
+    or_false : (b : Bool) → (b || false) ≡ b
+    or_false true = refl
+    or_false false = refl
+
+pub covers_all : (key : Key) (l : DavLock) → reached_covers (length (flat key)) key l ≡ covers l key
+covers_all key l = elim l.deep as (λ b. (is_of_key key l || (b && is_reached (length (flat key)) key l)) ≡ cond b (is_at_or_below key l.path.key) (is_same_key key l.path.key)) [
   | true ↦ above
   | false ↦ or_false (is_of_key key l)
 ]
@@ -123,12 +138,8 @@ covers_all key l = elim l.deep as (λ b. (is_of_key key l || (b && is_reached (l
     or_false true = refl
     or_false false = refl
 
-    above : (is_of_key key l || is_reached (length key) key l) ≡ is_at_or_below key l.path.key
-    above =
-        turned (is_of_key key l) (is_reached (length key) key l)
-        ∙ ap (λ k. is_reached (length key) key l || is_same_key k l.path.key) (sym (take_all (length key) key (omega arith)))
-        ∙ sym (reached-more (length key) key l.path.key)
-        ∙ reached-all key l.path.key
+    above : (is_of_key key l || is_reached (length (flat key)) key l) ≡ is_at_or_below key l.path.key
+    above = turned (is_of_key key l) (is_reached (length (flat key)) key l) ∙ reached-all key l.path.key
 
 -- ---- their numbers
 
@@ -137,12 +148,16 @@ pub covering_own : (key : Key) (rows : List Row) (found : BTreeSet ℕ) → HasN
 covering_own key rows found h n = h n ∙ ap (list_any (λ m. n == m)) (numbers_agree (is_of_key key) (reached_covers zero key) rows (each_row (λ row. covers_own key row.1) rows))
 
 -- then those above it, one after another
-pub covering_more : (d : ℕ) (key : Key) (rows : List Row) (old new : BTreeSet ℕ) → HasNumbers old (numbers_of (reached_covers d key) rows) → AddsNumbers (numbers_of (among Deep (is_of_key (take d key))) rows) old new → HasNumbers new (numbers_of (reached_covers (suc d) key) rows)
-covering_more d key rows old new was adds n =
-    adds n
-    ∙ ap (λ b. b || list_any (λ m. n == m) (numbers_of (among Deep (is_of_key (take d key))) rows)) (was n)
-    ∙ sym (any_numbers_or n (reached_covers d key) (among Deep (is_of_key (take d key))) rows)
-    ∙ ap (list_any (λ m. n == m)) (numbers_agree _ (reached_covers (suc d) key) rows (each_row (λ row. covers_more d key row.1) rows))
+pub covering_more : (n : ℕ) (key before : Key) (rows : List Row) (old new : BTreeSet ℕ) → ((above : Key) → ends_at key n above ≡ is_same_key before above) → HasNumbers old (numbers_of (reached_covers n key) rows) → AddsNumbers (numbers_of (among Deep (is_of_key before)) rows) old new → HasNumbers new (numbers_of (reached_covers (suc n) key) rows)
+covering_more n key before rows old new only was adds m =
+    adds m
+    ∙ ap (λ b. b || list_any (λ k. m == k) (numbers_of (among Deep (is_of_key before)) rows)) (was m)
+    ∙ sym (any_numbers_or m (reached_covers n key) (among Deep (is_of_key before)) rows)
+    ∙ ap (list_any (λ k. m == k)) (numbers_agree _ (reached_covers (suc n) key) rows (each_row (λ row. covers_more n key before row.1 (only row.1.path.key)) rows))
+
+pub covering_same : (n : ℕ) (key : Key) (rows : List Row) (found : BTreeSet ℕ) → ((above : Key) → ends_at key n above ≡ false) → HasNumbers found (numbers_of (reached_covers n key) rows) → HasNumbers found (numbers_of (reached_covers (suc n) key) rows)
+covering_same n key rows found none was m =
+    was m ∙ ap (list_any (λ k. m == k)) (numbers_agree (reached_covers n key) (reached_covers (suc n) key) rows (each_row (λ row. covers_same n key row.1 (none row.1.path.key)) rows))
 
 -- and at last all that cover it
 pub covering_all_reached : (m : ℕ) (key : Key) (rows : List Row) (found : BTreeSet ℕ) → AllByRecursion (λ (row : Row). reached_covers m key row.1 ≡ covers row.1 key) rows → HasNumbers found (numbers_of (reached_covers m key) rows) → HasNumbers found (numbers_of (λ l. covers l key) rows)

@@ -1,6 +1,6 @@
 -- A lock that enters the index or leaves it: what each register finds then.
 use Rattle.std.proofs.Common.{◌≡◌, ◌∙◌, ◌++◌, ◌&&◌, not, ℕ, List, [], cond, Result, Ok, Err, OnOk, OnErr, is_err, true, false, refl, ap}
-use Rattle.dav_resource.specs.Key.{Key, is_same_key}
+use Rattle.dav_key.specs.Key.{Key, is_same_key}
 use Rattle.dav_store.specs.declared.lock.DavLock.{DavLock}
 use Rattle.dav_store.specs.Locks.{has_token}
 use Rattle.dav_memls.specs.declared.memory_locks.by_key.ByKey.{ByKey}

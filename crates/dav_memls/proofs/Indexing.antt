@@ -7,7 +7,7 @@ use Rattle.std.specs.HashMap.{get_by_text}
 use Rattle.std.specs.List.{list_any}
 use Rattle.std.specs.Map.{keys_of, values_of, remove_entry, set_value}
 use Rattle.std.specs.Option.{option_to_list}
-use Rattle.dav_resource.specs.Key.{Key}
+use Rattle.dav_key.specs.Key.{Key}
 use Rattle.dav_store.specs.declared.lock.DavLock.{DavLock}
 use Rattle.dav_memls.specs.declared.memory_locks.index.LockIndex.{LockIndex}
 use Rattle.dav_memls.specs.declared.memory_locks.index.Register.{Register}

@@ -1,8 +1,8 @@
 -- Entries of a map of keys from a key on: in the keys' order those at that key and below it stand together.
-use Rattle.std.proofs.Common.{◌≡◌, ◌∙◌, ◌&&◌, ℕ, Bool, true, false, cond, bytes_eq, List, [], ◌∷◌, Some, refl, sym, ap, subst, String}
-use Rattle.std.proofs.lemmas.List.Elements.{recursion_from_All}
+use Rattle.std.proofs.Common.{◌≡◌, ◌∙◌, ◌&&◌, ℕ, Bool, true, false, cond, bytes_eq, List, [], ◌∷◌, Some, refl, sym, ap, ap₂, subst}
+use Rattle.std.proofs.lemmas.Bool.{and_parts}
+use Rattle.std.proofs.lemmas.List.Elements.{recursion_from_All, filter_passes}
 use Rattle.std.proofs.lemmas.List.Kept.{IsStrictlySortedBy-filter}
-use Rattle.std.specs.declared.alloc.Global.{Global}
 use Rattle.std.specs.declared.cmp.Ordering.{Ordering}
 use Rattle.std.specs.declared.cmp.Ordering.TheVariants.{Less, Equal, Greater}
 use Rattle.std.specs.declared.ops.Bound.{Bound}
@@ -12,27 +12,25 @@ use Rattle.std.specs.BTreeMap.Range.{entries_between, range_contains, IsEntryInR
 use Rattle.std.specs.Cmp.{tied_itself}
 use Rattle.std.specs.Cmp.Lexicographic.{slice_cmp, nat_list_cmp_total, bytes_decides}
 use Rattle.std.specs.FinMap as fin
-use Rattle.std.specs.List.{All, AllByRecursion, filter, starts_with}
+use Rattle.std.specs.List.{All, AllByRecursion, filter}
 use Rattle.std.specs.List.Sorted.{IsStrictlySortedBy}
 use Rattle.std.specs.Map.{keys_of}
 use Rattle.std.specs.Ordering.{nat_cmp, is_le, ordering_then, ordering_reverse}
-use Rattle.std.specs.String.{string_eq}
-use Rattle.dav_resource.specs.Key.{Key, key_cmp, is_same_key, same_key_decides}
-use Rattle.dav_resource.specs.Texts.{texts}
+use Rattle.dav_key.specs.Key.{Key, key_cmp, is_same_key, same_key_decides}
+use Rattle.dav_key.specs.Flat.{flat, segments_of, is_text_below, IsFlatText}
+use Rattle.dav_key.specs.FlatLaws.{flat_below}
 use Rattle.dav_store.specs.Locks.{is_at_or_below}
 use Rattle.dav_memls.specs.declared.memory_locks.by_key.ByKey.{ByKey}
 use Rattle.dav_memls.specs.declared.memory_locks.numbers.Numbers.{Numbers}
 use Rattle.dav_memls.specs.ByKey.{HasRun}
-use Rattle.dav_memls.specs.KeyEntries.{OwnKey, own_cmp, numbers_in}
-use Rattle.dav_memls.proofs.ByKeys.{texts_cmp, got}
+use Rattle.dav_memls.specs.KeyEntries.{OwnKey, own_text, own_key, own_cmp, is_text_of, numbers_in, AreFlat}
+use Rattle.dav_memls.proofs.ByKeys.{text_cmp, got}
 
 -- ---- at or below
 
--- as `starts_with` of segments answers
-pub starts-texts : (xs above : List (String Global)) → starts_with string_eq xs above ≡ is_at_or_below (texts xs) (texts above)
-starts-texts xs [] = refl
-starts-texts [] (s ∷ above) = refl
-starts-texts (x ∷ xs) (s ∷ above) = ap (λ b. string_eq s x && b) (starts-texts xs above)
+-- as texts answer
+pub text_below : (text other : List ℕ) → IsFlatText text → IsFlatText other → is_text_below text other ≡ is_at_or_below (segments_of text) (segments_of other)
+text_below text other is above = ap₂ is_text_below (sym is.same) (sym above.same) ∙ flat_below (segments_of text) (segments_of other) is.plain above.plain
 
 -- ---- the order
 
@@ -96,40 +94,71 @@ keys-filter q (e ∷ es) = split (q e.0) (keys-filter q es)
     split true is = ap (λ ks. e.0 ∷ ks) is
     split false is = is
 
-found-part : (q : OwnKey → Bool) (k : Key) (es : List (OwnKey × Numbers)) → ((own : OwnKey) → is_same_key k (texts own.items) ≡ true → q own ≡ true) → numbers_in (filter (λ e. q e.0) es) k ≡ numbers_in es k
-found-part q k [] h = refl
-found-part q k (e ∷ es) h = split (is_same_key k (texts e.0.items)) (q e.0) refl (h e.0) (found-part q k es h)
-  where
-    split : (a b : Bool) → is_same_key k (texts e.0.items) ≡ a → (a ≡ true → b ≡ true) → numbers_in (filter (λ x. q x.0) es) k ≡ numbers_in es k → numbers_in (cond b (e ∷ filter (λ x. q x.0) es) (filter (λ x. q x.0) es)) k ≡ numbers_in (e ∷ es) k
-    split true true is in_part more = rw is refl
-    split true false is in_part more = absurd (let no : false ≡ true = in_part refl in cc)
-    split false true is in_part more = rw is more
-    split false false is in_part more = rw is more
+-- whether the entry's key has the text of a key
+abbrev IsFlatEntry : OwnKey × Numbers → Type 0
+IsFlatEntry e = IsFlatText (own_text e.0)
 
-each_own : (m : BTreeMap OwnKey Numbers) (run : List (OwnKey × Numbers)) → AllByRecursion (λ e. get own_cmp m e.0 ≡ Some e.1) run → AllByRecursion (λ e. numbers_in m.entries (texts e.0.items) ≡ e.1.set.keys) run
-each_own m [] a = tt
-each_own m (e ∷ run) a = (sym (got e.0.items m.entries (Some e.1) (sym a.0)), each_own m run a.1)
+found-part : (q : OwnKey → Bool) (k : Key) (es : List (OwnKey × Numbers)) → AllByRecursion IsFlatEntry es → ((own : OwnKey) → IsFlatText (own_text own) → is_text_of k (own_text own) ≡ true → q own ≡ true) → numbers_in (filter (λ e. q e.0) es) k ≡ numbers_in es k
+found-part q k [] is h = refl
+found-part q k (e ∷ es) is h = split (is_text_of k (own_text e.0)) (q e.0) refl (h e.0 is.0) (found-part q k es is.1 h)
+  where
+    split : (a b : Bool) → is_text_of k (own_text e.0) ≡ a → (a ≡ true → b ≡ true) → numbers_in (filter (λ x. q x.0) es) k ≡ numbers_in es k → numbers_in (cond b (e ∷ filter (λ x. q x.0) es) (filter (λ x. q x.0) es)) k ≡ numbers_in (e ∷ es) k
+    split true true at in_part more = rw at refl
+    split true false at in_part more = absurd (let no : false ≡ true = in_part refl in cc)
+    split false true at in_part more = rw at more
+    split false false at in_part more = rw at more
+
+each_flat : (es : List (OwnKey × Numbers)) → AllByRecursion (λ own. IsFlatText (own_text own)) (keys_of es) → AllByRecursion IsFlatEntry es
+each_flat [] a = tt
+each_flat (e ∷ es) a = (a.0, each_flat es a.1)
+
+each_part : (q : OwnKey × Numbers → Bool) (es : List (OwnKey × Numbers)) → AllByRecursion IsFlatEntry es → AllByRecursion IsFlatEntry (filter q es)
+each_part q [] a = tt
+each_part q (e ∷ es) a = split (q e) (each_part q es a.1)
+  where
+    split : (b : Bool) → AllByRecursion IsFlatEntry (filter q es) → AllByRecursion IsFlatEntry (cond b (e ∷ filter q es) (filter q es))
+    split true more = (a.0, more)
+    split false more = more
+
+each_own : (m : BTreeMap OwnKey Numbers) (run : List (OwnKey × Numbers)) → AllByRecursion IsFlatEntry run → AllByRecursion (λ e. get own_cmp m e.0 ≡ Some e.1) run → AllByRecursion (λ e. numbers_in m.entries (own_key e.0) ≡ e.1.set.keys) run
+each_own m [] is a = tt
+each_own m (e ∷ run) is a = (sym (got (own_text e.0) m.entries (Some e.1) is.0 (sym a.0)), each_own m run is.1 a.1)
 
 each_kept : (m : BTreeMap OwnKey Numbers) (low high : Bound OwnKey) (run : List (OwnKey × Numbers)) → AllByRecursion (IsEntryInRange own_cmp low high m) run → AllByRecursion (λ e. get own_cmp m e.0 ≡ Some e.1) run
 each_kept m low high [] a = tt
 each_kept m low high (e ∷ run) a = (a.0.1, each_kept m low high run a.1)
 
--- a range that leaves out no key at the given one or below it
-pub run-between : (key : Key) (register : ByKey) (low high : Bound OwnKey) (run : List (OwnKey × Numbers)) → IsOrdered own_cmp register.map → run ≡ entries_between own_cmp low high register.map.entries
-    → ((own : OwnKey) → is_at_or_below (texts own.items) key ≡ true → range_contains own_cmp low high own ≡ true) → All (IsEntryInRange own_cmp low high register.map) run → HasRun key register run
-run-between key register low high run ordered is within kept = record {
-  ordered = subst (λ es. IsStrictlySortedBy own_cmp (keys_of es)) (sym is) (subst (IsStrictlySortedBy own_cmp) (sym (keys-filter inside register.map.entries)) (IsStrictlySortedBy-filter own_cmp inside (keys_of register.map.entries) ordered));
-  own = each_own register.map run (each_kept register.map low high run (recursion_from_All (IsEntryInRange own_cmp low high register.map) run kept));
-  all = λ k below. ap (λ es. numbers_in es k) is ∙ found-part inside k register.map.entries (λ own same. within own (subst (λ x. is_at_or_below x key ≡ true) ((same_key_decides k (texts own.items)).0 same) below));
-}
-  where
-    inside : OwnKey → Bool
-    inside = range_contains own_cmp low high
-
--- from a key on
-pub from_key : (start own : OwnKey) (key : Key) → texts start.items ≡ key → is_at_or_below (texts own.items) key ≡ true → range_contains own_cmp (Included start) Unbounded own ≡ true
-from_key start own key same below = split (is_le (own_cmp start own)) refl
+-- from a key on, no key at it or below it is left out
+from_key : (start own : OwnKey) → IsFlatText (own_text start) → IsFlatText (own_text own) → is_at_or_below (own_key own) (own_key start) ≡ true → range_contains own_cmp (Included start) Unbounded own ≡ true
+from_key start own is_start is_own below = split (is_le (own_cmp start own)) refl
   where
     split : (b : Bool) → is_le (own_cmp start own) ≡ b → (b && true) ≡ true
     split true e = refl
-    split false e = absurd (let no : false ≡ true = sym (not_before key (texts own.items) (ap (λ k. is_le (key_cmp k (texts own.items))) (sym same) ∙ sym (ap is_le (texts_cmp start.items own.items)) ∙ e)) ∙ below in cc)
+    split false e = absurd (let no : false ≡ true = sym (not_before (own_key start) (own_key own) (sym (ap is_le (text_cmp (own_text start) (own_text own) is_start is_own)) ∙ e)) ∙ below in cc)
+
+-- and each is at that key or after it
+each_from : (start : OwnKey) (run : List (OwnKey × Numbers)) → IsFlatText (own_text start) → AllByRecursion IsFlatEntry run → AllByRecursion (λ e. range_contains own_cmp (Included start) Unbounded e.0 ≡ true) run → AllByRecursion (λ e. is_le (key_cmp (own_key start) (own_key e.0)) ≡ true) run
+each_from start [] is flats a = tt
+each_from start (e ∷ run) is flats a = (sym (ap is_le (text_cmp (own_text start) (own_text e.0) is flats.0)) ∙ (and_parts (is_le (own_cmp start e.0)) true a.0).0, each_from start run is flats.1 a.1)
+
+pub run-from : (start : OwnKey) (register : ByKey) (run : List (OwnKey × Numbers)) → IsFlatText (own_text start) → IsOrdered own_cmp register.map → AreFlat (keys_of register.map.entries) → run ≡ entries_between own_cmp (Included start) Unbounded register.map.entries → All (IsEntryInRange own_cmp (Included start) Unbounded register.map) run → HasRun (own_key start) register run
+run-from start register run is_start ordered plain is kept = record {
+  ordered = subst (λ es. IsStrictlySortedBy own_cmp (keys_of es)) (sym is) (subst (IsStrictlySortedBy own_cmp) (sym (keys-filter inside register.map.entries)) (IsStrictlySortedBy-filter own_cmp inside (keys_of register.map.entries) ordered));
+  flat = flat_run;
+  from = each_from start run is_start flat_run (subst (AllByRecursion (λ e. inside e.0 ≡ true)) (sym is) (recursion_from_All (λ e. inside e.0 ≡ true) (filter (λ e. inside e.0) register.map.entries) (filter_passes (λ e. inside e.0) register.map.entries)));
+  own = each_own register.map run flat_run (each_kept register.map (Included start) Unbounded run (recursion_from_All (IsEntryInRange own_cmp (Included start) Unbounded register.map) run kept));
+  all = λ k below. ap (λ es. numbers_in es k) is ∙ all_found k below;
+}
+  where
+    inside : OwnKey → Bool
+    inside = range_contains own_cmp (Included start) Unbounded
+
+    flat_all : AllByRecursion IsFlatEntry register.map.entries
+    flat_all = each_flat register.map.entries (recursion_from_All (λ own. IsFlatText (own_text own)) (keys_of register.map.entries) plain)
+
+    flat_run : AllByRecursion IsFlatEntry run
+    flat_run = subst (AllByRecursion IsFlatEntry) (sym is) (each_part (λ e. inside e.0) register.map.entries flat_all)
+
+    all_found : (k : Key) → is_at_or_below k (own_key start) ≡ true → numbers_in (filter (λ e. inside e.0) register.map.entries) k ≡ numbers_in register.map.entries k
+    all_found k below = found-part inside k register.map.entries flat_all (λ own own_is at.
+        from_key start own is_start own_is (subst (λ x. is_at_or_below x (own_key start) ≡ true) ((same_key_decides k (own_key own)).0 (and_parts (is_same_key k (own_key own)) (bytes_eq (flat k) (own_text own)) at).0) below))

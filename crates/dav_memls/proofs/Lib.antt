@@ -1,6 +1,7 @@
 pub mod Ascending
 pub mod ExpirySets
 pub mod Reached
+pub mod KeyTexts
 pub mod ByKeys
 pub mod LockRows
 pub mod LockFound

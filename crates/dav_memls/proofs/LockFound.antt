@@ -1,7 +1,7 @@
 -- What a look along a path, from the root on, finds of the locks.
 use Rattle.std.proofs.Common.{◌≡◌, ◌∙◌, ℕ, Bool, true, false, cond, not, ◌&&◌, ◌||◌, List, [], ◌∷◌, refl, sym, ap}
 use Rattle.std.specs.List.{filter, list_all, list_any}
-use Rattle.dav_resource.specs.Key.{Key}
+use Rattle.dav_key.specs.Key.{Key}
 use Rattle.dav_store.specs.declared.lock.DavLock.{DavLock}
 use Rattle.dav_memls.proofs.Reached.{reached}
 

@@ -10,7 +10,7 @@ use Rattle.std.specs.List.{IsDistinct, AllByRecursion, filter, find, list_any}
 use Rattle.std.specs.Map.{keys_of, values_of, remove_entry}
 use Rattle.std.specs.Option.{IsSomeAnd, option_map}
 use Rattle.std.specs.Ordering.{is_eq}
-use Rattle.dav_resource.specs.Key.{Key}
+use Rattle.dav_key.specs.Key.{Key}
 use Rattle.dav_store.specs.declared.lock.DavLock.{DavLock}
 use Rattle.dav_store.specs.Locks.{is_at_or_below, at_or_below, elsewhere, has_token, grants, AreCompatible}
 use Rattle.dav_store.specs.LockCalls.{HasDistinctTokens, is_named, has_named, without_named, refreshed, with_refreshed}

@@ -1,19 +1,15 @@
 -- What the looks into the index of locks answer.
-use Rattle.std.proofs.Common.{◌≡◌, ◌∙◌, ℕ, Bool, true, false, cond, ◌&&◌, ◌||◌, List, [], ◌∷◌, Option, Some, None, refl, sym, ap, ap₂, subst, slice_get, take}
+use Rattle.std.proofs.Common.{◌≡◌, ◌∙◌, ℕ, Bool, true, false, cond, ◌&&◌, ◌||◌, List, [], ◌∷◌, Option, Some, None, refl, sym, ap, ap₂, subst, slice_get}
 use Rattle.std.specs.List.{AllByRecursion, filter, list_any}
 use Rattle.std.specs.Map.{keys_of, values_of}
 use Rattle.std.specs.Option.{IsSomeAnd, MatchOption, option_to_list}
-use Rattle.std.specs.Prelude.{String}
-use Rattle.std.specs.declared.alloc.Global.{Global}
-use Rattle.dav_resource.specs.Key.{Key, same_key_decides}
-use Rattle.dav_resource.specs.Texts.{texts}
+use Rattle.dav_key.specs.Key.{Key, same_key_decides}
 use Rattle.dav_store.specs.declared.lock.DavLock.{DavLock}
 use Rattle.dav_store.specs.Locks.{has_token, is_at_or_below}
 use Rattle.dav_store.specs.LockCalls.{is_named, has_named}
 use Rattle.dav_memls.specs.declared.memory_locks.index.Register.{Register}
 use Rattle.dav_memls.specs.LockIndex.{Row, among, belongs, numbers_of, lock_of, locks_of_numbers, is_of_key, is_within, StandsBelow}
 use Rattle.dav_memls.proofs.Ascending.{Rises}
-use Rattle.dav_memls.proofs.ByKeys.{texts-take}
 use Rattle.dav_memls.proofs.LockRows.{locks_found, all_held}
 
 -- ---- the lock that is named
@@ -65,7 +61,3 @@ pub at_key : (register : Register) (p : DavLock → Bool) (key : Key) (xs : List
 at_key register p key xs rows r is =
     ap (list_any p) (ap (λ ys. locks_of_numbers ys rows) is ∙ locks_found (among register (is_of_key key)) rows r)
     ∙ among_any register p (is_of_key key) (values_of rows)
-
--- the first segments of a path's key, by the path's segments
-pub first_segments : (d : ℕ) (segments : List (String Global)) (key : Key) → texts segments ≡ key → texts (take d segments) ≡ take d key
-first_segments d segments key same = texts-take d segments ∙ ap (take d) same

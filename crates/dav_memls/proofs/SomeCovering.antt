@@ -1,16 +1,17 @@
 -- The look for a lock that covers a key: at the key, and then for a deep one from the root on.
-use Rattle.std.proofs.Common.{◌≡◌, ◌∙◌, inl, inr, ⊎_elim, ℕ, zero, suc, Bool, true, false, cond, ◌||◌, List, [], ◌∷◌, Some, None, take, refl, sym, ap, ap₂}
+use Rattle.std.proofs.Common.{◌≡◌, ◌∙◌, inl, inr, ⊎_elim, ℕ, zero, suc, Bool, true, false, cond, ◌||◌, List, [], ◌∷◌, Some, None, refl, sym, ap, ap₂}
 use Rattle.std.proofs.lemmas.Bool.{and_parts}
 use Rattle.std.specs.List.{AllByRecursion, filter, find, list_any}
-use Rattle.dav_resource.specs.Key.{Key, is_same_key, same_key_decides}
+use Rattle.dav_key.specs.Key.{Key, is_same_key, same_key_decides}
 use Rattle.dav_store.specs.declared.lock.DavLock.{DavLock}
 use Rattle.dav_store.specs.Locks.{is_at_or_below, covers, covering}
 use Rattle.dav_store.specs.Members.{IsIn}
 use Rattle.dav_memls.specs.declared.memory_locks.index.Register.TheVariants.{Deep}
 use Rattle.dav_memls.specs.LockIndex.{among, is_of_key}
+use Rattle.dav_memls.specs.KeyText.{ends_at}
 use Rattle.dav_memls.proofs.CoveringLocks.{any_agree, any_or}
-use Rattle.dav_memls.proofs.CoveringNumbers.{reached_covers, covers_own, covers_more}
-use Rattle.dav_memls.proofs.Reached.{at_itself, reached, reached-more, reached-below}
+use Rattle.dav_memls.proofs.CoveringNumbers.{reached_covers, covers_own, covers_more, covers_same}
+use Rattle.dav_memls.proofs.Reached.{at_itself}
 
 -- ---- the first lock that passes a test
 
@@ -45,26 +46,25 @@ own_covers key l e = elim l.deep as (λ b. cond b (is_at_or_below key l.path.key
 ]
 
 -- and a deep one above it
-pub deep_covers : (d : ℕ) (key : Key) (l : DavLock) → among Deep (is_of_key (take d key)) l ≡ true → covers l key ≡ true
-deep_covers d key l e =
-    let both = and_parts l.deep (is_of_key (take d key) l) e in
+pub deep_covers : (n : ℕ) (key before : Key) (l : DavLock) → ((above : Key) → ends_at key n above ≡ is_same_key before above) → among Deep (is_of_key before) l ≡ true → covers l key ≡ true
+deep_covers n key before l only e =
+    let both = and_parts l.deep (is_of_key before l) e in
     ap (λ b. cond b (is_at_or_below key l.path.key) (is_same_key key l.path.key)) both.0
-    ∙ reached-below (suc d) key l.path.key (reached-more d key l.path.key ∙ ap (λ b. reached d key l.path.key || b) both.1 ∙ or_true (reached d key l.path.key))
-  where
-    or_true : (b : Bool) → (b || true) ≡ true
-    or_true true = refl
-    or_true false = refl
+    ∙ (and_parts (is_at_or_below key l.path.key) _ (only l.path.key ∙ both.1)).0
 
 -- ---- none does
 
 pub none_at : (key : Key) (ls : List DavLock) → list_any (is_of_key key) ls ≡ false → list_any (reached_covers zero key) ls ≡ false
 none_at key ls none = any_agree (reached_covers zero key) (is_of_key key) (λ l. sym (covers_own key l)) ls ∙ none
 
-pub none_more : (d : ℕ) (key : Key) (ls : List DavLock) → list_any (reached_covers d key) ls ≡ false → list_any (among Deep (is_of_key (take d key))) ls ≡ false → list_any (reached_covers (suc d) key) ls ≡ false
-none_more d key ls before here =
-    any_agree (reached_covers (suc d) key) (λ l. reached_covers d key l || among Deep (is_of_key (take d key)) l) (λ l. sym (covers_more d key l)) ls
-    ∙ any_or (reached_covers d key) (among Deep (is_of_key (take d key))) ls
-    ∙ ap₂ (λ x y. x || y) before here
+pub none_more : (n : ℕ) (key before : Key) (ls : List DavLock) → ((above : Key) → ends_at key n above ≡ is_same_key before above) → list_any (reached_covers n key) ls ≡ false → list_any (among Deep (is_of_key before)) ls ≡ false → list_any (reached_covers (suc n) key) ls ≡ false
+none_more n key before ls only earlier here =
+    any_agree (reached_covers (suc n) key) (λ l. reached_covers n key l || among Deep (is_of_key before) l) (λ l. sym (covers_more n key before l (only l.path.key))) ls
+    ∙ any_or (reached_covers n key) (among Deep (is_of_key before)) ls
+    ∙ ap₂ (λ x y. x || y) earlier here
+
+pub none_same : (n : ℕ) (key : Key) (ls : List DavLock) → ((above : Key) → ends_at key n above ≡ false) → list_any (reached_covers n key) ls ≡ false → list_any (reached_covers (suc n) key) ls ≡ false
+none_same n key ls none earlier = any_agree (reached_covers (suc n) key) (reached_covers n key) (λ l. sym (covers_same n key l (none l.path.key))) ls ∙ earlier
 
 pub none_covers : (m : ℕ) (key : Key) (ls : List DavLock) → AllByRecursion (λ (l : DavLock). reached_covers m key l ≡ covers l key) ls → list_any (reached_covers m key) ls ≡ false → covering ls key ≡ []
 none_covers m key ls all none = kept_none (λ l. covers l key) ls (sym (agree ls all) ∙ none)

@@ -1,7 +1,7 @@
 -- Locks sought by the tokens that are submitted.
 use Rattle.std.proofs.Common.{◌≡◌, ◌∙◌, ℕ, Bool, true, false, cond, ◌&&◌, ◌||◌, List, [], ◌∷◌, refl, sym, ap, ap₂, bytes_eq}
 use Rattle.std.specs.List.{filter, list_any}
-use Rattle.dav_resource.specs.Key.{Key}
+use Rattle.dav_key.specs.Key.{Key}
 use Rattle.dav_store.specs.declared.lock.DavLock.{DavLock}
 use Rattle.dav_store.specs.Locks.{has_token, covers, covering}
 use Rattle.dav_memls.proofs.Reached.{bytes_eq-sym}

@@ -3,12 +3,13 @@ use Rattle.std.specs.Prelude.{◌≡◌, ℕ, Bool, true, List, [], ◌∷◌, �
 use Rattle.std.specs.List.{AllByRecursion}
 use Rattle.std.specs.List.Sorted.{IsStrictlySortedBy}
 use Rattle.std.specs.Map.{keys_of}
-use Rattle.dav_resource.specs.Key.{Key}
-use Rattle.dav_resource.specs.Texts.{texts}
+use Rattle.std.specs.Ordering.{is_le}
+use Rattle.dav_key.specs.Key.{Key, key_cmp}
+use Rattle.dav_key.specs.Flat.{IsFlatText}
 use Rattle.dav_store.specs.Locks.{is_at_or_below}
 use Rattle.dav_memls.specs.declared.memory_locks.numbers.Numbers.{Numbers}
 use Rattle.dav_memls.specs.Numbers.{without}
-use Rattle.dav_memls.specs.KeyEntries.{OwnKey, own_cmp, numbers_in}
+use Rattle.dav_memls.specs.KeyEntries.{OwnKey, own_text, own_key, own_cmp, numbers_in}
 use Rattle.dav_memls.specs.declared.memory_locks.by_key.ByKey.{ByKey}
 
 -- the numbers at a key; none if the register has no entry for it
@@ -35,8 +36,10 @@ JoinsNumber test n old new = (key : Key) → numbers_at new key ≡ numbers_at o
 abbrev pub LeavesNumber : (Key → Bool) → ℕ → ByKey → ByKey → Type 0
 LeavesNumber test n old new = (key : Key) → numbers_at new key ≡ without_if (test key) n (numbers_at old key)
 
--- entries of the register in the order of their keys, among them each at or below the key
+-- entries of the register from the key on, in the order of their keys, among them each at or below the key
 pub record HasRun (key : Key) (register : ByKey) (run : List (OwnKey × Numbers)) : Type 0 where
   pub ordered : IsStrictlySortedBy own_cmp (keys_of run)
-  pub own : AllByRecursion (λ e. numbers_at register (texts e.0.items) ≡ e.1.set.keys) run
+  pub flat : AllByRecursion (λ e. IsFlatText (own_text e.0)) run
+  pub from : AllByRecursion (λ e. is_le (key_cmp key (own_key e.0)) ≡ true) run
+  pub own : AllByRecursion (λ e. numbers_at register (own_key e.0) ≡ e.1.set.keys) run
   pub all : (k : Key) → is_at_or_below k key ≡ true → numbers_in run k ≡ numbers_at register k

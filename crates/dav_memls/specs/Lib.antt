@@ -1,5 +1,7 @@
 pub mod Numbers
 pub mod KeyEntries
+pub mod KeyText
+pub mod TextProps
 pub mod ByKey
 pub mod Expiries
 pub mod LockIndex

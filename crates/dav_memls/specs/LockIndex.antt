@@ -9,7 +9,8 @@ use Rattle.std.specs.HashMap.{get_by_text}
 use Rattle.std.specs.Option.{IsSomeAnd, option_map_or, option_to_list}
 use Rattle.std.specs.Ordering.{nat_cmp}
 use denote.Ref.{Bor}
-use Rattle.dav_resource.specs.Key.{Key, is_same_key}
+use Rattle.dav_key.specs.Key.{Key, is_same_key}
+use Rattle.dav_key.specs.Flat.{flat}
 use Rattle.dav_store.specs.declared.lock.DavLock.{DavLock}
 use Rattle.dav_memls.specs.declared.memory_locks.by_key.ByKey.{ByKey}
 use Rattle.dav_memls.specs.declared.memory_locks.index.LockIndex.{LockIndex}
@@ -50,9 +51,9 @@ is_of_key key lock = is_same_key key lock.path.key
 abbrev pub is_within : Key → DavLock → Bool
 is_within key lock = is_at_or_below lock.path.key key
 
--- the own key of each lock has fewer segments than this
+-- the text of each lock's own key is shorter than this
 abbrev pub are_within : ℕ → List Row → Bool
-are_within reach rows = list_all (λ (row : Row). nat_lt (length row.1.path.key) reach) rows
+are_within reach rows = list_all (λ (row : Row). nat_lt (length (flat row.1.path.key)) reach) rows
 
 -- whether a register contains the lock, and whether it contains the lock and the lock passes the test
 abbrev pub belongs : Register → DavLock → Bool

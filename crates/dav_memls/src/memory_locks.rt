@@ -13,6 +13,7 @@ mod by_key;
 mod expiries;
 mod index;
 mod indexed;
+mod key_text;
 mod list;
 mod numbers;
 mod submitted;
@@ -37,32 +38,29 @@ use submitted::Submitted;
 ///
 /// A lookup of a path takes as many comparisons of paths as the logarithm of the number of locked paths. A
 /// lookup of a number or of a time takes as many comparisons as the logarithm of the number of locks. Except
-/// for these logarithms, the cost of a call does not depend on how many locks exist elsewhere, unless memory
-/// runs out.
+/// for these logarithms, the cost of a call does not depend on how many locks exist elsewhere. No lookup
+/// allocates memory.
 ///
 /// - `check` and `lock` look up any lock at the path, and then a deep lock at each path above it, from the
 ///   root down, until they find one that covers the path. One lock decides, because an exclusive lock that
 ///   covers a path is the only lock that covers it. If that lock is shared, `check` looks up the tokens.
 /// - A deep `lock` makes one lookup below the path. A deep `check` tests each lock at or below the path until
-///   one is not submitted. Both copy the path for this. If memory for the copy runs out, they search all
-///   locked paths, which is only slower.
+///   one is not submitted.
 /// - `check` sorts the tokens if there are many. Without memory for that it is only slower.
 /// - `discover` looks up the path and each path above it, and copies the locks that cover the path.
 /// - `unlock`, `refresh` and `with_token` look up the token.
-/// - `delete` makes one lookup below the path for each lock that it removes, in no promised order. It copies
-///   the path as a deep `check` does.
+/// - `delete` makes one lookup below the path for each lock that it removes, in no promised order.
 /// - `next_expiry` reads the first entry of the set of times, without a comparison. `expire` reads it once,
 ///   and once more for each lock that it removes.
 ///
-/// Lookups above a path go no deeper than the deepest path ever locked. `unlock`, `delete` and `expire` do
+/// Lookups above a path end at the length of the longest path ever locked. `unlock`, `delete` and `expire` do
 /// not change the numbers of other locks.
 ///
 /// `lock`, `refresh` and `discover` return `Memory` if memory runs out, and then nothing changes. `lock`
 /// allocates memory for the lock, for a second copy of its token, for its number in each map that has it and
-/// in the set of times, and for a copy of its path in each map of paths that does not have the path yet. Each
-/// new lock gets the number after that of the newest lock. If that number does not fit in 64 bits, `lock`
-/// returns `Memory`. `refresh` allocates memory for the copy that it returns, and for the lock's new entry in
-/// the set of times, if the time changes.
+/// in the set of times. The maps of paths share the text of its path. Each new lock gets the number after that
+/// of the newest lock. If that number does not fit in 64 bits, `lock` returns `Memory`. `refresh` allocates
+/// memory for the copy that it returns, and for the lock's new entry in the set of times, if the time changes.
 #[derive(Debug, Drop)]
 pub struct MemLs {
     locks: IndexedLocks,

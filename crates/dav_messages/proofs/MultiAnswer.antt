@@ -7,7 +7,7 @@ use Rattle.dav_resource.specs.declared.error.DavError.{DavError}
 use Rattle.dav_resource.specs.declared.error.DavError.TheVariants.{Memory}
 use Rattle.dav_resource.specs.PathText.{PathValue}
 use Rattle.std.proofs.lemmas.Bool.Decides.{same_from_decides}
-use Rattle.dav_resource.specs.Key.{is_same_key, same_key_decides}
+use Rattle.dav_key.specs.Key.{is_same_key, same_key_decides}
 use Rattle.dav_messages.specs.Reply.{Reply, Answer, reply_of, bare_reply}
 use Rattle.dav_messages.specs.Multistatus.{Item, multi_answer, multistatus_reply}
 

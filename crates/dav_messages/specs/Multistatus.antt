@@ -3,7 +3,7 @@ use Rattle.std.specs.Prelude.{ℕ, ◌==◌, if◌then◌else◌, List, [], ◌�
 use Rattle.std.specs.Option.{option_map_or}
 use Rattle.http.specs.StatusCode.{code_digits, reason_phrase}
 use Rattle.http.specs.declared.version.TheConstants.Version.{HTTP_11}
-use Rattle.dav_resource.specs.Key.{is_same_key}
+use Rattle.dav_key.specs.Key.{is_same_key}
 use Rattle.dav_resource.specs.PathText.{PathValue}
 use Rattle.dav_resource.specs.Tree.{Tree, prefixed_element}
 use Rattle.dav_resource.specs.declared.request.Body.{Body}

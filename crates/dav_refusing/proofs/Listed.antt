@@ -6,7 +6,7 @@ use Rattle.std.specs.Ordering.{eq_by_cmp}
 use Rattle.std.specs.FinMap.{get, keys, contains_key, contains_key-keys}
 use Rattle.std.proofs.lemmas.List.Elements.{All-cons}
 use Rattle.std.proofs.lemmas.List.Sorted.{All-permutation}
-use Rattle.dav_resource.specs.Key.{Key, key_cmp, tied_decides}
+use Rattle.dav_key.specs.Key.{Key, key_cmp, tied_decides}
 use Rattle.dav_resource.specs.PathText.{IsKey, IsSegment}
 use Rattle.dav_resource.specs.declared.meta.DirEntry.{DirEntry}
 use Rattle.dav_resource.specs.declared.error.FsError.{FsError}

@@ -1,10 +1,7 @@
 -- Plans as the code keeps them: queues of errors by slots.
-use Rattle.std.proofs.Common.{◌≡◌, ◌∙◌, Bool, true, false, cond, List, [], ◌∷◌, ◌++◌, Option, Some, None, Result, Ok, Err, OnOk, OnErr, String, refl, sym, ap, drop, slice_get, subst, length, eq-eqb, ◌≢◌, ◌==◌, ◌&&◌}
-use Rattle.std.specs.declared.alloc.Global.{Global}
-use Rattle.std.specs.Ordering.{nat_cmp, eq_by_cmp, ordering_then}
+use Rattle.std.proofs.Common.{◌≡◌, ◌∙◌, Bool, true, false, cond, List, [], ◌∷◌, ◌++◌, Option, Some, None, Result, Ok, Err, OnOk, OnErr, refl, sym, ap, drop, slice_get, subst, length, eq-eqb, ◌≢◌, ◌==◌, ◌&&◌}
+use Rattle.std.specs.Ordering.{nat_cmp, eq_by_cmp}
 use Rattle.std.specs.Cmp.{tied_then, unsigned_tied, eq_by_cmp_equiv}
-use Rattle.std.specs.Cmp.Lexicographic.{slice_cmp}
-use Rattle.std.specs.String.{string_cmp}
 use Rattle.std.proofs.lemmas.Bool.{eqb-true, cond_both}
 use Rattle.std.proofs.lemmas.List.{nil_from_length}
 use Rattle.std.proofs.lemmas.Map.Entries.{lookup_head}
@@ -12,8 +9,7 @@ use Rattle.std.specs.Map.{lookup}
 use Rattle.std.specs.Option.{IsSome, option_map}
 use Rattle.std.specs.VecDeque.{deque_len}
 use Rattle.std.specs.BTreeMap.{BTreeMap, is_at, get, get_by, UpdatesBy, WritesThrough}
-use Rattle.dav_resource.specs.Key.{Key, key_cmp}
-use Rattle.dav_resource.specs.Texts.{texts}
+use Rattle.dav_key.specs.Key.{Key, key_cmp}
 use Rattle.dav_resource.specs.declared.record.Op.{Op}
 use Rattle.dav_resource.specs.declared.error.FsError.{FsError}
 use Rattle.dav_store.specs.Calls.{IsOwn}
@@ -24,13 +20,6 @@ use Rattle.dav_refusing.specs.declared.refusing.own_error.OwnError.{OwnError}
 use Rattle.dav_refusing.proofs.Planning.{with_errors-same, without-none}
 
 -- ---- the order of slots
-
--- segments compare as the key that they are
-pub texts_cmp : (a b : List (String Global)) → slice_cmp string_cmp a b ≡ key_cmp (texts a) (texts b)
-texts_cmp [] [] = refl
-texts_cmp [] (y ∷ ys) = refl
-texts_cmp (x ∷ xs) [] = refl
-texts_cmp (x ∷ xs) (y ∷ ys) = ap (ordering_then (string_cmp x y)) (texts_cmp xs ys)
 
 -- a slot is at another where calls of both go by the same errors
 slot-is_for : (slot : Slot) (op : Op) (key : Key) → is_at (slot_cmp slot) (slot_at op key) ≡ is_for slot.op (slot_key slot) op key

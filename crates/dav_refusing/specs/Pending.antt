@@ -1,7 +1,7 @@
 -- The refusals that are still to come, one call by its number and the calls of a plan: this project's own choice.
 use Rattle.std.specs.Prelude.{ℕ, ◌-◌, ◌==◌, if◌then◌else◌, Option, Some, None}
 use Rattle.std.specs.Option.{option_map, option_or}
-use Rattle.dav_resource.specs.Key.{Key}
+use Rattle.dav_key.specs.Key.{Key}
 use Rattle.dav_resource.specs.declared.record.Op.{Op}
 use Rattle.dav_resource.specs.declared.error.FsError.{FsError}
 use Rattle.dav_refusing.specs.Plans.{Plan, refusal_for, without_first}

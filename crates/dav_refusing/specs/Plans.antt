@@ -1,7 +1,7 @@
 -- Plans of refusals, and how a plan changes a listing of members: this project's own choice.
 use Rattle.std.specs.Prelude.{◌≡◌, ℕ, nat_eq, Bool, ◌&&◌, if◌then◌else◌, List, [], ◌∷◌, ◌++◌, map, drop, slice_get, filter_map, All, IfOk, Option, Some, None, Ok, Err, Result}
 use Rattle.std.specs.Ordering.{eq_by_cmp}
-use Rattle.dav_resource.specs.Key.{Key, key_cmp}
+use Rattle.dav_key.specs.Key.{Key, key_cmp}
 use Rattle.dav_resource.specs.declared.meta.DirEntry.{DirEntry}
 use Rattle.dav_resource.specs.declared.record.Op.{Op}
 use Rattle.dav_resource.specs.declared.record.Op.TheVariants.{Metadata, ReadDir, ReadBytes, CreateDir, OpenFile, RemoveFile, RemoveDir, Copy, Rename, Seek, WriteBytes, Flush, FileMetadata, GetProp, GetProps, PatchProps, GetQuota, Entry}

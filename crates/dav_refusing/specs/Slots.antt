@@ -7,7 +7,7 @@ use Rattle.std.specs.Option.{option_map}
 use Rattle.std.specs.Ordering.{nat_cmp, on, then_cmp}
 use Rattle.std.specs.Cmp.{IsTotalOrder, nat_cmp_total, on_total, then_total}
 use Rattle.std.specs.BTreeMap.{BTreeMap, get}
-use Rattle.dav_resource.specs.Key.{Key, key_cmp, key_cmp_total}
+use Rattle.dav_key.specs.Key.{Key, key_cmp, key_cmp_total}
 use Rattle.dav_resource.specs.PathText.{PathValue}
 use Rattle.dav_resource.specs.PathForms.{root_path}
 use Rattle.dav_resource.specs.declared.record.Op.{Op}

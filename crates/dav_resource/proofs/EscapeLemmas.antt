@@ -1,13 +1,11 @@
 -- How a key's text is written.
-use Rattle.std.proofs.Common.{◌≡◌, ◌∙◌, ◌<◌, ◌≤◌, ℕ, List, [], ◌∷◌, ◌++◌, Bool, true, false, not, if◌then◌else◌, refl, ap, sym, arith, All}
-use Rattle.std.proofs.lemmas.List.{append-nil}
+use Rattle.std.proofs.Common.{◌≡◌, ◌∙◌, ◌<◌, ◌≤◌, ℕ, List, [], ◌∷◌, ◌++◌, Bool, true, false, not, if◌then◌else◌, refl, sym, arith, All, append_assoc}
 use Rattle.std.proofs.lemmas.Bool.{agree_below, agree_below_at}
 use Rattle.std.proofs.lemmas.Bool.Decides.{nat_tests}
-use Rattle.std.proofs.lemmas.Grind.{flat_map-append}
 use Rattle.std.specs.Char.{is_ascii}
 use Rattle.percent_encoding.specs.AsciiSet.{contains, should_percent_encode}
 use Rattle.percent_encoding.specs.Percent.{percent_encode, percent_encode_byte}
-use Rattle.dav_resource.specs.Key.{Key}
+use Rattle.dav_key.specs.Key.{Key}
 use Rattle.percent_encoding.proofs.PercentLemmas.{IsEscapeByte, All-percent_encode}
 use Rattle.dav_resource.specs.declared.path.write.TheConstants.{ESCAPED}
 use Rattle.dav_resource.specs.PathText.{is_unreserved, escape, key_text}
@@ -48,8 +46,9 @@ percent_encode-escape [] = refl
 percent_encode-escape (b ∷ bs) =
     λ i. choose (should_percent_encode ESCAPED b) (is_unreserved b) (percent_encode_byte b) (b ∷ []) (escapes b) i ++ percent_encode-escape bs i
 
-pub key_text-next : (key : Key) (segment : List ℕ) → key_text (key ++ segment ∷ []) ≡ key_text key ++ 47 ∷ escape segment
-key_text-next key segment = flat_map-append (λ s. 47 ∷ escape s) key (segment ∷ []) ∙ ap (λ x. key_text key ++ x) (append-nil (47 ∷ escape segment))
+-- the text so far, and one more segment
+pub key_text-next : (text s : List ℕ) (rest : Key) → ((text ++ 47 ∷ []) ++ escape s) ++ key_text rest ≡ text ++ key_text (s ∷ rest)
+key_text-next text s rest = simp append_assoc
 
 -- what holds of each unreserved byte and of each byte of an escape holds of each byte of the text
 pub All-escape : (P : ℕ → Type 0) → ((b : ℕ) → is_unreserved b ≡ true → P b) → ((b : ℕ) → IsEscapeByte b → P b) → (bs : List ℕ) → All P (escape bs)

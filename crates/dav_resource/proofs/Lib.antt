@@ -1,9 +1,9 @@
 pub mod Utf8Lemmas
-pub mod TextsLemmas
 pub mod EscapeLemmas
 pub mod RoundTrip
 pub mod ReadsBack
 pub mod KeyLemmas
+pub mod PartLemmas
 pub mod PathLemmas
 pub mod MimeLemmas
 pub mod TreeLemmas

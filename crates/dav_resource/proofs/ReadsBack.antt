@@ -10,7 +10,7 @@ use Rattle.http_header.specs.FieldValue.{IsFieldValue}
 use Rattle.http_header.specs.Token.{is_value_byte}
 use Rattle.percent_encoding.proofs.PercentLemmas.{IsEscapeByte, percent_encode_nonempty}
 use Rattle.dav_resource.specs.declared.path.write.TheConstants.{ESCAPED}
-use Rattle.dav_resource.specs.Key.{Key}
+use Rattle.dav_key.specs.Key.{Key}
 use Rattle.dav_resource.specs.PathText.{PathValue, IsPathValue, IsSegment, IsKey, star_path, is_slash, is_unreserved, escape, key_text, last_slash, url_text, path_part, ends_in_slash, read_key, read_prefix, below_prefix, read_path, on_ok, is_dropped}
 use Rattle.dav_resource.specs.PathForms.{is_collection}
 use Rattle.dav_resource.proofs.EscapeLemmas.{All-escape, percent_encode-escape}

@@ -9,7 +9,7 @@ use Rattle.std.specs.Char.{is_ascii_hexdigit}
 use Rattle.std.specs.Fmt.{digit_glyph}
 use Rattle.percent_encoding.specs.Percent.{percent_decode, percent_encode_byte}
 use Rattle.percent_encoding.proofs.PercentLemmas.{round_trip}
-use Rattle.dav_resource.specs.Key.{Key}
+use Rattle.dav_key.specs.Key.{Key}
 use Rattle.dav_resource.specs.declared.path.write.TheConstants.{ESCAPED}
 use Rattle.dav_resource.specs.PathText.{PathValue, is_slash, is_unreserved, has_whole_escapes, escape, key_text, last_slash, url_text, read_part, enter_part, enter_parts, read_key, IsSegment, IsKey}
 use Rattle.dav_resource.specs.PathLaws.{read_part_nil}

@@ -1,6 +1,5 @@
 pub mod Errors
 pub mod Gives
-pub mod Key
 pub mod PathText
 pub mod PathForms
 pub mod PathLaws

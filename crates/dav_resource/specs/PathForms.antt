@@ -1,6 +1,6 @@
 -- Paths made from a path, and tests of a path: this project's own choice.
 use Rattle.std.specs.Prelude.{◌≡◌, ℕ, Bool, true, false, ◌-◌, ◌||◌, ◌==◌, List, [], ◌∷◌, ◌++◌, length, get_or, Ok}
-use Rattle.dav_resource.specs.Key.{Key, parent}
+use Rattle.dav_key.specs.Key.{Key, parent}
 use Rattle.dav_resource.specs.PathText.{PathValue, read_path}
 
 -- the root, below no prefix

@@ -7,7 +7,7 @@ use Rattle.std.specs.Char.{is_ascii_hexdigit, is_ascii_alphanumeric}
 use Rattle.percent_encoding.specs.Percent.{percent_decode, percent_encode_byte}
 use Rattle.dav_resource.specs.declared.error.DavError.{DavError}
 use Rattle.dav_resource.specs.declared.error.DavError.TheVariants.{InvalidPath, ForbiddenPath, IllegalPath}
-use Rattle.dav_resource.specs.Key.{Key}
+use Rattle.dav_key.specs.Key.{Key}
 
 -- `/`
 abbrev pub is_slash : ℕ → Bool

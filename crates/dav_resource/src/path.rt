@@ -6,31 +6,29 @@ ghost use Rattle.dav_resource.specs.Gives.{GivesBy};
 ghost use Rattle.dav_resource.specs.PathText.{read_path, read_path_below, url_text, star_path, IsKey, IsSegment};
 ghost use Rattle.dav_resource.specs.PathForms.{root_path, is_collection, resource_path, parent_path, member_path, prefixed, file_name, ReadsBack};
 ghost use Rattle.dav_resource.specs.Mime.{mime_type_of};
-ghost use Rattle.dav_resource.specs.Texts.{texts};
 
 use crate::error::DavResult;
+use dav_key::{FlatKey, Segments};
 use std::alloc::{AllocError, Global};
 use std::marker::Model;
-use std::rc::Rc;
 
-mod key;
 mod mime;
 mod read;
 mod write;
 
 /// The path of a resource, below the prefix of a server.
 ///
-/// Its key is a list of segments. A segment is a non-empty string that contains neither `/` nor NUL, and is
+/// Its key has a list of segments. A segment is a non-empty string that contains neither `/` nor NUL, and is
 /// neither `.` nor `..`. The star path `*` has no segments.
 ///
-/// Copies of a path share the segments of its key and of its prefix, so a copy allocates no memory. A method
-/// that makes another key or prefix says what it copies.
+/// Copies of a path share the texts of its key and of its prefix, so a copy allocates no memory. A method
+/// that makes another key says what it copies.
 #[derive(Debug, Drop)]
 pub struct DavPath {
     star: bool,
     slash: bool,
-    prefix: Rc<Vec<String>>,
-    segments: Rc<Vec<String>>,
+    prefix: FlatKey,
+    key: FlatKey,
 }
 
 impl Model for DavPath {
@@ -70,8 +68,8 @@ impl DavPath {
         }
         let text = read::path_part(text);
         let key = read::read_key(alloc, text)?;
-        let prefix = key::share(read::read_prefix(alloc, prefix)?)?;
-        read::below_prefix(text.ends_with('/'), key, prefix)
+        let prefix = read::read_prefix(alloc, prefix)?;
+        read::below_prefix(text.ends_with('/'), &key, prefix)
     }
 
     /// Parses the path of a URL as `from_str_and_prefix` does, below the prefix of another path. Except for
@@ -87,7 +85,7 @@ impl DavPath {
         }
         let text = read::path_part(text);
         let key = read::read_key(alloc, text)?;
-        read::below_prefix(text.ends_with('/'), key, path.prefix.clone()?)
+        read::below_prefix(text.ends_with('/'), &key, path.prefix.clone()?)
     }
 
     /// Returns the root with a trailing slash, below no prefix. Fails only if memory runs out.
@@ -97,21 +95,36 @@ impl DavPath {
         DavPath::without_segments(alloc, false)
     }
 
+    /// Returns the path with this key below no prefix. It has a trailing slash if `collection` is set or the
+    /// key is the root. The caller ensures that each segment of the key may be one. The path shares the key's
+    /// text. Fails only if memory runs out.
+    pub fn of_key(key: FlatKey, collection: bool) -> Result<DavPath, AllocError>
+        requires { IsKey key }
+        ensures { IfOk result (λ path. path ≡ resource_path collection (record root_path { key = key })) }
+    {
+        Ok(DavPath {
+            star: false,
+            slash: is_collection(collection, &key),
+            prefix: FlatKey::root(key.allocator())?,
+            key,
+        })
+    }
+
     /// Returns the star path, or the root below no prefix. Fails only if memory runs out.
     fn without_segments(alloc: Global, star: bool) -> Result<DavPath, AllocError>
         ensures { IfOk result (λ path. path ≡ record root_path { star = star }) }
     {
-        let none = key::share_none(alloc)?;
+        let root = FlatKey::root(alloc)?;
         Ok(DavPath {
             star,
             slash: true,
-            prefix: none.clone()?,
-            segments: none,
+            prefix: root.clone()?,
+            key: root,
         })
     }
 
-    /// Returns a path with the same contents. It shares all segments and allocates no memory. Fails only if
-    /// there would be more copies at once than a `usize` counts.
+    /// Returns a path with the same contents. It shares the texts of the key and of the prefix, and allocates
+    /// no memory. Fails only if there would be more copies at once than a `usize` counts.
     pub fn clone(&self) -> Result<DavPath, AllocError>
         ensures { IfOk result (λ copy. copy ≡ self.now) }
     {
@@ -119,21 +132,16 @@ impl DavPath {
             star: self.star,
             slash: self.slash,
             prefix: self.prefix.clone()?,
-            segments: self.segments.clone()?,
+            key: self.key.clone()?,
         })
     }
 
     /// Returns the path with the same key below no prefix. It has a trailing slash if `collection` is set or
-    /// the key is the root. Both paths share the key's segments. Fails only if memory runs out.
+    /// the key is the root. Both paths share the key's text. Fails only if memory runs out.
     pub fn resource_path(&self, collection: bool) -> Result<DavPath, AllocError>
         ensures { IfOk result (λ path. path ≡ resource_path collection self.now) }
     {
-        Ok(DavPath {
-            star: false,
-            slash: key::is_collection(collection, self.segments()),
-            prefix: key::share_none(*self.prefix.allocator())?,
-            segments: self.segments.clone()?,
-        })
+        DavPath::of_key(self.key.clone()?, collection)
     }
 
     /// Whether this is the star path.
@@ -148,60 +156,67 @@ impl DavPath {
     pub fn is_collection(&self) -> bool
         ensures { result ≡ is_collection self.now }
     {
-        key::is_collection(self.slash, self.segments())
+        is_collection(self.slash, &self.key)
     }
 
     /// Whether both paths have the same key. Prefixes and trailing slashes are not compared.
     pub fn same_key(&self, other: &DavPath) -> bool
         ensures { IsTrue result ↔ (self.now.key ≡ other.now.key) }
     {
-        self.segments == other.segments
+        self.key.same(&other.key)
     }
 
     /// Whether this path's key is at or below the other's. Prefixes and trailing slashes are not compared.
     pub fn is_at_or_below(&self, other: &DavPath) -> bool
         ensures { result ≡ starts_with bytes_eq self.now.key other.now.key }
     {
-        key::is_below(self.segments(), other.segments())
+        self.key.is_at_or_below(&other.key)
     }
 
-    /// The segments of the prefix, first to last.
-    pub fn prefix(&self) -> &[String]
-        ensures value { texts result.now ≡ self.now.prefix }
+    /// The prefix.
+    pub fn prefix(&self) -> &FlatKey
+        ensures value { result.now ≡ self.now.prefix }
         ensures key { IsKey self.now.prefix }
     {
-        self.prefix.as_slice()
+        &self.prefix
+    }
+
+    /// The key, without the prefix.
+    pub fn key(&self) -> &FlatKey
+        ensures value { result.now ≡ self.now.key }
+        ensures key { IsKey self.now.key }
+    {
+        &self.key
     }
 
     /// The segments of the key, first to last.
-    pub fn segments(&self) -> &[String]
-        ensures value { texts result.now ≡ self.now.key }
+    pub fn segments(&self) -> Segments<'_>
+        ensures value { result ≡ self.now.key }
         ensures key { IsKey self.now.key }
     {
-        self.segments.as_slice()
+        self.key.segments()
     }
 
-    /// Returns the path of the parent, with a trailing slash. The parent of the root is the root. The key's
-    /// segments are copied, and both paths share the prefix. Fails only if memory runs out.
+    /// Returns the path of the parent, with a trailing slash. The parent of the root is the root. The
+    /// parent's text is copied, and both paths share the prefix. Fails only if memory runs out.
     pub fn parent(&self) -> Result<DavPath, AllocError>
         ensures { IfOk result (λ path. path ≡ parent_path self.now) }
     {
         let mut path = self.clone()?;
-        path.segments = key::copy_parent(&path.segments)?;
+        path.key = path.key.parent()?;
         path.slash = true;
         Ok(path)
     }
 
     /// Appends a segment, and removes the trailing slash: the path becomes that of the member with this name.
-    /// If another path shares the key's segments, they are copied first, and the other path does not change.
-    /// The caller ensures that the name may be a segment. Fails only if memory runs out, and the path is then
-    /// unchanged.
+    /// The key's text is copied, and paths that shared it do not change. The caller ensures that the name may
+    /// be a segment. Fails only if memory runs out, and the path is then unchanged.
     pub fn push_segment(&mut self, name: &str) -> Result<(), AllocError>
         requires { IsSegment name.now }
         ensures ok { OnOk result (self.new ≡ member_path self.old name.now) }
         ensures err { OnErr result (self.new ≡ self.old) }
     {
-        key::push_member(&mut self.segments, name)?;
+        self.key = self.key.child(name)?;
         self.star = false;
         self.slash = false;
         Ok(())
@@ -221,16 +236,19 @@ impl DavPath {
         self.slash |= wanted;
     }
 
-    /// Returns the path whose key is the prefix followed by the key, below no prefix. All segments are
-    /// copied. Fails only if memory runs out.
+    /// Returns the path whose key is the prefix followed by the key, below no prefix. If the prefix has no
+    /// segments, this is a `clone`, otherwise both texts are copied. Fails only if memory runs out.
     pub fn with_prefix(&self) -> Result<DavPath, AllocError>
         ensures { IfOk result (λ path. path ≡ prefixed self.now) }
     {
+        if self.prefix.is_root() {
+            return self.clone();
+        }
         Ok(DavPath {
             star: self.star,
             slash: self.slash,
-            prefix: key::share_none(*self.prefix.allocator())?,
-            segments: key::copy_prefixed(&self.prefix, &self.segments)?,
+            prefix: FlatKey::root(self.prefix.allocator())?,
+            key: self.prefix.join(&self.key)?,
         })
     }
 
@@ -242,14 +260,14 @@ impl DavPath {
         ensures reads_back { IfOk result (λ text. ReadsBack self.now (string_bytes text)) }
         ensures field_value { IfOk result (λ text. IsFieldValue (string_bytes text)) }
     {
-        write::path_text(self.star, self.slash, self.segments.as_ref())
+        write::path_text(self.star, self.slash, &self.key)
     }
 
     /// The bytes of the last segment. They are empty for the root.
     pub fn file_name_bytes(&self) -> &[u8]
         ensures { result.now ≡ file_name self.now.key }
     {
-        match self.segments().last() {
+        match self.key.name() {
             Some(name) => name.as_bytes(),
             None => &[],
         }
@@ -262,4 +280,11 @@ impl DavPath {
     {
         mime::mime_type_of(self.file_name_bytes())
     }
+}
+
+/// Whether a path with this key names a collection. The root always does.
+fn is_collection(slash: bool, key: &FlatKey) -> bool
+    ensures { result ≡ (slash || length key.now == 0) }
+{
+    slash || key.is_root()
 }

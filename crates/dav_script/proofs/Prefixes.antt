@@ -1,7 +1,7 @@
 -- Where the root is read below a prefix, the prefix's own faults are told from the root's.
 use Rattle.std.proofs.Common.{◌≡◌, ◌≢◌, Bool, true, false, List, [], ◌∷◌, ℕ, Result, Ok, Err, refl, sym, ap, ◌∙◌, inl, inr, if◌then◌else◌, IsOk, IsErr, MatchResult}
 use Rattle.std.specs.List.{slice_split}
-use Rattle.dav_resource.specs.Key.{Key}
+use Rattle.dav_key.specs.Key.{Key}
 use Rattle.dav_resource.specs.PathText.{PathValue, read_path, read_prefix, read_part, enter, enter_part, enter_parts, on_ok, below_prefix, is_slash}
 use Rattle.dav_resource.specs.PathLaws.{read_key_root}
 use Rattle.dav_resource.specs.Gives.{GivesBy}

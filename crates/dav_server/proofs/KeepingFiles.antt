@@ -1,7 +1,7 @@
 -- Requests that leave a file as it is.
 use Rattle.std.proofs.Common.{◌≡◌, ◌∙◌, inl, inr, Bool, true, false, List, [], ◌∷◌, Option, Some, None, Result, ℕ, refl, sym, ap}
 use Rattle.std.specs.FinMap.{get}
-use Rattle.dav_resource.specs.Key.{Key, is_same_key, same_key_decides}
+use Rattle.dav_key.specs.Key.{Key, is_same_key, same_key_decides}
 use Rattle.dav_resource.specs.declared.error.FsError.{FsError}
 use Rattle.dav_resource.specs.declared.method.DavMethod.{DavMethod}
 use Rattle.dav_resource.specs.declared.method.DavMethod.TheVariants.{Head, Get, Put, Patch, Options, PropFind, PropPatch, MkCol, Copy, Move, Delete, Lock, Unlock}

@@ -1,7 +1,7 @@
 -- What exists at the path of a read.
 use Rattle.std.specs.Prelude.{◌≡◌, ℕ, Bool, Some, Result, Ok, Err}
 use Rattle.std.specs.FinMap.{get}
-use Rattle.dav_resource.specs.Key.{Key}
+use Rattle.dav_key.specs.Key.{Key}
 use Rattle.dav_store.specs.Store.{Contents, Directory}
 use Rattle.dav_wire.specs.Frames.{ReadValue}
 use Rattle.dav_wire.specs.Replies.{ReplyValue}

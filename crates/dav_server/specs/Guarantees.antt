@@ -1,7 +1,7 @@
 -- What holds of a list of actions, in one batch or in many: what a PUT wrote is what a later read returns.
 use Rattle.std.specs.Prelude.{◌≡◌, ◌≢◌, ◌⊎◌, ℕ, Bool, true, false, List, [], ◌∷◌, ◌++◌, ◌||◌, map, length, flat_map, Option, Some, None, Ok, Err}
 use Rattle.std.specs.List.{AllZip, list_any}
-use Rattle.dav_resource.specs.Key.{Key, is_same_key}
+use Rattle.dav_key.specs.Key.{Key, is_same_key}
 use Rattle.dav_resource.specs.Methods.{method_of}
 use Rattle.dav_resource.specs.PathText.{PathValue, read_path}
 use Rattle.dav_resource.specs.declared.method.DavMethod.{DavMethod}

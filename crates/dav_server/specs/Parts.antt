@@ -3,7 +3,7 @@ use Rattle.std.specs.Prelude.{◌≡◌, ◌⊎◌, ℕ, Bool, true, false, byte
 use Rattle.std.specs.FinMap.{get}
 use Rattle.std.specs.Option.{option_eq}
 use Rattle.dav_resource.specs.Errors.{dav_status, fs_status}
-use Rattle.dav_resource.specs.Key.{Key}
+use Rattle.dav_key.specs.Key.{Key}
 use Rattle.dav_resource.specs.Mime.{mime_type_of}
 use Rattle.dav_resource.specs.PathForms.{file_name}
 use Rattle.dav_resource.specs.PathText.{PathValue, read_path}

@@ -2,8 +2,8 @@
 use Rattle.std.proofs.Common.{◌≡◌, true, [], ◌∷◌, ◌++◌, bytes_eq, refl, sym}
 use Rattle.std.proofs.lemmas.Bool.{and_parts, and_from}
 use Rattle.std.proofs.lemmas.Slice.Eq.{bytes_eq-Decides}
-use Rattle.dav_resource.specs.Key.{Key}
-use Rattle.dav_store.specs.Below.{is_at_or_below}
+use Rattle.dav_key.specs.Key.{Key}
+use Rattle.dav_key.specs.Below.{is_at_or_below}
 
 pub at_or_below-append : (above below : Key) → is_at_or_below (above ++ below) above ≡ true
 at_or_below-append [] below = refl

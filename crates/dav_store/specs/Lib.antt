@@ -1,4 +1,3 @@
-pub mod Below
 pub mod Logged
 pub mod Store
 pub mod Calls

@@ -5,7 +5,7 @@ use Rattle.std.proofs.lemmas.Bool.{and_parts, and_from, not-true}
 use Rattle.std.proofs.lemmas.List.Folds.{list_all-append, list_all-map}
 use Rattle.std.proofs.lemmas.Slice.Eq.{bytes_eq-Decides}
 use Rattle.std.specs.List.{list_all, list_any}
-use Rattle.dav_resource.specs.Key.{Key, is_same_key, same_key_decides}
+use Rattle.dav_key.specs.Key.{Key, is_same_key, same_key_decides}
 use Rattle.dav_store.specs.declared.lock.DavLock.{DavLock}
 use Rattle.dav_store.specs.Locks.{Locks, is_at_or_below, covers, covering, at_or_below, elsewhere, conflicts, has_token, grants, meet, stand_together, are_compatible, AreCompatible}
 use Rattle.dav_store.specs.LockCalls.{AddsLock, is_named, has_named, without_named, RemovesLock, refreshed, with_refreshed, RefreshesLock}

@@ -3,9 +3,9 @@
 use Rattle.std.specs.Prelude.{◌≡◌, ℕ, Bool, true, not, ◌&&◌, ◌||◌, bytes_eq, if◌then◌else◌, List, [], ◌∷◌, length, ◌==◌, Option}
 use Rattle.std.specs.List.{filter, list_all, list_any}
 use Rattle.std.specs.Option.{option_eq}
-use Rattle.dav_resource.specs.Key.{Key, is_same_key}
+use Rattle.dav_key.specs.Key.{Key, is_same_key}
 use Rattle.dav_store.specs.declared.lock.DavLock.{DavLock}
-pub use Rattle.dav_store.specs.Below.{is_at_or_below}
+pub use Rattle.dav_key.specs.Below.{is_at_or_below}
 
 -- which calls of a lock system are reliable: whether `delete` never fails, and whether `unlock` of a lock that exists never fails
 pub record Reliable : Type 0 where

@@ -1,6 +1,6 @@
 -- What contracts see of a store's log: this project's own choice.
 use Rattle.std.specs.Prelude.{ℕ, List, [], map}
-use Rattle.dav_resource.specs.Key.{Key}
+use Rattle.dav_key.specs.Key.{Key}
 use Rattle.dav_resource.specs.PathText.{PathValue}
 use Rattle.dav_resource.specs.declared.record.Op.{Op}
 use Rattle.dav_resource.specs.declared.record.Outcome.{Outcome}

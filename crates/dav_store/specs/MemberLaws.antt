@@ -9,7 +9,7 @@ use Rattle.std.proofs.lemmas.Bool.{cases_eq}
 use Rattle.std.proofs.lemmas.Slice.Eq.{bytes_eq-Decides}
 use Rattle.std.proofs.lemmas.List.Edits.{Swapped, swapped_from_swap, length-swap}
 use Rattle.std.proofs.lemmas.List.Sorted.{IsPermutation-keeps, IsPermutation-sym, Contains-permutation}
-use Rattle.dav_resource.specs.Key.{Key, key_cmp, key_cmp_total, parent, tied_decides}
+use Rattle.dav_key.specs.Key.{Key, key_cmp, key_cmp_total, parent, tied_decides}
 use Rattle.dav_store.specs.Store.{Node, Tree}
 use Rattle.dav_store.specs.Members.{name_in, members, member, IsIn, AreDistinct}
 

@@ -2,7 +2,8 @@
 use Rattle.std.specs.Prelude.{◌≡◌, ℕ, Bool, true, if◌then◌else◌, bytes_eq, List, [], ◌∷◌, ◌++◌, map, filter_map, Option, Some, None, Result, Ok, Err, Vec, ◌⊎◌, IfOk, IfErr, IsPermutation}
 use Rattle.std.specs.declared.alloc.Global.{Global}
 use Rattle.std.specs.FinMap.{get, remove, keys}
-use Rattle.dav_resource.specs.Key.{Key}
+use Rattle.dav_key.specs.Key.{Key}
+pub use Rattle.dav_key.specs.Members.{name_in, member}
 use Rattle.dav_resource.specs.declared.meta.DirEntry.{DirEntry}
 use Rattle.dav_resource.specs.declared.record.Op.TheVariants.{ReadDir, RemoveFile, RemoveDir, Entry}
 use Rattle.dav_resource.specs.declared.record.Outcome.TheVariants.{Granted, Refused}
@@ -14,21 +15,9 @@ use Rattle.dav_store.specs.Calls.{Call, record_of, IsOwn, Answers, Declines, lim
 
 -- ---- members
 
--- the last segment of a key that is directly in a directory
-abbrev pub name_in : Key → Key → Option (List ℕ)
-name_in [] [] = None
-name_in [] (name ∷ []) = Some name
-name_in [] (name ∷ next ∷ key) = None
-name_in (segment ∷ directory) [] = None
-name_in (segment ∷ directory) (first ∷ key) = if bytes_eq segment first then name_in directory key else None
-
 -- the names of the directory's members, in ascending order
 abbrev pub members : Tree → Key → List (List ℕ)
 members tree directory = filter_map (name_in directory) (keys tree)
-
--- the key of a member
-abbrev pub member : Key → List ℕ → Key
-member directory name = directory ++ name ∷ []
 
 -- ---- remove_file
 

@@ -4,7 +4,7 @@ use Rattle.std.specs.declared.alloc.Global.{Global}
 use Rattle.std.specs.List.{fold}
 use Rattle.std.specs.Option.{unwrap_or, option_map}
 use Rattle.std.specs.FinMap.{empty, get, remove, entries, len}
-use Rattle.dav_resource.specs.Key.{Key}
+use Rattle.dav_key.specs.Key.{Key}
 use Rattle.dav_resource.specs.Tree as elements
 use Rattle.dav_resource.specs.declared.property.DavProp.{DavProp}
 use Rattle.dav_resource.specs.declared.record.Outcome.{Outcome}
@@ -12,7 +12,7 @@ use Rattle.dav_resource.specs.declared.record.Outcome.TheVariants.{Granted, Refu
 use Rattle.dav_resource.specs.declared.record.Op.TheVariants.{GetProp, GetProps, PatchProps, GetQuota}
 use Rattle.dav_resource.specs.declared.error.FsError.{FsError}
 use Rattle.dav_resource.specs.declared.error.FsError.TheVariants.{NotFound, NotImplemented, GeneralFailure, Memory}
-use Rattle.dav_store.specs.Below.{put_at}
+use Rattle.dav_key.specs.Below.{put_at}
 use Rattle.dav_store.specs.Logged.{Logged}
 use Rattle.dav_store.specs.Store.{Store, Contents, Node, PropertyMap, Quota, property_key, element_key}
 use Rattle.dav_store.specs.Calls.{Call, Answers, Declines, limit_of}

@@ -3,7 +3,7 @@ use Rattle.std.specs.Prelude.{◌≡◌, ◌≢◌, ◌&&◌, not, nat_eq, nat_l
 use Rattle.std.specs.List.{list_all}
 use Rattle.std.specs.Option.{ForSome}
 use Rattle.std.specs.FinMap.{FinMap, empty, get}
-use Rattle.dav_resource.specs.Key.{Key, key_cmp, parent}
+use Rattle.dav_key.specs.Key.{Key, key_cmp, parent}
 use Rattle.dav_resource.specs.PathText.{IsKey}
 use Rattle.dav_resource.specs.Tree as elements
 use Rattle.dav_resource.specs.declared.meta.Meta.{Meta}

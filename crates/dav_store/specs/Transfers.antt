@@ -1,11 +1,12 @@
 -- The calls of a store that copy a file, or rename a file or a directory (RFC 4918, sections 9.8 and 9.9).
 use Rattle.std.specs.Prelude.{◌≡◌, false, if◌then◌else◌, [], ◌∷◌, ◌++◌, Option, Some, None, Result}
 use Rattle.std.specs.FinMap.{FinMap, get, insert}
-use Rattle.dav_resource.specs.Key.{Key, key_cmp, parent}
+use Rattle.dav_key.specs.Key.{Key, key_cmp, parent}
 use Rattle.dav_resource.specs.declared.record.Op.TheVariants.{Copy, Rename}
 use Rattle.dav_resource.specs.declared.error.FsError.{FsError}
 use Rattle.dav_resource.specs.declared.error.FsError.TheVariants.{NotFound, Forbidden}
-use Rattle.dav_store.specs.Below.{is_at_or_below, is_below, put_at}
+use Rattle.dav_key.specs.Below.{is_below, put_at}
+pub use Rattle.dav_key.specs.Below.{IsMoved}
 use Rattle.dav_store.specs.Store.{Store, Contents, Node, File, Directory}
 use Rattle.dav_store.specs.Calls.{Call, Answers, limit_of, bytes_at, create_dir_bar}
 
@@ -43,12 +44,6 @@ rename_bar (segment ∷ from) to (Some node) there above = if is_below to (segme
 
 abbrev pub rename_call : Contents → Key → Key → Call
 rename_call old from to = record { op = Rename; keys = from ∷ to ∷ []; bar = rename_bar from to (get old.tree from) (get old.tree to) (get old.tree (parent to)) }
-
--- what was at or below the one key is now at or below the other, and nothing is left at or below the one; values at all other keys stay the same
-pub record IsMoved {X : Type 0} (from to : Key) (old new : FinMap key_cmp X) : Type 0 where
-  pub moved : (below : Key) → get new (to ++ below) ≡ get old (from ++ below)
-  pub gone : (below : Key) → get new (from ++ below) ≡ None
-  pub rest : (key : Key) → is_at_or_below key from ≡ false → is_at_or_below key to ≡ false → get new key ≡ get old key
 
 -- the tree and the properties are moved
 pub record IsRenamedTo (from to : Key) (old new : Contents) : Type 0 where

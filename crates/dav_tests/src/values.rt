@@ -141,7 +141,7 @@ fn list_gives_its_items_back(rt: HostRuntime) -> Result<(), Fail> {
 /// Shows a file's name, how many segments its prefix has, and its parent collection.
 fn show_parts(file: &DavPath) -> Result<String, Fail> {
     let parent = file.parent()?.as_url_string()?;
-    let prefix = file.prefix().len();
+    let prefix = file.prefix().segments().count();
     let name = str::from_utf8(file.file_name_bytes())?;
     Ok(format!(in *parent.allocator(); "{name} {prefix} {parent}")?)
 }
@@ -156,6 +156,21 @@ fn show_file(alloc: Global) -> Result<String, Fail> {
 #[test]
 fn parts_of_a_path(rt: HostRuntime) -> Result<(), Fail> {
     assert_eq!(rt; show_file(rt.alloc())?.as_str(), "b.txt 1 /a/");
+    Ok(())
+}
+
+/// Shows the path with the same key as a collection, and how many segments it has.
+fn show_collection(file: &DavPath) -> Result<String, Fail> {
+    let collection = DavPath::of_key(file.key().clone()?, true)?;
+    let text = collection.as_url_string()?;
+    let count = collection.segments().count();
+    Ok(format!(in *text.allocator(); "{text} {count}")?)
+}
+
+#[test]
+fn path_of_a_key(rt: HostRuntime) -> Result<(), Fail> {
+    let file = DavPath::from_str_and_prefix(rt.alloc(), "/dav/a/b.txt", "/dav")?;
+    assert_eq!(rt; show_collection(&file)?.as_str(), "/a/b.txt/ 2");
     Ok(())
 }
 

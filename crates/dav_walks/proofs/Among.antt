@@ -3,7 +3,7 @@ use Rattle.std.proofs.Common.{◌≡◌, ◌≢◌, Bool, true, false, List, [],
 use Rattle.std.specs.Prelude.{is_some, ◌||◌}
 use Rattle.std.specs.List.{list_any}
 use Rattle.std.specs.FinMap.{get, keys, contains_key-keys}
-use Rattle.dav_resource.specs.Key.{Key}
+use Rattle.dav_key.specs.Key.{Key}
 use Rattle.dav_store.specs.Store.{Node, Tree}
 use Rattle.dav_store.specs.Members.{IsIn}
 use Rattle.dav_walks.specs.KeyCall.{same_key}

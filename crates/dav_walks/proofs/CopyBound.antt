@@ -3,10 +3,10 @@ use Rattle.std.proofs.Common.{◌≡◌, ◌≢◌, ◌≤◌, ◌+◌, ◌*◌,
 use Rattle.std.specs.Prelude.{not, filter, is_some}
 use Rattle.std.specs.FinMap.{get, keys}
 use Rattle.std.proofs.lemmas.List.{length-map}
-use Rattle.dav_resource.specs.Key.{Key}
+use Rattle.dav_key.specs.Key.{Key}
 use Rattle.dav_resource.specs.declared.record.Op.{Op}
 use Rattle.dav_resource.specs.declared.record.Op.TheVariants.{Metadata, ReadDir, ReadBytes, CreateDir, RemoveFile, RemoveDir, Copy, Rename, OpenFile, Seek, WriteBytes, Flush, FileMetadata, GetProp, GetProps, PatchProps, GetQuota, Entry}
-use Rattle.dav_store.specs.Below.{is_at_or_below}
+use Rattle.dav_key.specs.Below.{is_at_or_below}
 use Rattle.dav_store.specs.Store.{Contents, Tree}
 use Rattle.dav_store.specs.Members.{IsIn, AreDistinct}
 use Rattle.dav_walks.specs.KeyCall.{path_to, keys_below}

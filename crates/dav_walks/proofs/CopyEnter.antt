@@ -1,7 +1,7 @@
 -- The begin of a key's copy: the calls on the key, and what they lead to.
 use Rattle.std.proofs.Common.{◌≡◌, ◌≢◌, ◌⊎◌, ℕ, Bool, true, false, if◌then◌else◌, List, [], ◌∷◌, ◌++◌, Option, None, Some, Ok, Err, map, drop, refl, sym, ap, ◌∙◌, subst, inl, inr}
 use Rattle.std.proofs.lemmas.List.{map-append}
-use Rattle.dav_resource.specs.Key.{Key, parent}
+use Rattle.dav_key.specs.Key.{Key, parent}
 use Rattle.dav_store.specs.MemberLaws.{parent-member}
 use Rattle.dav_resource.specs.PathText.{PathValue}
 use Rattle.dav_resource.specs.declared.record.Op.{Op}

@@ -1,11 +1,11 @@
 -- What is left to do of a copy: with each member there is less.
 use Rattle.std.proofs.Common.{◌≡◌, ◌<◌, ◌≤◌, ◌+◌, ◌*◌, ℕ, true, false, List, [], ◌∷◌, ◌++◌, Ok, Err, map, drop, refl, sym, ap, ◌∙◌, subst, inl, inr, arith, append_assoc}
 use Rattle.std.specs.FinMap.{get, keys}
-use Rattle.dav_resource.specs.Key.{Key}
+use Rattle.dav_key.specs.Key.{Key}
 use Rattle.dav_resource.specs.PathText.{PathValue}
 use Rattle.dav_resource.specs.declared.meta.DirEntry.{DirEntry}
 use Rattle.dav_resource.specs.declared.error.FsError.{FsError}
-use Rattle.dav_store.specs.Below.{is_at_or_below}
+use Rattle.dav_key.specs.Below.{is_at_or_below}
 use Rattle.dav_store.specs.Store.{Contents, Tree}
 use Rattle.dav_store.specs.Members.{IsIn, member, Child, names_of}
 use Rattle.dav_walks.specs.declared.copy_frame.CopyFrame.{CopyFrame}

@@ -4,7 +4,7 @@ use Rattle.std.specs.Prelude.{not, IsPermutation}
 use Rattle.std.specs.List.{cons_option}
 use Rattle.std.proofs.lemmas.List.Sorted.{IsPermutation-refl, IsPermutation-append, IsPermutation-append_right, IsPermutation-append_comm, IsPermutation-trans}
 use mathlib.Core.Path.{subst₂}
-use Rattle.dav_resource.specs.Key.{Key}
+use Rattle.dav_key.specs.Key.{Key}
 use Rattle.dav_resource.specs.PathText.{PathValue}
 use Rattle.dav_resource.specs.Errors.{fs_status}
 use Rattle.dav_resource.specs.declared.meta.DirEntry.{DirEntry}

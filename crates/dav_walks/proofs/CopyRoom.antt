@@ -2,9 +2,9 @@
 use Rattle.std.proofs.Common.{◌≡◌, ◌≢◌, ◌⊎◌, ℕ, Bool, true, false, List, [], ◌∷◌, ◌++◌, Option, None, Some, refl, sym, ap, ◌∙◌, subst, inl, inr, append_assoc}
 use Rattle.std.specs.Prelude.{if◌then◌else◌}
 use Rattle.std.specs.FinMap.{get}
-use Rattle.dav_resource.specs.Key.{Key, parent}
+use Rattle.dav_key.specs.Key.{Key, parent}
 use Rattle.dav_resource.specs.declared.record.Op.TheVariants.{ReadDir}
-use Rattle.dav_store.specs.Below.{is_at_or_below}
+use Rattle.dav_key.specs.Below.{is_at_or_below}
 use Rattle.dav_store.specs.BelowLaws.{at_or_below-append, at_or_below-tail}
 use Rattle.dav_store.specs.MemberLaws.{member-parent, parent-member}
 use Rattle.dav_store.specs.Store.{Contents, Node, File, Directory, Tree, IsWellFormed}

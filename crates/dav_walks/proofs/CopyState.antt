@@ -3,13 +3,13 @@ use Rattle.std.proofs.Common.{◌≡◌, ◌≢◌, ◌⊎◌, ℕ, Bool, true, 
 use Rattle.std.specs.Prelude.{IsPermutation, filter_map}
 use Rattle.std.specs.FinMap.{get}
 use mathlib.Core.Path.{subst₂}
-use Rattle.dav_resource.specs.Key.{Key, parent}
+use Rattle.dav_key.specs.Key.{Key, parent}
 use Rattle.dav_resource.specs.PathText.{PathValue, IsSegment}
 use Rattle.dav_resource.specs.declared.meta.DirEntry.{DirEntry}
 use Rattle.dav_resource.specs.declared.record.Op.{Op}
 use Rattle.dav_resource.specs.declared.record.Op.TheVariants.{Metadata, ReadDir, CreateDir, Copy, Entry}
 use Rattle.dav_resource.specs.declared.error.FsError.{FsError}
-use Rattle.dav_store.specs.Below.{is_at_or_below}
+use Rattle.dav_key.specs.Below.{is_at_or_below}
 use Rattle.dav_store.specs.BelowLaws.{at_or_below-append, at_or_below-tail}
 use Rattle.dav_store.specs.MemberLaws.{parent-member}
 use Rattle.dav_store.specs.Store.{Store, IsWellFormed}

@@ -3,7 +3,7 @@ use Rattle.std.proofs.Common.{◌≡◌, ◌≤◌, ◌<◌, ◌+◌, Bool, true
 use Rattle.std.specs.Prelude.{◌&&◌}
 use Rattle.std.specs.FinMap.{keys}
 use Rattle.std.proofs.lemmas.List.{reverse-append}
-use Rattle.dav_resource.specs.Key.{Key}
+use Rattle.dav_key.specs.Key.{Key}
 use Rattle.dav_resource.specs.PathText.{PathValue}
 use Rattle.dav_resource.specs.Errors.{fs_status}
 use Rattle.dav_resource.specs.declared.meta.DirEntry.{DirEntry}

@@ -1,7 +1,7 @@
 -- What a deletion leaves of the contents: each key stands as it did, with its properties, or has neither.
 use Rattle.std.proofs.Common.{◌≡◌, ◌≢◌, ◌⊎◌, Option, None, Some, refl, sym, ap, ◌∙◌, inl, inr}
 use Rattle.std.specs.FinMap.{get}
-use Rattle.dav_resource.specs.Key.{Key}
+use Rattle.dav_key.specs.Key.{Key}
 use Rattle.dav_store.specs.Store.{Contents, Node, IsWellFormed}
 use Rattle.dav_store.specs.Members.{IsRemovedAt}
 use Rattle.dav_walks.specs.KeyCall.{standing}

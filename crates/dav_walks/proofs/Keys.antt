@@ -3,7 +3,7 @@ use Rattle.std.proofs.Common.{◌≡◌, ◌≢◌, ◌⊎◌, ℕ, ◌+◌, ◌
 use Rattle.std.specs.FinMap.{FinMap, get, remove, get-remove}
 use Rattle.std.proofs.lemmas.List.{append_cancel_left, append-nil, take-append-drop}
 use Rattle.std.proofs.Math.Seq.{take-append-add}
-use Rattle.dav_resource.specs.Key.{Key, key_cmp, parent, key_cmp_total, tied_decides}
+use Rattle.dav_key.specs.Key.{Key, key_cmp, parent, key_cmp_total, tied_decides}
 use Rattle.dav_store.specs.Members.{IsIn, member}
 use Rattle.dav_walks.specs.KeyCall.{KeyCall, same_key, calls_at}
 

@@ -6,7 +6,7 @@ use Rattle.std.proofs.lemmas.List.{append-nil, length-map, get_or-map, take-appe
 use Rattle.std.proofs.lemmas.List.Elements.{filter_map-append}
 use Rattle.std.proofs.lemmas.List.Sorted.{IsPermutation-refl, IsPermutation-append, IsPermutation-append_right, IsPermutation-append_comm, IsPermutation-trans}
 use mathlib.Core.Path.{subst₂}
-use Rattle.dav_resource.specs.Key.{Key}
+use Rattle.dav_key.specs.Key.{Key}
 use Rattle.dav_resource.specs.PathText.{PathValue, IsSegment}
 use Rattle.dav_resource.specs.Errors.{fs_status}
 use Rattle.dav_resource.specs.declared.meta.DirEntry.{DirEntry}

@@ -5,7 +5,7 @@ use Rattle.std.specs.FinMap.{FinMap, get}
 use Rattle.std.specs.List.{cons_option}
 use Rattle.std.proofs.lemmas.List.{append-nil}
 use Rattle.std.proofs.lemmas.List.Sorted.{IsPermutation-refl}
-use Rattle.dav_resource.specs.Key.{Key, key_cmp}
+use Rattle.dav_key.specs.Key.{Key, key_cmp}
 use Rattle.dav_resource.specs.Tree as elements
 use Rattle.dav_resource.specs.PathText.{PathValue}
 use Rattle.dav_resource.specs.Errors.{fs_status}

@@ -3,7 +3,7 @@ use Rattle.std.proofs.Common.{◌≡◌, ◌≢◌, Bool, true, false, cond, Opt
 use Rattle.std.specs.FinMap.{get, get-remove}
 use Rattle.std.specs.Option.{option_map}
 use Rattle.std.specs.Prelude.{List, IsPermutation}
-use Rattle.dav_resource.specs.Key.{Key, key_cmp_total, tied_decides}
+use Rattle.dav_key.specs.Key.{Key, key_cmp_total, tied_decides}
 use Rattle.dav_resource.specs.PathText.{PathValue}
 use Rattle.dav_resource.specs.Errors.{fs_status}
 use Rattle.dav_resource.specs.declared.error.FsError.{FsError}

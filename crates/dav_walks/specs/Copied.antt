@@ -1,7 +1,7 @@
 -- COPY (RFC 4918, section 9.8) of each depth: only the resource at the source, or everything below it too.
 use Rattle.std.specs.Prelude.{◌≡◌, ◌≢◌, ◌⊎◌, List, [], ◌∷◌, ◌++◌, Option, Some, None, Result, Err, map}
 use Rattle.std.specs.FinMap.{get}
-use Rattle.dav_resource.specs.Key.{Key}
+use Rattle.dav_key.specs.Key.{Key}
 use Rattle.dav_resource.specs.PathText.{PathValue}
 use Rattle.dav_resource.specs.Errors.{fs_status}
 use Rattle.dav_resource.specs.declared.request.Depth.{Depth}

@@ -3,14 +3,14 @@
 use Rattle.std.specs.Prelude.{◌≡◌, ◌≢◌, ◌⊎◌, ◌≤◌, ◌*◌, ◌&&◌, not, filter, ℕ, Bool, true, false, if◌then◌else◌, List, [], ◌∷◌, ◌++◌, Option, Some, None, length, map, option_map, IsPermutation}
 use Rattle.std.specs.FinMap.{get}
 use Rattle.std.specs.List.{cons_option}
-use Rattle.dav_resource.specs.Key.{Key, parent}
+use Rattle.dav_key.specs.Key.{Key, parent}
 use Rattle.dav_resource.specs.PathText.{PathValue}
 use Rattle.dav_resource.specs.Errors.{fs_status}
 use Rattle.dav_resource.specs.declared.record.Op.{Op}
 use Rattle.dav_resource.specs.declared.record.Op.TheVariants.{Metadata, Copy, CreateDir, ReadDir, Entry}
 use Rattle.dav_resource.specs.declared.record.Outcome.{Outcome}
 use Rattle.dav_resource.specs.declared.record.Outcome.TheVariants.{Granted}
-use Rattle.dav_store.specs.Below.{is_at_or_below}
+use Rattle.dav_key.specs.Below.{is_at_or_below}
 use Rattle.dav_store.specs.Logged.{Logged, logged}
 use Rattle.dav_store.specs.Store.{Contents, Node, File, Directory, Tree, PropertyMap}
 use Rattle.dav_store.specs.Calls.{IsLawful, error_of, limit_of}

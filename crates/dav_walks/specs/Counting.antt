@@ -1,6 +1,6 @@
 -- How many keys of a list are at or below a key: this project's own choice.
 use Rattle.std.specs.Prelude.{ℕ, ◌+◌, Bool, cond, List, [], ◌∷◌, is_some}
-use Rattle.dav_resource.specs.Key.{Key}
+use Rattle.dav_key.specs.Key.{Key}
 use Rattle.dav_walks.specs.KeyCall.{path_to}
 
 -- the sum of `f` over a list

@@ -2,7 +2,7 @@
 use Rattle.std.specs.Prelude.{Bool, List, [], ◌∷◌, cond, Option, Some, None, bytes_eq, if◌then◌else◌, filter, is_some}
 use Rattle.std.specs.Ordering.{eq_by_cmp}
 use Rattle.std.specs.FinMap.{FinMap, get, keys}
-use Rattle.dav_resource.specs.Key.{Key, key_cmp}
+use Rattle.dav_key.specs.Key.{Key, key_cmp}
 use Rattle.dav_resource.specs.Tree as elements
 use Rattle.dav_resource.specs.declared.record.Op.{Op}
 use Rattle.dav_resource.specs.declared.record.Outcome.{Outcome}

@@ -1,7 +1,7 @@
 -- A work list, by which the members of directories are visited one after the other (RFC 4918, section 9.1): this project's own choice.
 use Rattle.std.specs.Prelude.{◌≡◌, ◌≢◌, ◌⊎◌, ◌+◌, ◌<◌, ℕ, Bool, List, [], ◌∷◌, ◌++◌, map, filter_map, reverse, Option, Some, None, Result, Ok, Err}
 use Rattle.std.specs.FinMap.{keys}
-use Rattle.dav_resource.specs.Key.{Key}
+use Rattle.dav_key.specs.Key.{Key}
 use Rattle.dav_resource.specs.PathText.{PathValue}
 use Rattle.dav_resource.specs.declared.meta.DirEntry.{DirEntry}
 use Rattle.dav_resource.specs.declared.error.FsError.{FsError}

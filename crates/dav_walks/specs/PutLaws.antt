@@ -2,8 +2,8 @@
 use Rattle.std.proofs.Common.{◌≡◌, ◌≢◌, ◌∙◌, Bool, true, false, cond, Some, None, Option, ap, refl}
 use Rattle.std.specs.Ordering.{eq_by_cmp}
 use Rattle.std.specs.FinMap.{FinMap, get, insert, get-insert, get-remove}
-use Rattle.dav_resource.specs.Key.{Key, key_cmp, key_cmp_total, tied_decides}
-use Rattle.dav_store.specs.Below.{put_at}
+use Rattle.dav_key.specs.Key.{Key, key_cmp, key_cmp_total, tied_decides}
+use Rattle.dav_key.specs.Below.{put_at}
 
 same_key : (k : Key) → eq_by_cmp key_cmp k k ≡ true
 same_key k = (tied_decides k k).1 refl

@@ -1,7 +1,7 @@
 -- What the result of parsing the root below a prefix says of the prefix. dav_script has the same lemmas for its own argument.
 use Rattle.std.proofs.Common.{◌≡◌, ◌≢◌, Bool, true, false, List, [], ◌∷◌, ℕ, Result, Ok, Err, refl, sym, ap, ◌∙◌, inl, inr, if◌then◌else◌, IsOk, IsErr, MatchResult}
 use Rattle.std.specs.List.{slice_split}
-use Rattle.dav_resource.specs.Key.{Key}
+use Rattle.dav_key.specs.Key.{Key}
 use Rattle.dav_resource.specs.PathText.{PathValue, read_path, read_prefix, read_part, enter, enter_part, enter_parts, on_ok, below_prefix, is_slash}
 use Rattle.dav_resource.specs.PathLaws.{read_key_root}
 use Rattle.dav_resource.specs.Gives.{GivesBy}

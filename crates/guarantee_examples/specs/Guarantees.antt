@@ -4,7 +4,7 @@ use Rattle.std.specs.FinMap.{get}
 use Rattle.std.specs.List.{list_any}
 use Rattle.std.specs.Option.{option_map_or}
 use Rattle.std.specs.Str.{bytes_eq}
-use Rattle.dav_resource.specs.Key.{Key}
+use Rattle.dav_key.specs.Key.{Key}
 use Rattle.dav_resource.specs.Methods.{method_of}
 use Rattle.dav_resource.specs.declared.method.DavMethod.TheVariants.{Put}
 use Rattle.dav_resource.specs.declared.request.DavRequest.{DavRequest}

@@ -2,7 +2,7 @@
 ghost use Rattle.std.specs.Prelude.{◌≡◌, ◌==◌, Some, IfOk, OnOk, OnErr, is_some, string_bytes};
 ghost use Rattle.std.specs.Option.{option_copied, option_map};
 ghost use Rattle.std.specs.FinMap as map;
-ghost use Rattle.dav_store.specs.Below.{put_at};
+ghost use Rattle.dav_key.specs.Below.{put_at};
 ghost use Rattle.dav_store.specs.PropertyCalls.{name_of, named_element};
 ghost use Rattle.dav_memfs.specs.PropertyNames.{key_of};
 ghost use Rattle.dav_memfs.specs.Patching.{ArePut, AreKept, AreTaken, replaced_by};

@@ -4,7 +4,7 @@ ghost use Rattle.std.specs.Option.{option_copied};
 ghost use Rattle.std.specs.FinMap.{get, insert};
 ghost use Rattle.dav_resource.specs.Key.{parent};
 ghost use Rattle.dav_resource.specs.Texts.{texts};
-ghost use Rattle.dav_store.specs.Below.{is_below};
+ghost use Rattle.dav_key.specs.Below.{is_below};
 ghost use Rattle.dav_store.specs.Store.{Directory, AreNamed};
 ghost use Rattle.dav_memfs.specs.MemFs.{memory_of};
 ghost use Rattle.dav_memfs.specs.Memory.{contents_of, tree_of, quota_of, made_when, made, without, copied, IsRenamed};

@@ -2,8 +2,9 @@
 ghost use Rattle.std.specs.Prelude.{◌≡◌, ℕ, [], false, MatchOption, OnOk, OnErr};
 ghost use Rattle.std.specs.HashMap.{get_by_text};
 ghost use Rattle.std.specs.Option.{option_copied};
-ghost use Rattle.dav_resource.specs.Key.{Key};
-ghost use Rattle.dav_resource.specs.Texts.{texts};
+ghost use Rattle.std.specs.Rc.{rc_str_bytes};
+ghost use Rattle.dav_key.specs.Key.{Key};
+ghost use Rattle.dav_key.specs.Flat.{segments_of, IsFlatText};
 ghost use Rattle.dav_memls.specs.Numbers.{IsAbove};
 ghost use Rattle.dav_memls.specs.KeyEntries.{listed};
 ghost use Rattle.dav_memls.specs.ByKey.{HasRun};
@@ -12,11 +13,13 @@ ghost use Rattle.dav_memls.specs.LockIndex.{IsIndexed, by_token, register_of, fo
 
 use super::by_key::ByKey;
 use super::expiries::Expiries;
+use super::key_text;
 use super::numbers::Numbers;
 use dav_store::DavLock;
 use std::alloc::{AllocError, Global};
 use std::collections::HashMap;
 use std::collections::btree_map::Range;
+use std::rc::RcStr;
 
 /// Which locks a register of an index contains.
 #[derive(Clone, Copy, Debug)]
@@ -61,25 +64,21 @@ impl LockIndex {
         self.tokens.get(token).copied()
     }
 
-    /// Returns the numbers of the register's locks whose own key is this one, the oldest first.
-    pub fn at(&self, register: Register, key: &[String]) -> Option<&Numbers>
-        ensures { listed (option_copied result) ≡ found_at self.now register (texts key.now) }
+    /// Returns the numbers of the register's locks whose own key has this text, the oldest first.
+    pub fn at(&self, register: Register, key: &str) -> Option<&Numbers>
+        requires { IsFlatText key.now }
+        ensures { listed (option_copied result) ≡ found_at self.now register (segments_of key.now) }
     {
         self.register(register).get(key)
     }
 
-    /// Returns the numbers of the register's locks by their own keys, in the order of the keys, among them
-    /// all at or below this key. They are those from this key on, for which the key is copied. If memory for
-    /// the copy runs out, they are those of all keys.
-    pub fn run(
-        &self,
-        register: Register,
-        alloc: Global,
-        key: &[String],
-    ) -> Range<'_, Vec<String>, Numbers>
-        ensures { HasRun (texts key.now) (register_of self.now register) result }
+    /// Returns the numbers of the register's locks by the texts of their own keys, from the key with this text
+    /// on, in the order of the keys. Those of all keys at or below this one are the first of them.
+    pub fn run(&self, register: Register, key: &RcStr) -> Range<'_, RcStr, Numbers>
+        requires { IsFlatText (rc_str_bytes key.now) }
+        ensures { HasRun (segments_of (rc_str_bytes key.now)) (register_of self.now register) result }
     {
-        self.register(register).run(alloc, key)
+        self.register(register).run(key)
     }
 
     /// Returns the earliest time at which a lock expires, and the number of such a lock.
@@ -115,7 +114,8 @@ impl LockIndex {
         entered
     }
 
-    /// Adds a lock under this number, as `enter` does. If memory runs out, the registers may keep the number.
+    /// Adds a lock under this number, as `enter` does. The registers share the text of its key. If memory runs out,
+    /// the registers may keep the number.
     fn try_enter(&mut self, alloc: Global, lock: &DavLock, number: u64) -> Result<(), AllocError>
         requires token { by_token self.old lock.now.token ≡ [] }
         requires above { (register : Register) (key : Key) → IsAbove number (found_at self.old register key) }
@@ -123,8 +123,8 @@ impl LockIndex {
         ensures ok { OnOk result (EntersIndex lock.now number self.old self.new) }
         ensures err { OnErr result (IsPartlyEntered lock.now number self.old self.new) }
     {
-        let key = lock.path.segments();
         let token = String::from_str(alloc, lock.token.as_str())?;
+        let key = key_text::shared(&lock.path);
         self.all.join(alloc, key, number)?;
         self.deep.join_if(lock.deep, alloc, key, number)?;
         self.exclusive.join_if(!lock.shared, alloc, key, number)?;
@@ -137,7 +137,7 @@ impl LockIndex {
     pub fn leave(&mut self, lock: &DavLock, number: u64)
         ensures { LeavesIndex lock.now number self.old self.new }
     {
-        let key = lock.path.segments();
+        let key = key_text::shared(&lock.path);
         self.tokens.remove(lock.token.as_str());
         self.all.leave(key, number);
         self.deep.leave_if(lock.deep, key, number);

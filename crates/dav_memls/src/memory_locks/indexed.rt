@@ -7,7 +7,7 @@ ghost use Rattle.std.specs.Map.{keys_of};
 ghost use Rattle.std.specs.Option.{option_copied, option_to_list};
 ghost use Rattle.std.specs.Ordering.{nat_cmp};
 ghost use Rattle.std.proofs.Props.{props};
-ghost use Rattle.dav_resource.specs.Texts.{texts};
+ghost use Rattle.dav_key.specs.Flat.{segments_of, IsFlatText};
 ghost use Rattle.dav_store.specs.declared.lock.DavLock.{DavLock};
 ghost use Rattle.dav_store.specs.Locks.{has_token, covers, covering, at_or_below};
 ghost use Rattle.dav_store.specs.LockCalls.{has_named};
@@ -18,6 +18,7 @@ ghost use Rattle.dav_memls.specs.Expiry.{unexpired, earliest_expiry};
 ghost use Rattle.dav_memls.specs.LockIndex.{IsIndexed, among, are_within, is_of_key, lock_of, locks_of_numbers, numbers_of, locks_without, locks_refreshed, Computes, IsNamedLock, StandsBelow, HasExpired, HasNumbers, AddsNumbers};
 
 use super::index::{LockIndex, Register};
+use super::key_text;
 use super::numbers::Numbers;
 use dav_resource::DavPath;
 use dav_store::{DavLock, timeout_end};
@@ -28,8 +29,8 @@ use std::collections::{BTreeMap, BTreeSet};
 /// Locks by number, with an index that finds the numbers by token, by key and by the time when a lock
 /// expires. A newer lock has a greater number, and a lock keeps its number while it exists. To find, change
 /// or remove the lock of a number takes as many comparisons of numbers as the logarithm of the number of
-/// locks. Lookups above a path go no deeper than the deepest path ever locked: the own key of each lock has
-/// fewer segments than `reach`.
+/// locks. Lookups above a path end at the length of the longest path ever locked: the text of each lock's own
+/// key is shorter than `reach`.
 #[derive(Debug, Drop)]
 pub struct IndexedLocks {
     locks: BTreeMap<u64, DavLock>,
@@ -135,29 +136,31 @@ impl IndexedLocks {
     pub fn some_covering(&self, path: &DavPath) -> Option<&DavLock>
         ensures { MatchOption result (covering (locks_in self.now) path.now.key ≡ []) (λ lock. IsIn lock.now (covering (locks_in self.now) path.now.key)) }
     {
-        let key = path.segments();
+        let key = key_text::of(path);
         if let Some(lock) = self.first_at(Register::All, key) {
             return Some(lock);
         }
-        for depth in 0..key.len().min(self.reach) {
-            if let Some(lock) = self.first_at(Register::Deep, &key[..depth]) {
-                return Some(lock);
+        for end in 0..key.len().min(self.reach) {
+            if let Some(above) = key_text::above(key, end) {
+                if let Some(lock) = self.first_at(Register::Deep, above) {
+                    return Some(lock);
+                }
             }
         }
         None
     }
 
-    /// Returns the oldest lock of the register whose own key is this one. It makes one lookup in the index.
-    fn first_at(&self, register: Register, key: &[String]) -> Option<&DavLock>
-        ensures { option_copied result ≡ find (among register (is_of_key (texts key.now))) (locks_in self.now) }
+    /// Returns the oldest lock of the register whose own key has this text. It makes one lookup in the index.
+    fn first_at(&self, register: Register, key: &str) -> Option<&DavLock>
+        requires { IsFlatText key.now }
+        ensures { option_copied result ≡ find (among register (is_of_key (segments_of key.now))) (locks_in self.now) }
     {
         let number = self.index.at(register, key)?.first()?;
         self.of_number(number)
     }
 
     /// Whether a lock of the register, at or below the path, passes the test. It makes one lookup in the
-    /// index, for which it copies the path, and tests these locks. If memory for the copy runs out, it
-    /// searches the keys of all locks of the register.
+    /// index, and tests these locks.
     pub fn any_below<F: Fn(&DavLock) -> bool>(
         &self,
         register: Register,
@@ -167,14 +170,13 @@ impl IndexedLocks {
         requires { F.IsAlwaysCallable test }
         ensures { (p : DavLock → Bool) → Computes (F.post test) p → result ≡ list_any (among register p) (at_or_below (locks_in self.now) path.now.key) }
     {
-        let key = path.segments();
-        for (own, numbers) in self.index.run(register, self.allocator(), key) {
-            if own.starts_with(key) {
-                if self.any_of(numbers, &test) {
-                    return true;
-                }
-            } else if key.cmp(own.as_slice()).is_lt() {
+        let key = key_text::shared(path);
+        for (own, numbers) in self.index.run(register, key) {
+            if !key_text::is_at_or_below(own.as_str(), key.as_str()) {
                 break;
+            }
+            if self.any_of(numbers, &test) {
+                return true;
             }
         }
         false
@@ -185,14 +187,13 @@ impl IndexedLocks {
     pub fn some_below(&self, path: &DavPath) -> Option<u64>
         ensures { MatchOption result (at_or_below (locks_in self.now) path.now.key ≡ []) (StandsBelow path.now.key self.now.locks.entries) }
     {
-        let key = path.segments();
-        for (own, numbers) in self.index.run(Register::All, self.allocator(), key) {
-            if own.starts_with(key) {
-                if let Some(number) = numbers.first() {
-                    return Some(number);
-                }
-            } else if key.cmp(own.as_slice()).is_lt() {
+        let key = key_text::shared(path);
+        for (own, numbers) in self.index.run(Register::All, key) {
+            if !key_text::is_at_or_below(own.as_str(), key.as_str()) {
                 break;
+            }
+            if let Some(number) = numbers.first() {
+                return Some(number);
             }
         }
         None
@@ -242,11 +243,13 @@ impl IndexedLocks {
     fn covering_numbers(&self, path: &DavPath) -> Result<BTreeSet<u64>, AllocError>
         ensures { IfOk result (λ found. HasNumbers found (numbers_of (λ lock. covers lock path.now.key) self.now.locks.entries)) }
     {
-        let key = path.segments();
+        let key = key_text::of(path);
         let mut found = BTreeSet::new(self.allocator());
         add(&mut found, self.index.at(Register::All, key))?;
-        for depth in 0..key.len().min(self.reach) {
-            add(&mut found, self.index.at(Register::Deep, &key[..depth]))?;
+        for end in 0..key.len().min(self.reach) {
+            if let Some(above) = key_text::above(key, end) {
+                add(&mut found, self.index.at(Register::Deep, above))?;
+            }
         }
         Ok(found)
     }
@@ -265,7 +268,7 @@ impl IndexedLocks {
             return Err(AllocError);
         };
         self.index.enter(alloc, &lock, number)?;
-        self.reach = self.reach.max(lock.path.segments().len() + 1);
+        self.reach = self.reach.max(key_text::of(&lock.path).len() + 1);
         if let Err(refused) = self.locks.insert(number, lock) {
             let (_, lock) = refused.value;
             self.index.leave(&lock, number);

@@ -2,7 +2,7 @@
 ghost use Rattle.std.specs.Prelude.{◌≡◌, IfOk, refl};
 ghost use Rattle.std.specs.Ordering.{eq_by_cmp, as_partial_cmp};
 ghost use Rattle.std.specs.Cmp.{eq_by_cmp_equiv, partial_equiv_from_equiv, partial_order_from_total};
-ghost use Rattle.dav_resource.specs.Texts.{texts};
+ghost use Rattle.dav_key.specs.Flat.{flat, IsFlatKey};
 ghost use Rattle.dav_refusing.specs.Plans.{first_key, planned_key};
 ghost use Rattle.dav_refusing.specs.Slots.{slot_call, slot_cmp, slot_cmp_total, slot_key};
 
@@ -21,7 +21,7 @@ pub(super) struct Slot {
 
 impl Slot {
     /// Returns the slot of a call of this kind on these paths. It allocates nothing, because the slot shares
-    /// the segments of the path. It fails only if the number of copies of a path at one time does not fit in
+    /// the texts of the path. It fails only if the number of copies of a path at one time does not fit in
     /// a `usize`.
     pub(super) fn of_call(op: Op, paths: &[DavPath]) -> Result<Slot, AllocError>
         ensures { IfOk result (λ slot. slot_call slot ≡ (op, first_key paths.now)) }
@@ -44,13 +44,14 @@ impl Slot {
         Slot { op, path }
     }
 
-    /// Returns the segments of the key, first to last. Without a path there are none.
-    fn key(&self) -> &[String]
-        ensures { texts result.now ≡ slot_key self.now }
+    /// Returns the text of the key. Without a path it is that of the root.
+    fn key_str(&self) -> &str
+        ensures text { result.now ≡ flat (slot_key self.now) }
+        ensures key { IsFlatKey (slot_key self.now) }
     {
         match &self.path {
-            Some(path) => path.segments(),
-            None => &[],
+            Some(path) => path.key().as_str(),
+            None => "",
         }
     }
 }
@@ -91,6 +92,6 @@ impl Ord for Slot {
     fn cmp(&self, other: &Slot) -> Ordering {
         (self.op as u8)
             .cmp(&(other.op as u8))
-            .then(self.key().cmp(other.key()))
+            .then(self.key_str().cmp(other.key_str()))
     }
 }

@@ -1,16 +1,19 @@
 //! Parses the path of a URL.
-ghost use Rattle.std.specs.Prelude.{◌≡◌, ◌⊎◌, [], Ok, Err, IsTrue, IfOk, OnOk, IfErr, ◌||◌, ◌==◌, ◌≤◌, map, drop, length, vec_len, bytes_eq, if◌then◌else◌, string_bytes};
+ghost use Rattle.std.specs.Prelude.{◌≡◌, ◌<◌, ◌⊎◌, All, Ok, Err, IfOk, OnOk, IfErr, if◌then◌else◌};
 ghost use Rattle.std.specs.Str.{is_utf8};
-ghost use Rattle.std.specs.List.{list_all, starts_with, slice_split};
+ghost use Rattle.std.specs.List.{list_all};
+ghost use Rattle.std.specs.Cow.{cow_str_bytes};
+ghost use Rattle.percent_encoding.specs.Percent.{percent_decode};
+ghost use Rattle.dav_key.specs.Flat.{IsFlatSegment};
 ghost use Rattle.dav_resource.specs.Gives.{GivesBy};
-ghost use Rattle.dav_resource.specs.PathText.{is_slash, starts_with_two_digits, has_whole_escapes, is_plain_byte, enter, enter_part, enter_parts, read_part, read_key, read_prefix, path_part, below_prefix, IsKey, IsSegmentText};
-ghost use Rattle.dav_resource.specs.Texts.{texts};
+ghost use Rattle.dav_resource.specs.PathText.{starts_with_two_digits, has_whole_escapes, is_plain_byte, enter, enter_part, read_part, read_key, read_prefix, path_part, below_prefix, IsKey, IsSegmentText};
 
-use super::{DavPath, key};
+use super::{DavPath, is_collection};
 use crate::error::{DavError, DavResult};
-use percent_encoding::percent_decode_str;
-use std::alloc::{AllocError, Global};
-use std::rc::Rc;
+use dav_key::{FlatKey, KeyBuilder};
+use percent_encoding::{DecodeError, percent_decode_str};
+use std::alloc::Global;
+use std::borrow::CowStr;
 
 /// The part of the string before its first `?` or `#`.
 pub(crate) fn path_part(text: &str) -> &str
@@ -20,39 +23,32 @@ pub(crate) fn path_part(text: &str) -> &str
     text.split_once('#').map_or(text, |(before, _)| before)
 }
 
-/// Parses a prefix into segments. An empty prefix has none.
-pub(crate) fn read_prefix(alloc: Global, prefix: &str) -> DavResult<Vec<String>>
-    ensures value { GivesBy (λ key. texts key.items) result (read_prefix prefix.now) }
-    ensures key { IfOk result (λ key. IsKey (texts key.items)) }
+/// Parses a prefix into a key. An empty prefix is the root.
+pub(crate) fn read_prefix(alloc: Global, prefix: &str) -> DavResult<FlatKey>
+    ensures value { GivesBy (λ key. key) result (read_prefix prefix.now) }
+    ensures key { IfOk result IsKey }
 {
     if prefix.is_empty() {
-        return Ok(Vec::new(alloc));
+        return Ok(FlatKey::root(alloc)?);
     }
     read_key(alloc, prefix)
 }
 
 /// Makes the path with this key, below this prefix. Errors: `IllegalPath` if the key does not begin with the
 /// prefix, and `Memory`.
-pub(crate) fn below_prefix(
-    slash: bool,
-    mut key: Vec<String>,
-    prefix: Rc<Vec<String>>,
-) -> DavResult<DavPath>
-    requires key { IsKey (texts key.items) }
-    requires prefix { IsKey (texts prefix.value.items) }
-    ensures { GivesBy (λ path. path) result (below_prefix slash (texts key.items) (texts prefix.value.items)) }
+pub(crate) fn below_prefix(slash: bool, key: &FlatKey, prefix: FlatKey) -> DavResult<DavPath>
+    requires key { IsKey key.now }
+    requires prefix { IsKey prefix }
+    ensures { GivesBy (λ path. path) result (below_prefix slash key.now prefix) }
 {
-    if !key::is_below(&key, prefix.as_slice()) {
+    let Some(key) = key.strip(&prefix)? else {
         return Err(DavError::IllegalPath);
-    }
-    key::drop_first(&mut key, prefix.len());
-    let slash = key::is_collection(slash, &key);
-    let segments = key::share(key)?;
+    };
     Ok(DavPath {
         star: false,
-        slash,
+        slash: is_collection(slash, &key),
         prefix,
-        segments,
+        key,
     })
 }
 
@@ -87,87 +83,73 @@ fn is_plain(bytes: &[u8]) -> bool
     bytes.iter().all(|b| *b != 0 && *b != b'/')
 }
 
-/// Percent-decodes one part of a path. Errors: `InvalidPath` if the part is malformed, and `Memory`.
-fn decode_part(alloc: Global, part: &str) -> DavResult<String>
-    ensures value { GivesBy string_bytes result (read_part part.now) }
-    ensures text { IfOk result (λ text. IsSegmentText (string_bytes text)) }
+/// Percent-decodes one part of a path. A part without a `%` is not copied. Errors: `InvalidPath` if the part
+/// is malformed, and `Memory`.
+fn decode_part(alloc: Global, part: &str) -> DavResult<CowStr<'_>>
+    ensures value { GivesBy cow_str_bytes result (read_part part.now) }
+    ensures text { IfOk result (λ text. IsSegmentText (cow_str_bytes text)) }
 {
     if !has_whole_escapes(part.as_bytes()) {
         return Err(DavError::InvalidPath);
     }
-    let mut bytes = Vec::new(alloc);
-    percent_decode_str(part).append_to(&mut bytes)?;
-    if !is_plain(&bytes) {
+    let text = decode_utf8(alloc, part)?;
+    if !is_plain(text.as_bytes()) {
         return Err(DavError::InvalidPath);
     }
-    utf8_text(bytes)
+    Ok(text)
 }
 
-/// Converts these bytes into a string. Returns `InvalidPath` if they are not UTF-8.
-fn utf8_text(bytes: Vec<u8>) -> DavResult<String>
-    ensures { GivesBy string_bytes result (if is_utf8 bytes.items then Ok bytes.items else Err DavError.InvalidPath) }
+/// Percent-decodes a string. Errors: `InvalidPath` if the decoded bytes are not UTF-8, and `Memory`.
+fn decode_utf8(alloc: Global, part: &str) -> DavResult<CowStr<'_>>
+    ensures value { GivesBy cow_str_bytes result (let bytes = percent_decode part.now in if is_utf8 bytes then Ok bytes else Err DavError.InvalidPath) }
+    ensures bytes { IfOk result (λ text. All (λ b. b < 256) (cow_str_bytes text)) }
 {
-    match String::from_utf8(bytes) {
+    match percent_decode_str(part).decode_utf8(alloc) {
         Ok(text) => Ok(text),
-        Err(_) => Err(DavError::InvalidPath),
+        Err(DecodeError::Utf8(_)) => Err(DavError::InvalidPath),
+        Err(DecodeError::OutOfMemory) => Err(DavError::Memory),
     }
 }
 
 /// Applies one decoded segment to the key, as `cd` does.
-fn enter(key: &mut Vec<String>, segment: String) -> DavResult<()>
-    ensures ok { OnOk result (enter (texts key.old.items) (string_bytes segment) ≡ Ok (texts key.new.items)) }
-    ensures err { IfErr result (λ e. (enter (texts key.old.items) (string_bytes segment) ≡ Err e) ⊎ (e ≡ DavError.Memory)) }
+fn enter(key: &mut KeyBuilder, segment: &str) -> DavResult<()>
+    requires { IsFlatSegment segment.now }
+    ensures ok { OnOk result (enter key.old segment.now ≡ Ok key.new) }
+    ensures err { IfErr result (λ e. (enter key.old segment.now ≡ Err e) ⊎ (e ≡ DavError.Memory)) }
 {
-    match segment.as_str() {
-        "" | "." => Ok(()),
-        ".." => match key.pop() {
-            Some(_) => Ok(()),
-            None => Err(DavError::ForbiddenPath),
-        },
-        _ => {
-            key.push(segment).map_err(|_| DavError::Memory)?;
-            Ok(())
+    match segment {
+        "" | "." => {}
+        ".." => {
+            if !key.pop() {
+                return Err(DavError::ForbiddenPath);
+            }
         }
+        _ => key.push(segment)?,
     }
+    Ok(())
 }
 
 /// Decodes one part of a path and applies it to the key.
-fn enter_part(key: &mut Vec<String>, part: &str) -> DavResult<()>
-    ensures key { IsKey (texts key.old.items) → OnOk result (IsKey (texts key.new.items)) }
-    ensures ok { OnOk result (enter_part (texts key.old.items) part.now ≡ Ok (texts key.new.items)) }
-    ensures err { IfErr result (λ e. (enter_part (texts key.old.items) part.now ≡ Err e) ⊎ (e ≡ DavError.Memory)) }
+fn enter_part(alloc: Global, key: &mut KeyBuilder, part: &str) -> DavResult<()>
+    ensures key { IsKey key.old → OnOk result (IsKey key.new) }
+    ensures ok { OnOk result (enter_part key.old part.now ≡ Ok key.new) }
+    ensures err { IfErr result (λ e. (enter_part key.old part.now ≡ Err e) ⊎ (e ≡ DavError.Memory)) }
 {
-    let segment = decode_part(*key.allocator(), part)?;
-    enter(key, segment)
+    let segment = decode_part(alloc, part)?;
+    enter(key, &segment)
 }
 
-/// Decodes these parts and applies them in order, starting at the root.
-fn enter_parts(alloc: Global, parts: &[&str]) -> DavResult<Vec<String>>
-    ensures key { IfOk result (λ key. IsKey (texts key.items)) }
-    ensures value { GivesBy (λ key. texts key.items) result (enter_parts [] (map (λ part. part.now) parts.now)) }
-{
-    let mut key = Vec::new(alloc);
-    for part in parts {
-        enter_part(&mut key, part)?;
-    }
-    Ok(key)
-}
-
-/// Splits the string at its slashes.
-fn split(alloc: Global, text: &str) -> Result<Vec<&str>, AllocError>
-    ensures { IfOk result (λ parts. map (λ part. part.now) parts.items ≡ slice_split is_slash text.now) }
-{
-    text.split('/').collect(alloc)
-}
-
-/// Parses a string that begins with `/` into segments. Any other string is an `InvalidPath`.
-pub(crate) fn read_key(alloc: Global, text: &str) -> DavResult<Vec<String>>
-    ensures value { GivesBy (λ key. texts key.items) result (read_key text.now) }
-    ensures key { IfOk result (λ key. IsKey (texts key.items)) }
+/// Parses a string that begins with `/` into a key. Any other string is an `InvalidPath`.
+pub(crate) fn read_key(alloc: Global, text: &str) -> DavResult<FlatKey>
+    ensures value { GivesBy (λ key. key) result (read_key text.now) }
+    ensures key { IfOk result IsKey }
 {
     if !text.starts_with('/') {
         return Err(DavError::InvalidPath);
     }
-    let parts = split(alloc, text)?;
-    enter_parts(alloc, &parts)
+    let mut key = KeyBuilder::with_capacity(alloc, text.len())?;
+    for part in text.split('/') {
+        enter_part(alloc, &mut key, part)?;
+    }
+    Ok(key.finish()?)
 }

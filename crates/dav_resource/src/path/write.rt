@@ -1,10 +1,10 @@
 //! Writes a path as the path of a URL.
-ghost use Rattle.std.specs.Prelude.{◌≡◌, ◌++◌, [], IfOk, OnOk, string_bytes};
+ghost use Rattle.std.specs.Prelude.{◌≡◌, [], IfOk, string_bytes};
 ghost use Rattle.dav_resource.specs.PathText.{key_text, url_text};
-ghost use Rattle.dav_resource.specs.Texts.{texts};
 
+use dav_key::FlatKey;
 use percent_encoding::{AsciiSet, NON_ALPHANUMERIC, ascii_set, utf8_percent_encode};
-use std::alloc::{AllocError, Global};
+use std::alloc::AllocError;
 
 /// The bytes that are percent-encoded: all except the unreserved characters of RFC 3986, section 2.3.
 pub(crate) const ESCAPED: AsciiSet = ascii_set!(
@@ -16,31 +16,26 @@ pub(crate) const ESCAPED: AsciiSet = ascii_set!(
 );
 
 /// Writes a slash and the percent-encoded segment, for each segment.
-pub(crate) fn key_text(alloc: Global, segments: &[String]) -> Result<String, AllocError>
-    ensures { IfOk result (λ text. string_bytes text ≡ key_text (texts segments.now)) }
+pub(crate) fn key_text(key: &FlatKey) -> Result<String, AllocError>
+    ensures { IfOk result (λ text. string_bytes text ≡ key_text key.now) }
 {
-    let mut text = String::new(alloc);
-    for segment in segments {
+    let mut text = String::new(key.allocator());
+    for segment in key.segments() {
         text.push('/')?;
-        utf8_percent_encode(segment.as_str(), ESCAPED).append_to(&mut text)?;
+        utf8_percent_encode(segment, ESCAPED).append_to(&mut text)?;
     }
     Ok(text)
 }
 
 /// Writes the path with this key.
-pub(crate) fn path_text(
-    star: bool,
-    slash: bool,
-    segments: &Vec<String>,
-) -> Result<String, AllocError>
-    ensures { IfOk result (λ text. string_bytes text ≡ url_text (record { star = star; slash = slash; prefix = []; key = texts segments.now.items })) }
+pub(crate) fn path_text(star: bool, slash: bool, key: &FlatKey) -> Result<String, AllocError>
+    ensures { IfOk result (λ text. string_bytes text ≡ url_text (record { star = star; slash = slash; prefix = []; key = key.now })) }
 {
-    let alloc = *segments.allocator();
     if star {
-        return String::from_str(alloc, "*");
+        return String::from_str(key.allocator(), "*");
     }
-    let mut text = key_text(alloc, segments)?;
-    if slash || segments.is_empty() {
+    let mut text = key_text(key)?;
+    if slash || key.is_root() {
         text.push('/')?;
     }
     Ok(text)

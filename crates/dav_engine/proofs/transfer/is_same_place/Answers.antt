@@ -1,5 +1,5 @@
 use Rattle.std.proofs.lemmas.Bool.Decides.{same_from_decides}
-use Rattle.dav_resource.specs.Key.{same_key_decides}
+use Rattle.dav_key.specs.Key.{same_key_decides}
 use Rattle.dav_engine.proofs.transfer.is_same_place.Goals as goal
 
 pub returns : goal.returns

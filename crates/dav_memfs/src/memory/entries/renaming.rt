@@ -5,7 +5,7 @@ ghost use Rattle.std.specs.List.{fold};
 ghost use Rattle.std.specs.Ordering.{eq_by_cmp};
 ghost use Rattle.dav_resource.specs.Key.{Key, key_cmp};
 ghost use Rattle.dav_resource.specs.Texts.{texts};
-ghost use Rattle.dav_store.specs.Below.{AreApart};
+ghost use Rattle.dav_key.specs.Below.{AreApart};
 ghost use Rattle.dav_store.specs.Transfers.{IsMoved};
 
 use super::Entries;

@@ -1,7 +1,7 @@
 //! Changes to properties: all requested changes are made, or none.
 ghost use Rattle.std.specs.Prelude.{◌≡◌, Some, None, IfOk, OnOk, OnErr, true, false};
 ghost use Rattle.std.specs.FinMap as map;
-ghost use Rattle.dav_store.specs.Below.{put_at};
+ghost use Rattle.dav_key.specs.Below.{put_at};
 ghost use Rattle.dav_store.specs.PropertyCalls.{patched};
 ghost use Rattle.dav_memfs.specs.PropertyNames.{key_of};
 ghost use Rattle.dav_memfs.specs.Patching.{wanted, changes_of, AreOthers, ArePut, AreChanged, IsPlan, replaced_by};

@@ -1,4 +1,4 @@
-use Rattle.std.proofs.Common.{◌∙◌}
+use Rattle.std.proofs.Common.{◌∙◌, arith}
 use Rattle.dav_find.proofs.Visits.{all_over, all_more, all_stop}
 use Rattle.dav_find.proofs.finding.Finder.visit_all.Goals as goal
 
@@ -37,3 +37,13 @@ returns-in_default g c =
     let walk = c.walk in
     let none = rw c.in_default.is at c.take_next.ensures.turn in
     walk.invariant.held _ _ (rw none (all_over _ _ c.args.depth walk.quota _ walk.writer))
+
+-- fewer keys are pending once the resource that was taken is visited
+pub walk-smaller : goal.walk-smaller
+walk-smaller g c =
+    let walk = c.walk in
+    let first = (g.F.GuardedFileSystem.seen c.args.fs.now).contents in
+    let visited = rw walk.invariant.same at c.in_ok-more.ensures.fewer in
+    let some = c.in-Some.ensures.counted first (g.met.F.GuardedFileSystem.well_formed c.args.fs.now) walk.invariant.there in
+    let fewer = visited (c.in-Some.ensures.there first walk.invariant.there).1 some in
+    omega (arith, fewer, c.in-Some.ensures.fewer first)

@@ -1,4 +1,5 @@
-use Rattle.std.proofs.Common.{string_bytes, subst, arith}
+use Rattle.std.proofs.Common.{subst, arith}
+use Rattle.std.specs.Rc.{rc_str_bytes}
 use Rattle.std.proofs.lemmas.Str.Pattern.{strip_prefix_char}
 use Rattle.dav_key.specs.Flat.{IsFlatKey}
 use Rattle.dav_key.proofs.FlatLemmas.{IsCharBoundary-above, name_after_above, name_is_segment}
@@ -6,11 +7,11 @@ use Rattle.dav_key.proofs.flat_key.FlatKey.name.Goals as goal
 
 pub split_at-requires : goal.split_at-requires
 split_at-requires c =
-    rw (c.as_str.ensures.value, c.deref.ensures, c.self.invariant.above) (IsCharBoundary-above (string_bytes c.self.inside.text.value) c.self.invariant.text)
+    rw (c.as_str.ensures.value, c.self.invariant.above) (IsCharBoundary-above (rc_str_bytes c.self.inside.text) c.self.invariant.text)
 
 pub returns-clause-last : goal.returns-clause-last
 returns-clause-last c =
-    let text = string_bytes c.self.inside.text.value in
+    let text = rc_str_bytes c.self.inside.text in
     let rest = c.split_at.result.1.now in
     let stripped = strip_prefix_char 0 rest c.strip_prefix.result c.strip_prefix.ensures.cases (omega arith) in
     rw (← c.self.view_is) (name_after_above text rest c.strip_prefix.result c.self.invariant.text (cc (c.split_at.ensures.back)) stripped)

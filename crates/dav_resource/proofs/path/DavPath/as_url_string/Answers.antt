@@ -8,11 +8,9 @@ use Rattle.dav_resource.proofs.path.DavPath.as_url_string.Goals as goal
 
 pub returns-clause-reads_back : goal.returns-clause-reads_back
 returns-clause-reads_back c =
-    let told = rw (c.as_ref.ensures) at c.path_text.ensures in
     rw (← c.self.view_is)
-    (IfOk-weaker c.path_text.result _ _ (λ text is. ap (λ t. read_path t []) is ∙ read_path-url_text (path_of c.self.inside) c.self.invariant) told)
+    (IfOk-weaker c.path_text.result _ _ (λ text is. ap (λ t. read_path t []) is ∙ read_path-url_text (path_of c.self.inside) c.self.invariant) c.path_text.ensures)
 
 pub returns-clause-field_value : goal.returns-clause-field_value
 returns-clause-field_value c =
-    let told = rw (c.as_ref.ensures) at c.path_text.ensures in
-    IfOk-weaker c.path_text.result _ _ (λ text is. subst IsFieldValue (sym is) (IsFieldValue-url_text (path_of c.self.inside))) told
+    IfOk-weaker c.path_text.result _ _ (λ text is. subst IsFieldValue (sym is) (IsFieldValue-url_text (path_of c.self.inside))) c.path_text.ensures

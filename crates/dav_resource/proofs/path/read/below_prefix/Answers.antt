@@ -1,15 +1,16 @@
-use Rattle.std.proofs.Common.{◌∙◌, sym}
-use Rattle.dav_resource.proofs.TextsLemmas.{below_prefix-is, drop-texts}
-use Rattle.dav_resource.specs.Texts.{texts}
-use Rattle.dav_resource.proofs.KeyLemmas.{IsKey-drop}
+use Rattle.std.proofs.Common.{◌∙◌, sym, subst}
+use Rattle.dav_resource.proofs.KeyLemmas.{BelowPrefix, BelowPrefix-stripped, IsKey-stripped}
 use Rattle.dav_resource.proofs.path.read.below_prefix.Goals as goal
 
 pub returns : goal.returns
 returns c =
-    let starts = rw (c.deref.ensures.value, c.as_slice.ensures.value, c.deref-2.ensures) at (sym c.if-not-is_below.ensures.value) in
-    below_prefix-is c.args.slash c.args.key.items c.args.prefix.value.items starts ∙ rw (c.in_ok-segments.ensures, c.is_collection-slash.ensures, c.deref-4.ensures.value, c.drop_first.ensures, c.len.ensures, c.deref-3.ensures, c.args.prefix.value.ok.0)
+    let slash = c.args.slash in
+    let key = c.args.key.now in
+    let prefix = c.args.prefix in
+    let below = subst (BelowPrefix slash key prefix) (sym c.in_ok-key.ensures ∙ c.in-Some.is) (BelowPrefix-stripped slash key prefix) in
+    below ∙ rw c.is_collection.ensures
 
 pub invariant_of-result : goal.invariant_of-result
 invariant_of-result c =
-    let key = IsKey-drop c.len.result (texts c.args.key.items) c.requires.key in
-    record { prefix = c.requires.prefix; key = rw (c.in_ok-segments.ensures, c.drop_first.ensures, ← drop-texts) key; star = λ e. cc }
+    let key = IsKey-stripped c.args.key.now c.args.prefix c.in-Some.key (sym c.in-Some.is ∙ c.in_ok-key.ensures) c.requires.key in
+    record { prefix = c.requires.prefix; key = key; star = λ e. cc }

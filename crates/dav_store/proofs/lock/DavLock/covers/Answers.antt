@@ -1,5 +1,5 @@
 use Rattle.std.proofs.lemmas.Bool.Decides.{same_from_decides}
-use Rattle.dav_resource.specs.Key.{is_same_key, same_key_decides}
+use Rattle.dav_key.specs.Key.{is_same_key, same_key_decides}
 use Rattle.dav_store.proofs.lock.DavLock.covers.Goals as goal
 
 pub returns-else-self : goal.returns-else-self

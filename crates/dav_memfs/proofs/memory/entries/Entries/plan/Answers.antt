@@ -1,6 +1,6 @@
 use Rattle.std.proofs.Common.{◌∙◌, ◌≡◌, ap, sym, subst, Some}
 use Rattle.dav_resource.specs.Texts.{texts}
-use Rattle.dav_store.specs.Below.{strip}
+use Rattle.dav_key.specs.Below.{strip}
 use Rattle.dav_memfs.specs.Moves.{moves_of}
 use Rattle.dav_memfs.proofs.OwnKeys.{texts-clone}
 use Rattle.dav_memfs.proofs.BelowKeys.{strip_is, strip_yes, strip_no}

@@ -2,7 +2,7 @@ use Rattle.std.proofs.Common.{◌∙◌, ap, sym, subst, take}
 use Rattle.std.specs.FinMap as fin
 use Rattle.std.specs.FinMap.Entries.{find}
 use Rattle.dav_resource.specs.Key.{key_cmp, key_cmp_total}
-use Rattle.dav_store.specs.Below.{put_at}
+use Rattle.dav_key.specs.Below.{put_at}
 use Rattle.dav_store.specs.PropertyCalls.{patched}
 use Rattle.dav_memfs.specs.OrderedMaps.{seen_entries}
 use Rattle.dav_memfs.specs.PropertyNames.{key_of}

@@ -1,7 +1,7 @@
-use Rattle.std.proofs.Common.{◌∙◌, sym, ap, subst, arith, length, string_bytes}
-use Rattle.std.proofs.lemmas.List.{length-map}
+use Rattle.std.proofs.Common.{◌∙◌, sym, ap, subst, arith}
 use Rattle.std.specs.Map.{values_of}
 use Rattle.dav_memls.specs.LockIndex.{Row, IsIndexed, LeavesIndex, are_within}
+use Rattle.dav_memls.proofs.KeyTexts.{text_length}
 use Rattle.dav_memls.proofs.LockRows.{entries-push, values-push}
 use Rattle.dav_memls.proofs.Indexing.{free_token, above_at, unused, indexed_push, indexed_undone}
 use Rattle.dav_memls.proofs.Reach.{within_more, within_push}
@@ -36,7 +36,7 @@ invariant_of-self-in_default-insert c =
       reached =
           ap (are_within c.max-self.result) grown
           ∙ within_push c.max-self.result self.locks.entries c.in-Some.number c.args.lock
-          (omega (arith, length-map c.segments.result.now string_bytes, ap length c.segments.ensures.value, c.max-self.ensures))
+          (omega (arith, text_length c.of.result.now c.args.lock.path.key c.of.ensures, c.max-self.ensures))
           (within_more self.reach c.max-self.result self.locks.entries (omega (arith, c.max-self.ensures)) self.reached);
     }
 

@@ -1,11 +1,12 @@
 use Rattle.std.proofs.Common.{true, false, refl, sym}
-use Rattle.dav_resource.specs.Texts.{texts}
+use Rattle.std.specs.Rc.{rc_str_bytes}
+use Rattle.dav_key.specs.Flat.{segments_of}
 use Rattle.dav_store.specs.Locks.{at_or_below}
 use Rattle.dav_memls.specs.IndexedLocks.{locks_in}
 use Rattle.dav_memls.specs.declared.memory_locks.numbers.Numbers.{Numbers}
 use Rattle.dav_memls.specs.declared.memory_locks.index.Register.TheVariants.{All}
-use Rattle.dav_memls.specs.KeyEntries.{OwnKey}
-use Rattle.dav_memls.proofs.BelowLooks.{tells-start, tells-more, tells-past, tells-none, none_there, below_is, behind_is, not_below, below_passes, no_numbers, numbers_own}
+use Rattle.dav_memls.specs.KeyEntries.{OwnKey, own_key}
+use Rattle.dav_memls.proofs.BelowLooks.{tells-start, tells-more, tells-past, tells-none, none_there, first_flat, below_is, below_passes, no_numbers, numbers_own}
 use Rattle.dav_memls.proofs.LockLooks.{some_stands}
 use Rattle.dav_memls.proofs.memory_locks.indexed.IndexedLocks.some_below.Goals as goal
 
@@ -15,7 +16,7 @@ loop-own-init c =
     record {
       can = tt;
       ends = tt;
-      left = tells-start All (λ lock. true) c.args.path.now.key c.segments-key.result.now self.index self.locks.entries c.run-own-items.result c.into_iter-own-iterator.result self.ordered self.indexed c.segments-key.ensures.value c.run-own-items.ensures c.into_iter-own-iterator.ensures.into_iter_gives;
+      left = tells-start All (λ lock. true) c.args.path.now.key (segments_of (rc_str_bytes c.shared-key.result.now)) self.index self.locks.entries c.run-own-items.result c.into_iter-own-iterator.result self.ordered self.indexed c.shared-key.ensures.key_is c.run-own-items.ensures c.into_iter-own-iterator.ensures.into_iter_gives;
     }
 
 pub loop-own-preserved : goal.loop-own-preserved
@@ -23,19 +24,8 @@ loop-own-preserved c =
     let self = c.args.self.now in
     let key = c.args.path.now.key in
     let entry : OwnKey × Numbers = (c.in-Some.own.now, c.in-Some.numbers.now) in
-    let out = below_is false c.starts_with.result c.in-Some.own.now c.deref.result.now c.segments-key.result.now key c.segments-key.ensures.value c.deref.ensures.value c.starts_with.ensures.value c.if-starts_with.false in
-    record {
-      can = tt;
-      ends = tt;
-      left = tells-more All (λ lock. true) key self.locks.entries c.loop-own.own-iterator entry c.next.new.self c.in-Some.ensures.steps (not_below (λ lock. true) key self.locks.entries entry out) c.loop-own.invariant.left;
-    }
-
-pub loop-own-preserved-in_default : goal.loop-own-preserved-in_default
-loop-own-preserved-in_default c =
-    let self = c.args.self.now in
-    let key = c.args.path.now.key in
-    let entry : OwnKey × Numbers = (c.in-Some.own.now, c.in-Some.numbers.now) in
-    let below = below_is true c.starts_with.result c.in-Some.own.now c.deref.result.now c.segments-key.result.now key c.segments-key.ensures.value c.deref.ensures.value c.starts_with.ensures.value c.if-starts_with.true in
+    let is = first_flat All (λ lock. true) key self.locks.entries c.loop-own.own-iterator entry c.next.new.self c.in-Some.ensures.steps c.loop-own.invariant.left in
+    let below = below_is true c.is_at_or_below.result c.in-Some.own.now c.as_str.result.now c.as_str-in-loop-own.result.now (rc_str_bytes c.shared-key.result.now) key c.shared-key.ensures is c.as_str.ensures.value c.as_str-in-loop-own.ensures.value c.is_at_or_below.ensures c.if-not-is_at_or_below.false in
     record {
       can = tt;
       ends = tt;
@@ -47,17 +37,19 @@ returns-in-Some-first c =
     let self = c.args.self.now in
     let key = c.args.path.now.key in
     let entry : OwnKey × Numbers = (c.in-Some.own.now, c.in-Some.numbers.now) in
-    let below = below_is true c.starts_with.result c.in-Some.own.now c.deref.result.now c.segments-key.result.now key c.segments-key.ensures.value c.deref.ensures.value c.starts_with.ensures.value c.if-starts_with.true in
-    let is = numbers_own All (λ lock. true) key self.locks.entries c.in-Some.numbers.now.set.keys c.loop-own.own-iterator entry c.next.new.self c.in-Some.ensures.steps refl c.loop-own.invariant.left in
-    some_stands key (texts c.in-Some.own.now.items) self.locks.entries c.in-Some.numbers.now.set.keys c.in-Some-first.number self.ordered is below (sym c.in-Some-first.ensures)
+    let is = first_flat All (λ lock. true) key self.locks.entries c.loop-own.own-iterator entry c.next.new.self c.in-Some.ensures.steps c.loop-own.invariant.left in
+    let below = below_is true c.is_at_or_below.result c.in-Some.own.now c.as_str.result.now c.as_str-in-loop-own.result.now (rc_str_bytes c.shared-key.result.now) key c.shared-key.ensures is c.as_str.ensures.value c.as_str-in-loop-own.ensures.value c.is_at_or_below.ensures c.if-not-is_at_or_below.false in
+    let owned = numbers_own All (λ lock. true) key self.locks.entries c.in-Some.numbers.now.set.keys c.loop-own.own-iterator entry c.next.new.self c.in-Some.ensures.steps refl c.loop-own.invariant.left in
+    some_stands key (own_key c.in-Some.own.now) self.locks.entries c.in-Some.numbers.now.set.keys c.in-Some-first.number self.ordered owned below (sym c.in-Some-first.ensures)
 
-pub returns-then-is_lt : goal.returns-then-is_lt
-returns-then-is_lt c =
+pub returns-then-not-is_at_or_below : goal.returns-then-not-is_at_or_below
+returns-then-not-is_at_or_below c =
     let self = c.args.self.now in
     let key = c.args.path.now.key in
-    let out = below_is false c.starts_with.result c.in-Some.own.now c.deref.result.now c.segments-key.result.now key c.segments-key.ensures.value c.deref.ensures.value c.starts_with.ensures.value c.if-starts_with.false in
-    let past = behind_is c.is_lt.result c.cmp.result c.in-Some.own.now c.as_slice.result.now c.segments-key.result.now key c.segments-key.ensures.value c.as_slice.ensures.value c.cmp.ensures c.is_lt.ensures c.if-is_lt.true in
-    none_there (at_or_below (locks_in self) key) (tells-past All (λ lock. true) key self.locks.entries c.loop-own.own-iterator (c.in-Some.own.now, c.in-Some.numbers.now) c.next.new.self c.in-Some.ensures.steps out past c.loop-own.invariant.left)
+    let entry : OwnKey × Numbers = (c.in-Some.own.now, c.in-Some.numbers.now) in
+    let is = first_flat All (λ lock. true) key self.locks.entries c.loop-own.own-iterator entry c.next.new.self c.in-Some.ensures.steps c.loop-own.invariant.left in
+    let out = below_is false c.is_at_or_below.result c.in-Some.own.now c.as_str.result.now c.as_str-in-loop-own.result.now (rc_str_bytes c.shared-key.result.now) key c.shared-key.ensures is c.as_str.ensures.value c.as_str-in-loop-own.ensures.value c.is_at_or_below.ensures c.if-not-is_at_or_below.true in
+    none_there (at_or_below (locks_in self) key) (tells-past All (λ lock. true) key self.locks.entries c.loop-own.own-iterator entry c.next.new.self c.in-Some.ensures.steps out c.loop-own.invariant.left)
 
 pub returns-in-None : goal.returns-in-None
 returns-in-None c =

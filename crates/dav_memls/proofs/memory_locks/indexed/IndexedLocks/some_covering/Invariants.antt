@@ -5,5 +5,5 @@ use Rattle.dav_memls.proofs.CoveringNumbers.{reached_covers}
 use Rattle.dav_memls.proofs.memory_locks.indexed.IndexedLocks.some_covering.Given as goal
 
 -- none so far covers the path
-abbrev pub invariant-loop-depth : goal.invariant-loop-depth
-invariant-loop-depth l = list_any (reached_covers l.depth l.path.key) (locks_in l.self) ≡ false
+abbrev pub invariant-loop-end : goal.invariant-loop-end
+invariant-loop-end l = list_any (reached_covers l.end l.path.key) (locks_in l.self) ≡ false

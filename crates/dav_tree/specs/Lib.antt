@@ -1,0 +1,16 @@
+pub mod Bodies
+pub mod Memory
+pub mod EachLaws
+pub mod MemoryCalls
+pub mod OrderedMaps
+pub mod PropertyNames
+pub mod Patching
+pub mod Codes
+pub mod Dump
+pub mod KeyProps
+pub mod Lawful
+pub mod Entry
+pub mod Kept
+pub mod KeptCode
+pub mod Found
+pub mod TreeFs

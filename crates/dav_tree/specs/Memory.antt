@@ -1,0 +1,190 @@
+-- The state of the in-memory store without its log, and the effects of its calls on it: this project's own choice.
+use Rattle.std.specs.Prelude.{◌≡◌, ◌≢◌, ℕ, ◌+◌, ◌-◌, ◌^◌, min, Bool, true, false, List, [], ◌++◌, length, filter_map, Option, Some, None}
+use Rattle.std.specs.Option.{option_map}
+use Rattle.std.specs.List.{sum_by}
+use Rattle.std.specs.Fmt.{digits}
+use Rattle.std.specs.FinMap.{FinMap, empty, from_entries, get, insert, remove, entries}
+use Rattle.dav_key.specs.Key.{Key, key_cmp, parent}
+use Rattle.dav_resource.specs.PathText.{IsKey}
+use Rattle.dav_resource.specs.declared.meta.Meta.{Meta}
+use Rattle.dav_key.specs.Below.{put_at}
+use Rattle.dav_store.specs.Logged.{Logged}
+use Rattle.dav_store.specs.Store.{Node, File, Directory, Tree, PropertyMap, Properties, Quota, Contents, Bodies, Facts, Store, AreNamed}
+use Rattle.dav_store.specs.Calls.{bytes_at, written_at}
+use Rattle.dav_store.specs.BodyCalls.{put_body, stored_bytes}
+use Rattle.dav_store.specs.Transfers.{IsMoved}
+use Rattle.dav_store.specs.PropertyCalls.{Patch, patched, some_properties}
+
+-- a stored resource: its version, the number of its last counted change, gives its entity tag
+pub record Stored : Type 0 where
+  pub node : Node
+  pub version : ℕ
+  pub created : ℕ
+  pub modified : ℕ
+  pub properties : PropertyMap
+
+-- the resources by their keys
+abbrev pub Resources : Type 0
+Resources = FinMap key_cmp Stored
+
+-- the bodies held for requests to come, and the number of the next one
+pub record Held : Type 0 where
+  pub bodies : Bodies
+  pub next : ℕ
+
+-- the resources, the number of changes so far, the current time, the quota, if any: its total bytes, or no limit; and the bodies
+pub record Memory : Type 0 where
+  pub resources : Resources
+  pub version : ℕ
+  pub moment : ℕ
+  pub limit : Option (Option ℕ)
+  pub held : Held
+
+-- ---- what contracts see of it
+
+-- the results of `give` for the values of a map, each at its key
+abbrev pub each : {X Y : Type 0} → (X → Option Y) → FinMap key_cmp X → FinMap key_cmp Y
+each give m = from_entries (filter_map (λ e. option_map (λ y. (e.0, y)) (give e.1)) (entries m))
+
+abbrev pub tree_of : Resources → Tree
+tree_of resources = each (λ s. Some s.node) resources
+
+abbrev pub properties_of : Resources → Properties
+properties_of resources = each (λ s. some_properties s.properties) resources
+
+abbrev pub is_directory : Node → Bool
+is_directory (File bytes) = false
+is_directory Directory = true
+
+abbrev pub size_of : Node → ℕ
+size_of (File bytes) = length bytes
+size_of Directory = 0
+
+-- there is a file at the key, and it is `s`
+pub record IsFileAt (key : Key) (resources : Resources) (s : Stored) : Type 0 where
+  pub there : get resources key ≡ Some s
+  pub file : is_directory s.node ≡ false
+
+-- the bytes of the file at the key
+abbrev pub file_bytes : Key → Resources → List ℕ
+file_bytes key resources = bytes_at (get (tree_of resources) key)
+
+-- the number of bytes in all files
+abbrev pub used_by : Resources → ℕ
+used_by resources = sum_by (λ e. size_of e.1.node) (entries resources)
+
+-- in lower-case hexadecimal
+abbrev pub tag_text : ℕ → List ℕ
+tag_text version = digits 16 false version
+
+abbrev pub meta_of : Stored → Meta
+meta_of s = record { dir = is_directory s.node; len = size_of s.node; modified = Some s.modified; created = Some s.created; accessed = None; status_changed = None; executable = None; etag = Some (tag_text s.version) }
+
+-- the bytes used are reported as at most 2^64 - 1
+abbrev pub quota_of : Memory → Option Quota
+quota_of memory = option_map (λ total. record { used = min (used_by memory.resources) (2 ^ 64 - 1); total = total }) memory.limit
+
+abbrev pub contents_of : Memory → Contents
+contents_of memory = record { tree = tree_of memory.resources; properties = properties_of memory.resources; metas = λ key. option_map meta_of (get memory.resources key); quota = quota_of memory }
+
+-- it has dead properties, allows every call and shows every member
+abbrev pub facts_of : Held → Facts
+facts_of held = record { keeps_properties = true; bodies = held.bodies; allows = λ _. true; shows = λ _. true }
+
+-- the store with this log
+abbrev pub seen_of : Memory → List Logged → Store
+seen_of memory log = record { contents = contents_of memory; facts = facts_of memory.held; log = log }
+
+-- the invariant: the root is a directory, each other resource's parent is a directory, each resource's key is valid, and each property's element has
+-- the name of the property
+pub record IsSound (resources : Resources) : Type 0 where
+  pub root : get (tree_of resources) [] ≡ Some Directory
+  pub parents : (key : Key) → get (tree_of resources) key ≢ None → get (tree_of resources) (parent key) ≡ Some Directory
+  pub keys : (key : Key) → get (tree_of resources) key ≢ None → IsKey key
+  pub named : (key : Key) (s : Stored) → get resources key ≡ Some s → AreNamed s.properties
+
+-- ---- the effects of the calls
+
+-- a resource created at time `now` by change number `version`, without properties
+abbrev pub fresh : Node → ℕ → ℕ → Stored
+fresh node version now = record { node = node; version = version; created = now; modified = now; properties = empty }
+
+-- the resource as a file with these bytes, changed at time `now` by change number `version`
+abbrev pub with_bytes : List ℕ → ℕ → ℕ → Stored → Stored
+with_bytes bytes version now s = record s { node = File bytes; version = version; modified = now }
+
+-- the file with these bytes written at an offset, at time `now` by change number `version`
+abbrev pub wrote : ℕ → List ℕ → ℕ → ℕ → Stored → Stored
+wrote place more version now s = with_bytes (written_at (bytes_at (Some s.node)) place more) version now s
+
+-- the creation time of the existing resource, or the current time if there is none
+abbrev pub made_when : Option Stored → ℕ → ℕ
+made_when None now = now
+made_when (Some s) now = s.created
+
+-- a copy that replaces the existing resource, if any, as change number `version` at time `now`
+abbrev pub copy_of : Option Stored → ℕ → ℕ → Stored → Stored
+copy_of there version now s = record s { version = version; created = made_when there now; modified = now }
+
+abbrev pub with_properties : PropertyMap → Stored → Stored
+with_properties properties s = record s { properties = properties }
+
+-- the resource at the key, and nothing else, is changed
+abbrev pub change_at : Key → (Stored → Stored) → Resources → Resources
+change_at key change resources = put_at resources key (option_map change (get resources key))
+
+-- a resource is created
+abbrev pub made : Key → Node → Memory → Memory
+made key node old = record old { resources = insert old.resources key (fresh node (old.version + 1) old.moment); version = old.version + 1 }
+
+-- the file at the key gets these bytes
+abbrev pub filled : Key → List ℕ → Memory → Memory
+filled key bytes old = record old { resources = change_at key (with_bytes bytes (old.version + 1) old.moment) old.resources; version = old.version + 1 }
+
+-- the resource at the key is removed; this does not count as a change
+abbrev pub without : Key → Memory → Memory
+without key old = record old { resources = remove old.resources key }
+
+-- the resource at the first key is copied to the second
+abbrev pub copied : Key → Key → Memory → Memory
+copied from to old = record old { resources = put_at old.resources to (option_map (copy_of (get old.resources to) (old.version + 1) old.moment) (get old.resources from)); version = old.version + 1 }
+
+-- the properties at the key are changed; this does not count as a change
+abbrev pub with_patches : Key → List Patch → Memory → Memory
+with_patches key patches old = record old { resources = change_at key (λ s. with_properties (patched patches s.properties) s) old.resources }
+
+-- the resource at the first key, and everything below it, moves to the second; this does not count as a change
+pub record IsRenamed (from to : Key) (old new : Memory) : Type 0 where
+  pub resources : IsMoved from to old.resources new.resources
+  pub version : new.version ≡ old.version
+  pub moment : new.moment ≡ old.moment
+  pub limit : new.limit ≡ old.limit
+  pub held : new.held ≡ old.held
+
+-- ---- the effects of the calls on bodies
+
+-- there is this body at a number, or none
+abbrev pub put_held : ℕ → Option (List ℕ) → Held → Held
+put_held number body held = record held { bodies = put_body held.bodies number body }
+
+-- a body of no bytes is started at the next number, which isn't given again
+abbrev pub begun : Held → Held
+begun held = record { bodies = put_body held.bodies held.next (Some []); next = held.next + 1 }
+
+-- the body at a number gets these bytes after those that it has
+abbrev pub lengthened : ℕ → List ℕ → Held → Held
+lengthened number more held = put_held number (Some (stored_bytes held.bodies number ++ more)) held
+
+abbrev pub with_held : (Held → Held) → Memory → Memory
+with_held change old = record old { held = change old.held }
+
+-- ---- the first state
+
+-- no bodies, and the first number to give is 0
+abbrev pub none_held : Held
+none_held = record { bodies = λ _. None; next = 0 }
+
+-- the root only, with this number of changes and this quota, and no bodies
+abbrev pub first_memory : ℕ → Option (Option ℕ) → Memory
+first_memory version limit =
+    record { resources = insert empty [] (fresh Directory 0 0); version = version; moment = 0; limit = limit; held = none_held }

@@ -1,0 +1,224 @@
+//! The resources and the bodies of a store, over a medium.
+ghost use Rattle.std.specs.Prelude.{◌≡◌, ◌≢◌, ◌<◌, ◌+◌, ◌^◌, ◌++◌, ◌∷◌, [], IfOk, OnOk, OnErr, Some, None, MatchOption, IsSome, List, ℕ};
+ghost use Rattle.std.specs.FinMap as map;
+ghost use Rattle.dav_key.specs.Key.{Key, parent};
+ghost use Rattle.dav_key.specs.Below.{AreApart, IsMoved};
+ghost use Rattle.dav_nodes.specs.Tree.{Tree};
+ghost use Rattle.dav_store.specs.Store.{File, Directory};
+ghost use Rattle.dav_store.specs.PropertyCalls.{patched};
+ghost use Rattle.dav_tree.specs.Memory.{Stored, used_by, size_of, meta_of, fresh, change_at, with_properties};
+ghost use Rattle.dav_tree.specs.Kept.{held_of, IsFirst, IsAbsent, IsFound, IsNumber, IsAt, IsTaken, Has, HasMoved};
+
+mod bodies;
+mod contents;
+mod listing;
+mod lookups;
+
+use crate::entry::{self, Content, Entry};
+use crate::medium::Medium;
+use crate::properties::Properties;
+use dav_key::FlatKey;
+use dav_nodes::Nodes;
+use dav_resource::{DavProp, Meta};
+use std::alloc::{AllocError, Global};
+use std::collections::BTreeMap;
+use std::marker::Model;
+
+/// No file has as many bytes.
+const MOST_BYTES: u128 = 1 << 63;
+
+/// Resources by their keys, and the bodies that are held for requests to come, by number.
+#[derive(Drop)]
+pub(crate) struct Entries<M: Medium> {
+    alloc: Global,
+    tree: Nodes<Entry<M::Body>>,
+    medium: M,
+    used: u128,
+    bodies: BTreeMap<u64, M::Body>,
+    next: u64,
+}
+
+impl<M: Medium> Model for Entries<M> {
+    ghost use Rattle.dav_tree.specs.Kept.{Kept};
+    ghost use Rattle.dav_tree.specs.KeptCode.{kept_code};
+
+    ghost Value = { Kept };
+
+    ghost coded = { kept_code };
+
+    ghost use Rattle.dav_tree.specs.Kept.{kept_by, AreKept};
+
+    ghost view = { λ e. kept_by (M.bytes e.medium) (M.is_honest e.medium) e.tree e.bodies e.next };
+
+    ghost invariant = { λ e. AreKept (M.bytes e.medium) (M.holds e.medium) e.tree e.used e.bodies e.next };
+}
+
+/// Where a resource is: its number, and whether it is a directory.
+#[derive(Debug, Clone, Copy, Drop)]
+pub(crate) struct Place {
+    pub number: usize,
+    pub directory: bool,
+}
+
+impl<M: Medium> Entries<M> {
+    /// Creates entries with the root only, created at time 0. Fails only if memory runs out.
+    pub fn new(alloc: Global, medium: M) -> Result<Entries<M>, AllocError>
+        ensures { IfOk result (λ entries. IsFirst entries) }
+    {
+        let root = Entry::new(alloc, Content::Directory, 0, 0);
+        Ok(Entries {
+            alloc,
+            tree: Nodes::new(alloc, root)?,
+            medium,
+            used: 0,
+            bodies: BTreeMap::new(alloc),
+            next: 0,
+        })
+    }
+
+    /// Returns the number of bytes in all files.
+    pub fn used(&self) -> u128
+        ensures value { result ≡ used_by self.now.resources }
+        ensures small { result < 2 ^ 127 }
+    {
+        let most = self.tree.max_len() as u128 * MOST_BYTES;
+        prove!(self.used <= most);
+        self.used
+    }
+
+    /// Returns the number of bytes in all files but the one with a number.
+    fn used_by_others(&self, number: usize) -> u128
+        requires { IsNumber self.now number }
+        ensures value { (key : Key) (s : Stored) → IsAt self.now key number s → result + size_of s.node ≡ used_by self.now.resources }
+        ensures small { result < 2 ^ 127 }
+    {
+        self.used() - self.len(number) as u128
+    }
+
+    /// Returns where the resource at a key is, if there is one. Makes one lookup.
+    pub fn find(&mut self, key: &FlatKey) -> Option<Place>
+        ensures found { MatchOption result (IsAbsent self.old key.now) (λ place. IsFound self.old key.now place.number place.directory) }
+        ensures same { self.new ≡ self.old }
+    {
+        let Some(number) = self.tree.find(key) else {
+            return None;
+        };
+        let Some(entry) = self.tree.at(number) else {
+            unreachable!()
+        };
+        let directory = entry.is_directory();
+        Some(Place { number, directory })
+    }
+
+    /// Returns the metadata of the resource with a number. Fails only if memory runs out.
+    pub fn meta(&self, number: usize) -> Result<Meta, AllocError>
+        requires { IsNumber self.now number }
+        ensures { (key : Key) (s : Stored) → IsAt self.now key number s → IfOk result (λ meta. meta ≡ meta_of s) }
+    {
+        entry::meta(self.alloc, &self.medium, entry_at(&self.tree, number))
+    }
+
+    /// Returns the length of the file with a number in bytes, or 0 for a directory.
+    pub fn len(&self, number: usize) -> u64
+        requires { IsNumber self.now number }
+        ensures value { (key : Key) (s : Stored) → IsAt self.now key number s → result ≡ size_of s.node }
+        ensures small { result < 2 ^ 63 }
+    {
+        entry::len(&self.medium, &entry_at(&self.tree, number).content)
+    }
+
+    /// Returns the properties of the resource with a number.
+    pub fn properties(&self, number: usize) -> &Properties
+        requires { IsNumber self.now number }
+        ensures { (key : Key) (s : Stored) → IsAt self.now key number s → result.now ≡ s.properties }
+    {
+        &entry_at(&self.tree, number).properties
+    }
+
+    /// Adds a directory without properties, as change number `version` at time `now`, at a key that has no
+    /// resource and whose parent has one. Fails only if memory runs out, and then nothing changes.
+    pub fn add_directory(&mut self, key: &FlatKey, version: u64, now: u64) -> Result<(), AllocError>
+        requires absent { IsAbsent self.old key.now }
+        requires above { IsSome (map.get self.old.numbers (parent key.now)) }
+        ensures ok { OnOk result (Has (map.insert self.old.resources key.now (fresh Directory version now)) (held_of self.old) self.new) }
+        ensures err { OnErr result (self.new ≡ self.old) }
+    {
+        let entry = Entry::new(self.alloc, Content::Directory, version, now);
+        self.tree.add(key, entry)?;
+        Ok(())
+    }
+
+    /// Adds a file of no bytes, as `add_directory` does.
+    pub fn add_file(&mut self, key: &FlatKey, version: u64, now: u64) -> Result<(), AllocError>
+        requires absent { IsAbsent self.old key.now }
+        requires above { IsSome (map.get self.old.numbers (parent key.now)) }
+        ensures ok { OnOk result (Has (map.insert self.old.resources key.now (fresh (File []) version now)) (held_of self.old) self.new) }
+        ensures err { OnErr result (self.new ≡ self.old) }
+    {
+        let body = self.medium.empty(self.alloc);
+        let entry = Entry::new(self.alloc, Content::File(body), version, now);
+        self.tree.add(key, entry)?;
+        Ok(())
+    }
+
+    /// Removes the resource at a key other than the root, below which there are no resources.
+    pub fn remove(&mut self, key: &FlatKey)
+        requires there { IsSome (map.get self.old.numbers key.now) }
+        requires root { key.now ≢ [] }
+        requires childless { (name : List ℕ) → map.get self.old.resources (key.now ++ name ∷ []) ≡ None }
+        ensures { Has (map.remove self.old.resources key.now) (held_of self.old) self.new }
+    {
+        if let Some(entry) = self.tree.remove(key) {
+            self.used -= entry::len(&self.medium, &entry.content) as u128;
+        }
+    }
+
+    /// Moves the resource at a key, and all below it, to a key that has no resource, and whose parent has
+    /// one. Neither key may be at or below the other. Fails only if memory runs out, and then nothing changes.
+    /// It costs the same however many resources are moved, and copies no bytes.
+    pub fn rename(&mut self, from: &FlatKey, to: &FlatKey) -> Result<(), AllocError>
+        requires there { IsSome (map.get self.old.numbers from.now) }
+        requires apart { AreApart from.now to.now }
+        requires free { map.get self.old.numbers to.now ≡ None }
+        requires above { IsSome (map.get self.old.numbers (parent to.now)) }
+        requires none { (below : Key) → map.get self.old.resources (to.now ++ below) ≡ None }
+        ensures ok { OnOk result (HasMoved from.now to.now self.old self.new) }
+        ensures err { OnErr result (self.new ≡ self.old) }
+    {
+        self.tree.rename(from, to)
+    }
+
+    /// Sets and removes properties of the resource with a number, as `Properties::patch` does. Fails only if
+    /// memory runs out, and then nothing changes.
+    pub fn patch(&mut self, number: usize, patches: &[(bool, DavProp)]) -> Result<(), AllocError>
+        requires { IsNumber self.old number }
+        ensures ok { (key : Key) → map.get self.old.numbers key ≡ Some number → OnOk result (Has (change_at key (λ s. with_properties (patched patches.now s.properties) s) self.old.resources) (held_of self.old) self.new) }
+        ensures err { OnErr result (Has self.old.resources (held_of self.old) self.new) }
+    {
+        let mut entry = take(self.alloc, &mut self.tree, number);
+        let answer = entry.properties.patch(patches);
+        self.tree.exchange(number, &mut entry);
+        answer
+    }
+}
+
+/// Returns the entry with a number.
+fn entry_at<B>(tree: &Nodes<Entry<B>>, number: usize) -> &Entry<B>
+    requires { (key : Key) × (e : _) × (map.get tree.now.numbers key ≡ Some number) × (map.get tree.now.values key ≡ Some e) }
+    ensures { (key : Key) → map.get tree.now.numbers key ≡ Some number → map.get tree.now.values key ≡ Some result.now }
+{
+    let Some(entry) = tree.at(number) else {
+        unreachable!()
+    };
+    entry
+}
+
+/// Takes the entry with a number out of a tree. A directory is in its place until the entry is put back.
+fn take<B>(alloc: Global, tree: &mut Nodes<Entry<B>>, number: usize) -> Entry<B>
+    requires { (key : Key) × (map.get tree.old.numbers key ≡ Some number) }
+    ensures { (key : Key) → map.get tree.old.numbers key ≡ Some number → IsTaken key result tree.old tree.new }
+{
+    let mut entry = Entry::new(alloc, Content::Directory, 0, 0);
+    tree.exchange(number, &mut entry);
+    entry
+}

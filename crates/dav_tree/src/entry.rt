@@ -1,0 +1,183 @@
+//! One resource of a store.
+ghost use Rattle.std.specs.Prelude.{◌≡◌, ◌<◌, ◌+◌, ◌^◌, ℕ, List, length, IfOk, IfErr, OnOk, OnErr, true, string_bytes};
+ghost use Rattle.std.specs.FinMap as map;
+ghost use Rattle.dav_tree.specs.Memory.{is_directory, size_of, tag_text, meta_of, wrote};
+ghost use Rattle.dav_tree.specs.Bodies.{KeepsBodies, FailsFor};
+ghost use Rattle.dav_tree.specs.Entry.{node_by, stored_by, is_held, is_file};
+
+use crate::medium::Medium;
+use crate::properties::Properties;
+use dav_resource::{FsResult, Meta, Text};
+use std::alloc::{AllocError, Global};
+
+/// What is at a key: a file, with the body that has its bytes, or a directory.
+#[derive(Debug, Drop)]
+pub(crate) enum Content<B> {
+    File(B),
+    Directory,
+}
+
+/// A resource: its content, the number of its last counted change, the times of its creation and of its last
+/// counted change, and its properties.
+#[derive(Debug, Drop)]
+pub(crate) struct Entry<B> {
+    pub content: Content<B>,
+    pub version: u64,
+    pub created: u64,
+    pub modified: u64,
+    pub properties: Properties,
+}
+
+impl<B> Entry<B> {
+    /// Creates a resource without properties, as change number `version` at time `now`.
+    pub fn new(alloc: Global, content: Content<B>, version: u64, now: u64) -> Entry<B>
+        ensures content { result.content ≡ content }
+        ensures version { result.version ≡ version }
+        ensures created { result.created ≡ now }
+        ensures modified { result.modified ≡ now }
+        ensures properties { result.properties ≡ map.empty }
+    {
+        Entry {
+            content,
+            version,
+            created: now,
+            modified: now,
+            properties: Properties::new(alloc),
+        }
+    }
+
+    /// Returns whether the resource is a directory.
+    pub fn is_directory(&self) -> bool
+        ensures { (bytes : B → List ℕ) → result ≡ is_directory (stored_by bytes self.now).node }
+    {
+        matches!(self.content, Content::Directory)
+    }
+}
+
+/// Returns the length of a file in bytes, or 0 for a directory.
+pub(crate) fn len<M: Medium>(medium: &M, content: &Content<M::Body>) -> u64
+    requires { is_held (M.holds medium.now) content.now ≡ true }
+    ensures { result ≡ size_of (node_by (M.bytes medium.now) content.now) }
+{
+    match content {
+        Content::File(body) => medium.len(body),
+        Content::Directory => 0,
+    }
+}
+
+/// Returns the metadata of a resource. Fails only if memory runs out.
+pub(crate) fn meta<M: Medium>(
+    alloc: Global,
+    medium: &M,
+    entry: &Entry<M::Body>,
+) -> Result<Meta, AllocError>
+    requires { is_held (M.holds medium.now) entry.now.content ≡ true }
+    ensures { IfOk result (λ meta. meta ≡ meta_of (stored_by (M.bytes medium.now) entry.now)) }
+{
+    let tag = tag_text(alloc, entry.version)?;
+    Ok(Meta {
+        dir: entry.is_directory(),
+        len: len(medium, &entry.content),
+        modified: Some(entry.modified),
+        created: Some(entry.created),
+        accessed: None,
+        status_changed: None,
+        executable: None,
+        etag: Some(Text::from_string(tag)),
+    })
+}
+
+/// Returns a copy of a resource with the same bytes and properties, created at time `created` and changed at
+/// time `now` by change number `version`. Returns `Memory` if memory runs out, or an error of the medium's
+/// own. The properties' elements are shared.
+pub(crate) fn copy<M: Medium>(
+    alloc: Global,
+    medium: &M,
+    entry: &Entry<M::Body>,
+    created: u64,
+    version: u64,
+    now: u64,
+) -> FsResult<Entry<M::Body>>
+    requires { is_held (M.holds medium.now) entry.now.content ≡ true }
+    ensures ok { IfOk result (λ copy. stored_by (M.bytes medium.now) copy ≡ record (stored_by (M.bytes medium.now) entry.now) { version = version; created = created; modified = now }) }
+    ensures held { IfOk result (λ copy. is_held (M.holds medium.now) copy.content ≡ true) }
+    ensures err { IfErr result (FailsFor M.refuses) }
+{
+    let properties = entry.properties.clone()?;
+    let content = match &entry.content {
+        Content::File(body) => Content::File(medium.copy(alloc, body)?),
+        Content::Directory => Content::Directory,
+    };
+    Ok(Entry {
+        content,
+        version,
+        created,
+        modified: now,
+        properties,
+    })
+}
+
+/// Writes bytes at an offset of a file, as `Medium::write` does, as change number `version` at time `now`.
+/// After an error the resource is as it was.
+pub(crate) fn write<M: Medium>(
+    alloc: Global,
+    medium: &mut M,
+    entry: &mut Entry<M::Body>,
+    place: u64,
+    more: &[u8],
+    version: u64,
+    now: u64,
+) -> FsResult<()>
+    requires file { is_file entry.old.content ≡ true }
+    requires held { is_held (M.holds medium.old) entry.old.content ≡ true }
+    requires fits { place + length more.now < 2 ^ 64 }
+    ensures ok { OnOk result (stored_by (M.bytes medium.new) entry.new ≡ wrote place more.now version now (stored_by (M.bytes medium.old) entry.old)) }
+    ensures same { OnErr result (stored_by (M.bytes medium.new) entry.new ≡ stored_by (M.bytes medium.old) entry.old) }
+    ensures err { IfErr result (FailsFor M.refuses) }
+    ensures held { is_held (M.holds medium.new) entry.new.content ≡ true }
+    ensures kept { KeepsBodies M.bytes M.holds medium.old medium.new }
+{
+    let Content::File(body) = &mut entry.content else {
+        unreachable!()
+    };
+    medium.write(alloc, body, place, more)?;
+    entry.version = version;
+    entry.modified = now;
+    Ok(())
+}
+
+/// Writes the bytes of a body at an offset of a file, as `write` does.
+pub(crate) fn write_body<M: Medium>(
+    alloc: Global,
+    medium: &mut M,
+    entry: &mut Entry<M::Body>,
+    place: u64,
+    from: &M::Body,
+    version: u64,
+    now: u64,
+) -> FsResult<()>
+    requires file { is_file entry.old.content ≡ true }
+    requires held { is_held (M.holds medium.old) entry.old.content ≡ true }
+    requires other { M.holds medium.old from.now ≡ true }
+    requires fits { place + length (M.bytes medium.old from.now) < 2 ^ 64 }
+    ensures ok { OnOk result (stored_by (M.bytes medium.new) entry.new ≡ wrote place (M.bytes medium.old from.now) version now (stored_by (M.bytes medium.old) entry.old)) }
+    ensures same { OnErr result (stored_by (M.bytes medium.new) entry.new ≡ stored_by (M.bytes medium.old) entry.old) }
+    ensures err { IfErr result (FailsFor M.refuses) }
+    ensures held { is_held (M.holds medium.new) entry.new.content ≡ true }
+    ensures kept { KeepsBodies M.bytes M.holds medium.old medium.new }
+{
+    let Content::File(body) = &mut entry.content else {
+        unreachable!()
+    };
+    medium.write_body(alloc, body, place, from)?;
+    entry.version = version;
+    entry.modified = now;
+    Ok(())
+}
+
+/// Formats a number in lower-case hexadecimal.
+fn tag_text(alloc: Global, version: u64) -> Result<String, AllocError>
+    ensures { IfOk result (λ text. string_bytes text ≡ tag_text version) }
+{
+    format!(in alloc; "{version:x}")
+}

@@ -1,0 +1,128 @@
+//! A medium in memory.
+ghost use Rattle.std.specs.Prelude.{◌≡◌, ◌≤◌, ◌<◌, ◌+◌, ◌-◌, ◌^◌, ◌++◌, true, false, length, take, drop, replicate, List, OnOk, OnErr, refl};
+ghost use Rattle.dav_store.specs.Calls.{bytes_from, written_at};
+ghost use Rattle.dav_tree.specs.Bodies.{is_small, small_is, none_own};
+
+use crate::medium::Medium;
+use dav_resource::FsResult;
+use std::alloc::{AllocError, Global};
+
+/// A medium whose bodies are vectors of bytes. It fails only if memory runs out, and its sweeps give nothing
+/// up: the bytes of a body are released when it is dropped.
+#[derive(Debug, Drop)]
+pub struct InMemory;
+
+impl Medium for InMemory {
+    type Body = Vec<u8>;
+
+    ghost bytes = { λ _ body. body.items };
+
+    ghost holds = { λ _ body. is_small body.items };
+
+    ghost marked = { λ _ body. is_small body.items };
+
+    ghost refuses = { λ _. false };
+
+    ghost is_honest = { λ _. true };
+
+    ghost is_trusted = { true };
+
+    ghost small = { λ _ body held. small_is body.items held };
+
+    ghost own = { λ _ refused. none_own refused };
+
+    ghost trusted = { λ _ _. refl };
+
+    fn empty(&self, alloc: Global) -> Vec<u8> {
+        Vec::new(alloc)
+    }
+
+    fn len(&self, body: &Vec<u8>) -> u64 {
+        body.len() as u64
+    }
+
+    fn copy(&self, _alloc: Global, body: &Vec<u8>) -> FsResult<Vec<u8>> {
+        Ok(body.clone()?)
+    }
+
+    fn write(
+        &mut self,
+        _alloc: Global,
+        body: &mut Vec<u8>,
+        place: u64,
+        more: &[u8],
+    ) -> FsResult<()> {
+        write_at(body, place as usize, more)?;
+        Ok(())
+    }
+
+    fn write_body(
+        &mut self,
+        _alloc: Global,
+        body: &mut Vec<u8>,
+        place: u64,
+        from: &Vec<u8>,
+    ) -> FsResult<()> {
+        write_at(body, place as usize, from)?;
+        Ok(())
+    }
+
+    fn read(
+        &mut self,
+        alloc: Global,
+        body: &Vec<u8>,
+        place: u64,
+        count: usize,
+    ) -> FsResult<Vec<u8>> {
+        Ok(bytes_from(body, place, count).to_vec(alloc)?)
+    }
+
+    fn begin_sweep(&mut self) {}
+
+    fn keep(&mut self, _body: &Vec<u8>) {}
+
+    fn end_sweep(&mut self) {}
+}
+
+/// Borrows `count` bytes from an offset on, or fewer if the bytes end before.
+fn bytes_from(bytes: &[u8], place: u64, count: usize) -> &[u8]
+    ensures { result.now ≡ bytes_from place count bytes.now }
+{
+    let rest = &bytes[bytes.len().min(place as usize)..];
+    &rest[..rest.len().min(count)]
+}
+
+/// Writes bytes at an offset, filling a gap with zeros. Requests all capacity at once. If that fails, nothing
+/// changes.
+fn write_at(bytes: &mut Vec<u8>, place: usize, more: &[u8]) -> Result<(), AllocError>
+    requires { place + length more.now < 2 ^ 64 }
+    ensures ok { OnOk result (bytes.new.items ≡ written_at bytes.old.items place more.now) }
+    ensures err { OnErr result (bytes.new.items ≡ bytes.old.items) }
+    ensures small { length bytes.new.items < 2 ^ 63 }
+{
+    if more.is_empty() {
+        return Ok(());
+    }
+    lengthen(bytes, place + more.len())?;
+    overwrite(bytes, place, more);
+    Ok(())
+}
+
+/// Appends zeros up to a length. Bytes that are at least that long stay as they are.
+fn lengthen(bytes: &mut Vec<u8>, len: usize) -> Result<(), AllocError>
+    ensures ok { OnOk result (bytes.new.items ≡ bytes.old.items ++ replicate (len - length bytes.old.items) 0) }
+    ensures err { OnErr result (bytes.new.items ≡ bytes.old.items) }
+{
+    if bytes.len() < len {
+        bytes.resize(len, 0)?;
+    }
+    Ok(())
+}
+
+/// Overwrites bytes from an offset on.
+fn overwrite(bytes: &mut Vec<u8>, place: usize, more: &[u8])
+    requires { place + length more.now ≤ length bytes.old.items }
+    ensures { bytes.new.items ≡ take place bytes.old.items ++ more.now ++ drop (place + length more.now) bytes.old.items }
+{
+    bytes[place..place + more.len()].copy_from_slice(more);
+}

@@ -1,0 +1,16 @@
+//! A store with its tree in memory, over any medium for what files contain.
+#![tactic(auto)]
+
+mod entries;
+mod entry;
+mod in_memory;
+mod medium;
+mod properties;
+mod tree_fs;
+
+pub use in_memory::InMemory;
+pub use medium::Medium;
+pub use tree_fs::TreeFs;
+
+/// A store in memory.
+pub type MemFs = TreeFs<InMemory>;

@@ -1,0 +1,420 @@
+//! A store with its tree in memory.
+ghost use Rattle.std.specs.Prelude.{◌≡◌, ◌≢◌, ◌<◌, ◌+◌, ◌^◌, [], ◌∷◌, map, All, length, option_map, replicate, false, true, IfOk, IfErr, MatchResult, Some, None, refl};
+ghost use Rattle.dav_resource.specs.PathText.{IsKey};
+ghost use Rattle.dav_store.specs.Logged.{logged_of};
+ghost use Rattle.dav_store.specs.Store.{Directory};
+ghost use Rattle.dav_store.specs.Calls.{LooksUp, MakesDirectory, Opens, ReadsBytes, bytes_from, Seeks, Writes, Flushes, LooksUpFile, place_of};
+ghost use Rattle.dav_store.specs.BodyCalls.{StartsBody, AddsToBody, with_body};
+ghost use Rattle.dav_store.specs.Members.{ReadsDir, RemovesFile, RemovesDir};
+ghost use Rattle.dav_store.specs.Transfers.{Copies, Renames};
+ghost use Rattle.dav_store.specs.PropertyCalls.{name_of, properties_at, IsWhole, GetsProp, GetsProps, PatchesProps, GetsQuota};
+ghost use Rattle.dav_tree.specs.Memory.{IsSound, file_bytes, contents_of, begun, lengthened, put_held, with_held, made, without, copied, IsRenamed, with_patches};
+ghost use Rattle.dav_tree.specs.Dump.{IsDump};
+ghost use Rattle.dav_tree.specs.Lawful.{is_well_formed};
+ghost use Rattle.dav_tree.specs.MemoryCalls.{Yields, Gives, GivesOver, Records, RecordsWith, kept, look_error, read_dir_error, IsListing, create_dir_error, remove_file_error, remove_dir_error, read_bytes_error, open_error, opened, file_error, write_error, written, after_write, copy_error, rename_error, get_prop_error, properties_error, IsPropertyList, quota_error, start_error, add_error};
+ghost use Rattle.std.proofs.Props.{props};
+ghost use Rattle.dav_tree.specs.KeyProps.{IsKey-prop};
+
+mod files;
+mod patches;
+mod records;
+mod tree;
+
+use crate::entries::Entries;
+use crate::in_memory::InMemory;
+use crate::medium::Medium;
+use dav_resource::{
+    BodyNumber, DavFile, DavPath, DavProp, DirEntry, Element, FsError, FsResult, Items, Meta, Op,
+    OpenOptions, Record,
+};
+use dav_store::GuardedFileSystem;
+use http::StatusCode;
+use std::alloc::Global;
+
+/// A store of files and directories with dead properties, whose tree is in memory. What files contain is on a
+/// medium.
+///
+/// It refuses a recorded call for its own reasons in two cases. One is that the call would count as a change,
+/// and the change counter is at `u64::MAX`. The error is then `GeneralFailure`. The counter starts at 0
+/// (`with_version` sets another start). Each successful `create_dir`, `copy`, `write_bytes` and `write_body`,
+/// and each `open` that creates or truncates a file, adds one. The new number, in lower-case hexadecimal, is
+/// the entity tag of the resource created or changed. The other case is an error of the medium's own, in
+/// `read_bytes`, `write_bytes`, `write_body` and `copy`. A medium in memory has no such errors.
+///
+/// It allows every call and lists every member. The bodies that it holds for requests to come do not count in
+/// the quota. Their numbers are given in ascending order from 0, and each only once. `start_body` refuses
+/// with `GeneralFailure` when no number is left.
+///
+/// Each call looks its path up once. A lookup makes one step for each segment of the path, and remembers the
+/// place that it finds. Other costs are listed at each call. A call that returns `Memory` changes nothing.
+#[derive(Drop)]
+pub struct TreeFs<M: Medium> {
+    entries: Entries<M>,
+    version: u64,
+    moment: u64,
+    limit: Option<Option<u64>>,
+    log: Vec<Record>,
+    ghost sound: { IsSound entries.resources } by { Prim.hlevel (props, IsKey-prop) },
+}
+
+impl TreeFs<InMemory> {
+    ghost use Rattle.dav_tree.specs.TreeFs.{memory_of, store_of, records_of};
+    ghost use Rattle.dav_tree.specs.Memory.{first_memory};
+
+    /// Creates a store that holds only the root, created at time 0, with an empty log, no bodies and no
+    /// quota. Fails only if memory runs out.
+    pub fn new(alloc: Global) -> FsResult<TreeFs<InMemory>>
+        ensures memory { IfOk result (λ store. memory_of store ≡ first_memory 0 None) }
+        ensures log { IfOk result (λ store. (store_of store).log ≡ []) }
+        ensures records { IfOk result (λ store. records_of store ≡ []) }
+        ensures err { IfErr result (λ e. e ≡ FsError.Memory) }
+    {
+        TreeFs::over(alloc, InMemory, 0, None)
+    }
+
+    /// Creates a store as `new` does, with a quota: `Some` gives its total bytes, `None` sets no limit. The
+    /// quota is reported but not enforced: no write is refused because of it. Fails only if memory runs out.
+    pub fn with_quota(alloc: Global, total: Option<u64>) -> FsResult<TreeFs<InMemory>>
+        ensures memory { IfOk result (λ store. memory_of store ≡ first_memory 0 (Some total)) }
+        ensures log { IfOk result (λ store. (store_of store).log ≡ []) }
+        ensures records { IfOk result (λ store. records_of store ≡ []) }
+        ensures err { IfErr result (λ e. e ≡ FsError.Memory) }
+    {
+        TreeFs::over(alloc, InMemory, 0, Some(total))
+    }
+
+    /// Creates a store as `new` does, with the change counter at `version`. At `u64::MAX` the store refuses
+    /// every call that would add to the counter. Fails only if memory runs out.
+    pub fn with_version(alloc: Global, version: u64) -> FsResult<TreeFs<InMemory>>
+        ensures memory { IfOk result (λ store. memory_of store ≡ first_memory version None) }
+        ensures log { IfOk result (λ store. (store_of store).log ≡ []) }
+        ensures records { IfOk result (λ store. records_of store ≡ []) }
+        ensures err { IfErr result (λ e. e ≡ FsError.Memory) }
+    {
+        TreeFs::over(alloc, InMemory, version, None)
+    }
+
+    /// Returns a copy of all resources, in the order of their keys. Each has its path without the prefix,
+    /// with a trailing slash exactly if it is a directory, a file's bytes, and the properties with their
+    /// elements. The call leaves no record in the log. Fails only if memory runs out.
+    pub fn dump(&self) -> FsResult<Vec<(DavPath, Option<Vec<u8>>, Vec<DavProp>)>>
+        ensures dump { IfOk result (λ dumped. IsDump (memory_of self.now).resources dumped.items) }
+        ensures err { IfErr result (λ e. e ≡ FsError.Memory) }
+    {
+        Ok(self.entries.dump(*self.log.allocator())?)
+    }
+}
+
+impl<M: Medium> TreeFs<M> {
+    ghost use Rattle.dav_tree.specs.TreeFs.{memory_of, store_of, records_of};
+    ghost use Rattle.dav_tree.specs.Memory.{first_memory};
+
+    /// Creates a store over a medium. It holds only the root, created at time 0, and no bodies. The change
+    /// counter is at `version`, the quota is `limit`, and the log is empty. Fails only if memory runs out.
+    pub fn over(
+        alloc: Global,
+        medium: M,
+        version: u64,
+        limit: Option<Option<u64>>,
+    ) -> FsResult<TreeFs<M>>
+        ensures memory { IfOk result (λ store. memory_of store ≡ first_memory version limit) }
+        ensures log { IfOk result (λ store. (store_of store).log ≡ []) }
+        ensures records { IfOk result (λ store. records_of store ≡ []) }
+        ensures err { IfErr result (λ e. e ≡ FsError.Memory) }
+    {
+        Ok(TreeFs {
+            entries: Entries::new(alloc, medium)?,
+            version,
+            moment: 0,
+            limit,
+            log: Vec::new(alloc),
+        })
+    }
+
+    /// Sets the current time, in whole seconds since 1970. The contents and the log stay the same.
+    pub fn set_now(&mut self, now: u64)
+        ensures memory { memory_of self.new ≡ record (memory_of self.old) { moment = now } }
+        ensures seen { store_of self.new ≡ store_of self.old }
+        ensures records { records_of self.new ≡ records_of self.old }
+    {
+        self.moment = now;
+    }
+}
+
+impl<C, M: Medium> GuardedFileSystem<C> for TreeFs<M> {
+    ghost use Rattle.dav_tree.specs.TreeFs.{memory_of, store_of, records_of, body_of, honest_of, IfHonest};
+
+    ghost seen = { store_of };
+
+    ghost is_honest = { honest_of };
+
+    ghost well_formed = { λ store. is_well_formed (memory_of store) store.sound };
+
+    ghost allowed = { λ store call inside granted. refl };
+
+    fn metadata(&mut self, path: &DavPath, _credentials: &C) -> FsResult<Meta>
+        ensures seen { LooksUp (store_of self.old) path.now.key result (store_of self.new) }
+        ensures memory { Gives (look_error path.now.key (memory_of self.old)) kept (memory_of self.old) result (memory_of self.new) }
+        ensures record { Records Op.Metadata (path.now ∷ []) result (records_of self.old) (records_of self.new) }
+    {
+        let paths = self.begin_record(path)?;
+        let answer = self.look(path);
+        self.end_record(Op::Metadata, paths, answer)
+    }
+
+    fn create_dir(&mut self, path: &DavPath, _credentials: &C) -> FsResult<()>
+        ensures seen { MakesDirectory (store_of self.old) path.now.key result (store_of self.new) }
+        ensures memory { Gives (create_dir_error path.now.key (memory_of self.old)) (made path.now.key Directory) (memory_of self.old) result (memory_of self.new) }
+        ensures record { Records Op.CreateDir (path.now ∷ []) result (records_of self.old) (records_of self.new) }
+    {
+        let paths = self.begin_record(path)?;
+        let answer = self.make_directory(path);
+        self.end_record(Op::CreateDir, paths, answer)
+    }
+
+    fn read_dir(&mut self, path: &DavPath, _credentials: &C) -> FsResult<Vec<FsResult<DirEntry>>>
+        ensures seen { ReadsDir (store_of self.old) path.now.key result (store_of self.new) }
+        ensures listing { IfOk result (λ listing. IsListing path.now.key (memory_of self.old).resources listing.items) }
+        ensures memory { Gives (read_dir_error path.now.key (memory_of self.old)) kept (memory_of self.old) result (memory_of self.new) }
+        ensures record { Records Op.ReadDir (path.now ∷ []) result (records_of self.old) (records_of self.new) }
+    {
+        let paths = self.begin_record(path)?;
+        let answer = self.list(path);
+        self.end_record(Op::ReadDir, paths, answer)
+    }
+
+    fn remove_file(&mut self, path: &DavPath, _credentials: &C) -> FsResult<()>
+        ensures seen { RemovesFile (store_of self.old) path.now.key result (store_of self.new) }
+        ensures memory { Gives (remove_file_error path.now.key (memory_of self.old)) (without path.now.key) (memory_of self.old) result (memory_of self.new) }
+        ensures record { Records Op.RemoveFile (path.now ∷ []) result (records_of self.old) (records_of self.new) }
+    {
+        let paths = self.begin_record(path)?;
+        let answer = self.take_file(path);
+        self.end_record(Op::RemoveFile, paths, answer)
+    }
+
+    fn remove_dir(&mut self, path: &DavPath, _credentials: &C) -> FsResult<()>
+        ensures seen { RemovesDir (store_of self.old) path.now.key result (store_of self.new) }
+        ensures memory { Gives (remove_dir_error path.now.key (memory_of self.old)) (without path.now.key) (memory_of self.old) result (memory_of self.new) }
+        ensures record { Records Op.RemoveDir (path.now ∷ []) result (records_of self.old) (records_of self.new) }
+    {
+        let paths = self.begin_record(path)?;
+        let answer = self.take_directory(path);
+        self.end_record(Op::RemoveDir, paths, answer)
+    }
+
+    fn open(&mut self, path: &DavPath, options: &OpenOptions, _credentials: &C) -> FsResult<DavFile>
+        ensures seen { Opens (store_of self.old) path.now options.now result (store_of self.new) }
+        ensures memory { Gives (open_error options.now path.now.key (memory_of self.old)) (opened options.now path.now.key) (memory_of self.old) result (memory_of self.new) }
+        ensures record { Records Op.OpenFile (path.now ∷ []) result (records_of self.old) (records_of self.new) }
+    {
+        let paths = self.begin_record(path)?;
+        let answer = self.open_file(path, options);
+        self.end_record(Op::OpenFile, paths, answer)
+    }
+
+    /// Copies the bytes that it returns.
+    fn read_bytes(
+        &mut self,
+        path: &DavPath,
+        place: u64,
+        count: usize,
+        _credentials: &C,
+    ) -> FsResult<Vec<u8>>
+        ensures seen { ReadsBytes (honest_of self.new) (store_of self.old) path.now.key place count result (store_of self.new) }
+        ensures bytes { let there = file_bytes path.now.key (memory_of self.old).resources in IfOk result (λ bytes. IfHonest (honest_of self.new) (bytes.items ≡ bytes_from place count there)) }
+        ensures count { let there = file_bytes path.now.key (memory_of self.old).resources in IfOk result (λ bytes. length bytes.items ≡ length (bytes_from place count there)) }
+        ensures memory { GivesOver M.refuses (read_bytes_error path.now.key (memory_of self.old)) kept (memory_of self.old) result (memory_of self.new) }
+        ensures record { Records Op.ReadBytes (path.now ∷ []) result (records_of self.old) (records_of self.new) }
+    {
+        let paths = self.begin_record(path)?;
+        let answer = self.read_file(path, place, count);
+        self.end_record(Op::ReadBytes, paths, answer)
+    }
+
+    fn seek(&mut self, file: &mut DavFile, pos: u64, _credentials: &C) -> FsResult<()>
+        ensures sought { Seeks (store_of self.old) file.old.path.key result (store_of self.new) }
+        ensures place { MatchResult result (λ _. file.new ≡ record file.old { pos = pos }) (λ _. file.new ≡ file.old) }
+        ensures memory { Gives (file_error file.old.path.key (memory_of self.old)) kept (memory_of self.old) result (memory_of self.new) }
+        ensures record { Records Op.Seek (file.old.path ∷ []) result (records_of self.old) (records_of self.new) }
+    {
+        let paths = self.begin_record(&file.path)?;
+        let answer = self.move_place(file, pos);
+        self.end_record(Op::Seek, paths, answer)
+    }
+
+    fn write_bytes(&mut self, file: &mut DavFile, bytes: &[u8], _credentials: &C) -> FsResult<()>
+        requires { file.old.append ≡ false → file.old.pos + length bytes.now < 2 ^ 64 }
+        ensures written { Writes (store_of self.old) file.old bytes.now result (store_of self.new) }
+        ensures place { MatchResult result (λ _. file.new ≡ record file.old { pos = place_of file.old (store_of self.old).contents + length bytes.now }) (λ _. file.new ≡ file.old) }
+        ensures memory { let old = memory_of self.old in GivesOver M.refuses (write_error file.old.path.key old) (written file.old bytes.now) old result (memory_of self.new) }
+        ensures record { Records Op.WriteBytes (file.old.path ∷ []) result (records_of self.old) (records_of self.new) }
+    {
+        let paths = self.begin_record(&file.path)?;
+        let answer = self.write_file(file, bytes);
+        self.end_record(Op::WriteBytes, paths, answer)
+    }
+
+    fn write_body(
+        &mut self,
+        file: &mut DavFile,
+        number: BodyNumber,
+        _credentials: &C,
+    ) -> FsResult<()>
+        requires { file.old.append ≡ false → file.old.pos + length (body_of self.old number) < 2 ^ 64 }
+        ensures written { Writes (store_of self.old) file.old (body_of self.old number) result (store_of self.new) }
+        ensures place { MatchResult result (λ _. file.new ≡ after_write file.old (body_of self.old number) (memory_of self.old)) (λ _. file.new ≡ file.old) }
+        ensures memory { let old = memory_of self.old in GivesOver M.refuses (write_error file.old.path.key old) (written file.old (body_of self.old number)) old result (memory_of self.new) }
+        ensures record { Records Op.WriteBytes (file.old.path ∷ []) result (records_of self.old) (records_of self.new) }
+    {
+        let paths = self.begin_record(&file.path)?;
+        let answer = self.write_stored(file, number);
+        self.end_record(Op::WriteBytes, paths, answer)
+    }
+
+    fn flush(&mut self, file: &DavFile, _credentials: &C) -> FsResult<()>
+        ensures seen { Flushes (store_of self.old) file.now.path.key result (store_of self.new) }
+        ensures memory { Gives (file_error file.now.path.key (memory_of self.old)) kept (memory_of self.old) result (memory_of self.new) }
+        ensures record { Records Op.Flush (file.now.path ∷ []) result (records_of self.old) (records_of self.new) }
+    {
+        let paths = self.begin_record(&file.path)?;
+        let answer = self.check_file(file);
+        self.end_record(Op::Flush, paths, answer)
+    }
+
+    fn file_metadata(&mut self, file: &DavFile, _credentials: &C) -> FsResult<Meta>
+        ensures seen { LooksUpFile (store_of self.old) file.now.path.key result (store_of self.new) }
+        ensures memory { Gives (file_error file.now.path.key (memory_of self.old)) kept (memory_of self.old) result (memory_of self.new) }
+        ensures record { Records Op.FileMetadata (file.now.path ∷ []) result (records_of self.old) (records_of self.new) }
+    {
+        let paths = self.begin_record(&file.path)?;
+        let answer = self.look_at_file(file);
+        self.end_record(Op::FileMetadata, paths, answer)
+    }
+
+    /// Copies the file's bytes and the names of its properties. The elements are shared.
+    fn copy(&mut self, from: &DavPath, to: &DavPath, _credentials: &C) -> FsResult<()>
+        ensures seen { Copies (store_of self.old) from.now.key to.now.key result (store_of self.new) }
+        ensures memory { let old = memory_of self.old in GivesOver M.refuses (copy_error from.now.key to.now.key old) (copied from.now.key to.now.key) old result (memory_of self.new) }
+        ensures record { Records Op.Copy (from.now ∷ to.now ∷ []) result (records_of self.old) (records_of self.new) }
+    {
+        let paths = self.begin_record_of_two(from, to)?;
+        let answer = self.copy_file(from, to);
+        self.end_record(Op::Copy, paths, answer)
+    }
+
+    /// Makes a few lookups for each resource at the path and below it. No file's bytes are copied.
+    fn rename(&mut self, from: &DavPath, to: &DavPath, _credentials: &C) -> FsResult<()>
+        ensures seen { Renames (store_of self.old) from.now.key to.now.key result (store_of self.new) }
+        ensures memory { Yields (rename_error from.now.key to.now.key (memory_of self.old)) (IsRenamed from.now.key to.now.key) (memory_of self.old) result (memory_of self.new) }
+        ensures record { Records Op.Rename (from.now ∷ to.now ∷ []) result (records_of self.old) (records_of self.new) }
+    {
+        let paths = self.begin_record_of_two(from, to)?;
+        let answer = self.move_all(from, to);
+        self.end_record(Op::Rename, paths, answer)
+    }
+
+    /// Copies the element.
+    fn get_prop(&mut self, path: &DavPath, prop: &DavProp, _credentials: &C) -> FsResult<Element>
+        ensures seen { GetsProp (store_of self.old) path.now.key (name_of prop.now) result (store_of self.new) }
+        ensures memory { Gives (get_prop_error path.now.key (name_of prop.now) (memory_of self.old)) kept (memory_of self.old) result (memory_of self.new) }
+        ensures record { Records Op.GetProp (path.now ∷ []) result (records_of self.old) (records_of self.new) }
+    {
+        let paths = self.begin_record(path)?;
+        let answer = self.find_prop(path, prop);
+        self.end_record(Op::GetProp, paths, answer)
+    }
+
+    /// Copies the names and prefixes of the path's properties. The elements are shared.
+    fn get_props(&mut self, path: &DavPath, _credentials: &C) -> FsResult<Vec<DavProp>>
+        ensures seen { GetsProps (store_of self.old) path.now.key result (store_of self.new) }
+        ensures props { IfOk result (λ props. IsPropertyList (properties_at (contents_of (memory_of self.old)) path.now.key) props.items) }
+        ensures memory { Gives (properties_error path.now.key (memory_of self.old)) kept (memory_of self.old) result (memory_of self.new) }
+        ensures record { Records Op.GetProps (path.now ∷ []) result (records_of self.old) (records_of self.new) }
+    {
+        let paths = self.begin_record(path)?;
+        let answer = self.list_props(path);
+        self.end_record(Op::GetProps, paths, answer)
+    }
+
+    /// Makes at most two copies of a property's name for each change, and a few lookups among the path's
+    /// properties and among the changes. Properties that are not changed cost nothing.
+    fn patch_props(
+        &mut self,
+        path: &DavPath,
+        patches: &[(bool, DavProp)],
+        _credentials: &C,
+    ) -> FsResult<Vec<StatusCode>>
+        requires some { patches.now ≢ [] }
+        requires whole { All IsWhole patches.now }
+        ensures seen { PatchesProps (store_of self.old) path.now.key patches.now result (store_of self.new) }
+        ensures statuses { IfOk result (λ statuses. statuses.items ≡ replicate (length patches.now) 200) }
+        ensures memory { Gives (properties_error path.now.key (memory_of self.old)) (with_patches path.now.key patches.now) (memory_of self.old) result (memory_of self.new) }
+        ensures record { RecordsWith (λ statuses. statuses.items) Op.PatchProps (path.now ∷ []) result (records_of self.old) (records_of self.new) }
+    {
+        let paths = self.begin_record(path)?;
+        let statuses = Items::from_vec(patches::all_ok(*self.log.allocator(), patches.len())?);
+        let answer = self.patch(path, patches);
+        self.end_record_with(Op::PatchProps, paths, statuses, answer)
+    }
+
+    fn get_quota(&mut self, _credentials: &C) -> FsResult<(u64, Option<u64>)>
+        ensures seen { GetsQuota (store_of self.old) result (store_of self.new) }
+        ensures memory { Gives (quota_error (memory_of self.old)) kept (memory_of self.old) result (memory_of self.new) }
+        ensures record { Records Op.GetQuota [] result (records_of self.old) (records_of self.new) }
+    {
+        let paths = self.begin_record_of_none()?;
+        let answer = self.read_quota();
+        self.end_record(Op::GetQuota, paths, answer)
+    }
+
+    fn have_props(&self) -> bool {
+        true
+    }
+
+    fn start_body(&mut self) -> FsResult<BodyNumber>
+        ensures seen { StartsBody (store_of self.old) result (store_of self.new) }
+        ensures number { IfOk result (λ number. number ≡ (memory_of self.old).held.next) }
+        ensures memory { Gives (start_error (memory_of self.old).held) (with_held begun) (memory_of self.old) result (memory_of self.new) }
+        ensures records { records_of self.new ≡ records_of self.old }
+    {
+        self.entries.start_body()
+    }
+
+    fn add_to_body(&mut self, number: BodyNumber, bytes: &[u8]) -> FsResult<()>
+        ensures seen { AddsToBody number bytes.now (store_of self.old) result (store_of self.new) }
+        ensures memory { let old = memory_of self.old in GivesOver M.refuses (add_error number old.held) (with_held (lengthened number bytes.now)) old result (memory_of self.new) }
+        ensures records { records_of self.new ≡ records_of self.old }
+    {
+        self.entries.add_to_body(number, bytes)
+    }
+
+    fn drop_body(&mut self, number: BodyNumber)
+        ensures seen { store_of self.new ≡ with_body (store_of self.old) number None }
+        ensures memory { memory_of self.new ≡ with_held (put_held number None) (memory_of self.old) }
+        ensures records { records_of self.new ≡ records_of self.old }
+    {
+        self.entries.drop_body(number);
+    }
+
+    fn body_length(&self, number: BodyNumber) -> Option<u64>
+        ensures { result ≡ option_map length ((store_of self.now).facts.bodies number) }
+    {
+        self.entries.body_length(number)
+    }
+
+    fn records(&self) -> &[Record]
+        ensures seen { map logged_of result.now ≡ (store_of self.now).log }
+        ensures records { result.now ≡ records_of self.now }
+    {
+        &self.log
+    }
+
+    fn clear_log(&mut self)
+        ensures seen { store_of self.new ≡ record (store_of self.old) { log = [] } }
+        ensures memory { memory_of self.new ≡ memory_of self.old }
+        ensures records { records_of self.new ≡ [] }
+    {
+        self.log.clear();
+    }
+}

@@ -1,0 +1,179 @@
+//! The store's calls on open files.
+ghost use Rattle.std.specs.Prelude.{◌≡◌, ◌<◌, ◌+◌, ◌^◌, IsTrue, false, length, IfOk, MatchResult, ◌||◌, if◌then◌else◌};
+ghost use Rattle.dav_key.specs.Key.{Key};
+ghost use Rattle.dav_store.specs.Calls.{place_of, bytes_from};
+ghost use Rattle.dav_tree.specs.TreeFs.{memory_of, body_of, honest_of, IfHonest};
+ghost use Rattle.dav_tree.specs.Kept.{IsAt, IsNumber, IsAbsent, IsFound};
+ghost use Rattle.dav_tree.specs.Memory.{Stored, file_bytes, contents_of, size_of};
+ghost use Rattle.dav_tree.specs.MemoryCalls.{Gives, GivesOver, kept, read_bytes_error, open_error, opened, file_error, write_error, written, after_write};
+
+use super::TreeFs;
+use crate::entries::{Entries, Place};
+use crate::medium::Medium;
+use dav_resource::{BodyNumber, DavFile, DavPath, FsError, FsResult, Meta, OpenOptions};
+
+impl<M: Medium> TreeFs<M> {
+    pub(super) fn open_file(&mut self, path: &DavPath, options: &OpenOptions) -> FsResult<DavFile>
+        ensures log { self.new.log ≡ self.old.log }
+        ensures file { IfOk result (λ file. file ≡ record { path = path.now; pos = 0; append = options.now.append }) }
+        ensures opened { Gives (open_error options.now path.now.key (memory_of self.old)) (opened options.now path.now.key) (memory_of self.old) result (memory_of self.new) }
+    {
+        let file = DavFile {
+            path: path.clone()?,
+            pos: 0,
+            append: options.append,
+        };
+        match self.entries.find(path.key()) {
+            Some(place) => self.open_old(path, place, options)?,
+            None => self.open_new(path, options)?,
+        }
+        Ok(file)
+    }
+
+    /// Opens the existing resource at a path, and truncates it if the options say so, which counts as a
+    /// change. Returns `Exists` if the options require a new file, and `Forbidden` if the resource is a
+    /// directory.
+    fn open_old(&mut self, path: &DavPath, place: Place, options: &OpenOptions) -> FsResult<()>
+        requires { IsFound self.old.entries path.now.key place.number place.directory }
+        ensures log { self.new.log ≡ self.old.log }
+        ensures opened { Gives (open_error options.now path.now.key (memory_of self.old)) (opened options.now path.now.key) (memory_of self.old) result (memory_of self.new) }
+    {
+        if options.create_new {
+            return Err(FsError::Exists);
+        }
+        if place.directory {
+            return Err(FsError::Forbidden);
+        }
+        if options.truncate {
+            let version = self.next_version()?;
+            self.entries.truncate(place.number, version, self.moment);
+            self.version = version;
+        }
+        Ok(())
+    }
+
+    /// Creates the file to be opened at a path where nothing exists, which counts as a change. Returns
+    /// `NotFound` if the parent is not a directory, or if the options do not allow creation.
+    fn open_new(&mut self, path: &DavPath, options: &OpenOptions) -> FsResult<()>
+        requires { IsAbsent self.old.entries path.now.key }
+        ensures log { self.new.log ≡ self.old.log }
+        ensures opened { Gives (open_error options.now path.now.key (memory_of self.old)) (opened options.now path.now.key) (memory_of self.old) result (memory_of self.new) }
+    {
+        if !self.entries.has_directory_above(path.key()) {
+            return Err(FsError::NotFound);
+        }
+        if !may_make(options) {
+            return Err(FsError::NotFound);
+        }
+        let version = self.next_version()?;
+        self.entries.add_file(path.key(), version, self.moment)?;
+        self.version = version;
+        Ok(())
+    }
+
+    /// Returns bytes of the file at a path, as `Entries::read` does. Returns `NotFound` if nothing exists at
+    /// the path, and `Forbidden` if a directory does.
+    pub(super) fn read_file(
+        &mut self,
+        path: &DavPath,
+        place: u64,
+        count: usize,
+    ) -> FsResult<Vec<u8>>
+        ensures log { self.new.log ≡ self.old.log }
+        ensures bytes { let there = file_bytes path.now.key (memory_of self.old).resources in IfOk result (λ bytes. IfHonest (honest_of self.new) (bytes.items ≡ bytes_from place count there)) }
+        ensures count { let there = file_bytes path.now.key (memory_of self.old).resources in IfOk result (λ bytes. length bytes.items ≡ length (bytes_from place count there)) }
+        ensures answer { GivesOver M.refuses (read_bytes_error path.now.key (memory_of self.old)) kept (memory_of self.old) result (memory_of self.new) }
+    {
+        let Some(found) = self.entries.find(path.key()) else {
+            return Err(FsError::NotFound);
+        };
+        if found.directory {
+            return Err(FsError::Forbidden);
+        }
+        self.entries.read(found.number, place, count)
+    }
+
+    /// Sets the offset of an open file. Returns `NotFound` if the file no longer exists, and then the offset
+    /// stays.
+    pub(super) fn move_place(&mut self, file: &mut DavFile, pos: u64) -> FsResult<()>
+        ensures log { self.new.log ≡ self.old.log }
+        ensures answer { Gives (file_error file.old.path.key (memory_of self.old)) kept (memory_of self.old) result (memory_of self.new) }
+        ensures place { MatchResult result (λ _. file.new ≡ record file.old { pos = pos }) (λ _. file.new ≡ file.old) }
+    {
+        self.check_file(file)?;
+        file.pos = pos;
+        Ok(())
+    }
+
+    pub(super) fn write_file(&mut self, file: &mut DavFile, bytes: &[u8]) -> FsResult<()>
+        requires { file.old.append ≡ false → file.old.pos + length bytes.now < 2 ^ 64 }
+        ensures log { self.new.log ≡ self.old.log }
+        ensures written { let old = memory_of self.old in GivesOver M.refuses (write_error file.old.path.key old) (written file.old bytes.now) old result (memory_of self.new) }
+        ensures place { MatchResult result (λ _. file.new ≡ after_write file.old bytes.now (memory_of self.old)) (λ _. file.new ≡ file.old) }
+    {
+        let number = self.entries.find_file(file.path.key())?;
+        let place = place_in(&self.entries, number, file);
+        let version = self.next_version()?;
+        self.entries
+            .write(number, place, bytes, version, self.moment)?;
+        self.version = version;
+        file.pos = place + bytes.len() as u64;
+        Ok(())
+    }
+
+    /// Writes the bytes of a body, as `write_file` does. The body stays.
+    pub(super) fn write_stored(&mut self, file: &mut DavFile, body: BodyNumber) -> FsResult<()>
+        requires { file.old.append ≡ false → file.old.pos + length (body_of self.old body) < 2 ^ 64 }
+        ensures log { self.new.log ≡ self.old.log }
+        ensures written { let old = memory_of self.old in GivesOver M.refuses (write_error file.old.path.key old) (written file.old (body_of self.old body)) old result (memory_of self.new) }
+        ensures place { MatchResult result (λ _. file.new ≡ after_write file.old (body_of self.old body) (memory_of self.old)) (λ _. file.new ≡ file.old) }
+    {
+        let number = self.entries.find_file(file.path.key())?;
+        let place = place_in(&self.entries, number, file);
+        let len = self.entries.stored_len(body);
+        let version = self.next_version()?;
+        self.entries
+            .write_stored(number, place, body, version, self.moment)?;
+        self.version = version;
+        file.pos = place + len;
+        Ok(())
+    }
+
+    /// Checks that an open file still exists, and returns `NotFound` if it does not.
+    pub(super) fn check_file(&mut self, file: &DavFile) -> FsResult<()>
+        ensures log { self.new.log ≡ self.old.log }
+        ensures answer { Gives (file_error file.now.path.key (memory_of self.old)) kept (memory_of self.old) result (memory_of self.new) }
+    {
+        self.entries.find_file(file.path.key())?;
+        Ok(())
+    }
+
+    pub(super) fn look_at_file(&mut self, file: &DavFile) -> FsResult<Meta>
+        ensures log { self.new.log ≡ self.old.log }
+        ensures meta { IfOk result (λ meta. (contents_of (memory_of self.old)).metas file.now.path.key ≡ Some meta) }
+        ensures answer { Gives (file_error file.now.path.key (memory_of self.old)) kept (memory_of self.old) result (memory_of self.new) }
+    {
+        let number = self.entries.find_file(file.path.key())?;
+        Ok(self.entries.meta(number)?)
+    }
+}
+
+/// Returns the offset of the next write to the file with a number.
+fn place_in<M: Medium>(entries: &Entries<M>, number: usize, file: &DavFile) -> u64
+    requires { IsNumber entries.now number }
+    ensures value { (key : Key) (s : Stored) → IsAt entries.now key number s → result ≡ (if file.now.append then size_of s.node else file.now.pos) }
+    ensures small { IsTrue file.now.append → result < 2 ^ 63 }
+{
+    if file.append {
+        entries.len(number)
+    } else {
+        file.pos
+    }
+}
+
+/// Returns whether the options allow a missing file to be created.
+fn may_make(options: &OpenOptions) -> bool
+    ensures { result ≡ (options.now.create || options.now.create_new) }
+{
+    options.create || options.create_new
+}
