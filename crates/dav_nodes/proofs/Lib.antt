@@ -6,6 +6,7 @@ mod BelowKeys
 mod KeyMoves
 mod Moving
 mod Outcomes
+mod RowSteps
 mod MemberEntries
 mod Subtrees
 mod NodeMembers

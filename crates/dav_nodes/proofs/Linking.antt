@@ -7,7 +7,7 @@ use Rattle.std.proofs.lemmas.Bool.{cases_eq}
 use Rattle.dav_key.specs.Key.{Key, key_cmp}
 use Rattle.dav_nodes.specs.Tree.{Tree, root_tree}
 use Rattle.dav_nodes.specs.Links.{AreLinked, linked-prop, value_at, member_at}
-use Rattle.dav_nodes.specs.Changes.{AddsNode, SetsValue, RemovesNode, SameNodes}
+use Rattle.dav_nodes.specs.NodeChanges.{AddsNode, SetsValue, RemovesNode, SameNodes}
 use Rattle.dav_nodes.specs.declared.node.Node.{Node}
 use Rattle.dav_nodes.proofs.Walks.{AreNumbered, numbered_by, are_numbered}
 use Rattle.dav_nodes.proofs.KeyMaps.{key_same_or_not, same_above, same_last, not_own_member, insert-here, insert-elsewhere, remove-here, remove-elsewhere}

@@ -7,7 +7,7 @@ use Rattle.dav_key.specs.Key.{Key}
 use Rattle.dav_key.specs.Below.{is_at_or_below, AreApart}
 use Rattle.dav_nodes.specs.Tree.{Tree, IsTreeMoved}
 use Rattle.dav_nodes.specs.Links.{walk, AreLinked, value_at, member_at}
-use Rattle.dav_nodes.specs.Changes.{MovesNode}
+use Rattle.dav_nodes.specs.NodeChanges.{MovesNode}
 use Rattle.dav_nodes.specs.declared.node.Node.{Node}
 use Rattle.dav_nodes.proofs.Walks.{numbered_by, are_numbered, walk-none}
 use Rattle.dav_nodes.proofs.KeyMaps.{same_above, same_last}

@@ -16,7 +16,7 @@ use Rattle.slab.proofs.SlabLemmas.{Updates-with_value}
 use Rattle.dav_nodes.specs.Tree.{root_tree}
 use Rattle.dav_nodes.specs.Links.{AreLinked, value_at, member_at}
 use Rattle.dav_nodes.proofs.Linking.{linked_root}
-use Rattle.dav_nodes.specs.Changes.{SetsMember, SameNodes}
+use Rattle.dav_nodes.specs.NodeChanges.{SetsMember, SameNodes}
 use Rattle.dav_nodes.specs.declared.node.Node.{Node}
 
 -- ---- names

@@ -9,7 +9,7 @@ use Rattle.dav_key.specs.Below.{AreApart}
 use Rattle.dav_key.proofs.FlatLemmas.{key_cases}
 use Rattle.dav_nodes.specs.Tree.{Tree, IsAdded, IsReplaced, IsRemoved, IsTreeMoved, HasNoMember}
 use Rattle.dav_nodes.specs.Links.{place, AreLinked, HoldsTree, value_at, member_at}
-use Rattle.dav_nodes.specs.Changes.{AddsNode, SetsValue, RemovesNode, MovesNode, SameNodes}
+use Rattle.dav_nodes.specs.NodeChanges.{AddsNode, SetsValue, RemovesNode, MovesNode, SameNodes}
 use Rattle.dav_nodes.specs.Memo.{IsKnownAt, AreKnown, KeepsOthers}
 use Rattle.dav_nodes.specs.declared.node.Node.{Node}
 use Rattle.dav_nodes.specs.declared.memo.Memo.{Memo}

@@ -1,6 +1,9 @@
 pub mod Codes
 pub mod Tree
 pub mod Links
-pub mod Changes
+pub mod NodeChanges
 pub mod Memo
 pub mod Listing
+pub mod Rows
+pub mod RowProps
+pub mod Noted

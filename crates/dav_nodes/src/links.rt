@@ -2,7 +2,7 @@
 ghost use Rattle.std.specs.Prelude.{◌≡◌, ◌≢◌, IsSome, IfOk, OnOk, OnErr, Some, None, string_bytes};
 ghost use Rattle.slab.specs.Slab.{get};
 ghost use Rattle.dav_nodes.specs.Links.{place, value_at, member_at};
-ghost use Rattle.dav_nodes.specs.Changes.{AddsNode, SetsValue, RemovesNode, MovesNode, SetsMember, SameNodes};
+ghost use Rattle.dav_nodes.specs.NodeChanges.{AddsNode, SetsValue, RemovesNode, MovesNode, SetsMember, SameNodes};
 
 use crate::node::Node;
 use dav_key::Segments;

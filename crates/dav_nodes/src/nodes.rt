@@ -1,5 +1,5 @@
 //! Values by key, in nodes that refer to their members by number.
-ghost use Rattle.std.specs.Prelude.{◌≡◌, ◌≢◌, ◌≤◌, ℕ, [], Some, None, is_some, IsSome, IfOk, OnOk, OnErr};
+ghost use Rattle.std.specs.Prelude.{◌≡◌, ◌≢◌, ◌<◌, ◌≤◌, ℕ, [], Some, None, is_some, IsSome, IfOk, OnOk, OnErr};
 ghost use Rattle.std.specs.Option.{option_copied};
 ghost use Rattle.std.specs.FinMap as map;
 ghost use Rattle.slab.specs.Slab.{get};
@@ -41,6 +41,8 @@ impl<R> Model for Nodes<R> {
 }
 
 impl<R> Nodes<R> {
+    ghost use Rattle.dav_nodes.specs.Rows.{AreDistinct, AreJoined};
+
     /// Creates a tree with this value at the root, under the number 0. Fails only if memory runs out.
     pub fn new(alloc: Global, value: R) -> Result<Nodes<R>, AllocError>
     where
@@ -74,9 +76,20 @@ impl<R> Nodes<R> {
         lookup::find_above(&self.nodes, &self.memo, key)
     }
 
-    /// A number that is not less than the number of keys that have a value.
+    /// No two keys have the same number, no key has one below a key that has none, and the keys with a number are
+    /// those with a value. It does nothing: callers learn this of the tree.
+    pub fn show_linked(&self)
+        ensures distinct { AreDistinct self.now }
+        ensures joined { AreJoined self.now }
+        ensures numbered { (key : Key) → is_some (map.get self.now.numbers key) ≡ is_some (map.get self.now.values key) }
+    {
+        let _ = &self.nodes;
+    }
+
+    /// A number that is greater than the number of each key, and not less than how many keys have a value.
     pub fn max_len(&self) -> usize
-        ensures { map.len self.now.values ≤ result }
+        ensures len { map.len self.now.values ≤ result }
+        ensures numbers { (key : Key) (number : ℕ) → map.get self.now.numbers key ≡ Some number → number < result }
     {
         self.nodes.capacity()
     }
