@@ -79,6 +79,9 @@ lawful-row bar Memory is row = absurd row
 pub own_failure : IsOwn GeneralFailure
 own_failure = record { not_missing = λ e. absurd cc; not_there = λ e. absurd cc; not_memory = λ e. absurd cc }
 
+own_full : IsOwn InsufficientStorage
+own_full = record { not_missing = λ e. absurd cc; not_there = λ e. absurd cc; not_memory = λ e. absurd cc }
+
 no_number : (b : Bool) (e : FsError) → (if b then Some GeneralFailure else None) ≡ Some e → IsLawful None (outcome_of e) × (e ≢ Memory)
 no_number true e is = let same : GeneralFailure ≡ e = cc in subst (λ x. IsLawful None (outcome_of x) × (x ≢ Memory)) same (own_failure, λ m. absurd cc)
 no_number false e is = absurd cc
@@ -185,7 +188,7 @@ lawful-own bar NotImplemented is = absurd cc
 lawful-own bar Exists is = absurd cc
 lawful-own bar NotFound is = absurd cc
 lawful-own bar Forbidden is = absurd cc
-lawful-own bar InsufficientStorage is = absurd cc
+lawful-own bar InsufficientStorage is = (own_full, λ m. absurd cc)
 lawful-own bar LoopDetected is = absurd cc
 lawful-own bar PathTooLong is = absurd cc
 lawful-own bar TooLarge is = absurd cc

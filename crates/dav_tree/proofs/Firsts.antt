@@ -8,6 +8,7 @@ use Rattle.std.specs.FinMap.{empty, insert, entries, get-empty, len-empty, len-e
 use Rattle.std.specs.BTreeMap as ordered
 use Rattle.std.specs.BTreeMap.{BTreeMap, is_at}
 use Rattle.dav_key.specs.Key.{key_cmp, key_cmp_total, key_cmp_exact}
+use base.Stored.{Gv, gnil}
 use Rattle.dav_nodes.specs.Tree.{Tree, root_tree}
 use Rattle.dav_tree.specs.Memory.{Stored, size_of, used_by, none_held, each, fresh}
 use Rattle.dav_store.specs.Store.{Directory}
@@ -62,5 +63,5 @@ module _ {B : Type 0} (bytes : B → List ℕ) (holds : B → Bool) (root : Entr
       count : 0 ≡ used_by (resources_by bytes tree)
       count = omega (arith, sums, used_none, small, ap used_by first-resources)
 
-  pub first-held : (honest : Bool) → held_of (kept_by bytes honest tree bodies 0) ≡ none_held
-  first-held honest = λ i. record { bodies = λ n. (get-bodies bytes bodies n ∙ ap (option_map bytes) (no_body n)) i; next = 0 }
+  pub first-held : (honest : Bool) (past : Gv) → past ≡ gnil → held_of (kept_by bytes honest tree bodies 0 past) ≡ none_held
+  first-held honest past never = λ i. record { bodies = λ n. (get-bodies bytes bodies n ∙ ap (option_map bytes) (no_body n)) i; next = 0; before = never i }

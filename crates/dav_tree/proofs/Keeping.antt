@@ -14,6 +14,7 @@ use Rattle.std.specs.BTreeMap as ordered
 use Rattle.std.specs.BTreeMap.{BTreeMap, is_at}
 use Rattle.std.proofs.lemmas.Cmp.{nat_cmp_total, nat_eq_equiv}
 use Rattle.std.specs.Cmp.{unsigned_ties}
+use base.Stored.{Gv}
 use Rattle.dav_key.specs.Key.{Key, key_cmp_total, key_cmp_exact}
 use Rattle.dav_nodes.specs.Tree.{Tree}
 use Rattle.dav_store.specs.Store.{File, Bodies}
@@ -73,7 +74,7 @@ module _ {B : Type 0} (bytes : B → List ℕ) where
   file_by (contents.File body) e = refl
   file_by contents.Directory e = absurd cc
 
-  module _ (honest : Bool) (tree : Tree (Entry B)) (bodies : BTreeMap ℕ B) (next : ℕ) (kept : Kept) (is : kept_by bytes honest tree bodies next ≡ kept) where
+  module _ (honest : Bool) (tree : Tree (Entry B)) (bodies : BTreeMap ℕ B) (next : ℕ) (past : Gv) (kept : Kept) (is : kept_by bytes honest tree bodies next past ≡ kept) where
     pub kept-resources : (key : Key) → get kept.resources key ≡ option_map (stored_by bytes) (get tree.values key)
     kept-resources key = ap (λ (k : Kept). get k.resources key) (sym is) ∙ get-resources tree key
 
@@ -171,16 +172,16 @@ module _ {B : Type 0} (b0 b1 : B → List ℕ) (h0 h1 : B → Bool) (keeps : (bo
   pub stored-bodies : (bodies : BTreeMap ℕ B) → AreStored h0 bodies → AreStored h1 bodies
   stored-bodies bodies stored = λ number body here. keeps body (stored number body here)
 
-  module _ (honest : Bool) (tree : Tree (Entry B)) (used : ℕ) (bodies : BTreeMap ℕ B) (next : ℕ) (kept : Kept) (is : kept_by b0 honest tree bodies next ≡ kept) (inv : AreKept b0 h0 tree used bodies next) where
+  module _ (honest : Bool) (tree : Tree (Entry B)) (used : ℕ) (bodies : BTreeMap ℕ B) (next : ℕ) (past : Gv) (kept : Kept) (is : kept_by b0 honest tree bodies next past ≡ kept) (inv : AreKept b0 h0 tree used bodies next) where
     pub resources-before : resources_by b1 tree ≡ kept.resources
     resources-before = same-resources tree inv.held ∙ ap (λ (k : Kept). k.resources) is
 
-    held_before : (honest1 : Bool) (tree1 : Tree (Entry B)) → held_of (kept_by b1 honest1 tree1 bodies next) ≡ held_of kept
-    held_before honest1 tree1 = (λ i. record { bodies = λ number. get (same-bodies bodies inv.stored i) number; next = next }) ∙ ap held_of is
+    held_before : (honest1 : Bool) (tree1 : Tree (Entry B)) (past1 : Gv) → past1 ≡ past → held_of (kept_by b1 honest1 tree1 bodies next past1) ≡ held_of kept
+    held_before honest1 tree1 past1 same_past = (λ i. record { bodies = λ number. get (same-bodies bodies inv.stored i) number; next = next; before = same_past i }) ∙ ap held_of is
 
     -- with another tree
-    pub has-now : (honest1 : Bool) (tree1 : Tree (Entry B)) (these : Resources) → resources_by b1 tree1 ≡ these → Has these (held_of kept) (kept_by b1 honest1 tree1 bodies next)
-    has-now honest1 tree1 these are = record { resources_are = are; held_are = held_before honest1 tree1 }
+    pub has-now : (honest1 : Bool) (tree1 : Tree (Entry B)) (past1 : Gv) → past1 ≡ past → (these : Resources) → resources_by b1 tree1 ≡ these → Has these (held_of kept) (kept_by b1 honest1 tree1 bodies next past1)
+    has-now honest1 tree1 past1 same_past these are = record { resources_are = are; held_are = held_before honest1 tree1 past1 same_past }
 
     pub kept-now : (tree1 : Tree (Entry B)) (these : Resources) (used1 : ℕ) → AreHeld h1 tree1 → resources_by b1 tree1 ≡ these → used1 ≡ used_by these → AreKept b1 h1 tree1 used1 bodies next
     kept-now tree1 these used1 held are count = record {
@@ -196,15 +197,15 @@ module _ {B : Type 0} (b0 b1 : B → List ℕ) (h0 h1 : B → Bool) (keeps : (bo
     -- ---- with other bodies
 
     pub has-held : (honest1 : Bool) (bodies1 : BTreeMap ℕ B) (next1 : ℕ) (held1 : Held) → ((n : ℕ) → get (bodies_by b1 bodies1) n ≡ held1.bodies n) → next1 ≡ held1.next
-        → Has kept.resources held1 (kept_by b1 honest1 tree bodies1 next1)
-    has-held honest1 bodies1 next1 held1 each last = record { resources_are = resources-before; held_are = λ i. record { bodies = λ n. each n i; next = last i } }
+        → past ≡ held1.before → Has kept.resources held1 (kept_by b1 honest1 tree bodies1 next1 past)
+    has-held honest1 bodies1 next1 held1 each last same_past = record { resources_are = resources-before; held_are = λ i. record { bodies = λ n. each n i; next = last i; before = same_past i } }
 
     pub bodies-put : (bodies1 : BTreeMap ℕ B) (k : ℕ) (w : Option B) (body : Option (List ℕ)) → ((q : ℕ) → ordered.get nat_cmp bodies1 q ≡ cond (is_at (nat_cmp k) q) w (ordered.get nat_cmp bodies q))
         → option_map b1 w ≡ body → (n : ℕ) → get (bodies_by b1 bodies1) n ≡ put_body (held_of kept).bodies k body n
     bodies-put bodies1 k w body updates gives n =
         get-bodies b1 bodies1 n ∙ ap (option_map b1) (updates n) ∙ ap (λ t. option_map b1 (cond t w (ordered.get nat_cmp bodies n))) (tied_number k n)
         ∙ map_either b1 (nat_eq n k) w (ordered.get nat_cmp bodies n)
-        ∙ (λ i. cond (nat_eq n k) (gives i) ((same_body (ordered.get nat_cmp bodies n) (inv.stored n) ∙ sym (body-in b0 honest tree bodies next kept is n)) i))
+        ∙ (λ i. cond (nat_eq n k) (gives i) ((same_body (ordered.get nat_cmp bodies n) (inv.stored n) ∙ sym (body-in b0 honest tree bodies next past kept is n)) i))
 
     pub kept-with : (bodies1 : BTreeMap ℕ B) (next1 : ℕ) → AreStored h1 bodies1 → ((number : ℕ) → next1 ≤ number → ordered.get nat_cmp bodies1 number ≡ None) → AreKept b1 h1 tree used bodies1 next1
     kept-with bodies1 next1 stored below = record {

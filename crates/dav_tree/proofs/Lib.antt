@@ -6,16 +6,18 @@ pub mod Answering
 pub mod MemoryListings
 pub mod Rows
 pub mod Sound
-pub mod Bytes
+pub mod WrittenBytes
 pub mod Keeping
 pub mod Sums
 pub mod Outcomes
 pub mod Editing
 pub mod Totals
 pub mod Places
-pub mod Changes
+pub mod Effects
+pub mod PastTrees
 pub mod Below
 pub mod Starting
 pub mod Listings
 pub mod Dumps
 pub mod Firsts
+mod Sweeping

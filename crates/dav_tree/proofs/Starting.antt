@@ -6,6 +6,7 @@ use Rattle.dav_resource.specs.declared.error.FsError.TheVariants as errors
 use Rattle.std.specs.Option.{option_map}
 use Rattle.std.specs.BTreeMap as ordered
 use Rattle.std.specs.BTreeMap.{BTreeMap}
+use base.Stored.{Gv}
 use Rattle.dav_nodes.specs.Tree.{Tree}
 use Rattle.dav_tree.specs.declared.entry.Entry.{Entry}
 use Rattle.dav_tree.proofs.Keeping.{body-in}
@@ -17,7 +18,7 @@ use Rattle.dav_tree.specs.Memory.{Held, begun, seen_of}
 use Rattle.dav_tree.specs.MemoryCalls.{start_error}
 use Rattle.dav_tree.specs.Kept.{Kept, kept_by, held_of, Has}
 use Rattle.dav_tree.proofs.Answering.{own_failure}
-use Rattle.dav_tree.proofs.Changes.{memory_by, memory-has}
+use Rattle.dav_tree.proofs.Effects.{memory_by, memory-has}
 
 no_number : (b : Bool) (e : FsError) → (if b then Some errors.GeneralFailure else None) ≡ Some e → IsOwn e
 no_number true e is = let same : errors.GeneralFailure ≡ e = cc in subst IsOwn same own_failure
@@ -44,8 +45,8 @@ module _ (version moment : ℕ) (limit : Option (Option ℕ)) (log : List Logged
       record { started = tt; refused = (ap (λ m. seen_of m log) (memory-has version moment limit e1 e0.resources (held_of e0) same), own_start (held_of e0) e due) }
 
 -- there is no body at the next number
-pub next-free : {B : Type 0} (bytes : B → List ℕ) (honest : Bool) (tree : Tree (Entry B)) (bodies : BTreeMap ℕ B) (next : ℕ) (kept : Kept) → kept_by bytes honest tree bodies next ≡ kept
+pub next-free : {B : Type 0} (bytes : B → List ℕ) (honest : Bool) (tree : Tree (Entry B)) (bodies : BTreeMap ℕ B) (next : ℕ) (past : Gv) (kept : Kept) → kept_by bytes honest tree bodies next past ≡ kept
     → ((number : ℕ) → next ≤ number → ordered.get nat_cmp bodies number ≡ None) → (held_of kept).bodies kept.next ≡ None
-next-free bytes honest tree bodies next kept is below =
+next-free bytes honest tree bodies next past kept is below =
     let same : next ≡ kept.next = ap (λ (k : Kept). k.next) is in
-    body-in bytes honest tree bodies next kept is kept.next ∙ ap (option_map bytes) (below kept.next (omega arith))
+    body-in bytes honest tree bodies next past kept is kept.next ∙ ap (option_map bytes) (below kept.next (omega arith))

@@ -4,6 +4,7 @@ use Rattle.std.specs.Ordering.{nat_cmp}
 use Rattle.std.specs.FinMap.{FinMap, empty, from_entries, get, insert}
 use Rattle.std.specs.BTreeMap as ordered
 use Rattle.std.specs.BTreeMap.{BTreeMap}
+use base.Stored.{Gv}
 use Rattle.dav_key.specs.Key.{Key, key_cmp}
 use Rattle.dav_key.specs.Below.{IsMoved}
 use Rattle.dav_nodes.specs.Tree.{Tree, IsReplaced}
@@ -12,17 +13,18 @@ use Rattle.dav_tree.specs.Memory.{Stored, Resources, Held, none_held, each, fres
 use Rattle.dav_tree.specs.Entry.{stored_by, is_held}
 use Rattle.dav_tree.specs.declared.entry.Entry.{Entry}
 
--- the resources, the numbers under which they are found, the bodies held for requests to come, the number of the next one, and whether the medium has
--- returned what was written to it
+-- the resources, the numbers under which they are found, the bodies held for requests to come, the number of the next one, whether the medium has
+-- returned what was written to it, and the tree when it was last asked what has changed
 pub record Kept : Type 0 where
   pub resources : Resources
   pub numbers : FinMap key_cmp ℕ
   pub bodies : FinMap nat_cmp (List ℕ)
   pub next : ℕ
   pub honest : Bool
+  pub before : Gv
 
 abbrev pub held_of : Kept → Held
-held_of kept = record { bodies = λ number. get kept.bodies number; next = kept.next }
+held_of kept = record { bodies = λ number. get kept.bodies number; next = kept.next; before = kept.before }
 
 -- ---- what is kept, from a tree of entries and a map of bodies
 
@@ -32,13 +34,25 @@ resources_by bytes tree = each (λ e. Some (stored_by bytes e)) tree.values
 abbrev pub bodies_by : {B : Type 0} → (B → List ℕ) → BTreeMap ℕ B → FinMap nat_cmp (List ℕ)
 bodies_by bytes bodies = from_entries (map (λ e. (e.0, bytes e.1)) bodies.entries)
 
-abbrev pub kept_by : {B : Type 0} → (B → List ℕ) → Bool → Tree (Entry B) → BTreeMap ℕ B → ℕ → Kept
-kept_by bytes honest tree bodies next =
-    record { resources = resources_by bytes tree; numbers = tree.numbers; bodies = bodies_by bytes bodies; next = next; honest = honest }
+abbrev pub kept_by : {B : Type 0} → (B → List ℕ) → Bool → Tree (Entry B) → BTreeMap ℕ B → ℕ → Gv → Kept
+kept_by bytes honest tree bodies next before =
+    record {
+      resources = resources_by bytes tree;
+      numbers = tree.numbers;
+      bodies = bodies_by bytes bodies;
+      next = next;
+      honest = honest;
+      before = before;
+    }
 
 -- the medium holds each file's body
 abbrev pub AreHeld : {B : Type 0} → (B → Bool) → Tree (Entry B) → Type 0
 AreHeld {B} holds tree = (key : Key) (e : Entry B) → get tree.values key ≡ Some e → is_held holds e.content ≡ true
+
+-- the body of the file with this number is marked
+abbrev pub IsMarkedAt : {B : Type 0} → (B → Bool) → Tree (Entry B) → ℕ → Type 0
+IsMarkedAt {B} marked tree number =
+    (key : Key) (e : Entry B) → get tree.numbers key ≡ Some number → get tree.values key ≡ Some e → is_held marked e.content ≡ true
 
 -- the medium holds each body that waits for a request
 abbrev pub AreStored : {B : Type 0} → (B → Bool) → BTreeMap ℕ B → Type 0

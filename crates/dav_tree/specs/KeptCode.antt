@@ -3,17 +3,22 @@ use Rattle.std.specs.Prelude.{ℕ, Bool, List, refl}
 use Rattle.std.specs.Coded.{Coded, code_by, coded×, coded_ℕ, coded_bool}
 use Rattle.std.specs.Ordering.{nat_cmp}
 use Rattle.std.specs.FinMap.{FinMap, code}
+use base.Stored.{Gv}
 use Rattle.dav_key.specs.Key.{key_cmp}
 use Rattle.dav_resource.specs.TreeCode.{text_code}
 use Rattle.dav_tree.specs.Memory.{Resources}
 use Rattle.dav_tree.specs.Codes.{key_code, resources_code}
 use Rattle.dav_tree.specs.Kept.{Kept}
 
+-- a code is its own
+abbrev coded_Gv : Coded Gv
+coded_Gv = record { code = λ x. x; inj = λ x y same. same }
+
 abbrev pub kept_code : Coded Kept
 kept_code =
     code_by
-    (Resources × (FinMap key_cmp ℕ × (FinMap nat_cmp (List ℕ) × (ℕ × Bool))))
-    (coded× resources_code (coded× (code key_code coded_ℕ) (coded× (code coded_ℕ text_code) (coded× coded_ℕ coded_bool))))
-    (λ k. (k.resources, (k.numbers, (k.bodies, (k.next, k.honest)))))
-    (λ p. record { resources = p.0; numbers = p.1.0; bodies = p.1.1.0; next = p.1.1.1.0; honest = p.1.1.1.1 })
+    (Resources × (FinMap key_cmp ℕ × (FinMap nat_cmp (List ℕ) × (ℕ × (Bool × Gv)))))
+    (coded× resources_code (coded× (code key_code coded_ℕ) (coded× (code coded_ℕ text_code) (coded× coded_ℕ (coded× coded_bool coded_Gv)))))
+    (λ k. (k.resources, (k.numbers, (k.bodies, (k.next, (k.honest, k.before))))))
+    (λ p. record { resources = p.0; numbers = p.1.0; bodies = p.1.1.0; next = p.1.1.1.0; honest = p.1.1.1.1.0; before = p.1.1.1.1.1 })
     (λ _. refl)

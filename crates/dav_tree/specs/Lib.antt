@@ -14,3 +14,5 @@ pub mod Kept
 pub mod KeptCode
 pub mod Found
 pub mod TreeFs
+pub mod Before
+pub mod KeptCalls

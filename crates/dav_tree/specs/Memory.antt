@@ -4,6 +4,7 @@ use Rattle.std.specs.Option.{option_map}
 use Rattle.std.specs.List.{sum_by}
 use Rattle.std.specs.Fmt.{digits}
 use Rattle.std.specs.FinMap.{FinMap, empty, from_entries, get, insert, remove, entries}
+use base.Stored.{Gv, gnil}
 use Rattle.dav_key.specs.Key.{Key, key_cmp, parent}
 use Rattle.dav_resource.specs.PathText.{IsKey}
 use Rattle.dav_resource.specs.declared.meta.Meta.{Meta}
@@ -27,10 +28,12 @@ pub record Stored : Type 0 where
 abbrev pub Resources : Type 0
 Resources = FinMap key_cmp Stored
 
--- the bodies held for requests to come, and the number of the next one
+-- what is held beside the resources: the bodies for requests to come, the number of the next one, and the tree of numbered resources when it was last
+-- asked what has changed (`before_code`)
 pub record Held : Type 0 where
   pub bodies : Bodies
   pub next : ℕ
+  pub before : Gv
 
 -- the resources, the number of changes so far, the current time, the quota, if any: its total bytes, or no limit; and the bodies
 pub record Memory : Type 0 where
@@ -169,20 +172,24 @@ put_held number body held = record held { bodies = put_body held.bodies number b
 
 -- a body of no bytes is started at the next number, which isn't given again
 abbrev pub begun : Held → Held
-begun held = record { bodies = put_body held.bodies held.next (Some []); next = held.next + 1 }
+begun held = record held { bodies = put_body held.bodies held.next (Some []); next = held.next + 1 }
 
 -- the body at a number gets these bytes after those that it has
 abbrev pub lengthened : ℕ → List ℕ → Held → Held
 lengthened number more held = put_held number (Some (stored_bytes held.bodies number ++ more)) held
+
+-- it is asked what has changed, and this is the tree now
+abbrev pub asked : Gv → Held → Held
+asked now held = record held { before = now }
 
 abbrev pub with_held : (Held → Held) → Memory → Memory
 with_held change old = record old { held = change old.held }
 
 -- ---- the first state
 
--- no bodies, and the first number to give is 0
+-- no bodies, the first number to give is 0, and nobody has asked what has changed
 abbrev pub none_held : Held
-none_held = record { bodies = λ _. None; next = 0 }
+none_held = record { bodies = λ _. None; next = 0; before = gnil }
 
 -- the root only, with this number of changes and this quota, and no bodies
 abbrev pub first_memory : ℕ → Option (Option ℕ) → Memory

@@ -1,5 +1,5 @@
 -- The exact result and effect of each call of the in-memory store: this project's own choice.
-use Rattle.std.specs.Prelude.{map, ◌≡◌, ◌≢◌, Bool, true, false, ℕ, ◌+◌, ◌-◌, ◌^◌, ◌==◌, if◌then◌else◌, List, [], ◌∷◌, ◌++◌, length, Option, Some, None, Result, Ok, Err, ◌⊎◌, IfOk, IfErr}
+use Rattle.std.specs.Prelude.{map, ◌≡◌, ◌≢◌, Bool, true, false, ℕ, ◌+◌, ◌-◌, ◌^◌, ◌==◌, if◌then◌else◌, List, [], ◌∷◌, ◌++◌, length, Option, Some, None, Result, Ok, Err, ◌⊎◌, IfOk, IfErr, MatchResult}
 use Rattle.std.specs.Option.{option_map}
 use Rattle.std.specs.List.{AllZip}
 use Rattle.std.specs.FinMap.{get, entries}
@@ -46,14 +46,14 @@ Yields = YieldsOver (λ _. false)
 abbrev pub Gives : {A : Type 0} → Option FsError → (Memory → Memory) → Memory → Result A FsError → Memory → Type 0
 Gives error change = Yields error (λ old new. new ≡ change old)
 
--- the outcome recorded for an error: GeneralFailure, which bars no call, is refused, and any other error is barred
+-- the outcome recorded for an error: GeneralFailure and InsufficientStorage, which bar no call, are refused, and any other error is barred
 abbrev pub outcome_of : FsError → Outcome
 outcome_of errors.GeneralFailure = Refused errors.GeneralFailure
 outcome_of errors.NotImplemented = Barred errors.NotImplemented
 outcome_of errors.Exists = Barred errors.Exists
 outcome_of errors.NotFound = Barred errors.NotFound
 outcome_of errors.Forbidden = Barred errors.Forbidden
-outcome_of errors.InsufficientStorage = Barred errors.InsufficientStorage
+outcome_of errors.InsufficientStorage = Refused errors.InsufficientStorage
 outcome_of errors.LoopDetected = Barred errors.LoopDetected
 outcome_of errors.PathTooLong = Barred errors.PathTooLong
 outcome_of errors.TooLarge = Barred errors.TooLarge
@@ -77,6 +77,11 @@ kept old = old
 abbrev pub change_error : Option FsError → Memory → Option FsError
 change_error (Some e) old = Some e
 change_error None old = if old.version == 2 ^ 64 - 1 then Some errors.GeneralFailure else None
+
+-- the number of the next change, or the error that there is none
+abbrev pub IsNextVersion : Memory → Result ℕ FsError → Type 0
+IsNextVersion old answer =
+    MatchResult answer (λ version. (version ≡ old.version + 1) × (change_error None old ≡ None)) (λ e. change_error None old ≡ Some e)
 
 -- ---- metadata
 
@@ -141,6 +146,10 @@ write_error key old = change_error (file_error key old) old
 
 abbrev pub written : DavFile → List ℕ → Memory → Memory
 written file more old = filled file.path.key (written_at (bytes_at (get (tree_of old.resources) file.path.key)) (place_of file (contents_of old)) more) old
+
+-- an open file is this one after a call that succeeds, and as before after one that fails
+abbrev pub PlacesFile : {A : Type 0} → Result A FsError → DavFile → DavFile → DavFile → Type 0
+PlacesFile answer old file new = MatchResult answer (λ _. new ≡ file) (λ _. new ≡ old)
 
 -- the open file after these bytes are written to it
 abbrev pub after_write : DavFile → List ℕ → Memory → DavFile

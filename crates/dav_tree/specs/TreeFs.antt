@@ -1,10 +1,14 @@
 -- What contracts see of a store with its tree in memory.
-use Rattle.std.specs.Prelude.{ℕ, Bool, true, false, List, map, ◌||◌}
+use Rattle.std.specs.Prelude.{ℕ, Bool, true, false, List, map, Option, Result, ◌||◌}
+use base.Stored.{Gv}
+use Rattle.dav_key.specs.Key.{Key}
+use Rattle.dav_resource.specs.declared.error.FsError.{FsError}
 use Rattle.dav_resource.specs.declared.record.Record.{Record}
 use Rattle.dav_store.specs.Logged.{logged_of}
 use Rattle.dav_store.specs.Store.{Store}
 use Rattle.dav_store.specs.BodyCalls.{stored_bytes}
-use Rattle.dav_tree.specs.Memory.{Memory, seen_of}
+use Rattle.dav_tree.specs.Memory.{Memory, seen_of, file_bytes}
+use Rattle.dav_tree.specs.MemoryCalls.{Gives, Yields, GivesOver}
 use Rattle.dav_tree.specs.Kept.{held_of}
 use Rattle.dav_tree.specs.declared.medium.Medium.{Ghosts}
 use Rattle.dav_tree.specs.declared.tree_fs.TreeFs.{TreeFs}
@@ -25,6 +29,27 @@ module _ {M B : Type 0} {g : Ghosts M B} where
   -- the store as the engine sees it
   abbrev pub store_of : TreeFs M B g → Store
   store_of store = seen_of (memory_of store) (map logged_of store.log.items)
+
+  -- the tree when it was last asked what has changed
+  abbrev pub before_of : TreeFs M B g → Gv
+  before_of store = (memory_of store).held.before
+
+  -- the bytes of the file at a key
+  abbrev pub file_of : TreeFs M B g → Key → List ℕ
+  file_of store key = file_bytes key (memory_of store).resources
+
+  module _ {A : Type 0} (error : Memory → Option FsError) where
+    -- the answer of a call that does not reach the medium, with this error or this change (`Gives`)
+    abbrev pub GivesIn : (Memory → Memory) → TreeFs M B g → Result A FsError → TreeFs M B g → Type 0
+    GivesIn change old answer new = Gives (error (memory_of old)) change (memory_of old) answer (memory_of new)
+
+    -- the same, where the change is one of several
+    abbrev pub YieldsIn : (Memory → Memory → Type 0) → TreeFs M B g → Result A FsError → TreeFs M B g → Type 0
+    YieldsIn Becomes old answer new = Yields (error (memory_of old)) Becomes (memory_of old) answer (memory_of new)
+
+    -- the answer of a call that reaches the medium (`GivesOver`)
+    abbrev pub GivesOverIn : (Memory → Memory) → TreeFs M B g → Result A FsError → TreeFs M B g → Type 0
+    GivesOverIn change old answer new = GivesOver g.refuses (error (memory_of old)) change (memory_of old) answer (memory_of new)
 
   -- its reads so far have returned what was written
   abbrev pub honest_of : TreeFs M B g → Bool

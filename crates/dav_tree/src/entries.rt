@@ -2,23 +2,26 @@
 ghost use Rattle.std.specs.Prelude.{◌≡◌, ◌≢◌, ◌<◌, ◌+◌, ◌^◌, ◌++◌, ◌∷◌, [], IfOk, OnOk, OnErr, Some, None, MatchOption, IsSome, List, ℕ};
 ghost use Rattle.std.specs.FinMap as map;
 ghost use Rattle.dav_key.specs.Key.{Key, parent};
-ghost use Rattle.dav_key.specs.Below.{AreApart, IsMoved};
-ghost use Rattle.dav_nodes.specs.Tree.{Tree};
+ghost use Rattle.dav_key.specs.Below.{AreApart};
+ghost use Rattle.dav_nodes.specs.Noted.{tree_of, before_of};
 ghost use Rattle.dav_store.specs.Store.{File, Directory};
 ghost use Rattle.dav_store.specs.PropertyCalls.{patched};
-ghost use Rattle.dav_tree.specs.Memory.{Stored, used_by, size_of, meta_of, fresh, change_at, with_properties};
+ghost use Rattle.dav_tree.specs.Memory.{Stored, used_by, size_of, meta_of, fresh, with_properties, asked};
+ghost use Rattle.dav_tree.specs.Before.{IsNotedBetween, IsTreeOf};
+ghost use Rattle.dav_tree.specs.KeptCalls.{IsUnchanged, ChangesAt};
 ghost use Rattle.dav_tree.specs.Kept.{held_of, IsFirst, IsAbsent, IsFound, IsNumber, IsAt, IsTaken, Has, HasMoved};
 
 mod bodies;
 mod contents;
 mod listing;
 mod lookups;
+mod sweep;
 
 use crate::entry::{self, Content, Entry};
 use crate::medium::Medium;
 use crate::properties::Properties;
 use dav_key::FlatKey;
-use dav_nodes::Nodes;
+use dav_nodes::{Changes, Nodes, NotedNodes};
 use dav_resource::{DavProp, Meta};
 use std::alloc::{AllocError, Global};
 use std::collections::BTreeMap;
@@ -31,7 +34,7 @@ const MOST_BYTES: u128 = 1 << 63;
 #[derive(Drop)]
 pub(crate) struct Entries<M: Medium> {
     alloc: Global,
-    tree: Nodes<Entry<M::Body>>,
+    tree: NotedNodes<Entry<M::Body>>,
     medium: M,
     used: u128,
     bodies: BTreeMap<u64, M::Body>,
@@ -46,11 +49,13 @@ impl<M: Medium> Model for Entries<M> {
 
     ghost coded = { kept_code };
 
+    ghost use Rattle.dav_nodes.specs.Noted.{tree_of, before_of};
     ghost use Rattle.dav_tree.specs.Kept.{kept_by, AreKept};
+    ghost use Rattle.dav_tree.specs.Before.{before_code};
 
-    ghost view = { λ e. kept_by (M.bytes e.medium) (M.is_honest e.medium) e.tree e.bodies e.next };
+    ghost view = { λ e. kept_by (M.bytes e.medium) (M.is_honest e.medium) (tree_of e.tree) e.bodies e.next (before_code M.body_code (before_of e.tree)) };
 
-    ghost invariant = { λ e. AreKept (M.bytes e.medium) (M.holds e.medium) e.tree e.used e.bodies e.next };
+    ghost invariant = { λ e. AreKept (M.bytes e.medium) (M.holds e.medium) (tree_of e.tree) e.used e.bodies e.next };
 }
 
 /// Where a resource is: its number, and whether it is a directory.
@@ -68,7 +73,7 @@ impl<M: Medium> Entries<M> {
         let root = Entry::new(alloc, Content::Directory, 0, 0);
         Ok(Entries {
             alloc,
-            tree: Nodes::new(alloc, root)?,
+            tree: NotedNodes::new(alloc, root)?,
             medium,
             used: 0,
             bodies: BTreeMap::new(alloc),
@@ -81,7 +86,7 @@ impl<M: Medium> Entries<M> {
         ensures value { result ≡ used_by self.now.resources }
         ensures small { result < 2 ^ 127 }
     {
-        let most = self.tree.max_len() as u128 * MOST_BYTES;
+        let most = self.tree.nodes.max_len() as u128 * MOST_BYTES;
         prove!(self.used <= most);
         self.used
     }
@@ -103,7 +108,7 @@ impl<M: Medium> Entries<M> {
         let Some(number) = self.tree.find(key) else {
             return None;
         };
-        let Some(entry) = self.tree.at(number) else {
+        let Some(entry) = self.tree.nodes.at(number) else {
             unreachable!()
         };
         let directory = entry.is_directory();
@@ -115,7 +120,7 @@ impl<M: Medium> Entries<M> {
         requires { IsNumber self.now number }
         ensures { (key : Key) (s : Stored) → IsAt self.now key number s → IfOk result (λ meta. meta ≡ meta_of s) }
     {
-        entry::meta(self.alloc, &self.medium, entry_at(&self.tree, number))
+        entry::meta(self.alloc, &self.medium, entry_at(&self.tree.nodes, number))
     }
 
     /// Returns the length of the file with a number in bytes, or 0 for a directory.
@@ -124,7 +129,7 @@ impl<M: Medium> Entries<M> {
         ensures value { (key : Key) (s : Stored) → IsAt self.now key number s → result ≡ size_of s.node }
         ensures small { result < 2 ^ 63 }
     {
-        entry::len(&self.medium, &entry_at(&self.tree, number).content)
+        entry::len(&self.medium, &entry_at(&self.tree.nodes, number).content)
     }
 
     /// Returns the properties of the resource with a number.
@@ -132,7 +137,7 @@ impl<M: Medium> Entries<M> {
         requires { IsNumber self.now number }
         ensures { (key : Key) (s : Stored) → IsAt self.now key number s → result.now ≡ s.properties }
     {
-        &entry_at(&self.tree, number).properties
+        &entry_at(&self.tree.nodes, number).properties
     }
 
     /// Adds a directory without properties, as change number `version` at time `now`, at a key that has no
@@ -188,12 +193,22 @@ impl<M: Medium> Entries<M> {
         self.tree.rename(from, to)
     }
 
+    /// Returns the numbers of the resources that were made, changed or removed since this was last called, and
+    /// begins to note anew. The first call returns `Changes::All`.
+    pub fn take_changes(&mut self) -> Changes
+        ensures noted { IsNotedBetween M.body_code result self.old.before self.new.before }
+        ensures now { IsTreeOf M.body_code self.new self.new.before }
+        ensures same { Has self.old.resources (asked self.new.before (held_of self.old)) self.new }
+    {
+        self.tree.take_changes()
+    }
+
     /// Sets and removes properties of the resource with a number, as `Properties::patch` does. Fails only if
     /// memory runs out, and then nothing changes.
     pub fn patch(&mut self, number: usize, patches: &[(bool, DavProp)]) -> Result<(), AllocError>
         requires { IsNumber self.old number }
-        ensures ok { (key : Key) → map.get self.old.numbers key ≡ Some number → OnOk result (Has (change_at key (λ s. with_properties (patched patches.now s.properties) s) self.old.resources) (held_of self.old) self.new) }
-        ensures err { OnErr result (Has self.old.resources (held_of self.old) self.new) }
+        ensures ok { ChangesAt result number (λ s. with_properties (patched patches.now s.properties) s) self.old self.new }
+        ensures err { OnErr result (IsUnchanged self.old self.new) }
     {
         let mut entry = take(self.alloc, &mut self.tree, number);
         let answer = entry.properties.patch(patches);
@@ -214,9 +229,10 @@ fn entry_at<B>(tree: &Nodes<Entry<B>>, number: usize) -> &Entry<B>
 }
 
 /// Takes the entry with a number out of a tree. A directory is in its place until the entry is put back.
-fn take<B>(alloc: Global, tree: &mut Nodes<Entry<B>>, number: usize) -> Entry<B>
-    requires { (key : Key) × (map.get tree.old.numbers key ≡ Some number) }
-    ensures { (key : Key) → map.get tree.old.numbers key ≡ Some number → IsTaken key result tree.old tree.new }
+fn take<B>(alloc: Global, tree: &mut NotedNodes<Entry<B>>, number: usize) -> Entry<B>
+    requires { (key : Key) × (map.get (tree_of tree.old).numbers key ≡ Some number) }
+    ensures taken { (key : Key) → map.get (tree_of tree.old).numbers key ≡ Some number → IsTaken key result (tree_of tree.old) (tree_of tree.new) }
+    ensures before { before_of tree.new ≡ before_of tree.old }
 {
     let mut entry = Entry::new(alloc, Content::Directory, 0, 0);
     tree.exchange(number, &mut entry);

@@ -1,9 +1,9 @@
 //! One resource of a store.
 ghost use Rattle.std.specs.Prelude.{◌≡◌, ◌<◌, ◌+◌, ◌^◌, ℕ, List, length, IfOk, IfErr, OnOk, OnErr, true, string_bytes};
 ghost use Rattle.std.specs.FinMap as map;
-ghost use Rattle.dav_tree.specs.Memory.{is_directory, size_of, tag_text, meta_of, wrote};
+ghost use Rattle.dav_tree.specs.Memory.{is_directory, size_of, tag_text, meta_of};
 ghost use Rattle.dav_tree.specs.Bodies.{KeepsBodies, FailsFor};
-ghost use Rattle.dav_tree.specs.Entry.{node_by, stored_by, is_held, is_file};
+ghost use Rattle.dav_tree.specs.Entry.{node_by, stored_by, remade, IsWrittenTo, is_held, is_file};
 
 use crate::medium::Medium;
 use crate::properties::Properties;
@@ -99,7 +99,7 @@ pub(crate) fn copy<M: Medium>(
     now: u64,
 ) -> FsResult<Entry<M::Body>>
     requires { is_held (M.holds medium.now) entry.now.content ≡ true }
-    ensures ok { IfOk result (λ copy. stored_by (M.bytes medium.now) copy ≡ record (stored_by (M.bytes medium.now) entry.now) { version = version; created = created; modified = now }) }
+    ensures ok { IfOk result (λ copy. stored_by (M.bytes medium.now) copy ≡ remade created version now (stored_by (M.bytes medium.now) entry.now)) }
     ensures held { IfOk result (λ copy. is_held (M.holds medium.now) copy.content ≡ true) }
     ensures err { IfErr result (FailsFor M.refuses) }
 {
@@ -131,7 +131,7 @@ pub(crate) fn write<M: Medium>(
     requires file { is_file entry.old.content ≡ true }
     requires held { is_held (M.holds medium.old) entry.old.content ≡ true }
     requires fits { place + length more.now < 2 ^ 64 }
-    ensures ok { OnOk result (stored_by (M.bytes medium.new) entry.new ≡ wrote place more.now version now (stored_by (M.bytes medium.old) entry.old)) }
+    ensures ok { OnOk result (IsWrittenTo M.bytes place more.now version now (medium.old, entry.old) (medium.new, entry.new)) }
     ensures same { OnErr result (stored_by (M.bytes medium.new) entry.new ≡ stored_by (M.bytes medium.old) entry.old) }
     ensures err { IfErr result (FailsFor M.refuses) }
     ensures held { is_held (M.holds medium.new) entry.new.content ≡ true }
@@ -160,7 +160,7 @@ pub(crate) fn write_body<M: Medium>(
     requires held { is_held (M.holds medium.old) entry.old.content ≡ true }
     requires other { M.holds medium.old from.now ≡ true }
     requires fits { place + length (M.bytes medium.old from.now) < 2 ^ 64 }
-    ensures ok { OnOk result (stored_by (M.bytes medium.new) entry.new ≡ wrote place (M.bytes medium.old from.now) version now (stored_by (M.bytes medium.old) entry.old)) }
+    ensures ok { OnOk result (IsWrittenTo M.bytes place (M.bytes medium.old from.now) version now (medium.old, entry.old) (medium.new, entry.new)) }
     ensures same { OnErr result (stored_by (M.bytes medium.new) entry.new ≡ stored_by (M.bytes medium.old) entry.old) }
     ensures err { IfErr result (FailsFor M.refuses) }
     ensures held { is_held (M.holds medium.new) entry.new.content ≡ true }

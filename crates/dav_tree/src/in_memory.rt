@@ -1,25 +1,56 @@
 //! A medium in memory.
-ghost use Rattle.std.specs.Prelude.{◌≡◌, ◌≤◌, ◌<◌, ◌+◌, ◌-◌, ◌^◌, ◌++◌, true, false, length, take, drop, replicate, List, OnOk, OnErr, refl};
+ghost use Rattle.std.specs.Prelude.{◌≡◌, ◌≤◌, ◌<◌, ◌+◌, ◌-◌, ◌^◌, ◌++◌, true, false, length, take, drop, replicate, List, IfOk, OnOk, OnErr, refl};
 ghost use Rattle.dav_store.specs.Calls.{bytes_from, written_at};
 ghost use Rattle.dav_tree.specs.Bodies.{is_small, small_is, none_own};
 
 use crate::medium::Medium;
 use dav_resource::FsResult;
 use std::alloc::{AllocError, Global};
+use std::marker::Model;
 
-/// A medium whose bodies are vectors of bytes. It fails only if memory runs out, and its sweeps give nothing
+/// The bytes of a file. In contracts their value is the list of them.
+#[derive(Debug, Drop)]
+pub struct Bytes {
+    items: Vec<u8>,
+}
+
+impl Model for Bytes {
+    ghost use Rattle.std.specs.Prelude.{ℕ, List};
+    ghost use Rattle.std.specs.Coded.{coded_list, coded_ℕ};
+
+    ghost Value = { List ℕ };
+
+    ghost coded = { coded_list coded_ℕ };
+
+    ghost view = { λ b. b.items.items };
+}
+
+impl Bytes {
+    /// Returns a copy of the bytes. Fails only if memory runs out.
+    pub(crate) fn to_vec(&self) -> Result<Vec<u8>, AllocError>
+        ensures { IfOk result (λ bytes. bytes.items ≡ self.now) }
+    {
+        self.items.clone()
+    }
+}
+
+/// A medium whose bodies are bytes in memory. It fails only if memory runs out, and its sweeps give nothing
 /// up: the bytes of a body are released when it is dropped.
 #[derive(Debug, Drop)]
 pub struct InMemory;
 
 impl Medium for InMemory {
-    type Body = Vec<u8>;
+    ghost use Rattle.std.specs.Coded.{coded_list, coded_ℕ};
 
-    ghost bytes = { λ _ body. body.items };
+    type Body = Bytes;
 
-    ghost holds = { λ _ body. is_small body.items };
+    ghost bytes = { λ _ body. body };
 
-    ghost marked = { λ _ body. is_small body.items };
+    ghost holds = { λ _ body. is_small body };
+
+    ghost marked = { λ _ body. is_small body };
+
+    ghost body_code = { coded_list coded_ℕ };
 
     ghost refuses = { λ _. false };
 
@@ -27,59 +58,51 @@ impl Medium for InMemory {
 
     ghost is_trusted = { true };
 
-    ghost small = { λ _ body held. small_is body.items held };
+    ghost small = { λ _ body held. small_is body held };
 
     ghost own = { λ _ refused. none_own refused };
 
     ghost trusted = { λ _ _. refl };
 
-    fn empty(&self, alloc: Global) -> Vec<u8> {
-        Vec::new(alloc)
+    fn empty(&self, alloc: Global) -> Bytes {
+        Bytes {
+            items: Vec::new(alloc),
+        }
     }
 
-    fn len(&self, body: &Vec<u8>) -> u64 {
-        body.len() as u64
+    fn len(&self, body: &Bytes) -> u64 {
+        body.items.len() as u64
     }
 
-    fn copy(&self, _alloc: Global, body: &Vec<u8>) -> FsResult<Vec<u8>> {
-        Ok(body.clone()?)
+    fn copy(&self, _alloc: Global, body: &Bytes) -> FsResult<Bytes> {
+        Ok(Bytes {
+            items: body.to_vec()?,
+        })
     }
 
-    fn write(
-        &mut self,
-        _alloc: Global,
-        body: &mut Vec<u8>,
-        place: u64,
-        more: &[u8],
-    ) -> FsResult<()> {
-        write_at(body, place as usize, more)?;
+    fn write(&mut self, _alloc: Global, body: &mut Bytes, place: u64, more: &[u8]) -> FsResult<()> {
+        write_at(&mut body.items, place as usize, more)?;
         Ok(())
     }
 
     fn write_body(
         &mut self,
         _alloc: Global,
-        body: &mut Vec<u8>,
+        body: &mut Bytes,
         place: u64,
-        from: &Vec<u8>,
+        from: &Bytes,
     ) -> FsResult<()> {
-        write_at(body, place as usize, from)?;
+        write_at(&mut body.items, place as usize, &from.items)?;
         Ok(())
     }
 
-    fn read(
-        &mut self,
-        alloc: Global,
-        body: &Vec<u8>,
-        place: u64,
-        count: usize,
-    ) -> FsResult<Vec<u8>> {
-        Ok(bytes_from(body, place, count).to_vec(alloc)?)
+    fn read(&mut self, alloc: Global, body: &Bytes, place: u64, count: usize) -> FsResult<Vec<u8>> {
+        Ok(bytes_from(&body.items, place, count).to_vec(alloc)?)
     }
 
     fn begin_sweep(&mut self) {}
 
-    fn keep(&mut self, _body: &Vec<u8>) {}
+    fn keep(&mut self, _body: &Bytes) {}
 
     fn end_sweep(&mut self) {}
 }

@@ -8,7 +8,8 @@ mod medium;
 mod properties;
 mod tree_fs;
 
-pub use in_memory::InMemory;
+pub use dav_nodes::Changes;
+pub use in_memory::{Bytes, InMemory};
 pub use medium::Medium;
 pub use tree_fs::TreeFs;
 

@@ -1,5 +1,6 @@
 //! What holds the bytes of files.
 ghost use Rattle.std.specs.Prelude.{◌≡◌, ◌<◌, ◌+◌, ◌^◌, Bool, true, List, ℕ, [], length, IfOk, IfErr, OnOk, OnErr};
+ghost use Rattle.std.specs.Coded.{Coded};
 ghost use Rattle.dav_resource.specs.declared.error.FsError.{FsError};
 ghost use Rattle.dav_resource.specs.declared.record.Outcome.TheVariants.{Refused};
 ghost use Rattle.dav_store.specs.Calls.{bytes_from, written_at};
@@ -13,7 +14,7 @@ use std::alloc::Global;
 /// until it is given up.
 ///
 /// A body may be dropped at any time. The medium finds out by a sweep: from `begin_sweep` on each body that is
-/// still in use is passed to `keep`, and `end_sweep` gives up all others. Only then may their room be used
+/// still in use is passed to `keep`, and `end_sweep` may give up all others. Only then may their room be used
 /// again.
 pub trait Medium: Drop {
     /// What a store keeps of a file's contents.
@@ -27,6 +28,9 @@ pub trait Medium: Drop {
 
     /// Whether a body was kept in the sweep under way.
     ghost marked: { Self → Self.Body → Bool };
+
+    /// A code of the bodies, by which proofs compare them.
+    ghost body_code: { Coded Self.Body };
 
     /// The errors that the medium may return for its own reasons. `Memory` is none of them.
     ghost refuses: { FsError → Bool };
@@ -104,18 +108,17 @@ pub trait Medium: Drop {
         ensures err { IfErr result (FailsFor refuses) }
         ensures kept { KeepsBodies bytes holds self.old self.new };
 
-    /// Begins a sweep: no body is marked.
+    /// Begins a sweep. What was marked before need not be any more.
     fn begin_sweep(&mut self)
         ensures { KeepsBodies bytes holds self.old self.new };
 
-    /// Marks a body, which the end of the sweep does not give up.
+    /// Marks a body, if the medium holds it. The end of the sweep does not give it up.
     fn keep(&mut self, body: &Self::Body)
-        requires { holds self.old body.now ≡ true }
-        ensures marked { marked self.new body.now ≡ true }
+        ensures marked { holds self.old body.now ≡ true → marked self.new body.now ≡ true }
         ensures marks { KeepsMarks marked self.old self.new }
         ensures kept { KeepsBodies bytes holds self.old self.new };
 
-    /// Ends a sweep: gives up the bodies that are not marked.
+    /// Ends a sweep. The medium may give up the bodies that are not marked.
     fn end_sweep(&mut self)
         ensures { KeepsMarked bytes holds marked self.old self.new };
 

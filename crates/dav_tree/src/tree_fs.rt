@@ -1,17 +1,16 @@
 //! A store with its tree in memory.
-ghost use Rattle.std.specs.Prelude.{◌≡◌, ◌≢◌, ◌<◌, ◌+◌, ◌^◌, [], ◌∷◌, map, All, length, option_map, replicate, false, true, IfOk, IfErr, MatchResult, Some, None, refl};
-ghost use Rattle.dav_resource.specs.PathText.{IsKey};
+ghost use Rattle.std.specs.Prelude.{◌≡◌, ◌≢◌, ◌<◌, ◌+◌, ◌^◌, [], ◌∷◌, map, All, length, option_map, replicate, false, true, IfOk, IfErr, Some, None, refl};
 ghost use Rattle.dav_store.specs.Logged.{logged_of};
 ghost use Rattle.dav_store.specs.Store.{Directory};
-ghost use Rattle.dav_store.specs.Calls.{LooksUp, MakesDirectory, Opens, ReadsBytes, bytes_from, Seeks, Writes, Flushes, LooksUpFile, place_of};
+ghost use Rattle.dav_store.specs.Calls.{LooksUp, MakesDirectory, Opens, ReadsBytes, bytes_from, Seeks, Writes, Flushes, LooksUpFile};
 ghost use Rattle.dav_store.specs.BodyCalls.{StartsBody, AddsToBody, with_body};
 ghost use Rattle.dav_store.specs.Members.{ReadsDir, RemovesFile, RemovesDir};
 ghost use Rattle.dav_store.specs.Transfers.{Copies, Renames};
 ghost use Rattle.dav_store.specs.PropertyCalls.{name_of, properties_at, IsWhole, GetsProp, GetsProps, PatchesProps, GetsQuota};
-ghost use Rattle.dav_tree.specs.Memory.{IsSound, file_bytes, contents_of, begun, lengthened, put_held, with_held, made, without, copied, IsRenamed, with_patches};
+ghost use Rattle.dav_tree.specs.Memory.{IsSound, contents_of, begun, lengthened, put_held, with_held, made, without, copied, IsRenamed, with_patches};
 ghost use Rattle.dav_tree.specs.Dump.{IsDump};
 ghost use Rattle.dav_tree.specs.Lawful.{is_well_formed};
-ghost use Rattle.dav_tree.specs.MemoryCalls.{Yields, Gives, GivesOver, Records, RecordsWith, kept, look_error, read_dir_error, IsListing, create_dir_error, remove_file_error, remove_dir_error, read_bytes_error, open_error, opened, file_error, write_error, written, after_write, copy_error, rename_error, get_prop_error, properties_error, IsPropertyList, quota_error, start_error, add_error};
+ghost use Rattle.dav_tree.specs.MemoryCalls.{PlacesFile, Records, RecordsWith, kept, look_error, read_dir_error, IsListing, create_dir_error, remove_file_error, remove_dir_error, read_bytes_error, open_error, opened, file_error, write_error, written, after_write, copy_error, rename_error, get_prop_error, properties_error, IsPropertyList, quota_error, start_error, add_error};
 ghost use Rattle.std.proofs.Props.{props};
 ghost use Rattle.dav_tree.specs.KeyProps.{IsKey-prop};
 
@@ -23,6 +22,7 @@ mod tree;
 use crate::entries::Entries;
 use crate::in_memory::InMemory;
 use crate::medium::Medium;
+use dav_nodes::Changes;
 use dav_resource::{
     BodyNumber, DavFile, DavPath, DavProp, DirEntry, Element, FsError, FsResult, Items, Meta, Op,
     OpenOptions, Record,
@@ -106,8 +106,9 @@ impl TreeFs<InMemory> {
 }
 
 impl<M: Medium> TreeFs<M> {
-    ghost use Rattle.dav_tree.specs.TreeFs.{memory_of, store_of, records_of};
-    ghost use Rattle.dav_tree.specs.Memory.{first_memory};
+    ghost use Rattle.dav_tree.specs.TreeFs.{memory_of, store_of, records_of, before_of};
+    ghost use Rattle.dav_tree.specs.Memory.{first_memory, asked};
+    ghost use Rattle.dav_tree.specs.Before.{IsNotedBetween, IsTreeOf};
 
     /// Creates a store over a medium. It holds only the root, created at time 0, and no bodies. The change
     /// counter is at `version`, the quota is `limit`, and the log is empty. Fails only if memory runs out.
@@ -131,6 +132,27 @@ impl<M: Medium> TreeFs<M> {
         })
     }
 
+    /// Returns the numbers of the resources that were made, changed or removed since this was last called. A
+    /// rename changes the one resource that it moves, and none below it. The first call returns `Changes::All`,
+    /// and so does a call after memory ran out. Until the first call nothing is noted.
+    pub fn take_changes(&mut self) -> Changes
+        ensures noted { IsNotedBetween M.body_code result (before_of self.old) (before_of self.new) }
+        ensures now { IsTreeOf M.body_code self.new.entries (before_of self.new) }
+        ensures memory { memory_of self.new ≡ with_held (asked (before_of self.new)) (memory_of self.old) }
+        ensures records { records_of self.new ≡ records_of self.old }
+    {
+        self.entries.take_changes()
+    }
+
+    /// Has the medium give up the bodies that neither a file has nor a request waits for, so that their room can
+    /// be used again. Nothing else changes. Passes each body to the medium once.
+    pub fn sweep(&mut self)
+        ensures memory { memory_of self.new ≡ memory_of self.old }
+        ensures records { records_of self.new ≡ records_of self.old }
+    {
+        self.entries.sweep();
+    }
+
     /// Sets the current time, in whole seconds since 1970. The contents and the log stay the same.
     pub fn set_now(&mut self, now: u64)
         ensures memory { memory_of self.new ≡ record (memory_of self.old) { moment = now } }
@@ -142,7 +164,7 @@ impl<M: Medium> TreeFs<M> {
 }
 
 impl<C, M: Medium> GuardedFileSystem<C> for TreeFs<M> {
-    ghost use Rattle.dav_tree.specs.TreeFs.{memory_of, store_of, records_of, body_of, honest_of, IfHonest};
+    ghost use Rattle.dav_tree.specs.TreeFs.{memory_of, store_of, records_of, body_of, file_of, honest_of, IfHonest, GivesIn, GivesOverIn, YieldsIn};
 
     ghost seen = { store_of };
 
@@ -154,7 +176,7 @@ impl<C, M: Medium> GuardedFileSystem<C> for TreeFs<M> {
 
     fn metadata(&mut self, path: &DavPath, _credentials: &C) -> FsResult<Meta>
         ensures seen { LooksUp (store_of self.old) path.now.key result (store_of self.new) }
-        ensures memory { Gives (look_error path.now.key (memory_of self.old)) kept (memory_of self.old) result (memory_of self.new) }
+        ensures memory { GivesIn (look_error path.now.key) kept self.old result self.new }
         ensures record { Records Op.Metadata (path.now ∷ []) result (records_of self.old) (records_of self.new) }
     {
         let paths = self.begin_record(path)?;
@@ -164,7 +186,7 @@ impl<C, M: Medium> GuardedFileSystem<C> for TreeFs<M> {
 
     fn create_dir(&mut self, path: &DavPath, _credentials: &C) -> FsResult<()>
         ensures seen { MakesDirectory (store_of self.old) path.now.key result (store_of self.new) }
-        ensures memory { Gives (create_dir_error path.now.key (memory_of self.old)) (made path.now.key Directory) (memory_of self.old) result (memory_of self.new) }
+        ensures memory { GivesIn (create_dir_error path.now.key) (made path.now.key Directory) self.old result self.new }
         ensures record { Records Op.CreateDir (path.now ∷ []) result (records_of self.old) (records_of self.new) }
     {
         let paths = self.begin_record(path)?;
@@ -175,7 +197,7 @@ impl<C, M: Medium> GuardedFileSystem<C> for TreeFs<M> {
     fn read_dir(&mut self, path: &DavPath, _credentials: &C) -> FsResult<Vec<FsResult<DirEntry>>>
         ensures seen { ReadsDir (store_of self.old) path.now.key result (store_of self.new) }
         ensures listing { IfOk result (λ listing. IsListing path.now.key (memory_of self.old).resources listing.items) }
-        ensures memory { Gives (read_dir_error path.now.key (memory_of self.old)) kept (memory_of self.old) result (memory_of self.new) }
+        ensures memory { GivesIn (read_dir_error path.now.key) kept self.old result self.new }
         ensures record { Records Op.ReadDir (path.now ∷ []) result (records_of self.old) (records_of self.new) }
     {
         let paths = self.begin_record(path)?;
@@ -185,7 +207,7 @@ impl<C, M: Medium> GuardedFileSystem<C> for TreeFs<M> {
 
     fn remove_file(&mut self, path: &DavPath, _credentials: &C) -> FsResult<()>
         ensures seen { RemovesFile (store_of self.old) path.now.key result (store_of self.new) }
-        ensures memory { Gives (remove_file_error path.now.key (memory_of self.old)) (without path.now.key) (memory_of self.old) result (memory_of self.new) }
+        ensures memory { GivesIn (remove_file_error path.now.key) (without path.now.key) self.old result self.new }
         ensures record { Records Op.RemoveFile (path.now ∷ []) result (records_of self.old) (records_of self.new) }
     {
         let paths = self.begin_record(path)?;
@@ -195,7 +217,7 @@ impl<C, M: Medium> GuardedFileSystem<C> for TreeFs<M> {
 
     fn remove_dir(&mut self, path: &DavPath, _credentials: &C) -> FsResult<()>
         ensures seen { RemovesDir (store_of self.old) path.now.key result (store_of self.new) }
-        ensures memory { Gives (remove_dir_error path.now.key (memory_of self.old)) (without path.now.key) (memory_of self.old) result (memory_of self.new) }
+        ensures memory { GivesIn (remove_dir_error path.now.key) (without path.now.key) self.old result self.new }
         ensures record { Records Op.RemoveDir (path.now ∷ []) result (records_of self.old) (records_of self.new) }
     {
         let paths = self.begin_record(path)?;
@@ -205,7 +227,7 @@ impl<C, M: Medium> GuardedFileSystem<C> for TreeFs<M> {
 
     fn open(&mut self, path: &DavPath, options: &OpenOptions, _credentials: &C) -> FsResult<DavFile>
         ensures seen { Opens (store_of self.old) path.now options.now result (store_of self.new) }
-        ensures memory { Gives (open_error options.now path.now.key (memory_of self.old)) (opened options.now path.now.key) (memory_of self.old) result (memory_of self.new) }
+        ensures memory { GivesIn (open_error options.now path.now.key) (opened options.now path.now.key) self.old result self.new }
         ensures record { Records Op.OpenFile (path.now ∷ []) result (records_of self.old) (records_of self.new) }
     {
         let paths = self.begin_record(path)?;
@@ -222,9 +244,9 @@ impl<C, M: Medium> GuardedFileSystem<C> for TreeFs<M> {
         _credentials: &C,
     ) -> FsResult<Vec<u8>>
         ensures seen { ReadsBytes (honest_of self.new) (store_of self.old) path.now.key place count result (store_of self.new) }
-        ensures bytes { let there = file_bytes path.now.key (memory_of self.old).resources in IfOk result (λ bytes. IfHonest (honest_of self.new) (bytes.items ≡ bytes_from place count there)) }
-        ensures count { let there = file_bytes path.now.key (memory_of self.old).resources in IfOk result (λ bytes. length bytes.items ≡ length (bytes_from place count there)) }
-        ensures memory { GivesOver M.refuses (read_bytes_error path.now.key (memory_of self.old)) kept (memory_of self.old) result (memory_of self.new) }
+        ensures bytes { IfOk result (λ bytes. IfHonest (honest_of self.new) (bytes.items ≡ bytes_from place count (file_of self.old path.now.key))) }
+        ensures count { IfOk result (λ bytes. length bytes.items ≡ length (bytes_from place count (file_of self.old path.now.key))) }
+        ensures memory { GivesOverIn (read_bytes_error path.now.key) kept self.old result self.new }
         ensures record { Records Op.ReadBytes (path.now ∷ []) result (records_of self.old) (records_of self.new) }
     {
         let paths = self.begin_record(path)?;
@@ -234,8 +256,8 @@ impl<C, M: Medium> GuardedFileSystem<C> for TreeFs<M> {
 
     fn seek(&mut self, file: &mut DavFile, pos: u64, _credentials: &C) -> FsResult<()>
         ensures sought { Seeks (store_of self.old) file.old.path.key result (store_of self.new) }
-        ensures place { MatchResult result (λ _. file.new ≡ record file.old { pos = pos }) (λ _. file.new ≡ file.old) }
-        ensures memory { Gives (file_error file.old.path.key (memory_of self.old)) kept (memory_of self.old) result (memory_of self.new) }
+        ensures place { PlacesFile result file.old (record file.old { pos = pos }) file.new }
+        ensures memory { GivesIn (file_error file.old.path.key) kept self.old result self.new }
         ensures record { Records Op.Seek (file.old.path ∷ []) result (records_of self.old) (records_of self.new) }
     {
         let paths = self.begin_record(&file.path)?;
@@ -246,8 +268,8 @@ impl<C, M: Medium> GuardedFileSystem<C> for TreeFs<M> {
     fn write_bytes(&mut self, file: &mut DavFile, bytes: &[u8], _credentials: &C) -> FsResult<()>
         requires { file.old.append ≡ false → file.old.pos + length bytes.now < 2 ^ 64 }
         ensures written { Writes (store_of self.old) file.old bytes.now result (store_of self.new) }
-        ensures place { MatchResult result (λ _. file.new ≡ record file.old { pos = place_of file.old (store_of self.old).contents + length bytes.now }) (λ _. file.new ≡ file.old) }
-        ensures memory { let old = memory_of self.old in GivesOver M.refuses (write_error file.old.path.key old) (written file.old bytes.now) old result (memory_of self.new) }
+        ensures place { PlacesFile result file.old (after_write file.old bytes.now (memory_of self.old)) file.new }
+        ensures memory { GivesOverIn (write_error file.old.path.key) (written file.old bytes.now) self.old result self.new }
         ensures record { Records Op.WriteBytes (file.old.path ∷ []) result (records_of self.old) (records_of self.new) }
     {
         let paths = self.begin_record(&file.path)?;
@@ -263,8 +285,8 @@ impl<C, M: Medium> GuardedFileSystem<C> for TreeFs<M> {
     ) -> FsResult<()>
         requires { file.old.append ≡ false → file.old.pos + length (body_of self.old number) < 2 ^ 64 }
         ensures written { Writes (store_of self.old) file.old (body_of self.old number) result (store_of self.new) }
-        ensures place { MatchResult result (λ _. file.new ≡ after_write file.old (body_of self.old number) (memory_of self.old)) (λ _. file.new ≡ file.old) }
-        ensures memory { let old = memory_of self.old in GivesOver M.refuses (write_error file.old.path.key old) (written file.old (body_of self.old number)) old result (memory_of self.new) }
+        ensures place { PlacesFile result file.old (after_write file.old (body_of self.old number) (memory_of self.old)) file.new }
+        ensures memory { GivesOverIn (write_error file.old.path.key) (written file.old (body_of self.old number)) self.old result self.new }
         ensures record { Records Op.WriteBytes (file.old.path ∷ []) result (records_of self.old) (records_of self.new) }
     {
         let paths = self.begin_record(&file.path)?;
@@ -274,7 +296,7 @@ impl<C, M: Medium> GuardedFileSystem<C> for TreeFs<M> {
 
     fn flush(&mut self, file: &DavFile, _credentials: &C) -> FsResult<()>
         ensures seen { Flushes (store_of self.old) file.now.path.key result (store_of self.new) }
-        ensures memory { Gives (file_error file.now.path.key (memory_of self.old)) kept (memory_of self.old) result (memory_of self.new) }
+        ensures memory { GivesIn (file_error file.now.path.key) kept self.old result self.new }
         ensures record { Records Op.Flush (file.now.path ∷ []) result (records_of self.old) (records_of self.new) }
     {
         let paths = self.begin_record(&file.path)?;
@@ -284,7 +306,7 @@ impl<C, M: Medium> GuardedFileSystem<C> for TreeFs<M> {
 
     fn file_metadata(&mut self, file: &DavFile, _credentials: &C) -> FsResult<Meta>
         ensures seen { LooksUpFile (store_of self.old) file.now.path.key result (store_of self.new) }
-        ensures memory { Gives (file_error file.now.path.key (memory_of self.old)) kept (memory_of self.old) result (memory_of self.new) }
+        ensures memory { GivesIn (file_error file.now.path.key) kept self.old result self.new }
         ensures record { Records Op.FileMetadata (file.now.path ∷ []) result (records_of self.old) (records_of self.new) }
     {
         let paths = self.begin_record(&file.path)?;
@@ -295,7 +317,7 @@ impl<C, M: Medium> GuardedFileSystem<C> for TreeFs<M> {
     /// Copies the file's bytes and the names of its properties. The elements are shared.
     fn copy(&mut self, from: &DavPath, to: &DavPath, _credentials: &C) -> FsResult<()>
         ensures seen { Copies (store_of self.old) from.now.key to.now.key result (store_of self.new) }
-        ensures memory { let old = memory_of self.old in GivesOver M.refuses (copy_error from.now.key to.now.key old) (copied from.now.key to.now.key) old result (memory_of self.new) }
+        ensures memory { GivesOverIn (copy_error from.now.key to.now.key) (copied from.now.key to.now.key) self.old result self.new }
         ensures record { Records Op.Copy (from.now ∷ to.now ∷ []) result (records_of self.old) (records_of self.new) }
     {
         let paths = self.begin_record_of_two(from, to)?;
@@ -303,10 +325,10 @@ impl<C, M: Medium> GuardedFileSystem<C> for TreeFs<M> {
         self.end_record(Op::Copy, paths, answer)
     }
 
-    /// Makes a few lookups for each resource at the path and below it. No file's bytes are copied.
+    /// It costs the same however many resources are below the path. No file's bytes are copied.
     fn rename(&mut self, from: &DavPath, to: &DavPath, _credentials: &C) -> FsResult<()>
         ensures seen { Renames (store_of self.old) from.now.key to.now.key result (store_of self.new) }
-        ensures memory { Yields (rename_error from.now.key to.now.key (memory_of self.old)) (IsRenamed from.now.key to.now.key) (memory_of self.old) result (memory_of self.new) }
+        ensures memory { YieldsIn (rename_error from.now.key to.now.key) (IsRenamed from.now.key to.now.key) self.old result self.new }
         ensures record { Records Op.Rename (from.now ∷ to.now ∷ []) result (records_of self.old) (records_of self.new) }
     {
         let paths = self.begin_record_of_two(from, to)?;
@@ -317,7 +339,7 @@ impl<C, M: Medium> GuardedFileSystem<C> for TreeFs<M> {
     /// Copies the element.
     fn get_prop(&mut self, path: &DavPath, prop: &DavProp, _credentials: &C) -> FsResult<Element>
         ensures seen { GetsProp (store_of self.old) path.now.key (name_of prop.now) result (store_of self.new) }
-        ensures memory { Gives (get_prop_error path.now.key (name_of prop.now) (memory_of self.old)) kept (memory_of self.old) result (memory_of self.new) }
+        ensures memory { GivesIn (get_prop_error path.now.key (name_of prop.now)) kept self.old result self.new }
         ensures record { Records Op.GetProp (path.now ∷ []) result (records_of self.old) (records_of self.new) }
     {
         let paths = self.begin_record(path)?;
@@ -329,7 +351,7 @@ impl<C, M: Medium> GuardedFileSystem<C> for TreeFs<M> {
     fn get_props(&mut self, path: &DavPath, _credentials: &C) -> FsResult<Vec<DavProp>>
         ensures seen { GetsProps (store_of self.old) path.now.key result (store_of self.new) }
         ensures props { IfOk result (λ props. IsPropertyList (properties_at (contents_of (memory_of self.old)) path.now.key) props.items) }
-        ensures memory { Gives (properties_error path.now.key (memory_of self.old)) kept (memory_of self.old) result (memory_of self.new) }
+        ensures memory { GivesIn (properties_error path.now.key) kept self.old result self.new }
         ensures record { Records Op.GetProps (path.now ∷ []) result (records_of self.old) (records_of self.new) }
     {
         let paths = self.begin_record(path)?;
@@ -349,7 +371,7 @@ impl<C, M: Medium> GuardedFileSystem<C> for TreeFs<M> {
         requires whole { All IsWhole patches.now }
         ensures seen { PatchesProps (store_of self.old) path.now.key patches.now result (store_of self.new) }
         ensures statuses { IfOk result (λ statuses. statuses.items ≡ replicate (length patches.now) 200) }
-        ensures memory { Gives (properties_error path.now.key (memory_of self.old)) (with_patches path.now.key patches.now) (memory_of self.old) result (memory_of self.new) }
+        ensures memory { GivesIn (properties_error path.now.key) (with_patches path.now.key patches.now) self.old result self.new }
         ensures record { RecordsWith (λ statuses. statuses.items) Op.PatchProps (path.now ∷ []) result (records_of self.old) (records_of self.new) }
     {
         let paths = self.begin_record(path)?;
@@ -360,7 +382,7 @@ impl<C, M: Medium> GuardedFileSystem<C> for TreeFs<M> {
 
     fn get_quota(&mut self, _credentials: &C) -> FsResult<(u64, Option<u64>)>
         ensures seen { GetsQuota (store_of self.old) result (store_of self.new) }
-        ensures memory { Gives (quota_error (memory_of self.old)) kept (memory_of self.old) result (memory_of self.new) }
+        ensures memory { GivesIn quota_error kept self.old result self.new }
         ensures record { Records Op.GetQuota [] result (records_of self.old) (records_of self.new) }
     {
         let paths = self.begin_record_of_none()?;
@@ -375,7 +397,7 @@ impl<C, M: Medium> GuardedFileSystem<C> for TreeFs<M> {
     fn start_body(&mut self) -> FsResult<BodyNumber>
         ensures seen { StartsBody (store_of self.old) result (store_of self.new) }
         ensures number { IfOk result (λ number. number ≡ (memory_of self.old).held.next) }
-        ensures memory { Gives (start_error (memory_of self.old).held) (with_held begun) (memory_of self.old) result (memory_of self.new) }
+        ensures memory { GivesIn (λ old. start_error old.held) (with_held begun) self.old result self.new }
         ensures records { records_of self.new ≡ records_of self.old }
     {
         self.entries.start_body()
@@ -383,7 +405,7 @@ impl<C, M: Medium> GuardedFileSystem<C> for TreeFs<M> {
 
     fn add_to_body(&mut self, number: BodyNumber, bytes: &[u8]) -> FsResult<()>
         ensures seen { AddsToBody number bytes.now (store_of self.old) result (store_of self.new) }
-        ensures memory { let old = memory_of self.old in GivesOver M.refuses (add_error number old.held) (with_held (lengthened number bytes.now)) old result (memory_of self.new) }
+        ensures memory { GivesOverIn (λ old. add_error number old.held) (with_held (lengthened number bytes.now)) self.old result self.new }
         ensures records { records_of self.new ≡ records_of self.old }
     {
         self.entries.add_to_body(number, bytes)

@@ -3,6 +3,7 @@ ghost use Rattle.std.specs.Prelude.{◌≡◌, ◌⊎◌, length, option_map, On
 ghost use Rattle.dav_tree.specs.Bodies.{FailsFor};
 ghost use Rattle.dav_tree.specs.Memory.{begun, lengthened, put_held};
 ghost use Rattle.dav_tree.specs.MemoryCalls.{start_error, add_error};
+ghost use Rattle.dav_tree.specs.KeptCalls.{IsUnchanged};
 ghost use Rattle.dav_tree.specs.Kept.{held_of, Has};
 
 use super::Entries;
@@ -17,7 +18,7 @@ impl<M: Medium> Entries<M> {
         ensures free { (held_of self.old).bodies self.old.next ≡ None }
         ensures due { OnOk result (start_error (held_of self.old) ≡ None) }
         ensures ok { OnOk result (Has self.old.resources (begun (held_of self.old)) self.new) }
-        ensures same { OnErr result (Has self.old.resources (held_of self.old) self.new) }
+        ensures same { OnErr result (IsUnchanged self.old self.new) }
         ensures err { IfErr result (λ e. (e ≡ FsError.Memory) ⊎ (start_error (held_of self.old) ≡ Some e)) }
     {
         let number = self.next;
@@ -35,7 +36,7 @@ impl<M: Medium> Entries<M> {
     pub fn add_to_body(&mut self, number: BodyNumber, bytes: &[u8]) -> FsResult<()>
         ensures due { OnOk result (add_error number (held_of self.old) ≡ None) }
         ensures ok { OnOk result (Has self.old.resources (lengthened number bytes.now (held_of self.old)) self.new) }
-        ensures same { OnErr result (Has self.old.resources (held_of self.old) self.new) }
+        ensures same { OnErr result (IsUnchanged self.old self.new) }
         ensures err { IfErr result (λ e. FailsFor M.refuses e ⊎ (add_error number (held_of self.old) ≡ Some e)) }
     {
         let Some(body) = self.bodies.get_mut(&number.as_u64()) else {

@@ -9,7 +9,7 @@ ghost use Rattle.dav_tree.specs.MemoryCalls.{IsListing};
 
 use super::Entries;
 use crate::entry::{self, Content, Entry};
-use crate::in_memory::InMemory;
+use crate::in_memory::{Bytes, InMemory};
 use crate::medium::Medium;
 use dav_key::FlatKey;
 use dav_resource::{DavPath, DavProp, DirEntry, FsResult, Text};
@@ -20,7 +20,7 @@ impl<M: Medium> Entries<M> {
     pub fn has_members(&self, directory: &FlatKey) -> bool
         ensures { result ≡ not (length (members (tree_of self.now.resources) directory.now) == 0) }
     {
-        self.tree.has_members(directory)
+        self.tree.nodes.has_members(directory)
     }
 
     /// Returns the members of a directory in the order of their names, each with its metadata. Fails only if
@@ -33,7 +33,7 @@ impl<M: Medium> Entries<M> {
         ensures { IfOk result (λ listing. IsListing directory.now self.now.resources listing.items) }
     {
         let mut listing = Vec::new(alloc);
-        for (name, entry) in self.tree.members(directory) {
+        for (name, entry) in self.tree.nodes.members(directory) {
             let name = Text::from_string(name.to_string(alloc)?);
             let meta = entry::meta(alloc, &self.medium, entry)?;
             listing.push(Ok(DirEntry { name, meta }))?;
@@ -52,7 +52,7 @@ impl Entries<InMemory> {
         ensures { IfOk result (λ dumped. IsDump self.now.resources dumped.items) }
     {
         let mut dumped = Vec::new(alloc);
-        for (key, entry) in self.tree.entries(alloc)? {
+        for (key, entry) in self.tree.nodes.entries(alloc)? {
             dumped.push(dump_of(key, entry)?)?;
         }
         Ok(dumped)
@@ -62,14 +62,14 @@ impl Entries<InMemory> {
 /// Returns a copy of the resource at a key. Fails only if memory runs out.
 fn dump_of(
     key: FlatKey,
-    entry: &Entry<Vec<u8>>,
+    entry: &Entry<Bytes>,
 ) -> Result<(DavPath, Option<Vec<u8>>, Vec<DavProp>), AllocError>
     requires { IsKey key }
-    ensures { IfOk result (λ dumped. IsDumpOf (key, stored_by (λ body. body.items) entry.now) dumped) }
+    ensures { IfOk result (λ dumped. IsDumpOf (key, stored_by (λ body. body) entry.now) dumped) }
 {
     let alloc = key.allocator();
     let bytes = match &entry.content {
-        Content::File(body) => Some(body.clone()?),
+        Content::File(body) => Some(body.to_vec()?),
         Content::Directory => None,
     };
     let path = DavPath::of_key(key, bytes.is_none())?;

@@ -1,13 +1,14 @@
 //! Lookups of parents, of files and of stored bodies, and copies to a looked-up place.
-ghost use Rattle.std.specs.Prelude.{◌≡◌, ◌<◌, ◌^◌, length, MatchResult, OnErr, OnOk, IfErr, Some, IsSome};
+ghost use Rattle.std.specs.Prelude.{◌≡◌, ◌<◌, ◌^◌, length, MatchResult, OnErr, IfErr, Some, IsSome};
 ghost use Rattle.std.specs.FinMap as map;
-ghost use Rattle.dav_key.specs.Key.{Key, parent};
+ghost use Rattle.dav_key.specs.Key.{parent};
 ghost use Rattle.dav_store.specs.BodyCalls.{stored_bytes};
 ghost use Rattle.dav_store.specs.Calls.{file_bar};
 ghost use Rattle.dav_tree.specs.Bodies.{FailsFor};
 ghost use Rattle.dav_tree.specs.Found.{Finds, IsFileFound, IsDirectoryFound};
-ghost use Rattle.dav_tree.specs.Kept.{held_of, Has, IsAt, IsNumber};
-ghost use Rattle.dav_tree.specs.Memory.{Stored, tree_of, copy_of};
+ghost use Rattle.dav_tree.specs.KeptCalls.{CopiesTo};
+ghost use Rattle.dav_tree.specs.Kept.{held_of, IsNumber};
+ghost use Rattle.dav_tree.specs.Memory.{tree_of};
 
 use super::{Entries, Place};
 use crate::medium::Medium;
@@ -20,10 +21,10 @@ impl<M: Medium> Entries<M> {
     pub fn find_above(&self, key: &FlatKey) -> Option<Place>
         ensures { Finds self.now (parent key.now) result }
     {
-        let Some(number) = self.tree.find_above(key) else {
+        let Some(number) = self.tree.nodes.find_above(key) else {
             return None;
         };
-        let Some(entry) = self.tree.at(number) else {
+        let Some(entry) = self.tree.nodes.at(number) else {
             unreachable!()
         };
         let directory = entry.is_directory();
@@ -79,7 +80,7 @@ impl<M: Medium> Entries<M> {
         requires from { IsNumber self.old from }
         requires there { Finds self.old to.now there }
         requires above { IsSome (map.get self.old.numbers (parent to.now)) }
-        ensures ok { (key : Key) (s : Stored) → IsAt self.old key from s → OnOk result (Has (map.insert self.old.resources to.now (copy_of (map.get self.old.resources to.now) version now s)) (held_of self.old) self.new) }
+        ensures ok { CopiesTo result from to.now version now self.old self.new }
         ensures same { OnErr result (self.new ≡ self.old) }
         ensures err { IfErr result (FailsFor M.refuses) }
     {

@@ -1,11 +1,11 @@
 //! The store's calls on open files.
-ghost use Rattle.std.specs.Prelude.{◌≡◌, ◌<◌, ◌+◌, ◌^◌, IsTrue, false, length, IfOk, MatchResult, ◌||◌, if◌then◌else◌};
+ghost use Rattle.std.specs.Prelude.{◌≡◌, ◌<◌, ◌+◌, ◌^◌, IsTrue, false, length, IfOk, ◌||◌, if◌then◌else◌};
 ghost use Rattle.dav_key.specs.Key.{Key};
-ghost use Rattle.dav_store.specs.Calls.{place_of, bytes_from};
-ghost use Rattle.dav_tree.specs.TreeFs.{memory_of, body_of, honest_of, IfHonest};
+ghost use Rattle.dav_store.specs.Calls.{bytes_from};
+ghost use Rattle.dav_tree.specs.TreeFs.{memory_of, body_of, honest_of, IfHonest, GivesIn, GivesOverIn, file_of};
 ghost use Rattle.dav_tree.specs.Kept.{IsAt, IsNumber, IsAbsent, IsFound};
-ghost use Rattle.dav_tree.specs.Memory.{Stored, file_bytes, contents_of, size_of};
-ghost use Rattle.dav_tree.specs.MemoryCalls.{Gives, GivesOver, kept, read_bytes_error, open_error, opened, file_error, write_error, written, after_write};
+ghost use Rattle.dav_tree.specs.Memory.{Stored, contents_of, size_of};
+ghost use Rattle.dav_tree.specs.MemoryCalls.{kept, read_bytes_error, open_error, opened, file_error, write_error, written, after_write, PlacesFile};
 
 use super::TreeFs;
 use crate::entries::{Entries, Place};
@@ -16,7 +16,7 @@ impl<M: Medium> TreeFs<M> {
     pub(super) fn open_file(&mut self, path: &DavPath, options: &OpenOptions) -> FsResult<DavFile>
         ensures log { self.new.log ≡ self.old.log }
         ensures file { IfOk result (λ file. file ≡ record { path = path.now; pos = 0; append = options.now.append }) }
-        ensures opened { Gives (open_error options.now path.now.key (memory_of self.old)) (opened options.now path.now.key) (memory_of self.old) result (memory_of self.new) }
+        ensures opened { GivesIn (open_error options.now path.now.key) (opened options.now path.now.key) self.old result self.new }
     {
         let file = DavFile {
             path: path.clone()?,
@@ -36,7 +36,7 @@ impl<M: Medium> TreeFs<M> {
     fn open_old(&mut self, path: &DavPath, place: Place, options: &OpenOptions) -> FsResult<()>
         requires { IsFound self.old.entries path.now.key place.number place.directory }
         ensures log { self.new.log ≡ self.old.log }
-        ensures opened { Gives (open_error options.now path.now.key (memory_of self.old)) (opened options.now path.now.key) (memory_of self.old) result (memory_of self.new) }
+        ensures opened { GivesIn (open_error options.now path.now.key) (opened options.now path.now.key) self.old result self.new }
     {
         if options.create_new {
             return Err(FsError::Exists);
@@ -57,7 +57,7 @@ impl<M: Medium> TreeFs<M> {
     fn open_new(&mut self, path: &DavPath, options: &OpenOptions) -> FsResult<()>
         requires { IsAbsent self.old.entries path.now.key }
         ensures log { self.new.log ≡ self.old.log }
-        ensures opened { Gives (open_error options.now path.now.key (memory_of self.old)) (opened options.now path.now.key) (memory_of self.old) result (memory_of self.new) }
+        ensures opened { GivesIn (open_error options.now path.now.key) (opened options.now path.now.key) self.old result self.new }
     {
         if !self.entries.has_directory_above(path.key()) {
             return Err(FsError::NotFound);
@@ -80,9 +80,9 @@ impl<M: Medium> TreeFs<M> {
         count: usize,
     ) -> FsResult<Vec<u8>>
         ensures log { self.new.log ≡ self.old.log }
-        ensures bytes { let there = file_bytes path.now.key (memory_of self.old).resources in IfOk result (λ bytes. IfHonest (honest_of self.new) (bytes.items ≡ bytes_from place count there)) }
-        ensures count { let there = file_bytes path.now.key (memory_of self.old).resources in IfOk result (λ bytes. length bytes.items ≡ length (bytes_from place count there)) }
-        ensures answer { GivesOver M.refuses (read_bytes_error path.now.key (memory_of self.old)) kept (memory_of self.old) result (memory_of self.new) }
+        ensures bytes { IfOk result (λ bytes. IfHonest (honest_of self.new) (bytes.items ≡ bytes_from place count (file_of self.old path.now.key))) }
+        ensures count { IfOk result (λ bytes. length bytes.items ≡ length (bytes_from place count (file_of self.old path.now.key))) }
+        ensures answer { GivesOverIn (read_bytes_error path.now.key) kept self.old result self.new }
     {
         let Some(found) = self.entries.find(path.key()) else {
             return Err(FsError::NotFound);
@@ -97,8 +97,8 @@ impl<M: Medium> TreeFs<M> {
     /// stays.
     pub(super) fn move_place(&mut self, file: &mut DavFile, pos: u64) -> FsResult<()>
         ensures log { self.new.log ≡ self.old.log }
-        ensures answer { Gives (file_error file.old.path.key (memory_of self.old)) kept (memory_of self.old) result (memory_of self.new) }
-        ensures place { MatchResult result (λ _. file.new ≡ record file.old { pos = pos }) (λ _. file.new ≡ file.old) }
+        ensures answer { GivesIn (file_error file.old.path.key) kept self.old result self.new }
+        ensures place { PlacesFile result file.old (record file.old { pos = pos }) file.new }
     {
         self.check_file(file)?;
         file.pos = pos;
@@ -108,8 +108,8 @@ impl<M: Medium> TreeFs<M> {
     pub(super) fn write_file(&mut self, file: &mut DavFile, bytes: &[u8]) -> FsResult<()>
         requires { file.old.append ≡ false → file.old.pos + length bytes.now < 2 ^ 64 }
         ensures log { self.new.log ≡ self.old.log }
-        ensures written { let old = memory_of self.old in GivesOver M.refuses (write_error file.old.path.key old) (written file.old bytes.now) old result (memory_of self.new) }
-        ensures place { MatchResult result (λ _. file.new ≡ after_write file.old bytes.now (memory_of self.old)) (λ _. file.new ≡ file.old) }
+        ensures written { GivesOverIn (write_error file.old.path.key) (written file.old bytes.now) self.old result self.new }
+        ensures place { PlacesFile result file.old (after_write file.old bytes.now (memory_of self.old)) file.new }
     {
         let number = self.entries.find_file(file.path.key())?;
         let place = place_in(&self.entries, number, file);
@@ -125,8 +125,8 @@ impl<M: Medium> TreeFs<M> {
     pub(super) fn write_stored(&mut self, file: &mut DavFile, body: BodyNumber) -> FsResult<()>
         requires { file.old.append ≡ false → file.old.pos + length (body_of self.old body) < 2 ^ 64 }
         ensures log { self.new.log ≡ self.old.log }
-        ensures written { let old = memory_of self.old in GivesOver M.refuses (write_error file.old.path.key old) (written file.old (body_of self.old body)) old result (memory_of self.new) }
-        ensures place { MatchResult result (λ _. file.new ≡ after_write file.old (body_of self.old body) (memory_of self.old)) (λ _. file.new ≡ file.old) }
+        ensures written { GivesOverIn (write_error file.old.path.key) (written file.old (body_of self.old body)) self.old result self.new }
+        ensures place { PlacesFile result file.old (after_write file.old (body_of self.old body) (memory_of self.old)) file.new }
     {
         let number = self.entries.find_file(file.path.key())?;
         let place = place_in(&self.entries, number, file);
@@ -142,7 +142,7 @@ impl<M: Medium> TreeFs<M> {
     /// Checks that an open file still exists, and returns `NotFound` if it does not.
     pub(super) fn check_file(&mut self, file: &DavFile) -> FsResult<()>
         ensures log { self.new.log ≡ self.old.log }
-        ensures answer { Gives (file_error file.now.path.key (memory_of self.old)) kept (memory_of self.old) result (memory_of self.new) }
+        ensures answer { GivesIn (file_error file.now.path.key) kept self.old result self.new }
     {
         self.entries.find_file(file.path.key())?;
         Ok(())
@@ -151,7 +151,7 @@ impl<M: Medium> TreeFs<M> {
     pub(super) fn look_at_file(&mut self, file: &DavFile) -> FsResult<Meta>
         ensures log { self.new.log ≡ self.old.log }
         ensures meta { IfOk result (λ meta. (contents_of (memory_of self.old)).metas file.now.path.key ≡ Some meta) }
-        ensures answer { Gives (file_error file.now.path.key (memory_of self.old)) kept (memory_of self.old) result (memory_of self.new) }
+        ensures answer { GivesIn (file_error file.now.path.key) kept self.old result self.new }
     {
         let number = self.entries.find_file(file.path.key())?;
         Ok(self.entries.meta(number)?)

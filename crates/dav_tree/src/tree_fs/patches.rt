@@ -1,9 +1,9 @@
 //! The store's calls on dead properties.
 ghost use Rattle.std.specs.Prelude.{◌≡◌, All, length, replicate, IfOk, Some};
 ghost use Rattle.std.specs.FinMap.{get};
-ghost use Rattle.dav_tree.specs.TreeFs.{memory_of};
+ghost use Rattle.dav_tree.specs.TreeFs.{memory_of, GivesIn};
 ghost use Rattle.dav_tree.specs.Memory.{contents_of, with_patches};
-ghost use Rattle.dav_tree.specs.MemoryCalls.{Gives, kept, get_prop_error, properties_error, IsPropertyList};
+ghost use Rattle.dav_tree.specs.MemoryCalls.{kept, get_prop_error, properties_error, IsPropertyList};
 ghost use Rattle.dav_store.specs.PropertyCalls.{IsWhole, name_of, properties_at};
 
 use super::TreeFs;
@@ -17,7 +17,7 @@ impl<M: Medium> TreeFs<M> {
     pub(super) fn find_prop(&mut self, path: &DavPath, prop: &DavProp) -> FsResult<Element>
         ensures log { self.new.log ≡ self.old.log }
         ensures element { IfOk result (λ element. get (properties_at (contents_of (memory_of self.old)) path.now.key) (name_of prop.now) ≡ Some element) }
-        ensures answer { Gives (get_prop_error path.now.key (name_of prop.now) (memory_of self.old)) kept (memory_of self.old) result (memory_of self.new) }
+        ensures answer { GivesIn (get_prop_error path.now.key (name_of prop.now)) kept self.old result self.new }
     {
         let Some(place) = self.entries.find(path.key()) else {
             return Err(FsError::NotFound);
@@ -33,7 +33,7 @@ impl<M: Medium> TreeFs<M> {
     pub(super) fn list_props(&mut self, path: &DavPath) -> FsResult<Vec<DavProp>>
         ensures log { self.new.log ≡ self.old.log }
         ensures props { IfOk result (λ props. IsPropertyList (properties_at (contents_of (memory_of self.old)) path.now.key) props.items) }
-        ensures answer { Gives (properties_error path.now.key (memory_of self.old)) kept (memory_of self.old) result (memory_of self.new) }
+        ensures answer { GivesIn (properties_error path.now.key) kept self.old result self.new }
     {
         let Some(place) = self.entries.find(path.key()) else {
             return Err(FsError::NotFound);
@@ -52,7 +52,7 @@ impl<M: Medium> TreeFs<M> {
         requires { All IsWhole patches.now }
         ensures log { self.new.log ≡ self.old.log }
         ensures statuses { IfOk result (λ statuses. statuses.items ≡ replicate (length patches.now) 200) }
-        ensures patched { Gives (properties_error path.now.key (memory_of self.old)) (with_patches path.now.key patches.now) (memory_of self.old) result (memory_of self.new) }
+        ensures patched { GivesIn (properties_error path.now.key) (with_patches path.now.key patches.now) self.old result self.new }
     {
         let Some(place) = self.entries.find(path.key()) else {
             return Err(FsError::NotFound);

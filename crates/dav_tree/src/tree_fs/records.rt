@@ -104,13 +104,13 @@ impl<M: Medium> TreeFs<M> {
     }
 }
 
-/// Returns the outcome that is recorded for an error. `GeneralFailure` is the store's own error, which bars
-/// no call, and is recorded as refused. Any other error is recorded as barred.
+/// Returns the outcome that is recorded for an error. `GeneralFailure` and `InsufficientStorage` are errors of
+/// the store's own, which bar no call, and are recorded as refused. Any other error is recorded as barred.
 fn outcome_of(error: FsError) -> Outcome
     ensures { result ≡ outcome_of error }
 {
     match error {
-        FsError::GeneralFailure => Outcome::Refused(error),
+        FsError::GeneralFailure | FsError::InsufficientStorage => Outcome::Refused(error),
         _ => Outcome::Barred(error),
     }
 }

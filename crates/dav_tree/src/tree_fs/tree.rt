@@ -1,11 +1,11 @@
 //! The store's calls on the tree: lookup, listing, creation, removal, copying, renaming and quota.
-ghost use Rattle.std.specs.Prelude.{◌≡◌, ◌≢◌, ◌+◌, IfOk, MatchResult, None, Some, Err};
+ghost use Rattle.std.specs.Prelude.{◌≡◌, ◌≢◌, IfOk, None, Some, Err};
 ghost use Rattle.dav_key.specs.Below.{is_below};
 ghost use Rattle.dav_store.specs.Store.{Directory};
 ghost use Rattle.dav_tree.specs.Found.{directory_in};
-ghost use Rattle.dav_tree.specs.TreeFs.{memory_of};
+ghost use Rattle.dav_tree.specs.TreeFs.{memory_of, GivesIn, GivesOverIn, YieldsIn};
 ghost use Rattle.dav_tree.specs.Memory.{contents_of, quota_of, made, without, copied, IsRenamed};
-ghost use Rattle.dav_tree.specs.MemoryCalls.{Yields, Gives, GivesOver, kept, change_error, look_error, read_dir_error, IsListing, create_dir_error, remove_file_error, remove_dir_error, copy_error, rename_error, quota_error};
+ghost use Rattle.dav_tree.specs.MemoryCalls.{kept, look_error, read_dir_error, IsListing, create_dir_error, remove_file_error, remove_dir_error, copy_error, rename_error, quota_error, IsNextVersion};
 
 use super::TreeFs;
 use crate::entries::Place;
@@ -16,7 +16,7 @@ impl<M: Medium> TreeFs<M> {
     pub(super) fn look(&mut self, path: &DavPath) -> FsResult<Meta>
         ensures log { self.new.log ≡ self.old.log }
         ensures meta { IfOk result (λ meta. (contents_of (memory_of self.old)).metas path.now.key ≡ Some meta) }
-        ensures answer { Gives (look_error path.now.key (memory_of self.old)) kept (memory_of self.old) result (memory_of self.new) }
+        ensures answer { GivesIn (look_error path.now.key) kept self.old result self.new }
     {
         match self.entries.find(path.key()) {
             Some(place) => Ok(self.entries.meta(place.number)?),
@@ -28,7 +28,7 @@ impl<M: Medium> TreeFs<M> {
     pub(super) fn list(&mut self, path: &DavPath) -> FsResult<Vec<FsResult<DirEntry>>>
         ensures log { self.new.log ≡ self.old.log }
         ensures listing { IfOk result (λ listing. IsListing path.now.key (memory_of self.old).resources listing.items) }
-        ensures answer { Gives (read_dir_error path.now.key (memory_of self.old)) kept (memory_of self.old) result (memory_of self.new) }
+        ensures answer { GivesIn (read_dir_error path.now.key) kept self.old result self.new }
     {
         let Some(place) = self.entries.find(path.key()) else {
             return Err(FsError::NotFound);
@@ -41,7 +41,7 @@ impl<M: Medium> TreeFs<M> {
 
     /// Returns the number of the next change, or `GeneralFailure` if the counter is at `u64::MAX`.
     pub(super) fn next_version(&self) -> FsResult<u64>
-        ensures { MatchResult result (λ version. (version ≡ (memory_of self.now).version + 1) × (change_error None (memory_of self.now) ≡ None)) (λ e. change_error None (memory_of self.now) ≡ Some e) }
+        ensures { IsNextVersion (memory_of self.now) result }
     {
         match self.version.checked_add(1) {
             Some(version) => Ok(version),
@@ -51,7 +51,7 @@ impl<M: Medium> TreeFs<M> {
 
     pub(super) fn make_directory(&mut self, path: &DavPath) -> FsResult<()>
         ensures log { self.new.log ≡ self.old.log }
-        ensures made { Gives (create_dir_error path.now.key (memory_of self.old)) (made path.now.key Directory) (memory_of self.old) result (memory_of self.new) }
+        ensures made { GivesIn (create_dir_error path.now.key) (made path.now.key Directory) self.old result self.new }
     {
         if self.entries.find(path.key()).is_some() {
             return Err(FsError::Exists);
@@ -70,7 +70,7 @@ impl<M: Medium> TreeFs<M> {
     pub(super) fn take_file(&mut self, path: &DavPath) -> FsResult<()>
         ensures log { self.new.log ≡ self.old.log }
         ensures memory { result ≢ Err FsError.Memory }
-        ensures removed { Gives (remove_file_error path.now.key (memory_of self.old)) (without path.now.key) (memory_of self.old) result (memory_of self.new) }
+        ensures removed { GivesIn (remove_file_error path.now.key) (without path.now.key) self.old result self.new }
     {
         let Some(place) = self.entries.find(path.key()) else {
             return Err(FsError::NotFound);
@@ -85,7 +85,7 @@ impl<M: Medium> TreeFs<M> {
     /// Removes a directory that has no members.
     pub(super) fn take_directory(&mut self, path: &DavPath) -> FsResult<()>
         ensures log { self.new.log ≡ self.old.log }
-        ensures removed { Gives (remove_dir_error path.now.key (memory_of self.old)) (without path.now.key) (memory_of self.old) result (memory_of self.new) }
+        ensures removed { GivesIn (remove_dir_error path.now.key) (without path.now.key) self.old result self.new }
     {
         let Some(place) = self.entries.find(path.key()) else {
             return Err(FsError::NotFound);
@@ -106,7 +106,7 @@ impl<M: Medium> TreeFs<M> {
     /// Copies a file over another file, or to a path where nothing exists.
     pub(super) fn copy_file(&mut self, from: &DavPath, to: &DavPath) -> FsResult<()>
         ensures log { self.new.log ≡ self.old.log }
-        ensures copied { let old = memory_of self.old in GivesOver M.refuses (copy_error from.now.key to.now.key old) (copied from.now.key to.now.key) old result (memory_of self.new) }
+        ensures copied { GivesOverIn (copy_error from.now.key to.now.key) (copied from.now.key to.now.key) self.old result self.new }
     {
         let Some(source) = self.entries.find(from.key()) else {
             return Err(FsError::NotFound);
@@ -131,7 +131,7 @@ impl<M: Medium> TreeFs<M> {
     /// Moves the resource at a path, and everything below it, to a path where nothing exists.
     pub(super) fn move_all(&mut self, from: &DavPath, to: &DavPath) -> FsResult<()>
         ensures log { self.new.log ≡ self.old.log }
-        ensures renamed { Yields (rename_error from.now.key to.now.key (memory_of self.old)) (IsRenamed from.now.key to.now.key) (memory_of self.old) result (memory_of self.new) }
+        ensures renamed { YieldsIn (rename_error from.now.key to.now.key) (IsRenamed from.now.key to.now.key) self.old result self.new }
     {
         if self.entries.find(from.key()).is_none() {
             return Err(FsError::NotFound);
@@ -156,7 +156,7 @@ impl<M: Medium> TreeFs<M> {
     /// `NotImplemented` if there is no quota.
     pub(super) fn read_quota(&self) -> FsResult<(u64, Option<u64>)>
         ensures quota { IfOk result (λ quota. quota_of (memory_of self.now) ≡ Some (record { used = quota.0; total = quota.1 })) }
-        ensures answer { Gives (quota_error (memory_of self.now)) kept (memory_of self.now) result (memory_of self.now) }
+        ensures answer { GivesIn quota_error kept self.now result self.now }
     {
         let Some(total) = self.limit else {
             return Err(FsError::NotImplemented);

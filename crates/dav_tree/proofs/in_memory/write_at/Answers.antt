@@ -1,5 +1,5 @@
 use Rattle.std.proofs.Common.{arith}
-use Rattle.dav_tree.proofs.Bytes.{written-lengthened}
+use Rattle.dav_tree.proofs.WrittenBytes.{written-lengthened}
 use Rattle.dav_tree.proofs.in_memory.write_at.Goals as goal
 
 pub returns-clause-ok : goal.returns-clause-ok

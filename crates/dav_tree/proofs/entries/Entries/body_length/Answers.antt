@@ -8,10 +8,10 @@ pub returns-in-None : goal.returns-in-None
 returns-in-None g c =
     let f = c.self.inside in let b = g.M.Medium.bytes f.medium in let h = g.M.Medium.holds f.medium in
     let found = c.in-None.ensures.value ∙ ap (λ n. ordered.get nat_cmp f.bodies n) c.as_u64.ensures in
-    sym (ap (option_map length) (body-in b (g.M.Medium.is_honest f.medium) f.tree f.bodies f.next c.args.self.now c.self.view_is c.args.number ∙ ap (option_map b) (sym found)))
+    sym (ap (option_map length) (body-in b (g.M.Medium.is_honest f.medium) f.tree.nodes f.bodies f.next _ c.args.self.now c.self.view_is c.args.number ∙ ap (option_map b) (sym found)))
 
 pub returns-in-Some : goal.returns-in-Some
 returns-in-Some g c =
     let f = c.self.inside in let b = g.M.Medium.bytes f.medium in let h = g.M.Medium.holds f.medium in
     let found = c.in-Some.ensures.value ∙ ap (λ n. ordered.get nat_cmp f.bodies n) c.as_u64.ensures in
-    ap Some c.len.ensures ∙ sym (ap (option_map length) (body-in b (g.M.Medium.is_honest f.medium) f.tree f.bodies f.next c.args.self.now c.self.view_is c.args.number ∙ ap (option_map b) (sym found)))
+    ap Some c.len.ensures ∙ sym (ap (option_map length) (body-in b (g.M.Medium.is_honest f.medium) f.tree.nodes f.bodies f.next _ c.args.self.now c.self.view_is c.args.number ∙ ap (option_map b) (sym found)))

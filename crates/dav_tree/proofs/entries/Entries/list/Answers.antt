@@ -12,7 +12,7 @@ meta-requires g c =
     let inv = c.loop-name.invariant in
     let left = ap (λ (es : List (List ℕ × Entry g.row.M-Body.Denot)). inv.done ++ es) (sym c.in-Some.ensures.steps) ∙ inv.left in
     c.self.invariant.held _ c.in-Some.entry.now
-    (all-at (IsMemberAt f.tree.values c.args.directory.now) inv.done c.next.new.self inv.all (c.in-Some.name.now, c.in-Some.entry.now) left inv.values)
+    (all-at (IsMemberAt f.tree.nodes.values c.args.directory.now) inv.done c.next.new.self inv.all (c.in-Some.name.now, c.in-Some.entry.now) left inv.values)
 
 pub loop-name-preserved : goal.loop-name-preserved
 loop-name-preserved g c =
@@ -35,5 +35,5 @@ returns g c =
     let inv = c.loop-name.invariant in
     let all : inv.done ≡ inv.all = none-left inv.done inv.all (ap (λ (es : List (List ℕ × Entry g.row.M-Body.Denot)). inv.done ++ es) (sym c.in-None.ensures.steps.0) ∙ inv.left) in
     subst (λ (k : Kept). IsListing c.args.directory.now k.resources c.loop-name.listing.items) c.self.view_is
-    (listed (g.M.Medium.bytes f.medium) f.tree c.args.directory.now inv.all c.loop-name.listing.items inv.names inv.values
+    (listed (g.M.Medium.bytes f.medium) f.tree.nodes c.args.directory.now inv.all c.loop-name.listing.items inv.names inv.values
     (subst (λ (ms : List (List ℕ × Entry g.row.M-Body.Denot)). AllZip (IsEntryOf (g.M.Medium.bytes f.medium)) ms c.loop-name.listing.items) all inv.shown))

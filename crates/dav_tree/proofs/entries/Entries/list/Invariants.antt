@@ -10,8 +10,8 @@ use Rattle.dav_tree.proofs.entries.Entries.list.Given as goal
 abbrev pub invariant-loop-name : goal.invariant-loop-name
 invariant-loop-name g l = record {
   all : List (List ℕ × Entry g.row.M-Body.Denot);
-  names : map (λ m. m.0) all ≡ names_among (keys l.self-inside.tree.values) l.directory;
-  values : All (λ m. get l.self-inside.tree.values (member l.directory m.0) ≡ Some m.1) all;
+  names : map (λ m. m.0) all ≡ names_among (keys l.self-inside.tree.nodes.values) l.directory;
+  values : All (λ m. get l.self-inside.tree.nodes.values (member l.directory m.0) ≡ Some m.1) all;
   done : List (List ℕ × Entry g.row.M-Body.Denot);
   shown : AllZip (IsEntryOf (g.M.Medium.bytes l.self-inside.medium)) done l.listing.items;
   left : done ++ l.name-iterator ≡ all;

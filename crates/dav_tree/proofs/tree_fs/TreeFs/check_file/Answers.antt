@@ -1,7 +1,7 @@
 use Rattle.std.proofs.Common.{refl}
 use Rattle.dav_tree.proofs.Rows.{file_there}
 use Rattle.dav_tree.proofs.Places.{at-key}
-use Rattle.dav_tree.proofs.Changes.{over-ok, memory-same}
+use Rattle.dav_tree.proofs.Effects.{over-ok, memory-same}
 use Rattle.dav_tree.proofs.tree_fs.TreeFs.check_file.Goals as goal
 
 pub returns-clause-answer : goal.returns-clause-answer

@@ -8,7 +8,7 @@ use Rattle.dav_tree.specs.MemoryCalls.{change_error}
 use Rattle.dav_tree.proofs.Sound.{sound-kept}
 use Rattle.dav_tree.proofs.Rows.{copy_missing, copy_of_directory, copy_onto_directory, copy_free}
 use Rattle.dav_tree.proofs.Places.{at-again, missing-key, found-key, directory-above, directory-key, no-directory-key}
-use Rattle.dav_tree.proofs.Changes.{over-ok, over-err, over-exit, memory-same, memory-changed, sound-changed}
+use Rattle.dav_tree.proofs.Effects.{over-ok, over-err, over-exit, memory-same, memory-changed, sound-changed}
 use Rattle.dav_tree.proofs.tree_fs.TreeFs.copy_file.Goals as goal
 
 pub returns-in_default-clause-copied : goal.returns-in_default-clause-copied

@@ -5,7 +5,7 @@ use Rattle.dav_tree.specs.TreeFs.{memory_of}
 use Rattle.dav_store.specs.PropertyCalls.{name_of, get_prop_bar}
 use Rattle.dav_tree.proofs.Answering.{property-missing, property-kept}
 use Rattle.dav_tree.proofs.Places.{number-again, at-again, missing-key, found-key}
-use Rattle.dav_tree.proofs.Changes.{over-ok, over-err, memory-same}
+use Rattle.dav_tree.proofs.Effects.{over-ok, over-err, memory-same}
 use Rattle.dav_tree.proofs.tree_fs.TreeFs.find_prop.Goals as goal
 
 pub returns-in_default-clause-answer : goal.returns-in_default-clause-answer

@@ -1,7 +1,7 @@
 use Rattle.std.proofs.Common.{◌∙◌, ap, sym, None}
 use Rattle.dav_store.specs.Members.{read_dir_bar}
 use Rattle.dav_tree.proofs.Rows.{node_at, directory_at, file_at}
-use Rattle.dav_tree.proofs.Changes.{over-ok, over-err, memory-same}
+use Rattle.dav_tree.proofs.Effects.{over-ok, over-err, memory-same}
 use Rattle.dav_tree.proofs.tree_fs.TreeFs.list.Goals as goal
 
 pub returns-in_default-clause-answer : goal.returns-in_default-clause-answer

@@ -5,7 +5,7 @@ use Rattle.dav_tree.specs.MemoryCalls.{IsPropertyList}
 use Rattle.dav_tree.proofs.Answering.{properties-there}
 use Rattle.dav_tree.proofs.Rows.{node_at}
 use Rattle.dav_tree.proofs.Places.{number-again, at-again, missing-key, found-key}
-use Rattle.dav_tree.proofs.Changes.{over-ok, over-err, memory-same}
+use Rattle.dav_tree.proofs.Effects.{over-ok, over-err, memory-same}
 use Rattle.dav_tree.proofs.tree_fs.TreeFs.list_props.Goals as goal
 
 pub returns-in_default-clause-answer : goal.returns-in_default-clause-answer

@@ -2,7 +2,7 @@ use Rattle.std.proofs.Common.{ap, Some, None}
 use Rattle.dav_store.specs.Calls.{metadata_bar}
 use Rattle.dav_tree.proofs.Rows.{node_at}
 use Rattle.dav_tree.proofs.Places.{number-again}
-use Rattle.dav_tree.proofs.Changes.{over-ok, over-err, memory-same}
+use Rattle.dav_tree.proofs.Effects.{over-ok, over-err, memory-same}
 use Rattle.dav_tree.proofs.tree_fs.TreeFs.look.Goals as goal
 
 pub meta-requires : goal.meta-requires

@@ -9,7 +9,7 @@ use Rattle.dav_tree.proofs.Named.{named-empty}
 use Rattle.dav_tree.proofs.Sound.{sound-kept}
 use Rattle.dav_tree.proofs.Rows.{place_taken, dir_free, missing_no_directory}
 use Rattle.dav_tree.proofs.Places.{absent-of, found-of, missing-key, found-key, directory-above}
-use Rattle.dav_tree.proofs.Changes.{over-ok, over-err, over-exit, memory-same, memory-changed, sound-changed}
+use Rattle.dav_tree.proofs.Effects.{over-ok, over-err, over-exit, memory-same, memory-changed, sound-changed}
 use Rattle.dav_tree.proofs.tree_fs.TreeFs.make_directory.Goals as goal
 
 pub returns-then-is_some-clause-made : goal.returns-then-is_some-clause-made

@@ -9,7 +9,7 @@ use Rattle.dav_store.specs.Calls.{create_dir_bar}
 use Rattle.dav_tree.proofs.Sound.{sound-renamed, apart-to, apart-from, nothing_kept_below}
 use Rattle.dav_tree.proofs.Rows.{some_node, node_at, rename_missing, rename_at, place_taken, place_free}
 use Rattle.dav_tree.proofs.Places.{absent-of, found-of, missing-key, found-key, directory-above}
-use Rattle.dav_tree.proofs.Changes.{over-ok, over-err, memory-same, sound-moved}
+use Rattle.dav_tree.proofs.Effects.{over-ok, over-err, memory-same, sound-moved}
 use Rattle.dav_tree.proofs.tree_fs.TreeFs.move_all.Goals as goal
 
 pub returns-then-is_none-clause-renamed : goal.returns-then-is_none-clause-renamed

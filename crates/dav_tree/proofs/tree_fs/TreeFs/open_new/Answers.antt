@@ -9,7 +9,7 @@ use Rattle.dav_tree.proofs.Named.{named-empty}
 use Rattle.dav_tree.proofs.Sound.{sound-kept}
 use Rattle.dav_tree.proofs.Rows.{open_missing, opened-at, missing_no_directory}
 use Rattle.dav_tree.proofs.Places.{directory-above}
-use Rattle.dav_tree.proofs.Changes.{over-ok, over-err, over-exit, memory-changed, sound-changed}
+use Rattle.dav_tree.proofs.Effects.{over-ok, over-err, over-exit, memory-changed, sound-changed}
 use Rattle.dav_tree.proofs.tree_fs.TreeFs.open_new.Goals as goal
 
 pub returns-then-not-may_make-clause-opened : goal.returns-then-not-may_make-clause-opened

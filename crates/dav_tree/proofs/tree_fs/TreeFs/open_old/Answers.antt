@@ -4,7 +4,7 @@ use Rattle.dav_tree.specs.MemoryCalls.{change_error}
 use Rattle.dav_tree.specs.TreeFs.{memory_of}
 use Rattle.dav_tree.proofs.Sound.{sound-filled}
 use Rattle.dav_tree.proofs.Rows.{open_exists, open_directory, open_there, opened-at}
-use Rattle.dav_tree.proofs.Changes.{over-ok, over-err, over-exit, memory-changed, sound-changed}
+use Rattle.dav_tree.proofs.Effects.{over-ok, over-err, over-exit, memory-changed, sound-changed}
 use Rattle.dav_tree.proofs.tree_fs.TreeFs.open_old.Goals as goal
 
 pub returns-then-options-clause-opened : goal.returns-then-options-clause-opened

@@ -4,7 +4,7 @@ use Rattle.dav_tree.specs.Memory.{change_at, with_properties}
 use Rattle.dav_tree.proofs.Sound.{sound-patched}
 use Rattle.dav_tree.proofs.Rows.{node_at}
 use Rattle.dav_tree.proofs.Places.{number-again, at-key, missing-key, found-key}
-use Rattle.dav_tree.proofs.Changes.{over-ok, over-err, memory-same, memory-changed, sound-either-way}
+use Rattle.dav_tree.proofs.Effects.{over-ok, over-err, memory-same, memory-changed, sound-either-way}
 use Rattle.dav_tree.proofs.tree_fs.TreeFs.patch.Goals as goal
 
 pub returns-in_default-clause-patched : goal.returns-in_default-clause-patched

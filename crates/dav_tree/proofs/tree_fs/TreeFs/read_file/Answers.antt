@@ -3,7 +3,7 @@ use Rattle.dav_store.specs.Calls.{must_be_file, bytes_at, bytes_from}
 use Rattle.dav_tree.proofs.Outcomes.{ok_then}
 use Rattle.dav_tree.proofs.Rows.{node_at, directory_at, file_at}
 use Rattle.dav_tree.proofs.Places.{file-again, at-again, missing-key, found-key}
-use Rattle.dav_tree.proofs.Changes.{over-err, over-either, both-ways, if-honest, memory-same, memory-unchanged}
+use Rattle.dav_tree.proofs.Effects.{over-err, over-either, both-ways, if-honest, memory-same, memory-unchanged}
 use Rattle.dav_tree.proofs.tree_fs.TreeFs.read_file.Goals as goal
 
 pub returns-in_default-clause-answer : goal.returns-in_default-clause-answer

@@ -5,7 +5,7 @@ use Rattle.dav_tree.specs.Memory.{tree_of}
 use Rattle.dav_tree.proofs.Sound.{sound-directory}
 use Rattle.dav_tree.proofs.Rows.{remove_dir_missing, remove_dir_file, remove_dir_full, remove_dir_free, no_names}
 use Rattle.dav_tree.proofs.Places.{at-again, some-number, not-true, not-false, missing-key, found-key, directory-childless}
-use Rattle.dav_tree.proofs.Changes.{over-ok, over-err, memory-same, memory-changed, sound-changed}
+use Rattle.dav_tree.proofs.Effects.{over-ok, over-err, memory-same, memory-changed, sound-changed}
 use Rattle.dav_tree.proofs.tree_fs.TreeFs.take_directory.Goals as goal
 
 pub returns-in_default-clause-removed : goal.returns-in_default-clause-removed

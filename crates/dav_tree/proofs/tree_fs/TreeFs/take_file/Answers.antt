@@ -4,7 +4,7 @@ use Rattle.dav_store.specs.Calls.{must_be_file}
 use Rattle.dav_tree.proofs.Sound.{sound-file}
 use Rattle.dav_tree.proofs.Rows.{node_at, directory_at, file_at}
 use Rattle.dav_tree.proofs.Places.{at-again, some-number, missing-key, found-key, file-below, file-childless}
-use Rattle.dav_tree.proofs.Changes.{over-ok, over-err, memory-same, memory-changed, sound-changed}
+use Rattle.dav_tree.proofs.Effects.{over-ok, over-err, memory-same, memory-changed, sound-changed}
 use Rattle.dav_tree.proofs.tree_fs.TreeFs.take_file.Goals as goal
 
 pub returns-in_default-clause-removed : goal.returns-in_default-clause-removed

@@ -6,7 +6,7 @@ use Rattle.dav_tree.specs.MemoryCalls.{change_error}
 use Rattle.dav_tree.proofs.Sound.{sound-filled}
 use Rattle.dav_tree.proofs.Rows.{file_there, filled-is, place-is, bytes-are, change_to}
 use Rattle.dav_tree.proofs.Places.{at-key}
-use Rattle.dav_tree.proofs.Changes.{over-ok, over-exit, fits, memory-same, memory-changed, sound-changed}
+use Rattle.dav_tree.proofs.Effects.{over-ok, over-exit, fits, memory-same, memory-changed, sound-changed}
 use Rattle.dav_tree.proofs.tree_fs.TreeFs.write_file.Goals as goal
 
 pub place_in-place-requires : goal.place_in-place-requires

@@ -10,7 +10,7 @@ use Rattle.dav_store.specs.Calls.{read_bytes_call, IsReadAt, bytes_from}
 use Rattle.dav_tree.specs.Memory.{Memory, tree_of, contents_of, file_bytes}
 use Rattle.dav_tree.specs.MemoryCalls.{read_bytes_error}
 use Rattle.dav_tree.proofs.Answering.{answers-over, lawful-bar, must_be_file_row}
-use Rattle.dav_tree.proofs.Changes.{both_ok, of-honest}
+use Rattle.dav_tree.proofs.Effects.{both_ok, of-honest}
 use Rattle.dav_tree.proofs.tree_fs.TreeFsGuardedFileSystem.read_bytes.Goals as goal
 
 pub returns-clause-bytes : goal.returns-clause-bytes

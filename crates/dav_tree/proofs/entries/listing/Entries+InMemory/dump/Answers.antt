@@ -1,4 +1,4 @@
-use Rattle.std.proofs.Common.{◌∙◌, ◌++◌, ◌∷◌, [], map, ap, sym, subst, List, length, Bor, arith, rules, Vec, Global, ℕ}
+use Rattle.std.proofs.Common.{◌∙◌, ◌++◌, ◌∷◌, [], map, ap, sym, subst, List, length, Bor, arith, rules, ℕ}
 use Rattle.std.specs.FinMap.{entries}
 use Rattle.std.specs.Vec.Iter.{into_iter_items}
 use Rattle.dav_key.specs.Key.{Key}
@@ -11,24 +11,24 @@ use Rattle.dav_tree.proofs.Dumps.{flat-keys, seen-entries, kept_key, copied_next
 use Rattle.dav_tree.proofs.entries.listing.Entries+InMemory.dump.Goals as goal
 
 abbrev Files : Type 0
-Files = Entry (Vec ℕ Global)
+Files = Entry (List ℕ)
 
 abbrev stored : Files → Stored
-stored e = stored_by (λ body. body.items) e
+stored e = stored_by (λ body. body) e
 
 abbrev seen_all : List (Key × Bor Files) → List (Key × Stored)
 seen_all xs = map (λ e. (e.0, stored e.1.now)) xs
 
 pub entries-requires : goal.entries-requires
 entries-requires c =
-    flat-keys (λ body. body.items) c.self.inside.tree (subst (λ (k : Kept). IsSound k.resources) (sym c.self.view_is) c.requires)
+    flat-keys (λ body. body) c.self.inside.tree.nodes (subst (λ (k : Kept). IsSound k.resources) (sym c.self.view_is) c.requires)
 
 pub loop-key-init : goal.loop-key-init
 loop-key-init c = record {
   done = [];
   copied = rw c.new-dumped.ensures.items tt;
   left = ap seen_all c.into_iter-key-iterator.ensures.into_iter_gives.0 ∙ seen-entries stored _ ∙ ap (with_values stored) c.in_ok-items.ensures
-      ∙ sym (entries-each-some stored c.self.inside.tree.values) ∙ ap (λ (k : Kept). entries k.resources) c.self.view_is;
+      ∙ sym (entries-each-some stored c.self.inside.tree.nodes.values) ∙ ap (λ (k : Kept). entries k.resources) c.self.view_is;
   count = c.into_iter-key-iterator.ensures.into_iter_gives.1 ∙ search rules;
 }
 

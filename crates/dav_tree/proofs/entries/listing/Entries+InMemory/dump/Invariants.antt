@@ -13,6 +13,6 @@ abbrev pub invariant-loop-key : goal.invariant-loop-key
 invariant-loop-key l = record {
   done : List (Key × Stored);
   copied : AllZip IsDumpOf done l.dumped.items;
-  left : done ++ map (λ e. (e.0, stored_by (λ body. body.items) e.1.now)) (into_iter_items l.key-iterator) ≡ entries l.self.resources;
+  left : done ++ map (λ e. (e.0, stored_by (λ body. body) e.1.now)) (into_iter_items l.key-iterator) ≡ entries l.self.resources;
   count : into_iter_len l.key-iterator ≡ length (into_iter_items l.key-iterator);
 }
