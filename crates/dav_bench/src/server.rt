@@ -2,8 +2,8 @@
 use crate::build::{lock_info, request};
 use anyhow::{Result, ensure};
 use dav_engine::{Body, DavInner, DavRequest, DavResult, Element, GuardedFileSystem, ReqBody};
-use dav_memfs::MemFs;
 use dav_memls::MemLs;
+use dav_tree::MemFs;
 use http::{Response, StatusCode};
 use std::alloc::Global;
 

@@ -5,9 +5,10 @@ use Rattle.dav_resource.specs.PathText.{PathValue, read_path}
 use Rattle.dav_resource.specs.declared.error.DavError.{DavError}
 use Rattle.dav_resource.specs.declared.request.DavRequest.{DavRequest}
 use Rattle.dav_store.specs.Locks.{all_reliable}
-use Rattle.dav_memfs.specs.MemFs.{store_of}
-use Rattle.dav_memfs.specs.Memory.{first_memory, seen_of}
-use Rattle.dav_memfs.specs.declared.memory.MemFs.{MemFs}
+use Rattle.dav_tree.specs.TreeFs.{store_of}
+use Rattle.dav_tree.specs.Memory.{first_memory, seen_of}
+use Rattle.dav_tree.specs.declared.medium.Medium.{Ghosts}
+use Rattle.dav_tree.specs.declared.tree_fs.TreeFs.{TreeFs}
 use Rattle.dav_memls.specs.MemLs.{locks_of}
 use Rattle.dav_memls.specs.declared.memory_locks.MemLs.{MemLs}
 use Rattle.dav_refusing.specs.Refusing.{seen_behind}
@@ -28,7 +29,7 @@ pub record Shared : Type 0 where
   pub seen : Seen
 
 -- what the engine sees of this store and this lock system
-abbrev pub seen_over : Refusing MemFs → MemLs → Seen
+abbrev pub seen_over : {M B : Type 0} {g : Ghosts M B} → Refusing (TreeFs M B g) → MemLs → Seen
 seen_over store locks = seen_with (seen_behind store_of store) (locks_of locks)
 
 -- what the blocks of this session share

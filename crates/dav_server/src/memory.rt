@@ -1,8 +1,8 @@
 //! The store and the lock system in memory, as a server needs them.
 use crate::{ExpiringLocks, TimedStore};
-use dav_memfs::MemFs;
 use dav_memls::MemLs;
 use dav_store::DavLock;
+use dav_tree::MemFs;
 
 impl TimedStore for MemFs {
     fn set_now(&mut self, now: u64) {

@@ -1,8 +1,8 @@
 //! Tests of batches over a store and a lock system in memory, with the bytes that the grammar gives.
 use crate::{Options, Server};
-use dav_memfs::MemFs;
 use dav_memls::MemLs;
 use dav_resource::{Items, ReqBody};
+use dav_tree::MemFs;
 use dav_wire::{BatchHeader, Frame, ReadFrame, RequestFrame, WireError, Writer};
 use std::alloc::Global;
 use std::io;

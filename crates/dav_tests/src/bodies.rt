@@ -1,9 +1,9 @@
 //! Tests reads of bytes and bodies by number, in a store in memory and in one that refuses calls.
 use crate::fixture::path_of;
-use dav_memfs::MemFs;
 use dav_refusing::Refusing;
 use dav_resource::{BodyNumber, DavFile, DavPath, FsError, FsResult, Op, OpenOptions, Record};
 use dav_store::GuardedFileSystem;
+use dav_tree::MemFs;
 use std::alloc::{AllocError, Global};
 use std::test::Fail;
 

@@ -4,8 +4,8 @@
 use crate::fixture::{Field, request, share, status};
 use crate::serve_over;
 use dav_engine::{Body, BodyNumber, DavInner, DavRequest, DavResult, GuardedFileSystem, ReqBody};
-use dav_memfs::MemFs;
 use dav_memls::MemLs;
+use dav_tree::MemFs;
 use http::Response;
 use std::alloc::Global;
 use std::process::Abort;

@@ -6,13 +6,13 @@ ghost use Rattle.dav_store.specs.PropertyCalls.{IsWhole, name_of};
 
 use crate::fixture::text_of;
 use crate::noting::{Noting, show_property};
-use dav_memfs::MemFs;
 use dav_refusing::Refusing;
 use dav_resource::{
     BodyNumber, DavFile, DavPath, DavProp, DavResult, DirEntry, Element, FsError, FsResult, Op,
     OpenOptions, SharedElement,
 };
 use dav_store::GuardedFileSystem;
+use dav_tree::MemFs;
 use std::alloc::{AllocError, Global};
 use std::process::Abort;
 use std::test::Fail;

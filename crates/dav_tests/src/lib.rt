@@ -37,6 +37,8 @@ pub fn serve_over<'a, F: GuardedFileSystem<()>, L: DavLockSystem>(
 #[cfg(test)]
 mod bodies;
 #[cfg(test)]
+mod changes;
+#[cfg(test)]
 mod conditions;
 #[cfg(test)]
 mod engine;

@@ -1,8 +1,8 @@
 //! Tests what no script shows of COPY and MOVE: their handlers called directly, and 300 nested directories.
 use crate::fixture::{path_of, request, status};
 use dav_engine::{DavInner, DavRequest, GuardedFileSystem};
-use dav_memfs::MemFs;
 use dav_memls::MemLs;
+use dav_tree::MemFs;
 use http_header::{HeaderName, HeaderValue};
 use std::alloc::Global;
 use std::process::Abort;

@@ -1,9 +1,10 @@
 -- What the program does.
 use Rattle.std.specs.Prelude.{◌≡◌, ℕ, Bool, true, List, [], Option, Some, Result, Ok, Err}
 use Rattle.std.specs.Option.{option_map}
-use Rattle.dav_memfs.specs.MemFs.{memory_of, store_of}
-use Rattle.dav_memfs.specs.Memory.{first_memory}
-use Rattle.dav_memfs.specs.declared.memory.MemFs.{MemFs}
+use Rattle.dav_tree.specs.TreeFs.{memory_of, store_of, honest_of}
+use Rattle.dav_tree.specs.Memory.{first_memory}
+use Rattle.dav_tree.specs.declared.medium.Medium.{Ghosts}
+use Rattle.dav_tree.specs.declared.tree_fs.TreeFs.{TreeFs}
 use Rattle.dav_memls.specs.MemLs.{list_of, locks_of}
 use Rattle.dav_memls.specs.declared.memory_locks.MemLs.{MemLs}
 use Rattle.dav_server.specs.Exchanges.{Runs}
@@ -12,20 +13,16 @@ use Rattle.davd.specs.Options.{OptionsValue, options_of}
 use Rattle.davd.specs.declared.program.Stopped.{Stopped}
 use Rattle.davd.specs.declared.program.Stopped.TheVariants.{Usage}
 
--- the medium of a store in memory is honest
-abbrev pub is_honest : MemFs → Bool
-is_honest store = true
-
 -- a run with the options that the arguments say, which begins with a store that has only its root, without locks, at time 0 and before batch 1
-pub record ServesAll (arguments : List (List ℕ)) (input input' output output' : Option (List ℕ)) : Type 0 where
+pub record ServesAll {M B : Type 0} (medium : Ghosts M B) (arguments : List (List ℕ)) (input input' output output' : Option (List ℕ)) : Type 0 where
   pub options : OptionsValue
   pub read : options_of arguments ≡ Some options
-  pub store : MemFs
+  pub store : TreeFs M B medium
   pub locks : MemLs
   pub empty : memory_of store ≡ first_memory 0 (option_map Some options.quota)
   pub unlocked : list_of locks ≡ []
   pub final : ServerState
-  pub runs : Runs store_of is_honest (first_rules options.prefix options.anyone_unlocks) (first_state (store_of store) (locks_of locks)) final input input' output output'
+  pub runs : Runs (store_of {g = medium}) honest_of (first_rules options.prefix options.anyone_unlocks) (first_state (store_of store) (locks_of locks)) final input input' output output'
 
 -- the exit status: 0 at the end of the input, 2 for wrong arguments, 3 if a stream failed or memory ran out
 abbrev pub status_of : Result (Unit {0}) Stopped → ℕ

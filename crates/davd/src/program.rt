@@ -2,17 +2,17 @@
 ghost use Rattle.std.specs.Prelude.{◌≡◌, ◌⊎◌, Err, IfOk, OnOk, None, Some};
 ghost use Rattle.std.specs.Option.{option_map};
 ghost use Rattle.std.specs.Io.KnownBytes.{IsAtEnd};
-ghost use Rattle.dav_memfs.specs.MemFs.{memory_of};
-ghost use Rattle.dav_memfs.specs.Memory.{first_memory};
 ghost use Rattle.dav_resource.specs.Texts.{texts};
+ghost use Rattle.dav_tree.specs.TreeFs.{memory_of};
+ghost use Rattle.dav_tree.specs.Memory.{first_memory};
 ghost use Rattle.davd.specs.Options.{options_of};
 ghost use Rattle.davd.specs.Program.{ServesAll, status_of};
 
 use crate::options::read_options;
-use dav_memfs::MemFs;
 use dav_memls::MemLs;
 use dav_resource::{FsError, FsResult};
 use dav_server::Server;
+use dav_tree::{InMemory, Medium, MemFs};
 use std::alloc::{AllocError, AllocFailed, Global};
 use std::io::{self, ErrorKind, Read, Write};
 
@@ -74,7 +74,7 @@ pub fn run_program<I: Read, O: Write>(
     input: &mut I,
     output: &mut O,
 ) -> Result<(), Stopped>
-    ensures served { OnOk result (ServesAll (texts arguments.now) (I.remaining input.old) (I.remaining input.new) (O.contents output.old) (O.contents output.new)) }
+    ensures served { OnOk result (ServesAll ⟦<InMemory as Medium>⟧ (texts arguments.now) (I.remaining input.old) (I.remaining input.new) (O.contents output.old) (O.contents output.new)) }
     ensures end { OnOk result (IsAtEnd (I.remaining input.new)) }
     ensures usage { result ≡ Err Stopped.Usage → options_of (texts arguments.now) ≡ None }
     ensures wrong { options_of (texts arguments.now) ≡ None → (result ≡ Err Stopped.Usage) ⊎ (result ≡ Err Stopped.Memory) }

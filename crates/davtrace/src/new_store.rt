@@ -1,8 +1,8 @@
 //! A new store that a script starts over with.
 use dav_headers::read_number;
-use dav_memfs::MemFs;
 use dav_resource::FsResult;
 use dav_script::{Fault, LineError};
+use dav_tree::MemFs;
 use std::alloc::Global;
 
 /// A store that has only the root.

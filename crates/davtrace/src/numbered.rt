@@ -3,10 +3,10 @@ ghost use Rattle.std.specs.Prelude.{◌≤◌};
 ghost use Rattle.dav_store.specs.Calls.{IsOwn};
 
 use dav_headers::read_number;
-use dav_memfs::MemFs;
 use dav_refusing::Refusing;
 use dav_resource::FsError;
 use dav_script::{Fault, LineError, refusal_error};
+use dav_tree::MemFs;
 
 /// A call to refuse, by its number.
 #[derive(Drop)]

@@ -6,11 +6,11 @@ use crate::answers::{
 use crate::change::{Change, patches_of};
 use crate::property::read_property;
 use dav_headers::read_number;
-use dav_memfs::MemFs;
 use dav_refusing::Refusing;
 use dav_resource::{DavFile, DavPath, DavProp, FsResult, OpenOptions};
 use dav_script::{Fault, LineError, Stopped, read_path};
 use dav_store::GuardedFileSystem;
+use dav_tree::MemFs;
 use std::alloc::Global;
 use std::io::Write;
 

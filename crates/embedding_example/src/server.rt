@@ -3,8 +3,8 @@ use dav_engine::{
     Body, DavError, DavInner, DavMethod, DavRequest, DavResult, FsResult, GuardedFileSystem,
     UpdateRange, read_content_range, read_update_range,
 };
-use dav_memfs::MemFs;
 use dav_memls::MemLs;
+use dav_tree::MemFs;
 use http::{Response, StatusCode};
 use std::alloc::Global;
 

@@ -4,8 +4,8 @@
 
 use anyhow::{Context, Result};
 use dav_engine::{Body, DavInner, DavPath, DavRequest, Element, Items, LockToken, ReqBody};
-use dav_memfs::MemFs;
 use dav_memls::MemLs;
+use dav_tree::MemFs;
 use http::{Method, Response};
 use http_header::HeaderMap;
 use std::alloc::Global;

@@ -1,7 +1,0 @@
-use Rattle.std.specs.Prelude.{◌≡◌, take}
-use Rattle.std.specs.List.{fold}
-use Rattle.dav_memfs.specs.Moves.{moves, release}
-use Rattle.dav_memfs.proofs.memory.entries.Entries.release.Given as goal
-
-abbrev pub invariant-loop-step : goal.invariant-loop-step
-invariant-loop-step l = l.self ≡ fold release l.fn.self (take l.step-index (moves l.plan))

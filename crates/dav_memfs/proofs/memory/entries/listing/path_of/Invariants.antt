@@ -1,6 +1,0 @@
-use Rattle.std.proofs.Common.{◌≡◌, take}
-use Rattle.dav_resource.specs.Texts.{texts}
-use Rattle.dav_memfs.proofs.memory.entries.listing.path_of.Given as goal
-
-abbrev pub invariant-loop-segment : goal.invariant-loop-segment
-invariant-loop-segment l = l.path.key ≡ texts (take l.segment-index l.key)

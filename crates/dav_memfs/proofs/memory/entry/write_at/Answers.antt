@@ -1,6 +1,0 @@
-use Rattle.std.proofs.Common.{arith}
-use Rattle.dav_memfs.proofs.Bytes.{written-lengthened}
-use Rattle.dav_memfs.proofs.memory.entry.write_at.Goals as goal
-
-pub returns-clause-ok : goal.returns-clause-ok
-returns-clause-ok c = written-lengthened _ _ _ _ c.args.place (λ none. grind (arith, c.is_empty.ensures, none, c.if-is_empty.false)) c.in_ok-lengthen.ensures.ok c.overwrite.ensures

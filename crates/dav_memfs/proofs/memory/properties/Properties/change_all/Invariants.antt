@@ -1,8 +1,0 @@
-use Rattle.std.proofs.Common.{◌≡◌}
-use Rattle.dav_memfs.specs.OrderedMaps.{seen_entries}
-use Rattle.dav_memfs.specs.PropertyNames.{key_of}
-use Rattle.dav_memfs.proofs.Patching.{change_each}
-use Rattle.dav_memfs.proofs.memory.properties.Properties.change_all.Given as goal
-
-abbrev pub invariant-loop-name : goal.invariant-loop-name
-invariant-loop-name l = change_each l.self (seen_entries key_of l.name-iterator) ≡ change_each l.fn.self (seen_entries key_of l.fn.changed.entries)

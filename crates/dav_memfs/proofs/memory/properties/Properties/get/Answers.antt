@@ -1,8 +1,0 @@
-use Rattle.std.proofs.Common.{◌∙◌, ap}
-use Rattle.std.specs.FinMap as map
-use Rattle.dav_memfs.specs.PropertyNames.{key_of}
-use Rattle.dav_memfs.proofs.PropertyMaps.{get-properties_of}
-use Rattle.dav_memfs.proofs.memory.properties.Properties.get.Goals as goal
-
-pub returns : goal.returns
-returns c = c.get.ensures.value ∙ get-properties_of c.in_ok-name.name c.self.inside.map ∙ ap (λ m. map.get m (key_of c.in_ok-name.name)) c.self.view_is ∙ ap (map.get c.args.self.now) c.in_ok-name.ensures

@@ -1,8 +1,0 @@
-use Rattle.std.proofs.Common.{◌∙◌, ap, is_some}
-use Rattle.std.specs.FinMap as map
-use Rattle.dav_memfs.specs.PropertyNames.{key_of}
-use Rattle.dav_memfs.proofs.PropertyMaps.{get-properties_of}
-use Rattle.dav_memfs.proofs.memory.properties.Properties.has.Goals as goal
-
-pub returns : goal.returns
-returns c = c.contains_key.ensures ∙ ap is_some (get-properties_of c.args.name.now c.self.inside.map ∙ ap (λ m. map.get m (key_of c.args.name.now)) c.self.view_is)

@@ -1,6 +1,0 @@
-//! An in-memory store.
-#![tactic(auto)]
-
-mod memory;
-
-pub use memory::MemFs;
