@@ -135,6 +135,14 @@ HasExpired now rows n = IsSomeAnd (lock_of n rows) (λ lock. has_expired now loc
 abbrev pub Computes : (Bor DavLock → Bool → Type 0) → (DavLock → Bool) → Type 0
 Computes answers test = (lock : Bor DavLock) (answer : Bool) → answers lock answer → answer ≡ test lock.now
 
+-- whether one of these locks passes the test that the closure computes
+abbrev pub IsAnyBy : (Bor DavLock → Bool → Type 0) → List DavLock → Bool → Type 0
+IsAnyBy answers locks found = (test : DavLock → Bool) → Computes answers test → found ≡ list_any test locks
+
+-- the same of the locks of a register
+abbrev pub IsAnyAmong : (Bor DavLock → Bool → Type 0) → Register → List DavLock → Bool → Type 0
+IsAnyAmong answers register locks found = (test : DavLock → Bool) → Computes answers test → found ≡ list_any (among register test) locks
+
 -- the set contains exactly these numbers
 abbrev pub HasNumbers : BTreeSet ℕ → List ℕ → Type 0
 HasNumbers found numbers = (n : ℕ) → contains nat_cmp found n ≡ list_any (λ m. n == m) numbers

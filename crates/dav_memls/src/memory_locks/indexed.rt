@@ -1,5 +1,5 @@
 //! Locks by number, with an index.
-ghost use Rattle.std.specs.Prelude.{◌≡◌, ◌≤◌, ◌^◌, ℕ, true, false, [], ◌∷◌, ◌++◌, ◌↔◌, length, None, IfOk, IfSome, IsTrue, MatchOption, OnOk, OnErr, Bool};
+ghost use Rattle.std.specs.Prelude.{◌≡◌, ◌≤◌, ◌^◌, ℕ, true, false, [], ◌∷◌, ◌++◌, ◌↔◌, length, None, IfOk, IfSome, IsTrue, MatchOption, OnOk, OnErr};
 ghost use Rattle.std.specs.BTreeMap.{IsOrdered};
 ghost use Rattle.std.specs.List.{filter, find, list_any};
 ghost use Rattle.std.specs.List.Sorted.{IsStrictlySortedBy-prop};
@@ -10,12 +10,11 @@ ghost use Rattle.std.proofs.Props.{props};
 ghost use Rattle.dav_key.specs.Flat.{segments_of, IsFlatText};
 ghost use Rattle.dav_store.specs.declared.lock.DavLock.{DavLock};
 ghost use Rattle.dav_store.specs.Locks.{has_token, covers, covering, at_or_below};
-ghost use Rattle.dav_store.specs.LockCalls.{has_named};
 ghost use Rattle.dav_store.specs.Members.{IsIn};
 ghost use Rattle.dav_memls.specs.Numbers.{IsAbove};
 ghost use Rattle.dav_memls.specs.KeyEntries.{listed};
 ghost use Rattle.dav_memls.specs.Expiry.{unexpired, earliest_expiry};
-ghost use Rattle.dav_memls.specs.LockIndex.{IsIndexed, among, are_within, is_of_key, lock_of, locks_of_numbers, numbers_of, locks_without, locks_refreshed, Computes, IsNamedLock, StandsBelow, HasExpired, HasNumbers, AddsNumbers};
+ghost use Rattle.dav_memls.specs.LockIndex.{IsIndexed, among, are_within, is_of_key, lock_of, locks_of_numbers, numbers_of, locks_without, locks_refreshed, IsAnyBy, IsAnyAmong, StandsBelow, HasExpired, HasNumbers, AddsNumbers};
 
 use super::index::{LockIndex, Register};
 use super::key_text;
@@ -43,7 +42,7 @@ pub struct IndexedLocks {
 }
 
 impl IndexedLocks {
-    ghost use Rattle.dav_memls.specs.IndexedLocks.{locks_in};
+    ghost use Rattle.dav_memls.specs.IndexedLocks.{locks_in, FindsNamed};
 
     /// Creates an empty list of locks.
     pub fn new(alloc: Global) -> IndexedLocks
@@ -95,7 +94,7 @@ impl IndexedLocks {
     /// Returns the lock with this token and its number, if its own path is this path or above it. It makes
     /// one lookup in the index.
     pub fn named(&self, path: &DavPath, token: &str) -> Option<(u64, &DavLock)>
-        ensures { MatchOption result (has_named path.now.key token.now (locks_in self.now) ≡ false) (λ found. IsNamedLock path.now.key token.now self.now.locks.entries found.0 found.1.now) }
+        ensures { FindsNamed path.now.key token.now self.now result }
     {
         let number = self.index.number(token)?;
         let lock = self.of_number(number)?;
@@ -168,7 +167,7 @@ impl IndexedLocks {
         test: F,
     ) -> bool
         requires { F.IsAlwaysCallable test }
-        ensures { (p : DavLock → Bool) → Computes (F.post test) p → result ≡ list_any (among register p) (at_or_below (locks_in self.now) path.now.key) }
+        ensures { IsAnyAmong (F.post test) register (at_or_below (locks_in self.now) path.now.key) result }
     {
         let key = key_text::shared(path);
         for (own, numbers) in self.index.run(register, key) {
@@ -202,7 +201,7 @@ impl IndexedLocks {
     /// Whether a lock with one of these numbers passes the test.
     fn any_of<F: Fn(&DavLock) -> bool>(&self, numbers: &Numbers, test: &F) -> bool
         requires { F.IsAlwaysCallable test.now }
-        ensures { (p : DavLock → Bool) → Computes (F.post test.now) p → result ≡ list_any p (locks_of_numbers numbers.now.set.keys self.now.locks.entries) }
+        ensures { IsAnyBy (F.post test.now) (locks_of_numbers numbers.now.set.keys self.now.locks.entries) result }
     {
         for number in numbers.iter() {
             if let Some(lock) = self.of_number(*number) {
