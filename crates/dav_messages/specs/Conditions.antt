@@ -1,6 +1,6 @@
 -- Conditions of a request (RFC 7232, sections 3.1 and 3.2; RFC 4918, section 10.4), and the calls to a store that evaluate them.
-use Rattle.std.specs.Prelude.{ℕ, nat_eq, Bool, true, false, not, ◌&&◌, if◌then◌else◌, List, [], ◌∷◌, codes, Option, Some, None, Err, is_some, option_map}
-use Rattle.std.specs.Option.{option_map_or}
+use Rattle.std.specs.Prelude.{ℕ, nat_eq, Bool, true, false, not, ◌&&◌, if◌then◌else◌, List, [], ◌∷◌, codes, Option, Some, None, Result, Err, is_some, option_map}
+use Rattle.std.specs.Option.{option_copied, option_map_or}
 use Rattle.std.specs.List.{list_any, filter_map, starts_with, flat_map}
 use Rattle.dav_key.specs.Key.{Key}
 use Rattle.dav_resource.specs.PathText.{PathValue}
@@ -12,6 +12,7 @@ use Rattle.dav_resource.specs.declared.etag.ETagList.TheVariants.{Star, Tags}
 use Rattle.dav_resource.specs.declared.meta.Meta.{Meta}
 use Rattle.dav_resource.specs.declared.method.DavMethod.{DavMethod}
 use Rattle.dav_resource.specs.declared.method.DavMethod.TheVariants.{Get, Head}
+use Rattle.dav_resource.specs.declared.error.DavError.{DavError}
 use Rattle.dav_resource.specs.declared.error.DavError.TheVariants.{Status}
 use Rattle.dav_resource.specs.declared.request.DavRequest.{DavRequest}
 use Rattle.dav_headers.specs.IfHeader.{if_of}
@@ -21,10 +22,11 @@ use Rattle.dav_headers.specs.declared.if_header.IfList.{IfList}
 use Rattle.dav_headers.specs.declared.if_header.IfCondition.{IfCondition}
 use Rattle.dav_headers.specs.declared.if_header.IfItem.{IfItem}
 use Rattle.dav_headers.specs.declared.if_header.IfItem.TheVariants.{StateToken, ETag as EntityTag}
-use Rattle.dav_store.specs.Store.{Contents}
+use Rattle.dav_store.specs.Store.{Store, Contents}
 use Rattle.dav_store.specs.Locks.{Locks, permits}
 use Rattle.dav_store.specs.declared.lock.DavLock.{DavLock}
-use Rattle.dav_messages.specs.Dialogue.{Dialogue, Refuses, Passed, look_up, ◌>>=◌}
+use Rattle.dav_messages.specs.Dialogue.{Dialogue, Refuses, Passed, Judges, look_up, ◌>>=◌}
+use denote.Ref.{Bor}
 
 -- ---- If-Match, If-None-Match, If-Range
 
@@ -183,3 +185,8 @@ module _ (contents : Contents) (locks : Option (List DavLock)) (request : DavReq
   -- If-Match and If-None-Match are evaluated first. If they reject the request, no call is made.
   abbrev pub conditions : Option Meta → PathValue → Dialogue (List (List ℕ))
   conditions found path = unless_refused (http_verdict request found) (dav_if_match path >>= tokens_where)
+
+-- Evaluating the condition made the calls that it makes on these contents and under these locks, and returned what it ends in. Nothing changed except
+-- the log.
+abbrev pub Evaluates : {F L A : Type 0} → (F → Store) → (L → Locks) → (Contents → Option (List DavLock) → Dialogue A) → F → Option (Bor L) → Result A DavError → F → Type 0
+Evaluates store_of locks_of condition old ls verdict new = Judges (condition (store_of old).contents (locks_in locks_of (option_copied ls))) (store_of old) verdict (store_of new)

@@ -2,8 +2,7 @@
 ghost use Rattle.std.specs.Prelude.{◌≡◌, if◌then◌else◌, Ok, Err, IfOk, option_copied};
 ghost use Rattle.dav_resource.specs.Gives.{GivesBy};
 ghost use Rattle.dav_resource.specs.declared.error.DavError.TheVariants.{Status};
-ghost use Rattle.dav_messages.specs.Dialogue.{Judges};
-ghost use Rattle.dav_messages.specs.Conditions.{locks_in, is_tagged, list_matches, current_tag, if_match_fails as fails_if_match, if_none_match_fails as fails_if_none_match, none_match_status as status_of_method, none_match_verdict as verdict_of_none_match, http_verdict, verdict_after as verdict_of_if, submitted_tokens as submitted_tokens_of, dav_if_match as dav_if_match_of, if_match as if_match_of, conditions};
+ghost use Rattle.dav_messages.specs.Conditions.{Evaluates, is_tagged, list_matches, current_tag, if_match_fails as fails_if_match, if_none_match_fails as fails_if_none_match, none_match_status as status_of_method, none_match_verdict as verdict_of_none_match, http_verdict, verdict_after as verdict_of_if, submitted_tokens as submitted_tokens_of, dav_if_match as dav_if_match_of, if_match as if_match_of, conditions};
 
 use crate::if_header::{if_holds, submitted_tokens};
 use dav_headers::{read_if, read_if_match, read_if_none_match};
@@ -133,7 +132,7 @@ pub fn dav_if_match<C, F: GuardedFileSystem<C>, L: DavLockSystem>(
     credentials: &C,
 ) -> DavResult<(bool, Items<Text>)>
     ensures tokens { IfOk result (λ held. held.1 ≡ submitted_tokens_of req.entry.now) }
-    ensures judged { Judges (dav_if_match_of (F.seen fs.old).contents (locks_in L.seen (option_copied ls.entry)) req.entry.now path.now) (F.seen fs.old) result (F.seen fs.new) }
+    ensures judged { Evaluates F.seen L.seen (λ c l. dav_if_match_of c l req.entry.now path.now) fs.old ls.entry result fs.new }
 {
     let lists = read_if(alloc, &req.headers)?;
     let tokens = submitted_tokens(alloc, lists.as_ref())?;
@@ -153,7 +152,7 @@ pub fn if_match<C, F: GuardedFileSystem<C>, L: DavLockSystem>(
     path: &DavPath,
     credentials: &C,
 ) -> DavResult<Option<StatusCode>>
-    ensures { Judges (if_match_of (F.seen fs.old).contents (locks_in L.seen (option_copied ls.entry)) req.entry.now (option_copied meta.entry) path.now) (F.seen fs.old) result (F.seen fs.new) }
+    ensures { Evaluates F.seen L.seen (λ c l. if_match_of c l req.entry.now (option_copied meta.entry) path.now) fs.old ls.entry result fs.new }
 {
     let lists = read_if(alloc, &req.headers)?;
     let holds = if_holds(alloc, lists.as_ref(), fs, ls, path, credentials)?;
@@ -192,7 +191,7 @@ pub fn if_match_get_tokens<C, F: GuardedFileSystem<C>, L: DavLockSystem>(
     credentials: &C,
 ) -> DavResult<Items<Text>>
     ensures tokens { IfOk result (λ tokens. tokens ≡ submitted_tokens_of req.entry.now) }
-    ensures judged { Judges (conditions (F.seen fs.old).contents (locks_in L.seen (option_copied ls.entry)) req.entry.now (option_copied meta.entry) path.now) (F.seen fs.old) result (F.seen fs.new) }
+    ensures judged { Evaluates F.seen L.seen (λ c l. conditions c l req.entry.now (option_copied meta.entry) path.now) fs.old ls.entry result fs.new }
 {
     if let Some(status) = http_if_match(alloc, req, meta)? {
         return Err(DavError::Status(status));

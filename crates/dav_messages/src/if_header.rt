@@ -2,7 +2,7 @@
 ghost use Rattle.std.specs.Prelude.{◌≡◌, ◌++◌, Some, Ok, IfOk, option_map, option_copied};
 ghost use Rattle.dav_resource.specs.Gives.{GivesBy};
 ghost use Rattle.dav_messages.specs.Dialogue.{Judges};
-ghost use Rattle.dav_messages.specs.Conditions.{locks_in, token_of, tokens_in, all_tokens, token_holds, tag_holds, item_holds, item_holds_at, turned as turned_by, condition_holds, all_hold, key_of_list, conditions_hold, any_holds, lists_hold};
+ghost use Rattle.dav_messages.specs.Conditions.{Evaluates, locks_in, token_of, tokens_in, all_tokens, token_holds, tag_holds, item_holds, item_holds_at, turned as turned_by, condition_holds, all_hold, key_of_list, conditions_hold, any_holds, lists_hold};
 
 use crate::conditional::{current_tag, is_tagged};
 use crate::lookup::look_up;
@@ -58,7 +58,7 @@ pub(crate) fn if_holds<C, F: GuardedFileSystem<C>, L: DavLockSystem>(
     path: &DavPath,
     credentials: &C,
 ) -> DavResult<bool>
-    ensures { Judges (lists_hold (F.seen fs.old).contents (locks_in L.seen (option_copied ls.entry)) path.now (option_copied lists.entry)) (F.seen fs.old) result (F.seen fs.new) }
+    ensures { Evaluates F.seen L.seen (λ c l. lists_hold c l path.now (option_copied lists.entry)) fs.old ls.entry result fs.new }
 {
     match lists {
         Some(lists) => any_holds(alloc, lists.as_slice(), fs, ls, path, credentials),
@@ -76,7 +76,7 @@ fn any_holds<C, F: GuardedFileSystem<C>, L: DavLockSystem>(
     path: &DavPath,
     credentials: &C,
 ) -> DavResult<bool>
-    ensures { Judges (any_holds (F.seen fs.old).contents (locks_in L.seen (option_copied ls.entry)) path.now (Some path.now.key) lists.now) (F.seen fs.old) result (F.seen fs.new) }
+    ensures { Evaluates F.seen L.seen (λ c l. any_holds c l path.now (Some path.now.key) lists.now) fs.old ls.entry result fs.new }
 {
     let mut about = Some(path.clone()?);
     for list in lists {
@@ -113,7 +113,7 @@ fn conditions_hold<C, F: GuardedFileSystem<C>, L: DavLockSystem>(
     path: Option<&DavPath>,
     credentials: &C,
 ) -> DavResult<bool>
-    ensures { Judges (conditions_hold (F.seen fs.old).contents (locks_in L.seen (option_copied ls.entry)) (option_map (λ p. p.now.key) path.entry) conditions.now) (F.seen fs.old) result (F.seen fs.new) }
+    ensures { Evaluates F.seen L.seen (λ c l. conditions_hold c l (option_map (λ p. p.now.key) path.entry) conditions.now) fs.old ls.entry result fs.new }
 {
     if conditions.is_empty() {
         return Ok(false);
@@ -128,7 +128,7 @@ fn all_hold<C, F: GuardedFileSystem<C>, L: DavLockSystem>(
     path: Option<&DavPath>,
     credentials: &C,
 ) -> DavResult<bool>
-    ensures { Judges (all_hold (F.seen fs.old).contents (locks_in L.seen (option_copied ls.entry)) (option_map (λ p. p.now.key) path.entry) conditions.now) (F.seen fs.old) result (F.seen fs.new) }
+    ensures { Evaluates F.seen L.seen (λ c l. all_hold c l (option_map (λ p. p.now.key) path.entry) conditions.now) fs.old ls.entry result fs.new }
 {
     for condition in conditions {
         if !condition_holds(condition, fs, ls, path, credentials)? {
@@ -147,7 +147,7 @@ fn condition_holds<C, F: GuardedFileSystem<C>, L: DavLockSystem>(
     path: Option<&DavPath>,
     credentials: &C,
 ) -> DavResult<bool>
-    ensures { Judges (condition_holds (F.seen fs.old).contents (locks_in L.seen (option_copied ls.entry)) (option_map (λ p. p.now.key) path.entry) condition.now) (F.seen fs.old) result (F.seen fs.new) }
+    ensures { Evaluates F.seen L.seen (λ c l. condition_holds c l (option_map (λ p. p.now.key) path.entry) condition.now) fs.old ls.entry result fs.new }
 {
     let holds = item_holds_at(&condition.item, fs, ls, path, credentials)?;
     Ok(turned(condition.not, holds))
@@ -167,7 +167,7 @@ fn item_holds_at<C, F: GuardedFileSystem<C>, L: DavLockSystem>(
     path: Option<&DavPath>,
     credentials: &C,
 ) -> DavResult<bool>
-    ensures { Judges (item_holds_at (F.seen fs.old).contents (locks_in L.seen (option_copied ls.entry)) (option_map (λ p. p.now.key) path.entry) item.now) (F.seen fs.old) result (F.seen fs.new) }
+    ensures { Evaluates F.seen L.seen (λ c l. item_holds_at c l (option_map (λ p. p.now.key) path.entry) item.now) fs.old ls.entry result fs.new }
 {
     match path {
         Some(path) => item_holds(item, fs, ls, path, credentials),
@@ -182,7 +182,7 @@ fn item_holds<C, F: GuardedFileSystem<C>, L: DavLockSystem>(
     path: &DavPath,
     credentials: &C,
 ) -> DavResult<bool>
-    ensures { Judges (item_holds (F.seen fs.old).contents (locks_in L.seen (option_copied ls.entry)) path.now.key item.now) (F.seen fs.old) result (F.seen fs.new) }
+    ensures { Evaluates F.seen L.seen (λ c l. item_holds c l path.now.key item.now) fs.old ls.entry result fs.new }
 {
     match item {
         IfItem::StateToken(token) => Ok(token_holds(ls, path, token)),
