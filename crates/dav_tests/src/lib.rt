@@ -35,19 +35,11 @@ pub fn serve_over<'a, F: GuardedFileSystem<()>, L: DavLockSystem>(
 }
 
 #[cfg(test)]
-mod bodies;
-#[cfg(test)]
-mod changes;
-#[cfg(test)]
 mod conditions;
 #[cfg(test)]
 mod engine;
 #[cfg(test)]
 mod fixture;
-#[cfg(test)]
-mod handing;
-#[cfg(test)]
-mod noting;
 #[cfg(test)]
 mod outline;
 #[cfg(test)]

@@ -4,8 +4,8 @@ ghost use Rattle.std.specs.Prelude.{◌≡◌, IfOk, Some, codes};
 ghost use Rattle.dav_store.specs.Store.{property_key};
 ghost use Rattle.dav_store.specs.PropertyCalls.{IsWhole, name_of};
 
-use crate::fixture::text_of;
 use crate::noting::{Noting, show_property};
+use crate::texts::text_of;
 use dav_refusing::Refusing;
 use dav_resource::{
     BodyNumber, DavFile, DavPath, DavProp, DavResult, DirEntry, Element, FsError, FsResult, Op,

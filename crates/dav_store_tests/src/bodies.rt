@@ -1,5 +1,5 @@
 //! Tests reads of bytes and bodies by number, in a store in memory and in one that refuses calls.
-use crate::fixture::path_of;
+use crate::texts::path_of;
 use dav_refusing::Refusing;
 use dav_resource::{BodyNumber, DavFile, DavPath, FsError, FsResult, Op, OpenOptions, Record};
 use dav_store::GuardedFileSystem;
