@@ -15,25 +15,47 @@ fn member(rt: &impl Abort, above: &FlatKey, name: &str) -> Result<FlatKey, Alloc
     above.child(name)
 }
 
+/// Moves a value to a member of a key, and returns the member's key.
+fn rename(
+    rt: &impl Abort,
+    noted: &mut NotedNodes<u8>,
+    from: &FlatKey,
+    above: &FlatKey,
+    name: &str,
+) -> Result<FlatKey, AllocError> {
+    let to = member(rt, above, name)?;
+    assert!(rt; !from.is_at_or_below(&to));
+    assert!(rt; !to.is_at_or_below(from));
+    assert!(rt; noted.find(from).is_some());
+    assert!(rt; noted.find(&to).is_none());
+    assert!(rt; noted.find(above).is_some());
+    noted.rename(from, &to)?;
+    Ok(to)
+}
+
+/// Adds a value at a member of a key, and returns the member's key and the number.
+fn add(
+    rt: &impl Abort,
+    noted: &mut NotedNodes<u8>,
+    above: &FlatKey,
+    name: &str,
+    value: u8,
+) -> Result<(FlatKey, usize), AllocError> {
+    let key = member(rt, above, name)?;
+    assert!(rt; noted.find(&key).is_none());
+    assert!(rt; noted.find(above).is_some());
+    let number = noted.add(&key, value)?;
+    Ok((key, number))
+}
+
 #[test]
 fn a_rename_notes_one_number(rt: HostRuntime) -> Result<(), Fail> {
     let root = FlatKey::root(rt.alloc())?;
-    let (from, to) = (member(&rt, &root, "a")?, member(&rt, &root, "b")?);
     let mut noted = NotedNodes::new(rt.alloc(), 0u8)?;
-    assert!(rt; noted.find(&root).is_some());
-    assert!(rt; noted.find(&from).is_none());
-    let moved = noted.add(&from, 1)?;
-    let below = member(&rt, &from, "c")?;
-    assert!(rt; noted.find(&from).is_some());
-    assert!(rt; noted.find(&below).is_none());
-    let beside = noted.add(&below, 2)?;
+    let (from, moved) = add(&rt, &mut noted, &root, "a", 1)?;
+    let (_, beside) = add(&rt, &mut noted, &from, "c", 2)?;
     noted.take_changes();
-    assert!(rt; !from.is_at_or_below(&to));
-    assert!(rt; !to.is_at_or_below(&from));
-    assert!(rt; noted.find(&from).is_some());
-    assert!(rt; noted.find(&to).is_none());
-    assert!(rt; noted.find(&root).is_some());
-    noted.rename(&from, &to)?;
+    let to = rename(&rt, &mut noted, &from, &root, "b")?;
     assert!(rt; noted.find(&member(&rt, &to, "c")?) == Some(beside));
     let changes = noted.take_changes();
     assert!(rt; changes.contains(moved));
