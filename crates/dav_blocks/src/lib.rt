@@ -1,0 +1,8 @@
+//! Runs of bytes in one data file on a disk.
+#![tactic(auto)]
+
+mod block_file;
+mod run;
+
+pub use block_file::BlockFile;
+pub use run::Run;

@@ -1,0 +1,9 @@
+pub mod Runs
+pub mod Hashing
+pub mod Bodies
+pub mod Keeping
+pub mod Adding
+pub mod Reading
+pub mod Growing
+pub mod Appending
+pub mod Causes

@@ -1,0 +1,12 @@
+use Rattle.std.proofs.Common.{◌+◌, [], refl}
+use Rattle.std.proofs.lemmas.Bool.{leb-true}
+use Rattle.dav_blocks.proofs.Keeping.{run-kept, clear-run}
+use Rattle.dav_data.proofs.Bodies.{body-kept, body-bytes}
+use Rattle.dav_data.proofs.data_file.DataFile.open.Goals as goal
+
+pub returns-clause-held : goal.returns-clause-held
+returns-clause-held g c = λ body below. body-kept _ _ (λ at n is. c.in_ok-open.ensures.safe at n (leb-true (at + n) c.args.end is)) body below
+
+pub returns-clause-same : goal.returns-clause-same
+returns-clause-same g c = λ honest body below.
+    body-bytes _ _ _ (λ at n is. run-kept [] c.args.end at n _ _ (c.in_ok-open.ensures.same honest) (leb-true (at + n) c.args.end is) (clear-run [] at n refl)) body below

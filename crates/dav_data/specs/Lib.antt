@@ -1,0 +1,5 @@
+pub mod Runs
+pub mod Errors
+pub mod Digests
+pub mod Data
+pub mod Owning

@@ -1,0 +1,86 @@
+//! The data file, of which bodies are lists of pieces.
+ghost use Rattle.std.specs.Prelude.{◌≡◌, ◌≤◌, ◌<◌, ◌^◌, ℕ, List, All, true, is_ok, IfOk, IfErr, OnOk, OnErr};
+ghost use Rattle.dav_pieces.specs.declared.piece.Piece.{Piece};
+ghost use Rattle.dav_pieces.specs.Pieces.{bytes_of};
+ghost use Rattle.dav_space.specs.declared.range.TheConstants.{LIMIT};
+ghost use Rattle.dav_blocks.specs.Blocks as blocks;
+ghost use Rattle.dav_data.specs.Digests.{AreHashed};
+
+mod reading;
+mod sweeping;
+mod writing;
+
+use crate::hash::Tail;
+use dav_blocks::BlockFile;
+use dav_space::Range;
+use sqlite_disk::Disk;
+use std::alloc::Global;
+use std::io;
+
+/// A data file, which holds what files contain as blocks, each with a digest.
+///
+/// Bytes are written only where no block is in use, and nothing is read in order to write. After an error
+/// nothing in use has changed. After a sync that fails every call fails.
+#[derive(Drop)]
+pub struct DataFile<D: Disk> {
+    file: BlockFile<D>,
+    /// The key of the digests.
+    key: u64,
+    /// The blocks that may grow, the oldest first.
+    tails: Vec<Tail>,
+    /// What the sweep under way has found in use.
+    marks: Vec<Range>,
+    /// Whether nothing is given up when the sweep ends: none is under way, or memory ran out in it.
+    keeps_all: bool,
+    ghost hashed: { AreHashed key (blocks.data_of file) (blocks.in_use file) tails.items },
+    ghost marked: { All (λ r. r.end ≤ LIMIT) marks.items },
+}
+
+impl<D: Disk> DataFile<D> {
+    ghost use Rattle.dav_data.specs.Data.{is_below, is_honest, is_usable, may_leave, key_of, body_bytes, is_held, is_synced, HasFailed, KeepsSweep, IsIdle};
+
+    /// Opens the data file of which all bytes up to a place are in use. What is after them is cut off. It is an
+    /// error if the file is shorter, or the disk fails. `key` is the key of the digests of its blocks.
+    pub fn open(alloc: Global, disk: D, key: u64, end: usize) -> io::Result<DataFile<D>>
+    where
+        D: Drop,
+        requires usable { D.Disk.is_usable disk ≡ true }
+        requires below { end < 2 ^ 63 }
+        ensures held { IfOk result (λ it. (body : List Piece) → is_below end body ≡ true → is_synced it body ≡ true) }
+        ensures same { IfOk result (λ it. is_honest it ≡ true → (body : List Piece) → is_below end body ≡ true → body_bytes it body ≡ bytes_of (D.Disk.seen disk) body) }
+        ensures key { IfOk result (λ it. key_of it ≡ key) }
+        ensures idle { IfOk result IsIdle }
+        ensures usable { IfOk result (λ it. is_usable it ≡ true) }
+        ensures err { IfErr result (blocks.IsNotOpened D.Disk disk end) }
+    {
+        Ok(DataFile {
+            file: BlockFile::open(alloc, disk, end)?,
+            key,
+            tails: Vec::new(alloc),
+            marks: Vec::new(alloc),
+            keeps_all: true,
+        })
+    }
+
+    /// Brings all that was written to the disk. After an error every later call fails.
+    pub fn sync(&mut self) -> io::Result<()>
+        ensures synced { OnOk result ((body : List Piece) → is_held self.old body ≡ true → is_synced self.new body ≡ true) }
+        ensures held { (body : List Piece) → is_held self.old body ≡ true → is_held self.new body ≡ true }
+        ensures same { (body : List Piece) → is_held self.old body ≡ true → body_bytes self.new body ≡ body_bytes self.old body }
+        ensures safe { (body : List Piece) → is_synced self.old body ≡ true → is_synced self.new body ≡ true }
+        ensures key { key_of self.new ≡ key_of self.old }
+        ensures sweep { KeepsSweep self.old self.new }
+        ensures err { OnErr result (HasFailed self.old self.new) }
+        ensures usable { is_usable self.new ≡ is_ok result }
+        ensures honest { is_honest self.new ≡ is_honest self.old }
+    {
+        self.file.sync()
+    }
+
+    /// Says what a crash leaves: the bytes of each body that was held at the last sync.
+    pub fn show_synced(&self)
+        ensures { (c : List ℕ) → may_leave self.now c → (body : List Piece) → is_synced self.now body ≡ true → bytes_of c body ≡ body_bytes self.now body }
+    {
+        self.file.synced();
+    }
+}

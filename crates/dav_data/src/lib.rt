@@ -1,0 +1,11 @@
+//! A medium whose bodies are in one data file.
+#![tactic(auto)]
+
+mod data_file;
+mod hash;
+mod medium;
+#[cfg(test)]
+mod tests;
+
+pub use data_file::DataFile;
+pub use dav_pieces::{Block, Body, Piece};

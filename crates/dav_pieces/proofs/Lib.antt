@@ -1,0 +1,4 @@
+pub mod RunBytes
+pub mod PieceLaws
+pub mod CutSteps
+pub mod Growing

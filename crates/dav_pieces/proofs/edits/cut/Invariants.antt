@@ -1,0 +1,12 @@
+use Rattle.std.proofs.Common.{◌≡◌, ◌-◌, ℕ, Bool, true, List, take, drop}
+use Rattle.dav_pieces.specs.declared.piece.Block.{Block}
+use Rattle.dav_pieces.specs.Pieces.{bytes_of, size_of, are_sound}
+use Rattle.dav_pieces.proofs.edits.cut.Given as goal
+
+abbrev pub invariant-loop-piece : goal.invariant-loop-piece
+invariant-loop-piece l = record {
+  bytes : (file : List ℕ) → bytes_of file l.out.items ≡ take l.count (drop l.place (bytes_of file (take l.piece-index l.pieces)));
+  skip : l.skip ≡ l.place - size_of (take l.piece-index l.pieces);
+  left : l.left ≡ l.count - (size_of (take l.piece-index l.pieces) - l.place);
+  sound : (test : Block → Bool) → are_sound test l.pieces ≡ true → are_sound test l.out.items ≡ true;
+}
