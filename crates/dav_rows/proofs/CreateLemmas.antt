@@ -1,0 +1,137 @@
+-- What CREATE TABLE makes.
+use Rattle.std.proofs.Common.{◌≡◌, ℕ, zero, suc, ◌+◌, List, [], ◌∷◌, ◌++◌, length, map, false, None, Ok, Err, Result, OnOk, refl, sym, ap, subst, ◌∙◌, ◌<◌, get_or, arith, int_cmp}
+use Rattle.std.specs.List.{AllByRecursion}
+use Rattle.std.specs.FinMap.{entries, empty, len-empty, len-entries}
+use Rattle.sqlite.specs.Command.TheVariants.{CreateTable}
+use Rattle.sqlite.specs.Compile.{table_defined_by}
+use Rattle.sqlite.specs.Table.{Table}
+use Rattle.sqlite.specs.Change.{created, next_tree}
+use Rattle.sqlite_catalog.specs.Change.{KeepsRows}
+use Rattle.sqlite.specs.Does.{Tally, lacks_sequence}
+use Rattle.sqlite.specs.Effect.{Database, IsDatabase}
+use Rattle.sqlite.specs.declared.error.Error.{Error}
+use Rattle.sqlite_tied.specs.Compute.{everything}
+use Rattle.sqlite.specs.Order.{Row}
+use Rattle.sqlite.specs.Tree.{Trees}
+use Rattle.sqlite.specs.Listing.{understood}
+use Rattle.sqlite.specs.State.{State, Writes, ExecutesInside}
+use Rattle.sqlite.proofs.Callers.{IsPlain, command_of, statement_of, runs_as}
+use Rattle.dav_rows.specs.declared.change.Table.{Table as Name}
+use Rattle.dav_rows.specs.declared.change.Table.TheVariants.{Resource, Extent, Property, Lock, State as TheState}
+use Rattle.dav_rows.specs.Texts.{creation}
+use Rattle.dav_rows.specs.Tables.{rows_schema}
+use Rattle.dav_rows.specs.Stored.{stored, AreRows, IsOurs}
+use Rattle.dav_rows.specs.Contents.{Holds}
+use Rattle.dav_rows.specs.declared.state.StateRow.{StateRow}
+use Rattle.dav_rows.specs.Changes.{put_state}
+use Rattle.dav_rows.specs.Saving.{IsReady, Edits}
+use Rattle.dav_rows.specs.Creating.{place, nothing, first, schema_of, AreEmpty, IsBare, IsBuilt, IsFilled, IsWhole}
+use Rattle.dav_rows.proofs.ChangeLemmas.{went, same_value, ours}
+
+-- the text makes the table behind the first so many
+record Makes (count : ℕ) (text : List ℕ) : Type 0 where
+  pub command : command_of (understood (schema_of count) text) ≡ CreateTable
+  pub plain : IsPlain (understood (schema_of count) text)
+  pub whole : statement_of text (understood (schema_of count) text) ≡ text
+  pub table : Table
+  pub defined : table_defined_by text ≡ Ok table
+  pub next : created (schema_of count) table ≡ schema_of (count + 1)
+  pub uncounted : lacks_sequence (schema_of (count + 1)) ≡ false
+
+makes : (name : Name) → Makes (place name) (creation name)
+unfolding understood everything
+makes Resource = record { command = refl; plain = (refl, refl); whole = refl; table = _; defined = refl; next = refl; uncounted = refl }
+makes Extent = record { command = refl; plain = (refl, refl); whole = refl; table = _; defined = refl; next = refl; uncounted = refl }
+makes Property = record { command = refl; plain = (refl, refl); whole = refl; table = _; defined = refl; next = refl; uncounted = refl }
+makes Lock = record { command = refl; plain = (refl, refl); whole = refl; table = _; defined = refl; next = refl; uncounted = refl }
+makes TheState = record { command = refl; plain = (refl, refl); whole = refl; table = _; defined = refl; next = refl; uncounted = refl }
+
+still_empty : (ts : List Table) (old new : Trees) → KeepsRows ts old new → AllByRecursion (λ t. old t.tree ≡ []) ts → AllByRecursion (λ t. new t.tree ≡ []) ts
+still_empty [] old new kept were = tt
+still_empty (t ∷ ts) old new kept were = (kept.0 ∙ were.0, still_empty ts old new kept.1 were.1)
+
+one_more : (ts : List Table) (t : Table) (db : Trees) → AllByRecursion (λ t. db t.tree ≡ []) ts → db t.tree ≡ [] → AllByRecursion (λ t. db t.tree ≡ []) (ts ++ t ∷ [])
+one_more [] t db all here = (here, tt)
+one_more (s ∷ ts) t db all here = (all.0, one_more ts t db all.1 here)
+
+builds : (count : ℕ) (text : List ℕ) → Makes count text → (old new : State) (r : Result ℕ Error) → ExecutesInside 0 text [] old new r → IsBuilt count old → OnOk r (IsBuilt (count + 1) new × (new.committed ≡ old.committed))
+builds count text it old new (Err e) ran built = tt
+builds count text it old new (Ok rows) ran built =
+    let w = subst (λ t. Writes old new None CreateTable t [] rows) it.whole (runs_as text [] old new (schema_of count) built.schema CreateTable it.command it.plain rows ran.0) in
+    let all = went w.changed in
+    let first = went all.1 in
+    let made = first.1 in
+    let both : Ok made.table ≡ Ok it.table = sym made.defined ∙ it.defined in
+    let same : made.table ≡ it.table = cc in
+    let after : first.0.schema ≡ schema_of (count + 1) = made.is ∙ ap (λ s. created s made.table) built.schema ∙ ap (created (schema_of count)) same ∙ it.next in
+    let plain : lacks_sequence first.0.schema ≡ false = ap lacks_sequence after ∙ it.uncounted in
+    let now : new.now ≡ first.0 = ap (λ (p : Tally × Database). p.1) (same_value all.2) ∙ same_value (rw plain at first.2) in
+    let here : first.0.trees (next_tree old.now.schema) ≡ [] = made.empty in
+    let empty : AreEmpty first.0 = subst (λ s. AllByRecursion (λ (t : Table). first.0.trees t.tree ≡ []) s.tables) (sym made.is)
+    (one_more old.now.schema.tables (record made.table { tree = next_tree old.now.schema }) first.0.trees (still_empty old.now.schema.tables old.now.trees first.0.trees made.others built.empty) here) in (
+      record {
+        is_open = ran.1.is_open;
+        inside = ran.1.mode;
+        schema = ap (λ (d : Database). d.schema) now ∙ after;
+        empty = subst AreEmpty (sym now) empty;
+        sound = λ some. w.sound;
+      },
+      ran.1.committed_is,
+    )
+
+pub creates : (name : Name) (old new : State) (r : Result ℕ Error) → ExecutesInside 0 (creation name) [] old new r → IsBuilt (place name) old → OnOk r (IsBuilt (place name + 1) new × (new.committed ≡ old.committed))
+creates name = builds (place name) (creation name) (makes name)
+
+none_long : {X : Type 0} (xs : List X) → length xs ≡ 0 → xs ≡ []
+none_long [] e = refl
+none_long (x ∷ xs) e = absurd (omega arith)
+
+no_rows : {V : Type 0} (cells : V → Row) (rows : List Row) → rows ≡ [] → AreRows cells rows empty
+no_rows {V} cells rows none = none ∙ ap (map (stored cells)) (sym (none_long (entries {X = V} (empty {R = int_cmp})) (sym (len-entries empty) ∙ len-empty int_cmp V)))
+
+-- empty tables stand for empty maps
+pub holds_nothing : (db : Database) → db.schema ≡ rows_schema → IsOurs db.trees → AreEmpty db → Holds db.trees nothing
+holds_nothing db is sound empty =
+    let all = subst (λ s. AllByRecursion (λ (t : Table). db.trees t.tree ≡ []) s.tables) is empty in
+    record {
+      resources = no_rows _ _ all.0;
+      extents = no_rows _ _ all.1.0;
+      properties = no_rows _ _ all.1.1.0;
+      locks = no_rows _ _ all.1.1.1.0;
+      states = no_rows _ _ all.1.1.1.1.0;
+      sound = sound;
+    }
+
+-- the tables come in the order of their places
+pub in_place : (i : ℕ) → i < 5 → place (get_or (Resource ∷ Extent ∷ Property ∷ Lock ∷ TheState ∷ []) i Resource) ≡ i
+in_place zero low = refl
+in_place (suc zero) low = refl
+in_place (suc (suc zero)) low = refl
+in_place (suc (suc (suc zero))) low = refl
+in_place (suc (suc (suc (suc zero)))) low = refl
+in_place (suc (suc (suc (suc (suc i))))) low = absurd (omega arith)
+
+-- none of the tables is there yet
+pub none_built : (s : State) → IsBare s → IsBuilt 0 s
+none_built s bare = record {
+  is_open = bare.is_open;
+  inside = bare.inside;
+  schema = bare.schema;
+  empty = subst (λ schema. AllByRecursion (λ (t : Table). s.now.trees t.tree ≡ []) schema.tables) (sym bare.schema) tt;
+  sound = λ some. absurd (omega arith);
+}
+
+pub all_built : (s : State) → IsBuilt 5 s → IsReady s
+all_built s built = record { is_open = built.is_open; inside = built.inside; schema = built.schema }
+
+pub filled : (a b c : State) (row : StateRow) (r : Result ℕ Error) → IsBuilt 5 b → b.committed ≡ a.committed → OnOk r (Edits b c (put_state row)) → OnOk r (IsFilled a c (first row))
+filled a b c row (Ok count) built same it = record {
+  ready = it.ready;
+  committed = it.committed ∙ same;
+  holds = it.holds nothing (holds_nothing b.now built.schema (ours b.now built.schema (built.sound (omega arith))) built.empty);
+}
+filled a b c row (Err e) built same it = tt
+
+pub whole : (db : Database) → IsDatabase db → IsWhole db
+unfolding IsWhole
+whole db sound = sound

@@ -1,0 +1,77 @@
+-- What the lemmas ask of a table and of its texts. Of each table that is written out, `refl` finds it.
+use Rattle.std.proofs.Common.{◌≡◌, ℕ, pos, negsuc, ℤ, ◌/◌, List, [], ◌∷◌, ◌++◌, length, slice_get, Some, None, false}
+use Rattle.sqlite_schema.specs.declared.schema.Column.{Column}
+use Rattle.sqlite_schema.specs.declared.command.Conflict.TheVariants.{Replace}
+use Rattle.sqlite_sql.specs.declared.ops.CompareOp.TheVariants.{Eq}
+use Rattle.sqlite_sql.specs.declared.ops.BinaryOp.TheVariants.{Compare}
+use Rattle.sqlite.specs.Collation.TheVariants.{Binary}
+use Rattle.sqlite.specs.declared.types.Value.TheVariants.{Int}
+use Rattle.sqlite.specs.Order.{Row}
+use Rattle.sqlite.specs.Cast.{cast_all}
+use Rattle.sqlite.specs.Rows.{mended_from}
+use Rattle.sqlite.specs.Effect.{value_rows}
+use Rattle.sqlite.specs.Program.{overlay}
+use Rattle.sqlite.specs.Tree.{Trees}
+use Rattle.sqlite.specs.Term.{Term, lit, col, op2, eval_all}
+use Rattle.sqlite.specs.Query.{Query, inner, end}
+use Rattle.sqlite.specs.Source.TheVariants.{Values}
+use Rattle.sqlite.specs.Command.TheVariants.{InsertOr, Select, Delete}
+use Rattle.sqlite.specs.Listing.{understood, reads_listing}
+use Rattle.sqlite.proofs.Callers.{IsPlain, command_of}
+use Rattle.dav_rows.specs.Tables.{numbered, rows_schema}
+use Rattle.dav_rows.specs.Stored.{stored, shown}
+
+-- the cells fill the columns of the table as they are
+pub record Suits {V : Type 0} (cells : V → Row) (name : List ℕ) (tree : ℕ) (columns : List Column) : Type 0 where
+  pub there : slice_get rows_schema.tables tree ≡ Some (numbered name tree columns)
+  pub cast : (v : V) → cast_all columns (cells v) ≡ cells v
+  pub filled : (v : V) → mended_from (Some 0) 1 columns (cells v) ≡ cells v
+  pub seen : (db : Trees) → overlay db [] tree ≡ db tree
+
+-- the text puts a row, whose number and cells it is given
+pub record Puts {V : Type 0} (cells : V → Row) (tree : ℕ) (text : List ℕ) : Type 0 where
+  pub terms : List Term
+  pub width : ℕ
+  pub is : command_of (understood rows_schema text) ≡ InsertOr tree Replace (Values terms width) []
+  pub plain : IsPlain (understood rows_schema text)
+  pub given : (n : ℤ) (v : V) → value_rows ((Int n ∷ cells v) ++ []) width (length terms / width) terms ≡ stored cells (n, v) ∷ []
+
+abbrev pub remove_query : ℕ → Query
+remove_query tree = record {
+  from = inner tree end;
+  filter = op2 (Compare Eq Binary) (col 1 0) (col 0 0) ∷ [];
+  group = None;
+  project = col 1 0 ∷ [];
+  distinct = false;
+  collations = [];
+  order = [];
+  limit = lit (Int (negsuc 0));
+  offset = lit (Int (pos 0));
+}
+
+-- the text removes the row of a number
+pub record Removes (tree : ℕ) (text : List ℕ) : Type 0 where
+  pub is : command_of (understood rows_schema text) ≡ Delete tree (record { lets = []; body = remove_query tree })
+  pub plain : IsPlain (understood rows_schema text)
+
+abbrev pub select_query : ℕ → List Term → Query
+select_query tree project = record {
+  from = inner tree end;
+  filter = [];
+  group = None;
+  project = project;
+  distinct = false;
+  collations = [];
+  order = (col 1 0, record { collation = Binary; descending = false }) ∷ [];
+  limit = lit (Int (negsuc 0));
+  offset = lit (Int (pos 0));
+}
+
+-- the text shows all rows in the order of their numbers
+pub record Selects {V : Type 0} (cells : V → Row) (tree : ℕ) (text : List ℕ) : Type 0 where
+  pub project : List Term
+  pub names : List (List ℕ)
+  pub is : command_of (understood rows_schema text) ≡ Select (record { lets = []; body = select_query tree project }) names
+  pub unlisted : reads_listing rows_schema text ≡ false
+  pub plain : IsPlain (understood rows_schema text)
+  pub shows : (e : ℤ × V) → eval_all project ([] ∷ stored cells e ∷ []) ≡ shown cells e

@@ -1,0 +1,13 @@
+use Rattle.std.proofs.Common.{arith}
+use Rattle.sqlite.specs.State.{HasCleanDisk}
+use Rattle.sqlite.specs.Held.{state}
+use Rattle.dav_rows.proofs.CreateLemmas.{none_built, all_built, filled}
+use Rattle.dav_rows.proofs.creating.fill.Goals as goal
+
+pub returns-clause-made : goal.returns-clause-made
+returns-clause-made g c clean bare =
+    let old = state g.S.Store c.args.tx.now.conn.now in
+    let mid = state g.S.Store c.create_tables.new.tx.conn.now in
+    let early : HasCleanDisk mid = omega (arith, c.put.ensures.survives.clean) in
+    let built = c.in_ok-create_tables.ensures.made early (none_built old bare) in
+    filled old mid (state g.S.Store c.put.new.tx.conn.now) c.args.row.now c.put.result built.0 built.1 (c.put.ensures.row clean (all_built mid built.0))

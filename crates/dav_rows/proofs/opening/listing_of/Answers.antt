@@ -1,0 +1,17 @@
+use Rattle.sqlite.specs.Held.{state}
+use Rattle.dav_rows.proofs.ListingTexts.{listing_text, lists_ours, lists_none}
+use Rattle.dav_rows.proofs.LoadingLemmas.{rows_read, blank_read}
+use Rattle.dav_rows.proofs.ListingLemmas.{ours_listed, blank_listed}
+use Rattle.dav_rows.proofs.opening.listing_of.Goals as goal
+
+pub returns-clause-reads : goal.returns-clause-reads
+returns-clause-reads g c =
+    let old = state g.S.Store c.args.conn.now in
+    let new = state g.S.Store c.query_all.new.self in
+    ours_listed old new c.query_all.result (rows_read listing_text old new lists_ours.plain c.query_all.result c.query_all.ensures.ok c.query_all.ensures.err c.query_all.ensures.survives)
+
+pub returns-clause-blank : goal.returns-clause-blank
+returns-clause-blank g c =
+    let old = state g.S.Store c.args.conn.now in
+    let new = state g.S.Store c.query_all.new.self in
+    blank_listed old new c.query_all.result (blank_read listing_text old new lists_none.plain c.query_all.result c.query_all.ensures.ok c.query_all.ensures.err c.query_all.ensures.survives)

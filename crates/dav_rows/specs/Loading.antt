@@ -1,0 +1,73 @@
+-- What is read back.
+use Rattle.std.specs.Prelude.{◌≡◌, ◌≤◌, ℕ, ℤ, Bool, not, pos, List, [], map, Vec, Result, IfOk, IsTrue}
+use Rattle.std.specs.Ordering.{int_eq}
+use Rattle.std.specs.FinMap.{entries}
+use Rattle.sqlite_trees.specs.View.{doubt}
+use Rattle.sqlite.specs.declared.error.Error.{Error}
+use Rattle.sqlite.specs.declared.types.Value.{Value}
+use Rattle.sqlite.specs.Order.{Row, column, bytes}
+use Rattle.sqlite.specs.Edit.{id_in}
+use Rattle.sqlite.specs.Tree.{Trees}
+use Rattle.sqlite.specs.State.{State, HasCleanDisk, Shown}
+use Rattle.sqlite.specs.Given.{IsPlain}
+use Rattle.sqlite.specs.Listing.{understood}
+use Rattle.std.specs.declared.alloc.Global.{Global}
+use Rattle.dav_rows.specs.Tables.{rows_schema}
+use Rattle.dav_rows.specs.declared.loading.Rows.{Rows}
+use Rattle.dav_rows.specs.Contents.{Contents, ResourceValues, ExtentValues, PropertyValues, LockValues, StateValues}
+use Rattle.dav_rows.specs.Changes.{resource_entry, extent_entry, property_entry, lock_entry, state_entry}
+use Rattle.dav_rows.specs.Saving.{IsAt}
+use Rattle.dav_rows.specs.Creating.{IsBlank}
+
+-- ---- the entry that a row shows
+
+abbrev pub flag_in : Value → Bool
+flag_in v = not (int_eq (id_in v) (pos 0))
+
+abbrev pub resource_in : Row → ℤ × ResourceValues
+resource_in row = (id_in (column row 0), record { parent = id_in (column row 1); name = bytes (column row 2); directory = flag_in (column row 3); size = id_in (column row 4); version = id_in (column row 5); created = id_in (column row 6); modified = id_in (column row 7) })
+
+abbrev pub extent_in : Row → ℤ × ExtentValues
+extent_in row = (id_in (column row 0), record { resource = id_in (column row 1); place = id_in (column row 2); pieces = bytes (column row 3) })
+
+abbrev pub property_in : Row → ℤ × PropertyValues
+property_in row = (id_in (column row 0), record { resource = id_in (column row 1); namespace = bytes (column row 2); name = bytes (column row 3); element = bytes (column row 4) })
+
+abbrev pub lock_in : Row → ℤ × LockValues
+lock_in row = (id_in (column row 0), record { token = bytes (column row 1); path = bytes (column row 2); lock = bytes (column row 3) })
+
+abbrev pub state_in : Row → ℤ × StateValues
+state_in row = (id_in (column row 0), record { counter = id_in (column row 1); time = id_in (column row 2); batch = id_in (column row 3); data_end = id_in (column row 4); digest_key = id_in (column row 5) })
+
+-- the rows are the entries of the maps, in the order of the numbers
+pub record AreAll (rows : Rows) (m : Contents) : Type 0 where
+  pub resources : map resource_entry rows.resources.items ≡ entries m.resources
+  pub extents : map extent_entry rows.extents.items ≡ entries m.extents
+  pub properties : map property_entry rows.properties.items ≡ entries m.properties
+  pub locks : map lock_entry rows.locks.items ≡ entries m.locks
+  pub states : map state_entry rows.states.items ≡ entries m.states
+
+-- the rows are those that the state stands for
+abbrev pub AreHeld : State → Rows → Type 0
+AreHeld s rows = (m : Contents) → IsAt s m → AreAll rows m
+
+-- It answers what is so of the maps, and leaves the tables, and what a crash finds, as they are.
+pub record Reads {X : Type 0} (old new : State) (result : Result X Error) (Is : X → Contents → Type 0) : Type 0 where
+  pub clean : doubt old.is_clean ≤ doubt new.is_clean
+  pub ok : HasCleanDisk new → IfOk result (λ x. (m : Contents) → IsAt old m → IsAt new m × Is x m)
+  pub at : HasCleanDisk new → (m : Contents) → IsAt old m → IsTrue new.is_open → IsAt new m
+  pub crash : HasCleanDisk new → (m : Contents) → IsAt old m → (db : Trees) → new.may_leave db → old.may_leave db
+
+-- a query that only reads does so, and answers the rows that SQL shows
+abbrev pub ReadsText : List ℕ → State → State → Result (Vec Row Global) Error → Type 0
+ReadsText sql old new result = IsPlain (understood rows_schema sql) → Reads old new result (λ rows m. Shown sql [] old new rows.items)
+
+-- The same, over a database with nothing in it.
+pub record ReadsBlank {X : Type 0} (old new : State) (result : Result X Error) (Is : X → Type 0) : Type 0 where
+  pub ok : HasCleanDisk new → IfOk result (λ x. IsBlank old → IsBlank new × Is x)
+  pub at : HasCleanDisk new → IsBlank old → IsTrue new.is_open → IsBlank new
+  pub crash : HasCleanDisk new → IsBlank old → (db : Trees) → new.may_leave db → old.may_leave db
+
+-- where there was nothing, the rows and the state are those of these maps
+abbrev pub AreNew : State → State → Contents → Rows → Type 0
+AreNew old new m rows = IsBlank old → IsAt new m × AreAll rows m

@@ -1,0 +1,89 @@
+//! Makes the tables of an empty database.
+ghost use Rattle.std.specs.Prelude.{◌≡◌, ◌≤◌, ◌+◌, false, OnOk, OnErr};
+ghost use Rattle.sqlite_trees.specs.View.{doubt};
+ghost use Rattle.sqlite.specs.State.{HasCleanDisk, KeepsCommit, Survives};
+ghost use Rattle.sqlite.specs.Held.{state};
+ghost use Rattle.dav_rows.specs.Texts.{creation};
+ghost use Rattle.dav_rows.specs.Creating.{place, first, IsBare, Builds, Makes, IsFilled, StaysBlank, LeavesBlankOr};
+
+use crate::change::Table;
+use crate::execute::execute;
+use crate::state::{self, StateRow};
+use sqlite::{Alter, Connection, Error, Transaction};
+
+pub(crate) fn creation_of(table: Table) -> &'static str
+    ensures { result.now ≡ creation table }
+{
+    match table {
+        Table::Resource => {
+            "CREATE TABLE resource (number INTEGER PRIMARY KEY, parent INTEGER NOT NULL, name TEXT NOT NULL, directory INTEGER NOT NULL, size INTEGER NOT NULL, version INTEGER NOT NULL, created INTEGER NOT NULL, modified INTEGER NOT NULL) STRICT"
+        }
+        Table::Extent => {
+            "CREATE TABLE extent (number INTEGER PRIMARY KEY, resource INTEGER NOT NULL, place INTEGER NOT NULL, pieces BLOB NOT NULL) STRICT"
+        }
+        Table::Property => {
+            "CREATE TABLE property (number INTEGER PRIMARY KEY, resource INTEGER NOT NULL, namespace TEXT NOT NULL, name TEXT NOT NULL, element BLOB NOT NULL) STRICT"
+        }
+        Table::Lock => {
+            "CREATE TABLE lock (number INTEGER PRIMARY KEY, token TEXT NOT NULL, path TEXT NOT NULL, lock BLOB NOT NULL) STRICT"
+        }
+        Table::State => {
+            "CREATE TABLE state (number INTEGER PRIMARY KEY, counter INTEGER NOT NULL, time INTEGER NOT NULL, batch INTEGER NOT NULL, data_end INTEGER NOT NULL, digest_key INTEGER NOT NULL) STRICT"
+        }
+    }
+}
+
+/// Makes a table behind those that are there.
+fn create_table<S: Alter>(tx: &mut Transaction<'_, S>, table: Table) -> Result<usize, Error>
+    ensures same_reference { tx.new.conn.ghost_name ≡ tx.old.conn.ghost_name }
+    ensures made { Builds (state S.Store tx.old.conn.now) (state S.Store tx.new.conn.now) (place table) (place table + 1) result }
+    ensures kept { HasCleanDisk (state S.Store tx.new.conn.now) → KeepsCommit (state S.Store tx.old.conn.now) (state S.Store tx.new.conn.now) }
+    ensures survives { Survives (state S.Store tx.old.conn.now) (state S.Store tx.new.conn.now) (λ _. ⊥) }
+{
+    let sql = creation_of(table);
+    execute(tx, sql, &[])
+}
+
+fn create_tables<S: Alter>(tx: &mut Transaction<'_, S>) -> Result<(), Error>
+    ensures same_reference { tx.new.conn.ghost_name ≡ tx.old.conn.ghost_name }
+    ensures made { Builds (state S.Store tx.old.conn.now) (state S.Store tx.new.conn.now) 0 5 result }
+    ensures kept { HasCleanDisk (state S.Store tx.new.conn.now) → KeepsCommit (state S.Store tx.old.conn.now) (state S.Store tx.new.conn.now) }
+    ensures survives { Survives (state S.Store tx.old.conn.now) (state S.Store tx.new.conn.now) (λ _. ⊥) }
+{
+    let tables = [
+        Table::Resource,
+        Table::Extent,
+        Table::Property,
+        Table::Lock,
+        Table::State,
+    ];
+    'tables: for table in &tables {
+        create_table(tx, *table)?;
+    }
+    Ok(())
+}
+
+fn fill<S: Alter>(tx: &mut Transaction<'_, S>, row: &StateRow) -> Result<usize, Error>
+    ensures same_reference { tx.new.conn.ghost_name ≡ tx.old.conn.ghost_name }
+    ensures made { HasCleanDisk (state S.Store tx.new.conn.now) → IsBare (state S.Store tx.old.conn.now)
+        → OnOk result (IsFilled (state S.Store tx.old.conn.now) (state S.Store tx.new.conn.now) (first row.now)) }
+    ensures kept { HasCleanDisk (state S.Store tx.new.conn.now) → KeepsCommit (state S.Store tx.old.conn.now) (state S.Store tx.new.conn.now) }
+    ensures survives { Survives (state S.Store tx.old.conn.now) (state S.Store tx.new.conn.now) (λ _. ⊥) }
+{
+    create_tables(tx)?;
+    state::put(tx, row)
+}
+
+/// Makes the tables and the first row of the state in one transaction. A crash leaves all of them or nothing.
+pub fn create<S: Alter>(conn: &mut Connection<S>, row: &StateRow) -> Result<(), Error>
+    requires { conn.old.in_transaction ≡ false }
+    ensures idle { conn.new.in_transaction ≡ false }
+    ensures ok { HasCleanDisk (state S.Store conn.new) → OnOk result (Makes (state S.Store conn.old) (state S.Store conn.new) (first row.now)) }
+    ensures err { HasCleanDisk (state S.Store conn.new) → OnErr result (StaysBlank (state S.Store conn.old) (state S.Store conn.new)) }
+    ensures crash { HasCleanDisk (state S.Store conn.new) → LeavesBlankOr (state S.Store conn.old) (state S.Store conn.new) (first row.now) }
+    ensures clean { doubt (state S.Store conn.old).is_clean ≤ doubt (state S.Store conn.new).is_clean }
+{
+    let mut tx = conn.transaction();
+    fill(&mut tx, row)?;
+    tx.commit()
+}

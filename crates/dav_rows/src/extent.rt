@@ -1,0 +1,71 @@
+//! The rows of the pieces of files.
+ghost use Rattle.std.specs.Prelude.{◌≡◌, false, map, IfOk};
+ghost use Rattle.std.specs.FinMap.{entries};
+ghost use Rattle.sqlite.specs.State.{HasCleanDisk, KeepsCommit, Survives};
+ghost use Rattle.sqlite.specs.Held.{state};
+ghost use Rattle.dav_rows.specs.Changes.{extent_entry, put_extent};
+ghost use Rattle.dav_rows.specs.Saving.{Applies};
+ghost use Rattle.dav_rows.specs.Loading.{Reads, extent_in};
+
+use crate::execute::{execute, rows_of};
+use sqlite::{Alter, Connection, Error, Row, Transaction, params};
+use std::alloc::Global;
+
+/// The pieces of a part of a file, from a place on.
+#[derive(Debug, Drop)]
+pub struct ExtentRow {
+    pub number: i64,
+    pub resource: i64,
+    pub place: i64,
+    pub pieces: Vec<u8>,
+}
+
+pub(crate) fn put<S: Alter>(tx: &mut Transaction<'_, S>, row: &ExtentRow) -> Result<usize, Error>
+    ensures same_reference { tx.new.conn.ghost_name ≡ tx.old.conn.ghost_name }
+    ensures row { Applies (state S.Store tx.old.conn.now) (state S.Store tx.new.conn.now) (put_extent row.now) result }
+    ensures kept { HasCleanDisk (state S.Store tx.new.conn.now) → KeepsCommit (state S.Store tx.old.conn.now) (state S.Store tx.new.conn.now) }
+    ensures survives { Survives (state S.Store tx.old.conn.now) (state S.Store tx.new.conn.now) (λ _. ⊥) }
+{
+    execute(
+        tx,
+        "INSERT OR REPLACE INTO extent (number, resource, place, pieces) VALUES (?1, ?2, ?3, ?4)",
+        params![&row.number, &row.resource, &row.place, &row.pieces],
+    )
+}
+
+/// Reads the whole table, in the order of the numbers.
+pub(crate) fn load_all<S: Alter>(
+    conn: &mut Connection<S>,
+    alloc: Global,
+) -> Result<Vec<ExtentRow>, Error>
+    requires { conn.old.in_transaction ≡ false }
+    ensures idle { conn.new.in_transaction ≡ false }
+    ensures reads { Reads (state S.Store conn.old) (state S.Store conn.new) result (λ all m. map extent_entry all.items ≡ entries m.extents) }
+{
+    let rows = rows_of(
+        conn,
+        "SELECT number, resource, place, pieces FROM extent ORDER BY number",
+    )?;
+    rows_in(alloc, rows.as_slice())
+}
+
+fn rows_in(alloc: Global, rows: &[Row]) -> Result<Vec<ExtentRow>, Error>
+    ensures { IfOk result (λ all. map extent_entry all.items ≡ map extent_in rows.now) }
+{
+    let mut all = Vec::new(alloc);
+    'rows: for row in rows {
+        all.push(row_of(row)?)?;
+    }
+    Ok(all)
+}
+
+fn row_of(row: &Row) -> Result<ExtentRow, Error>
+    ensures { IfOk result (λ r. extent_entry r ≡ extent_in row.now) }
+{
+    Ok(ExtentRow {
+        number: row.get(0)?,
+        resource: row.get(1)?,
+        place: row.get(2)?,
+        pieces: row.get(3)?,
+    })
+}

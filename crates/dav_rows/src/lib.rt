@@ -1,0 +1,30 @@
+//! Rows of a WebDAV store in a SQLite file: changes are saved in one transaction, and all rows are loaded at the start.
+#![tactic(auto)]
+
+mod change;
+mod creating;
+mod execute;
+mod extent;
+mod loading;
+mod lock;
+mod memory;
+mod opening;
+mod property;
+mod resource;
+mod saving;
+mod state;
+
+pub use change::{Change, Table};
+pub use creating::create;
+pub use extent::ExtentRow;
+pub use loading::{Rows, load};
+pub use lock::LockRow;
+pub use memory::round_trip;
+pub use opening::{StartError, load_or_create};
+pub use property::PropertyRow;
+pub use resource::ResourceRow;
+pub use saving::save;
+pub use state::StateRow;
+
+#[cfg(test)]
+mod tests;

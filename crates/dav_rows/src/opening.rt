@@ -1,0 +1,139 @@
+//! Loads the rows of a database, or makes its tables.
+ghost use Rattle.std.specs.Prelude.{◌≡◌, ◌≢◌, ◌≤◌, [], false, IfOk};
+ghost use Rattle.sqlite_trees.specs.View.{doubt};
+ghost use Rattle.sqlite.specs.State.{HasCleanDisk};
+ghost use Rattle.sqlite.specs.Held.{state};
+ghost use Rattle.dav_rows.specs.Saving.{Stays, LeavesNoOther};
+ghost use Rattle.dav_rows.specs.Creating.{first, LeavesBlankOr};
+ghost use Rattle.dav_rows.specs.Loading.{Reads, ReadsBlank, AreHeld, AreNew};
+
+use crate::change::Table;
+use crate::creating::{create, creation_of};
+use crate::loading::{Rows, read_all};
+use crate::state::StateRow;
+use sqlite::{Alter, Connection, Error, Row};
+use std::alloc::Global;
+
+/// Why no rows were loaded.
+#[derive(Debug, Drop, thiserror::Error)]
+pub enum StartError {
+    /// The database has other tables, and was left as it is.
+    #[error("the database is not one of this store")]
+    Foreign,
+    /// The database failed.
+    #[error("{0}")]
+    Sqlite(Error),
+}
+
+impl From<Error> for StartError {
+    fn from(error: Error) -> StartError {
+        StartError::Sqlite(error)
+    }
+}
+
+/// What a database has.
+#[derive(Clone, Copy, Debug, Drop)]
+enum Found {
+    Nothing,
+    Ours,
+    Other,
+}
+
+/// Loads all rows, or makes the tables if the database has none, with the first row of the state.
+/// It fails with `Foreign` if the database has other tables, and changes nothing then.
+pub fn load_or_create<S: Alter>(
+    conn: &mut Connection<S>,
+    alloc: Global,
+    row: &StateRow,
+) -> Result<Rows, StartError>
+    requires { conn.old.in_transaction ≡ false }
+    ensures idle { conn.new.in_transaction ≡ false }
+    ensures ours { HasCleanDisk (state S.Store conn.new) → IfOk result (AreHeld (state S.Store conn.old)) }
+    ensures blank { HasCleanDisk (state S.Store conn.new) → IfOk result (AreNew (state S.Store conn.old) (state S.Store conn.new) (first row.now)) }
+    ensures at { HasCleanDisk (state S.Store conn.new) → Stays (state S.Store conn.old) (state S.Store conn.new) }
+    ensures crash { HasCleanDisk (state S.Store conn.new) → LeavesNoOther (state S.Store conn.old) (state S.Store conn.new) }
+    ensures blank_crash { HasCleanDisk (state S.Store conn.new) → LeavesBlankOr (state S.Store conn.old) (state S.Store conn.new) (first row.now) }
+    ensures clean { doubt (state S.Store conn.old).is_clean ≤ doubt (state S.Store conn.new).is_clean }
+{
+    match found_in(conn)? {
+        Found::Nothing => Ok(create_and_load(conn, alloc, row)?),
+        Found::Ours => Ok(read_all(conn, alloc)?),
+        Found::Other => Err(StartError::Foreign),
+    }
+}
+
+fn create_and_load<S: Alter>(
+    conn: &mut Connection<S>,
+    alloc: Global,
+    row: &StateRow,
+) -> Result<Rows, Error>
+    requires { conn.old.in_transaction ≡ false }
+    ensures idle { conn.new.in_transaction ≡ false }
+    ensures ok { HasCleanDisk (state S.Store conn.new) → IfOk result (AreNew (state S.Store conn.old) (state S.Store conn.new) (first row.now)) }
+    ensures crash { HasCleanDisk (state S.Store conn.new) → LeavesBlankOr (state S.Store conn.old) (state S.Store conn.new) (first row.now) }
+    ensures clean { doubt (state S.Store conn.old).is_clean ≤ doubt (state S.Store conn.new).is_clean }
+{
+    create(conn, row)?;
+    read_all(conn, alloc)
+}
+
+fn found_in<S: Alter>(conn: &mut Connection<S>) -> Result<Found, Error>
+    requires { conn.old.in_transaction ≡ false }
+    ensures idle { conn.new.in_transaction ≡ false }
+    ensures reads { Reads (state S.Store conn.old) (state S.Store conn.new) result (λ found m. found ≢ Found.Nothing) }
+    ensures blank { ReadsBlank (state S.Store conn.old) (state S.Store conn.new) result (λ found. found ≢ Found.Ours) }
+{
+    let rows = listing_of(conn)?;
+    kind_of(rows.as_slice())
+}
+
+/// Reads the texts of all tables and indexes, in the order of their names.
+fn listing_of<S: Alter>(conn: &mut Connection<S>) -> Result<Vec<Row>, Error>
+    requires { conn.old.in_transaction ≡ false }
+    ensures idle { conn.new.in_transaction ≡ false }
+    ensures reads { Reads (state S.Store conn.old) (state S.Store conn.new) result (λ rows m. rows.items ≢ []) }
+    ensures blank { ReadsBlank (state S.Store conn.old) (state S.Store conn.new) result (λ rows. rows.items ≡ []) }
+{
+    conn.query_all("SELECT sql FROM sqlite_schema ORDER BY name", &[])
+}
+
+fn kind_of(rows: &[Row]) -> Result<Found, Error>
+    ensures nothing { IfOk result (λ found. found ≡ Found.Nothing → rows.now ≡ []) }
+    ensures ours { IfOk result (λ found. found ≡ Found.Ours → rows.now ≢ []) }
+{
+    if rows.is_empty() {
+        Ok(Found::Nothing)
+    } else if are_ours(rows)? {
+        Ok(Found::Ours)
+    } else {
+        Ok(Found::Other)
+    }
+}
+
+/// Whether the texts are those of our tables, in the order of their names.
+fn are_ours(rows: &[Row]) -> Result<bool, Error> {
+    let tables = [
+        Table::Extent,
+        Table::Lock,
+        Table::Property,
+        Table::Resource,
+        Table::State,
+    ];
+    if rows.len() != tables.len() {
+        return Ok(false);
+    }
+    for (row, table) in rows.iter().zip(&tables) {
+        if !is_creation(row, *table)? {
+            return Ok(false);
+        }
+    }
+    Ok(true)
+}
+
+fn is_creation(row: &Row, table: Table) -> Result<bool, Error> {
+    let sql: Option<String> = row.get(0)?;
+    match sql {
+        Some(sql) => Ok(sql.as_str() == creation_of(table)),
+        None => Ok(false),
+    }
+}

@@ -1,0 +1,79 @@
+//! The rows of dead properties.
+ghost use Rattle.std.specs.Prelude.{◌≡◌, false, map, IfOk};
+ghost use Rattle.std.specs.FinMap.{entries};
+ghost use Rattle.sqlite.specs.State.{HasCleanDisk, KeepsCommit, Survives};
+ghost use Rattle.sqlite.specs.Held.{state};
+ghost use Rattle.dav_rows.specs.Changes.{property_entry, put_property};
+ghost use Rattle.dav_rows.specs.Saving.{Applies};
+ghost use Rattle.dav_rows.specs.Loading.{Reads, property_in};
+
+use crate::execute::{execute, rows_of};
+use sqlite::{Alter, Connection, Error, Row, Transaction, params};
+use std::alloc::Global;
+
+/// A property of a resource, as the element that was set.
+#[derive(Debug, Drop)]
+pub struct PropertyRow {
+    pub number: i64,
+    pub resource: i64,
+    pub namespace: String,
+    pub name: String,
+    pub element: Vec<u8>,
+}
+
+pub(crate) fn put<S: Alter>(tx: &mut Transaction<'_, S>, row: &PropertyRow) -> Result<usize, Error>
+    ensures same_reference { tx.new.conn.ghost_name ≡ tx.old.conn.ghost_name }
+    ensures row { Applies (state S.Store tx.old.conn.now) (state S.Store tx.new.conn.now) (put_property row.now) result }
+    ensures kept { HasCleanDisk (state S.Store tx.new.conn.now) → KeepsCommit (state S.Store tx.old.conn.now) (state S.Store tx.new.conn.now) }
+    ensures survives { Survives (state S.Store tx.old.conn.now) (state S.Store tx.new.conn.now) (λ _. ⊥) }
+{
+    execute(
+        tx,
+        "INSERT OR REPLACE INTO property (number, resource, namespace, name, element) VALUES (?1, ?2, ?3, ?4, ?5)",
+        params![
+            &row.number,
+            &row.resource,
+            &row.namespace,
+            &row.name,
+            &row.element
+        ],
+    )
+}
+
+/// Reads the whole table, in the order of the numbers.
+pub(crate) fn load_all<S: Alter>(
+    conn: &mut Connection<S>,
+    alloc: Global,
+) -> Result<Vec<PropertyRow>, Error>
+    requires { conn.old.in_transaction ≡ false }
+    ensures idle { conn.new.in_transaction ≡ false }
+    ensures reads { Reads (state S.Store conn.old) (state S.Store conn.new) result (λ all m. map property_entry all.items ≡ entries m.properties) }
+{
+    let rows = rows_of(
+        conn,
+        "SELECT number, resource, namespace, name, element FROM property ORDER BY number",
+    )?;
+    rows_in(alloc, rows.as_slice())
+}
+
+fn rows_in(alloc: Global, rows: &[Row]) -> Result<Vec<PropertyRow>, Error>
+    ensures { IfOk result (λ all. map property_entry all.items ≡ map property_in rows.now) }
+{
+    let mut all = Vec::new(alloc);
+    'rows: for row in rows {
+        all.push(row_of(row)?)?;
+    }
+    Ok(all)
+}
+
+fn row_of(row: &Row) -> Result<PropertyRow, Error>
+    ensures { IfOk result (λ r. property_entry r ≡ property_in row.now) }
+{
+    Ok(PropertyRow {
+        number: row.get(0)?,
+        resource: row.get(1)?,
+        namespace: row.get(2)?,
+        name: row.get(3)?,
+        element: row.get(4)?,
+    })
+}

@@ -1,0 +1,88 @@
+//! The rows of resources.
+ghost use Rattle.std.specs.Prelude.{◌≡◌, false, map, IfOk};
+ghost use Rattle.std.specs.FinMap.{entries};
+ghost use Rattle.sqlite.specs.State.{HasCleanDisk, KeepsCommit, Survives};
+ghost use Rattle.sqlite.specs.Held.{state};
+ghost use Rattle.dav_rows.specs.Changes.{resource_entry, put_resource};
+ghost use Rattle.dav_rows.specs.Saving.{Applies};
+ghost use Rattle.dav_rows.specs.Loading.{Reads, resource_in};
+
+use crate::execute::{execute, rows_of};
+use sqlite::{Alter, Connection, Error, Row, Transaction, params};
+use std::alloc::Global;
+
+/// A file or a directory of the tree, under the number of its parent.
+#[derive(Debug, Drop)]
+pub struct ResourceRow {
+    pub number: i64,
+    pub parent: i64,
+    pub name: String,
+    pub directory: bool,
+    pub size: i64,
+    pub version: i64,
+    pub created: i64,
+    pub modified: i64,
+}
+
+pub(crate) fn put<S: Alter>(tx: &mut Transaction<'_, S>, row: &ResourceRow) -> Result<usize, Error>
+    ensures same_reference { tx.new.conn.ghost_name ≡ tx.old.conn.ghost_name }
+    ensures row { Applies (state S.Store tx.old.conn.now) (state S.Store tx.new.conn.now) (put_resource row.now) result }
+    ensures kept { HasCleanDisk (state S.Store tx.new.conn.now) → KeepsCommit (state S.Store tx.old.conn.now) (state S.Store tx.new.conn.now) }
+    ensures survives { Survives (state S.Store tx.old.conn.now) (state S.Store tx.new.conn.now) (λ _. ⊥) }
+{
+    execute(
+        tx,
+        "INSERT OR REPLACE INTO resource (number, parent, name, directory, size, version, created, modified) VALUES (?1, ?2, ?3, ?4, ?5, ?6, ?7, ?8)",
+        params![
+            &row.number,
+            &row.parent,
+            &row.name,
+            row.directory,
+            &row.size,
+            &row.version,
+            &row.created,
+            &row.modified
+        ],
+    )
+}
+
+/// Reads the whole table, in the order of the numbers.
+pub(crate) fn load_all<S: Alter>(
+    conn: &mut Connection<S>,
+    alloc: Global,
+) -> Result<Vec<ResourceRow>, Error>
+    requires { conn.old.in_transaction ≡ false }
+    ensures idle { conn.new.in_transaction ≡ false }
+    ensures reads { Reads (state S.Store conn.old) (state S.Store conn.new) result (λ all m. map resource_entry all.items ≡ entries m.resources) }
+{
+    let rows = rows_of(
+        conn,
+        "SELECT number, parent, name, directory, size, version, created, modified FROM resource ORDER BY number",
+    )?;
+    rows_in(alloc, rows.as_slice())
+}
+
+fn rows_in(alloc: Global, rows: &[Row]) -> Result<Vec<ResourceRow>, Error>
+    ensures { IfOk result (λ all. map resource_entry all.items ≡ map resource_in rows.now) }
+{
+    let mut all = Vec::new(alloc);
+    'rows: for row in rows {
+        all.push(row_of(row)?)?;
+    }
+    Ok(all)
+}
+
+fn row_of(row: &Row) -> Result<ResourceRow, Error>
+    ensures { IfOk result (λ r. resource_entry r ≡ resource_in row.now) }
+{
+    Ok(ResourceRow {
+        number: row.get(0)?,
+        parent: row.get(1)?,
+        name: row.get(2)?,
+        directory: row.get(3)?,
+        size: row.get(4)?,
+        version: row.get(5)?,
+        created: row.get(6)?,
+        modified: row.get(7)?,
+    })
+}

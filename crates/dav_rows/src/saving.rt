@@ -1,0 +1,78 @@
+//! Saves changes in one transaction.
+ghost use Rattle.std.specs.Prelude.{◌≡◌, ◌≤◌, false, OnOk, OnErr};
+ghost use Rattle.sqlite_trees.specs.View.{doubt};
+ghost use Rattle.sqlite.specs.State.{HasCleanDisk, KeepsCommit, Survives};
+ghost use Rattle.sqlite.specs.Held.{state};
+ghost use Rattle.dav_rows.specs.Texts.{removal};
+ghost use Rattle.dav_rows.specs.Changes.{removed, after_one, after};
+ghost use Rattle.dav_rows.specs.Saving.{Applies, Moves, Stays, Leaves, LeavesEither};
+
+use crate::change::{Change, Table};
+use crate::execute::execute;
+use crate::{extent, lock, property, resource, state};
+use sqlite::{Alter, Connection, Error, Transaction, params};
+
+fn removal_of(table: Table) -> &'static str
+    ensures { result.now ≡ removal table }
+{
+    match table {
+        Table::Resource => "DELETE FROM resource WHERE number = ?1",
+        Table::Extent => "DELETE FROM extent WHERE number = ?1",
+        Table::Property => "DELETE FROM property WHERE number = ?1",
+        Table::Lock => "DELETE FROM lock WHERE number = ?1",
+        Table::State => "DELETE FROM state WHERE number = ?1",
+    }
+}
+
+fn remove<S: Alter>(tx: &mut Transaction<'_, S>, table: Table, number: &i64) -> Result<usize, Error>
+    ensures same_reference { tx.new.conn.ghost_name ≡ tx.old.conn.ghost_name }
+    ensures row { Applies (state S.Store tx.old.conn.now) (state S.Store tx.new.conn.now) (removed table number.now) result }
+    ensures kept { HasCleanDisk (state S.Store tx.new.conn.now) → KeepsCommit (state S.Store tx.old.conn.now) (state S.Store tx.new.conn.now) }
+    ensures survives { Survives (state S.Store tx.old.conn.now) (state S.Store tx.new.conn.now) (λ _. ⊥) }
+{
+    let sql = removal_of(table);
+    execute(tx, sql, params![number])
+}
+
+fn apply<S: Alter>(tx: &mut Transaction<'_, S>, change: &Change) -> Result<usize, Error>
+    ensures same_reference { tx.new.conn.ghost_name ≡ tx.old.conn.ghost_name }
+    ensures row { Applies (state S.Store tx.old.conn.now) (state S.Store tx.new.conn.now) (after_one change.now) result }
+    ensures kept { HasCleanDisk (state S.Store tx.new.conn.now) → KeepsCommit (state S.Store tx.old.conn.now) (state S.Store tx.new.conn.now) }
+    ensures survives { Survives (state S.Store tx.old.conn.now) (state S.Store tx.new.conn.now) (λ _. ⊥) }
+{
+    match change {
+        Change::PutResource(row) => resource::put(tx, row),
+        Change::PutExtent(row) => extent::put(tx, row),
+        Change::PutProperty(row) => property::put(tx, row),
+        Change::PutLock(row) => lock::put(tx, row),
+        Change::PutState(row) => state::put(tx, row),
+        Change::Remove(table, number) => remove(tx, *table, number),
+    }
+}
+
+fn apply_all<S: Alter>(tx: &mut Transaction<'_, S>, changes: &[Change]) -> Result<(), Error>
+    ensures same_reference { tx.new.conn.ghost_name ≡ tx.old.conn.ghost_name }
+    ensures rows { Applies (state S.Store tx.old.conn.now) (state S.Store tx.new.conn.now) (after changes.now) result }
+    ensures kept { HasCleanDisk (state S.Store tx.new.conn.now) → KeepsCommit (state S.Store tx.old.conn.now) (state S.Store tx.new.conn.now) }
+    ensures survives { Survives (state S.Store tx.old.conn.now) (state S.Store tx.new.conn.now) (λ _. ⊥) }
+{
+    'changes: for change in changes {
+        apply(tx, change)?;
+    }
+    Ok(())
+}
+
+/// Saves the changes in one transaction. After an `Err` the tables are as they were, or the connection is shut and a crash may find either.
+pub fn save<S: Alter>(conn: &mut Connection<S>, changes: &[Change]) -> Result<(), Error>
+    requires { conn.old.in_transaction ≡ false }
+    ensures idle { conn.new.in_transaction ≡ false }
+    ensures ok { HasCleanDisk (state S.Store conn.new) → OnOk result (Moves (state S.Store conn.old) (state S.Store conn.new) (after changes.now)) }
+    ensures durable { HasCleanDisk (state S.Store conn.new) → OnOk result (Leaves (state S.Store conn.old) (state S.Store conn.new) (after changes.now)) }
+    ensures err { HasCleanDisk (state S.Store conn.new) → OnErr result (Stays (state S.Store conn.old) (state S.Store conn.new)) }
+    ensures crash { HasCleanDisk (state S.Store conn.new) → LeavesEither (state S.Store conn.old) (state S.Store conn.new) (after changes.now) }
+    ensures clean { doubt (state S.Store conn.old).is_clean ≤ doubt (state S.Store conn.new).is_clean }
+{
+    let mut tx = conn.transaction();
+    apply_all(&mut tx, changes)?;
+    tx.commit()
+}

@@ -1,0 +1,82 @@
+-- What an open finds, and what a crash leaves for it.
+use Rattle.std.proofs.Common.{◌≡◌, ◌⊎◌, inl, inr, Ok, Err, Result, OnOk, IsTrue, sym, ap, subst, ◌∙◌}
+use Rattle.std.proofs.Math.Logic.{∥∥₁_map}
+use Rattle.sqlite_disk.specs.declared.Disk.{Ghosts}
+use Rattle.sqlite_store.specs.declared.store.FileStore.{FileStore}
+use Rattle.sqlite_store.specs.FileStore.{state, view, recovers}
+use Rattle.sqlite_catalog.specs.Listing.{IsSound}
+use Rattle.sqlite_catalog.proofs.ReadLemmas.{lists_once}
+use Rattle.sqlite_trees.specs.Objects.{catalog_tree}
+use Rattle.sqlite_trees.specs.View.{IsClean}
+use Rattle.sqlite.specs.declared.error.Error.{Error}
+use Rattle.sqlite.specs.Recovery.{Image}
+use Rattle.sqlite.specs.Tree.{Trees}
+use Rattle.sqlite.specs.Effect.{Database}
+use Rattle.sqlite_schema.specs.declared.schema.Schema.{Schema}
+use Rattle.sqlite.specs.State.{State, Opens, IsLive}
+use Rattle.sqlite.specs.Start.{FindsIn}
+use Rattle.sqlite.specs.Held.{AreDatabases}
+use Rattle.sqlite.specs.Files.{HoldsDatabase}
+use Rattle.sqlite.proofs.ListingLemmas.{empty_is_sound}
+use Rattle.sqlite.proofs.Theorems.{opens_again}
+use Rattle.dav_rows.specs.Tables.{rows_schema, no_schema}
+use Rattle.dav_rows.specs.Stored.{IsOurs}
+use Rattle.dav_rows.specs.Contents.{Contents, Holds}
+use Rattle.dav_rows.specs.Saving.{IsAt, Leaves}
+use Rattle.dav_rows.specs.Creating.{IsBlank, IsWhole}
+use Rattle.dav_rows_files.specs.Starting.{Keeps, KeepsEither, IsVacant, NextKeeps}
+
+-- the trees tell the schema
+sole : (schema : Schema) (db : Trees) → IsSound schema db → IsOurs db → schema ≡ rows_schema
+unfolding IsOurs
+sole schema db found ours = lists_once (db catalog_tree) schema rows_schema found.lists ours.lists
+
+sound_ours : (db : Trees) → IsOurs db → IsSound rows_schema db
+unfolding IsOurs
+sound_ours db ours = ours
+
+whole : (db : Database) → IsSound db.schema db.trees → IsWhole db
+unfolding IsWhole
+whole db sound = sound
+
+pub at_start : (s : State) (image : Image) (m : Contents) → Opens s → IsLive s → FindsIn image s → Keeps image m → IsAt s m
+at_start s image m opens live found keeps =
+    let committed : s.committed.trees ≡ keeps.db = found.holds keeps.db keeps.database in
+    let now : s.now.trees ≡ keeps.db = ap (λ (d : Database). d.trees) opens.clean ∙ committed in
+    let holds : Holds s.now.trees m = subst (λ db. Holds db m) (sym now) keeps.holds in
+    record { is_open = opens.is_open; schema = sole s.now.schema s.now.trees (live opens.is_open).0 holds.sound; settled = opens.clean; holds = holds }
+
+pub blank_start : (s : State) (image : Image) → Opens s → IsLive s → FindsIn image s → IsVacant image → IsBlank s
+blank_start s image opens live found vacant =
+    let none = ap (λ (d : Database). d.trees catalog_tree) opens.clean ∙ vacant s.committed.trees found.reads in
+    let sound = (live opens.is_open).0 in
+    record {
+      is_open = opens.is_open;
+      schema = lists_once (s.now.trees catalog_tree) s.now.schema no_schema sound.lists (empty_is_sound s.now.trees none).lists;
+      settled = opens.clean;
+      sound = whole s.now sound;
+    }
+
+module _ {D : Type 0} {g : Ghosts D} (it : FileStore D g) (m n : Contents) (numbered : IsTrue (view it).is_numbered) where
+  pub next_either : ((db : Trees) → recovers it db → Holds db m ⊎ Holds db n) → (left : Image) → (state it).may_leave left → ∥ KeepsEither left m n ∥₁
+  next_either crash left may =
+      let sound : AreDatabases (recovers it) = λ db may. elim (crash db may) [
+        | inl old ↦ (rows_schema, sound_ours db old.sound)
+        | inr new ↦ (rows_schema, sound_ours db new.sound)
+      ] in
+      ∥∥₁_map (opens_again it numbered sound left may) (λ db. either db.0 db.2 (crash db.0 db.1))
+    where
+      either : (db : Trees) → HoldsDatabase left db → Holds db m ⊎ Holds db n → KeepsEither left m n
+      either db database (inl old) = inl (record { db = db; database = database; holds = old })
+      either db database (inr new) = inr (record { db = db; database = database; holds = new })
+
+pub next_only : {D : Type 0} {g : Ghosts D} (it : FileStore D g) (n : Contents) → IsTrue (view it).is_numbered → ((db : Trees) → recovers it db → Holds db n)
+    → (left : Image) → (state it).may_leave left → ∥ Keeps left n ∥₁
+next_only it n numbered crash left may =
+    let sound : AreDatabases (recovers it) = λ db may. (rows_schema, sound_ours db (crash db may).sound) in
+    ∥∥₁_map (opens_again it numbered sound left may) (λ db. let r : Keeps left n = record { db = db.0; database = db.2; holds = crash db.0 db.1 } in r)
+
+pub kept_next : {D : Type 0} {g : Ghosts D} {X : Type 0} (s new : State) (it : FileStore D g) (f : Contents → Contents) (r : Result X Error) → (IsClean (view it) → IsTrue (view it).is_numbered)
+    → (IsClean (view it) → OnOk r (Leaves s new f)) → ((db : Trees) → recovers it db → new.may_leave db) → OnOk r (NextKeeps s it f)
+kept_next s new it f (Ok x) numbered leaves outcomes = λ clean m at. next_only it (f m) (numbered clean) (λ db may. leaves clean m at db (outcomes db may))
+kept_next s new it f (Err e) numbered leaves outcomes = tt

@@ -1,0 +1,53 @@
+-- What the files hold.
+use Rattle.std.specs.Prelude.{◌≡◌, ◌⊎◌, [], IsTrue}
+use Rattle.sqlite_disk.specs.declared.Disk.{Ghosts}
+use Rattle.sqlite_store.specs.declared.store.FileStore.{FileStore}
+use Rattle.sqlite_store.specs.FileStore as store
+use Rattle.sqlite_trees.specs.View.{IsClean}
+use Rattle.sqlite_trees.specs.Objects.{catalog_tree}
+use Rattle.sqlite.specs.Recovery.{Image}
+use Rattle.sqlite.specs.Files.{HoldsDatabase, AreFoundIn}
+use Rattle.sqlite.specs.Tree.{Trees}
+use Rattle.sqlite.specs.State.{State, HasCleanDisk}
+use Rattle.dav_rows.specs.declared.loading.Rows.{Rows}
+use Rattle.dav_rows.specs.Contents.{Contents, Holds}
+use Rattle.dav_rows.specs.Saving.{IsAt}
+use Rattle.dav_rows.specs.Loading.{AreAll}
+
+-- the files hold a database whose tables stand for the maps
+pub record Keeps (image : Image) (m : Contents) : Type 0 where
+  pub db : Trees
+  pub database : HoldsDatabase image db
+  pub holds : Holds db m
+
+abbrev pub KeepsEither : Image → Contents → Contents → Type 0
+KeepsEither image m n = Keeps image m ⊎ Keeps image n
+
+-- an open finds no table, index or view in the files
+abbrev pub IsVacant : Image → Type 0
+IsVacant image = (db : Trees) → AreFoundIn image db → db catalog_tree ≡ []
+
+-- ---- what a start finds
+
+-- the rows are those that the files keep
+abbrev pub Finds : Image → State → Rows → Type 0
+Finds image s rows = HasCleanDisk s → (m : Contents) → Keeps image m → AreAll rows m
+
+-- the connection begins at the maps that the files keep
+abbrev pub BeginsAt : Image → State → Type 0
+BeginsAt image s = HasCleanDisk s → IsTrue s.is_open → (m : Contents) → Keeps image m → IsAt s m
+
+-- where the files had no table, it begins at these maps
+abbrev pub BeginsNew : Image → State → Contents → Rows → Type 0
+BeginsNew image s m rows = HasCleanDisk s → IsVacant image → IsAt s m × AreAll rows m
+
+-- ---- what the files keep after a run
+
+module _ {D : Type 0} {g : Ghosts D} where
+  -- whatever a crash leaves keeps the old maps, or what `f` makes of them
+  abbrev pub NextKeepsEither : State → FileStore D g → (Contents → Contents) → Type 0
+  NextKeepsEither s last f = IsClean (store.view last) → (m : Contents) → IsAt s m → (left : Image) → (store.state last).may_leave left → ∥ KeepsEither left m (f m) ∥₁
+
+  -- whatever a crash leaves keeps what `f` makes of the old maps
+  abbrev pub NextKeeps : State → FileStore D g → (Contents → Contents) → Type 0
+  NextKeeps s last f = IsClean (store.view last) → (m : Contents) → IsAt s m → (left : Image) → (store.state last).may_leave left → ∥ Keeps left (f m) ∥₁

@@ -1,0 +1,11 @@
+//! Opens the rows of a store in files, and says what a crash leaves there.
+#![tactic(auto)]
+
+mod starting;
+mod stopping;
+
+pub use starting::start;
+pub use stopping::save_to_the_end;
+
+#[cfg(test)]
+mod tests;
