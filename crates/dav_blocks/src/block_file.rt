@@ -113,7 +113,8 @@ impl<D: Disk> BlockFile<D> {
         ensures kept { KeepsBlocks self.old self.new }
         ensures free { OnErr result (self.new.space ≡ self.old.space) }
         ensures err { OnErr result (HasFailed self.old self.new) }
-        ensures room { CountsRefusal result (tally_of self.old) (tally_of self.new) }
+        ensures room { IfErr result (λ e. CountsRefusal {T = Unit} (Err e) (tally_of self.old) (tally_of self.new)) }
+        ensures tally { IfOk result (λ len. tally_of self.new ≡ tally_of self.old) }
         ensures usable { is_usable self.new ≡ is_usable self.old }
         ensures honest { is_honest self.new ≡ is_honest self.old }
     {

@@ -7,7 +7,7 @@ use Rattle.dav_resource.specs.declared.error.FsError.{FsError}
 use Rattle.dav_blocks.specs.Blocks as blocks
 use Rattle.dav_data.specs.declared.data_file.DataFile.{DataFile}
 use Rattle.dav_data.specs.Errors.{failure_of}
-use Rattle.dav_data.specs.Data.{in_use, Keeps, HasCause, IsDiskFailure, IsForced, IsUnread}
+use Rattle.dav_data.specs.Data.{in_use, Keeps, HasCause, TellsRoom, IsDiskFailure, IsForced, IsUnread}
 
 module _ {D : Type 0} {g : Ghosts D} where
   -- a cause of the block file's first call
@@ -19,9 +19,9 @@ module _ {D : Type 0} {g : Ghosts D} where
     cause = cause;
   }
 
-  pub failed-here : (old new : DataFile D g) → blocks.HasFailed old.file new.file → HasCause old new
-  failed-here old new (inl unusable) = cause-here old new (inl unusable)
-  failed-here old new (inr fault) = cause-here old new (inr (inr fault))
+  pub failure-here : (old new : DataFile D g) (error : Error) (e : FsError) → e ≡ failure_of error → blocks.HasCause old.file new.file → TellsRoom error old.file new.file → IsDiskFailure old new e
+  unfolding cause-here
+  failure-here old new error e kind cause room = record { error = error; kind = kind; cause = cause-here old new cause; room = room }
 
   module _ (old middle new : DataFile D g) (keeps : Keeps old middle) where
     cause-later : HasCause middle new → HasCause old new
@@ -37,7 +37,8 @@ module _ {D : Type 0} {g : Ghosts D} where
     }
 
     pub failure-later : (e : FsError) → IsDiskFailure middle new e → IsDiskFailure old new e
-    failure-later e is = record { error = is.error; kind = is.kind; cause = cause-later is.cause }
+    unfolding cause-later
+    failure-later e is = record { error = is.error; kind = is.kind; cause = cause-later is.cause; room = is.room }
 
     pub forced-later : (e : FsError) → IsForced middle new e → IsForced old new e
     forced-later e (inl memory) = inl memory

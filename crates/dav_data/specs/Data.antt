@@ -1,8 +1,9 @@
 -- What contracts see of a `DataFile`: this project's own choice.
-use Rattle.std.specs.Prelude.{◌≡◌, ◌⊎◌, ◌≤◌, ◌<◌, ℕ, ◌+◌, ◌^◌, Bool, true, false, ◌&&◌, ◌||◌, ltb, nat_le, List, [], ◌++◌, length, take, slice_index_or, Option, IfSome}
+use Rattle.std.specs.Prelude.{◌≡◌, ◌⊎◌, ◌≤◌, ◌<◌, ℕ, ◌+◌, ◌^◌, Bool, true, false, ◌&&◌, ◌||◌, ltb, nat_le, List, [], ◌++◌, length, take, slice_index_or, Option, IfSome, Err}
 use Rattle.sqlite_disk.specs.declared.Disk.{Ghosts}
 use Rattle.sqlite_disk.specs.Disk.{MoreFaults}
 use Rattle.sqlite_disk.specs.Digest.{digest}
+use Rattle.sqlite_disk.specs.Tally.{CountsRefusal}
 use Rattle.dav_store.specs.Calls.{bytes_from}
 use Rattle.dav_pieces.specs.declared.piece.Piece.{Piece}
 use Rattle.dav_pieces.specs.declared.piece.Block.{Block}
@@ -116,11 +117,16 @@ module _ {D : Type 0} {g : Ghosts D} where
   abbrev pub HasFailed : DataFile D g → DataFile D g → Type 0
   HasFailed old new = blocks.HasFailed old.file new.file
 
-  -- the error of a store where a call of the block file has failed for a cause
+  -- an error says that there is no room if a write found none, or exactly if the disk counts that it has none
+  abbrev pub TellsRoom : Error → BlockFile D g → BlockFile D g → Type 0
+  TellsRoom e old new = blocks.TellsRoom e old new ⊎ CountsRefusal {T = Unit} (Err e) (blocks.tally_of old) (blocks.tally_of new)
+
+  -- the error of a store where a call of the block file has failed for a cause, and whether it is that there is no room
   pub record IsDiskFailure (old new : DataFile D g) (e : FsError) : Type 0 where
     pub error : Error
     pub kind : e ≡ failure_of error
     pub cause : HasCause old new
+    pub room : TellsRoom error cause.before new.file
 
   -- memory has run out, or a call of the block file has failed for a cause
   abbrev pub IsForced : DataFile D g → DataFile D g → FsError → Type 0

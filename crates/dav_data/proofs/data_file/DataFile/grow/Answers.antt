@@ -1,4 +1,4 @@
-use Rattle.std.proofs.Common.{◌≡◌, ◌∙◌, ◌+◌, ◌-◌, ◌<◌, take, ap, sym, subst, arith}
+use Rattle.std.proofs.Common.{◌≡◌, ◌∙◌, ◌+◌, ◌-◌, ◌<◌, take, ap, sym, subst, inl, inr, ⊎_elim, arith}
 use Rattle.std.proofs.lemmas.Bool.{eq-eqb}
 use Rattle.std.proofs.lemmas.List.{get_or_read}
 use Rattle.std.proofs.lemmas.List.Elements.{All-set}
@@ -10,7 +10,7 @@ use Rattle.dav_data.specs.Digests.{IsHashed, no_tail}
 use Rattle.dav_data.specs.declared.hash.Tail.{Tail}
 use Rattle.dav_data.specs.Data.{data_of, in_use, tail_at}
 use Rattle.dav_data.proofs.Keeping.{hashed-kept}
-use Rattle.dav_data.proofs.Causes.{failed-here}
+use Rattle.dav_data.proofs.Causes.{failure-here}
 use Rattle.dav_data.proofs.Growing.{grown-hashed, grown-right, part-len, part-same}
 use Rattle.dav_data.proofs.data_file.DataFile.grow.Goals as goal
 
@@ -33,7 +33,9 @@ invariant_of-self-2 g c =
     }
 
 pub returns-in-Err-clause-cause : goal.returns-in-Err-clause-cause
-returns-in-Err-clause-cause g c = record { error = c.in-Err.error; kind = c.failure.ensures.value; cause = failed-here _ _ c.in-Err.ensures.err }
+returns-in-Err-clause-cause g c =
+    let cause = ⊎_elim (λ unusable. inl unusable) (λ fault. inr (inr fault)) c.in-Err.ensures.err in
+    failure-here _ _ c.in-Err.error _ c.failure.ensures.value cause (inr c.in-Err.ensures.room)
 
 pub returns-clause-grown : goal.returns-clause-grown
 returns-clause-grown g c =
