@@ -3,6 +3,7 @@ use Rattle.std.specs.Prelude.{◌≡◌, ◌≢◌, ◌&&◌, not, nat_eq, nat_l
 use Rattle.std.specs.List.{list_all}
 use Rattle.std.specs.Option.{ForSome}
 use Rattle.std.specs.FinMap.{FinMap, empty, get}
+use base.Stored.{Gv}
 use Rattle.dav_key.specs.Key.{Key, key_cmp, parent}
 use Rattle.dav_resource.specs.PathText.{IsKey}
 use Rattle.dav_resource.specs.Tree as elements
@@ -50,11 +51,12 @@ pub record Contents : Type 0 where
 abbrev pub Bodies : Type 0
 Bodies = ℕ → Option (List ℕ)
 
--- what no recorded call changes: whether the store supports dead properties, the bodies that it holds, and for the caller of the present requests which
--- records of granted calls are allowed, and which members a listing may show
+-- what no recorded call changes: whether the store supports dead properties, the bodies that it holds, what is saved of it elsewhere, as one value, and
+-- for the caller of the present requests which records of granted calls are allowed, and which members a listing may show
 pub record Facts : Type 0 where
   pub keeps_properties : Bool
   pub bodies : Bodies
+  pub saved : Gv
   pub allows : Logged → Bool
   pub shows : Key → Bool
 

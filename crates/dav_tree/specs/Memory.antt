@@ -90,9 +90,9 @@ quota_of memory = option_map (λ total. record { used = min (used_by memory.reso
 abbrev pub contents_of : Memory → Contents
 contents_of memory = record { tree = tree_of memory.resources; properties = properties_of memory.resources; metas = λ key. option_map meta_of (get memory.resources key); quota = quota_of memory }
 
--- it has dead properties, allows every call and shows every member
+-- it has dead properties, allows every call and shows every member; what is saved of it is what it was when it was last asked what has changed
 abbrev pub facts_of : Held → Facts
-facts_of held = record { keeps_properties = true; bodies = held.bodies; allows = λ _. true; shows = λ _. true }
+facts_of held = record { keeps_properties = true; bodies = held.bodies; saved = held.before; allows = λ _. true; shows = λ _. true }
 
 -- the store with this log
 abbrev pub seen_of : Memory → List Logged → Store
