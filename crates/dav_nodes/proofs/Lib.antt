@@ -7,6 +7,11 @@ mod KeyMoves
 mod Moving
 mod Outcomes
 mod RowSteps
+mod Spots
+mod LinkedParts
+mod Pending
+mod Loads
+mod Slots
 mod MemberEntries
 mod Subtrees
 mod NodeMembers

@@ -41,22 +41,22 @@ not_root (t ∷ key) s e = absurd cc
 
 -- ---- the root alone
 
-abbrev root_numbers : FinMap key_cmp ℕ
+abbrev pub root_numbers : FinMap key_cmp ℕ
 root_numbers = insert empty [] 0
 
-at_root : get root_numbers [] ≡ Some 0
+pub at_root : get root_numbers [] ≡ Some 0
 at_root = insert-here empty [] 0
 
 nowhere_else : (key : Key) → key ≢ [] → get root_numbers key ≡ None
 nowhere_else key apart = insert-elsewhere empty [] 0 key apart ∙ get-empty key_cmp key
 
-only_root : (key : Key) (number : ℕ) → get root_numbers key ≡ Some number → key ≡ []
+pub only_root : (key : Key) (number : ℕ) → get root_numbers key ≡ Some number → key ≡ []
 only_root key number is = elim (key_same_or_not key []) [
   | inl same ↦ same
   | inr apart ↦ absurd (not_none (get root_numbers key) number is (nowhere_else key apart))
 ]
 
-module _ {R : Type 0} (value : ℕ → Option R) (member : List ℕ → ℕ → Option ℕ) (x : R) (there : value 0 ≡ Some x) (childless : (s : List ℕ) → member s 0 ≡ None) where
+module _ {R : Type 0} (value : ℕ → Option R) (member : List ℕ → ℕ → Option ℕ) (x : R) (there : value 0 ≡ Some x) (childless : (s : List ℕ) → member s 0 ≡ None) (only : (n : ℕ) → is_some (value n) ≡ true → n ≡ 0) where
   none_below : (key : Key) (s : List ℕ) → option_and_then (member s) (get root_numbers key) ≡ None
   none_below key s = elim (key_same_or_not key []) [
     | inl same ↦ ap (λ k. option_and_then (member s) (get root_numbers k)) same ∙ ap (option_and_then (member s)) at_root ∙ childless s
@@ -85,6 +85,7 @@ module _ {R : Type 0} (value : ℕ → Option R) (member : List ℕ → ℕ → 
     one = λ a b number is_a is_b. only_root a number is_a ∙ sym (only_root b number is_b);
     live = λ key number is.
         ap (λ n. is_some (value n)) (some_apart number 0 (sym is ∙ ap (get root_numbers) (only_root key number is) ∙ at_root)) ∙ ap is_some there;
+    reached = λ number is. ([], at_root ∙ ap Some (sym (only number is)));
   }
 
 -- ---- a node is added
@@ -166,12 +167,22 @@ module _ {R : Type 0} (old new : ℕ → Option (Node R)) (tree : Tree R) (linke
     | inr was ↦ ap is_some (adds.values n (in_use key n was)) ∙ linked.live key n was
   ]
 
+  more_reached : (n : ℕ) → is_some (value_at new n) ≡ true → (key : Key) × (get more_numbers key ≡ Some n)
+  more_reached n is = elim (cases_eq n number) [
+    | inl same ↦ (k0 ++ name ∷ [], insert-here tree.numbers (k0 ++ name ∷ []) number ∙ ap Some (sym same))
+    | inr apart ↦
+        let was = linked.reached n (ap is_some (sym (adds.values n apart)) ∙ is) in
+        let other : was.0 ≢ k0 ++ name ∷ [] = λ e. not_none (get tree.numbers was.0) n was.1 (ap (get tree.numbers) e ∙ absent) in
+        (was.0, insert-elsewhere tree.numbers (k0 ++ name ∷ []) number was.0 other ∙ was.1)
+  ]
+
   pub linked_added : AreLinked (value_at new) (member_at new) (record { values = insert tree.values (k0 ++ name ∷ []) x; numbers = insert tree.numbers (k0 ++ name ∷ []) number })
   linked_added = record {
     numbered = numbered_by (member_at new) more_numbers (record { root = more_root; step = more_step });
     valued = more_valued;
     one = more_one;
     live = more_live;
+    reached = more_reached;
   }
 
 -- ---- no value and no member changes
@@ -188,6 +199,7 @@ module _ {R : Type 0} (old new : ℕ → Option (Node R)) (tree : Tree R) (linke
     valued = λ key. linked.valued key ∙ and_then_value (value_at old) (value_at new) (get tree.numbers key) (λ n is. sym (same.values n));
     one = linked.one;
     live = λ key n is. ap is_some (same.values n) ∙ linked.live key n is;
+    reached = λ n is. linked.reached n (ap is_some (sym (same.values n)) ∙ is);
   }
 
 -- ---- one value changes
@@ -216,6 +228,12 @@ module _ {R : Type 0} (old new : ℕ → Option (Node R)) (tree : Tree R) (linke
     | inr apart ↦ ap is_some (sets.values n apart) ∙ linked.live q n is
   ]
 
+  set_reached : (n : ℕ) → is_some (value_at new n) ≡ true → (q : Key) × (get tree.numbers q ≡ Some n)
+  set_reached n is = elim (cases_eq n number) [
+    | inl same ↦ (key, at ∙ ap Some (sym same))
+    | inr apart ↦ linked.reached n (ap is_some (sym (sets.values n apart)) ∙ is)
+  ]
+
   pub linked_set : AreLinked (value_at new) (member_at new) (record { values = insert tree.values key x; numbers = tree.numbers })
   linked_set = record {
     numbered = numbered_by (member_at new) tree.numbers (record {
@@ -227,6 +245,7 @@ module _ {R : Type 0} (old new : ℕ → Option (Node R)) (tree : Tree R) (linke
     valued = set_valued;
     one = linked.one;
     live = set_live;
+    reached = set_reached;
   }
 
 -- ---- a node without members is removed
@@ -288,6 +307,13 @@ module _ {R : Type 0} (old new : ℕ → Option (Node R)) (tree : Tree R) (linke
     | inr apart ↦ (apart, sym (remove-elsewhere tree.numbers (k0 ++ name ∷ []) key apart) ∙ is)
   ]
 
+  fewer_reached : (n : ℕ) → is_some (value_at new n) ≡ true → (key : Key) × (get fewer_numbers key ≡ Some n)
+  fewer_reached n is =
+      let apart = apart_numbers (value_at new) n number is removes.gone in
+      let was = linked.reached n (ap is_some (sym (removes.values n apart)) ∙ is) in
+      let other : was.0 ≢ k0 ++ name ∷ [] = λ e. apart (some_apart n number (sym was.1 ∙ ap (get tree.numbers) e ∙ there)) in
+      (was.0, remove-elsewhere tree.numbers (k0 ++ name ∷ []) was.0 other ∙ was.1)
+
   pub linked_removed : AreLinked (value_at new) (member_at new) (record { values = remove tree.values (k0 ++ name ∷ []); numbers = remove tree.numbers (k0 ++ name ∷ []) })
   linked_removed = record {
     numbered = numbered_by (member_at new) fewer_numbers (record {
@@ -298,4 +324,5 @@ module _ {R : Type 0} (old new : ℕ → Option (Node R)) (tree : Tree R) (linke
     one = λ a b n is_a is_b. linked.one a b n (still a n is_a).1 (still b n is_b).1;
     live = λ key n is.
         ap is_some (removes.values n (other_place key (still key n is).0 n (still key n is).1)) ∙ linked.live key n (still key n is).1;
+    reached = fewer_reached;
   }

@@ -42,7 +42,7 @@ module _ {R : Type 0} (old : ℕ → Option (Node R)) (tree : Tree R) (linked : 
   no_value key none = linked.valued key ∙ ap (option_and_then (value_at old)) none
 
 module _ {R : Type 0} (old new : ℕ → Option (Node R)) (tree after : Tree R) (linked : AreLinked (value_at old) (member_at old) tree) (k0 k1 : Key) (name new_name : List ℕ) (above new_above : ℕ)
-    (apart : AreApart (k0 ++ name ∷ []) (k1 ++ new_name ∷ [])) (at : get tree.numbers k0 ≡ Some above) (new_at : get tree.numbers k1 ≡ Some new_above)
+    (apart : AreApart (k0 ++ name ∷ []) (k1 ++ new_name ∷ [])) (at : get tree.numbers k0 ≡ Some above) (new_at : get tree.numbers k1 ≡ Some new_above) (free : get tree.numbers (k1 ++ new_name ∷ []) ≡ None)
     (moves : MovesNode old new above name new_above new_name) (moved : IsTreeMoved (k0 ++ name ∷ []) (k1 ++ new_name ∷ []) tree after) where
   abbrev from : Key
   from = k0 ++ name ∷ []
@@ -159,6 +159,18 @@ module _ {R : Type 0} (old new : ℕ → Option (Node R)) (tree after : Tree R) 
     | inr was ↦ linked.live key n was.1
   ]
 
+  moved_reached : (n : ℕ) → is_some (value_at new n) ≡ true → (key : Key) × (get after.numbers key ≡ Some n)
+  moved_reached n is = by (linked.reached n (ap is_some (sym (moves.values n)) ∙ is))
+    where
+      by : (key : Key) × (get tree.numbers key ≡ Some n) → (key : Key) × (get after.numbers key ≡ Some n)
+      by (q, was) = elim (below_or_not from q) [
+        | inl more ↦ (to ++ more.0, moved.numbers.moved more.0 ∙ ap (get tree.numbers) (sym more.1) ∙ was)
+        | inr not_from ↦ elim (below_or_not to q) [
+          | inl more ↦ absurd (not_none (get tree.numbers q) n was (ap (get tree.numbers) more.1 ∙ no_number_below old tree linked to free more.0))
+          | inr not_to ↦ (q, moved.numbers.rest q not_from not_to ∙ was)
+        ]
+      ]
+
   same_value : (o : Option ℕ) → option_and_then (value_at old) o ≡ option_and_then (value_at new) o
   same_value o = and_then_value (value_at old) (value_at new) o (λ n is. sym (moves.values n))
 
@@ -183,6 +195,7 @@ module _ {R : Type 0} (old new : ℕ → Option (Node R)) (tree after : Tree R) 
     valued = moved_valued;
     one = moved_one;
     live = moved_live;
+    reached = moved_reached;
   }
 
 -- ---- there is such a tree

@@ -108,7 +108,7 @@ module _ {R : Type 0} (old new : ℕ → Option (Node R)) (tree : Tree R) (linke
         after = moved_tree old tree linked from to apart free;
         linked =
             linked_moved old new tree (moved_tree old tree linked from to apart free) linked (parent from) (parent to) name new_name above new_above
-            (subst (λ k. AreApart k (parent to ++ new_name ∷ [])) from_is (subst (AreApart from) to_is apart)) at new_at moves
+            (subst (λ k. AreApart k (parent to ++ new_name ∷ [])) from_is (subst (AreApart from) to_is apart)) at new_at (ap (get tree.numbers) (sym to_is) ∙ free) moves
             (subst (λ k. IsTreeMoved k (parent to ++ new_name ∷ []) tree (moved_tree old tree linked from to apart free)) from_is
             (subst (λ k. IsTreeMoved from k tree (moved_tree old tree linked from to apart free)) to_is moved));
         ok = moved;

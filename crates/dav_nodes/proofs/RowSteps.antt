@@ -10,7 +10,7 @@ use Rattle.dav_key.specs.Key.{Key, parent}
 use Rattle.dav_key.specs.Below.{is_at_or_below}
 use Rattle.dav_key.proofs.FlatLemmas.{parent-push}
 use Rattle.dav_nodes.specs.Tree.{Tree, IsAdded, IsReplaced, IsRemoved, IsTreeMoved, HasNoMember}
-use Rattle.dav_nodes.specs.Rows.{Row, own_name, row_of, HasRow, KeepsRow, AreDistinct, AreJoined, HasNoted, AreNoted, is_noted}
+use Rattle.dav_nodes.specs.Rows.{Row, own_name, row_of, HasRow, KeepsRow, HasSameRows, AreDistinct, AreJoined, AreNoted, is_noted}
 use Rattle.dav_nodes.specs.declared.changes.Changes.{Changes}
 use Rattle.dav_nodes.proofs.KeyMaps.{insert-here, insert-elsewhere, remove-here, remove-elsewhere, key_same_or_not}
 use Rattle.dav_nodes.proofs.BelowKeys.{below_or_not, split_or_none, not_below_above, not_below, same_below}
@@ -18,7 +18,7 @@ use Rattle.dav_nodes.proofs.Linking.{some_apart, not_none}
 
 -- ---- keys with a last segment
 
-own_name-push : (key : Key) (s : List ℕ) → own_name (key ++ s ∷ []) ≡ Some s
+pub own_name-push : (key : Key) (s : List ℕ) → own_name (key ++ s ∷ []) ≡ Some s
 own_name-push key s =
     let n = length-append key (s ∷ []) in
     let at : length (key ++ s ∷ []) - 1 ≡ length key = omega (arith, n) in
@@ -34,7 +34,7 @@ still_out false b stays out = refl
 
 module _ {R : Type 0} where
   -- the row of a member
-  row_of-push : (tree : Tree R) (above : Key) (s : List ℕ) → row_of tree (above ++ s ∷ []) ≡ option_map (λ value. record { above = get tree.numbers above; name = Some s; value = value }) (get tree.values (above ++ s ∷ []))
+  pub row_of-push : (tree : Tree R) (above : Key) (s : List ℕ) → row_of tree (above ++ s ∷ []) ≡ option_map (λ value. record { above = get tree.numbers above; name = Some s; value = value }) (get tree.values (above ++ s ∷ []))
   row_of-push tree above s =
       ap (λ k. option_map (λ value. record { above = get tree.numbers k; name = own_name (above ++ s ∷ []); value = value }) (get tree.values (above ++ s ∷ []))) (parent-push above s)
       ∙ ap (λ n. option_map (λ value. record { above = get tree.numbers above; name = n; value = value }) (get tree.values (above ++ s ∷ []))) (own_name-push above s)
@@ -291,3 +291,8 @@ module _ {R : Type 0} where
   -- a tree that was just asked
   pub noted_none : (changes : Changes) (tree : Tree R) → AreDistinct tree → AreNoted changes (Some tree) tree
   noted_none changes tree distinct = record { distinct_old = distinct; distinct_now = distinct; kept = λ n _. keeps-refl n tree }
+
+-- no number is noted
+pub same-rows : {R : Type 0} (changes : Changes) (before : Option (Tree R)) (now : Tree R) → AreNoted changes before now → ((number : ℕ) → is_noted changes number ≡ false) → HasSameRows before now
+same-rows changes None now noted none = absurd (both (is_noted changes 0) (none 0) (noted 0))
+same-rows changes (Some old) now noted none = (old, refl, λ number. noted.kept number (none number))

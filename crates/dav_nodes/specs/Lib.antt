@@ -5,5 +5,7 @@ pub mod NodeChanges
 pub mod Memo
 pub mod Listing
 pub mod Rows
+pub mod TreeRows
+pub mod Loading
 pub mod RowProps
 pub mod Noted

@@ -1,12 +1,13 @@
 -- What a tree says of a number, and which numbers have changed: this project's own choice.
 use Rattle.std.specs.Prelude.{◌≡◌, ℕ, ◌-◌, Bool, true, false, List, ◌++◌, length, Option, Some, None, slice_get}
-use Rattle.std.specs.Option.{option_map}
+use Rattle.std.specs.Option.{option_map, option_copied}
 use Rattle.std.specs.Ordering.{nat_cmp}
 use Rattle.std.specs.FinMap.{get}
 use Rattle.std.specs.BTreeSet.{contains}
 use Rattle.dav_key.specs.Key.{Key, parent}
 use Rattle.dav_nodes.specs.Tree.{Tree}
 use Rattle.dav_nodes.specs.declared.changes.Changes.{Changes}
+use Rattle.dav_nodes.specs.declared.nodes.rows.PlacedValue.{PlacedValue}
 use Rattle.dav_nodes.specs.declared.changes.Changes.TheVariants.{All, Numbers}
 
 -- the last segment of a key; the root has none
@@ -32,6 +33,14 @@ module _ {R : Type 0} where
   pub record KeepsRow (number : ℕ) (old new : Tree R) : Type 0 where
     pub kept : (row : Row R) → HasRow old number row → HasRow new number row
     pub had : (row : Row R) → HasRow new number row → HasRow old number row
+
+  -- the row that a value with its place says
+  abbrev pub row_in : PlacedValue R → Row R
+  row_in placed = record { above = Some placed.above; name = option_copied placed.name; value = placed.value.now }
+
+  -- there was a tree, and each number has the row that it had there
+  abbrev pub HasSameRows : Option (Tree R) → Tree R → Type 0
+  HasSameRows before now = (old : Tree R) × (before ≡ Some old) × ((number : ℕ) → KeepsRow number old now)
 
   -- no two keys have the same number
   abbrev pub AreDistinct : Tree R → Type 0

@@ -32,6 +32,16 @@ impl Changes {
         }
     }
 
+    /// Whether no number is noted.
+    pub fn is_empty(&self) -> bool
+        ensures { result ≡ true → (number : ℕ) → is_noted self.now number ≡ false }
+    {
+        match self {
+            Changes::All => false,
+            Changes::Numbers(numbers) => numbers.is_empty(),
+        }
+    }
+
     /// Notes a number. If memory runs out, every number is noted.
     pub(crate) fn note(&mut self, number: usize)
         ensures noted { is_noted self.new number ≡ true }

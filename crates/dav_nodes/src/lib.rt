@@ -15,5 +15,5 @@ mod tests;
 
 pub use changes::Changes;
 pub use members::Members;
-pub use nodes::Nodes;
+pub use nodes::{Nodes, NumberedValue, PlacedValue, RowsError};
 pub use noted::NotedNodes;

@@ -2,7 +2,7 @@
 ghost use Rattle.std.specs.Prelude.{◌≡◌, ◌≢◌, IsSome, IfOk, OnOk, OnErr, Some, None, string_bytes};
 ghost use Rattle.slab.specs.Slab.{get};
 ghost use Rattle.dav_nodes.specs.Links.{place, value_at, member_at};
-ghost use Rattle.dav_nodes.specs.NodeChanges.{AddsNode, SetsValue, RemovesNode, MovesNode, SetsMember, SameNodes};
+ghost use Rattle.dav_nodes.specs.NodeChanges.{AddsNode, SetsValue, RemovesNode, MovesNode, SetsMember, SetsSpot, SameNodes};
 
 use crate::node::Node;
 use dav_key::Segments;
@@ -41,7 +41,7 @@ pub(crate) fn exchange<R>(nodes: &mut Slab<Node<R>>, number: usize, value: &mut 
 
 /// Makes a node the member with this name of the node `above`. Fails only if memory runs out, and then
 /// nothing changes.
-fn enter<R>(
+pub(crate) fn enter<R>(
     nodes: &mut Slab<Node<R>>,
     above: usize,
     name: String,
@@ -66,8 +66,18 @@ fn leave<R>(nodes: &mut Slab<Node<R>>, above: usize, name: &str)
     }
 }
 
+/// Writes the number of the parent, and the name there, into a node.
+fn set_spot<R>(nodes: &mut Slab<Node<R>>, number: usize, above: usize, name: String)
+    ensures { SetsSpot (get nodes.old) (get nodes.new) number above (string_bytes name) }
+{
+    if let Some(node) = nodes.get_mut(number) {
+        node.above = above;
+        node.name = name;
+    }
+}
+
 /// Adds a node as the member with this name of the node `above`, and returns its number. Fails only if memory
-/// runs out, and then no value and no member changes.
+/// runs out, and then no node changes.
 pub(crate) fn add<R: Drop>(
     nodes: &mut Slab<Node<R>>,
     alloc: Global,
@@ -79,8 +89,9 @@ pub(crate) fn add<R: Drop>(
     ensures ok { IfOk result (λ number. AddsNode (get nodes.old) (get nodes.new) above name.now number value) }
     ensures err { OnErr result (SameNodes (get nodes.old) (get nodes.new)) }
 {
+    let own_name = String::from_str(alloc, name)?;
     let name = String::from_str(alloc, name)?;
-    let number = nodes.insert(Node::new(alloc, value))?;
+    let number = nodes.insert(Node::new(alloc, above, own_name, value))?;
     if enter(nodes, above, name, number).is_err() {
         nodes.try_remove(number);
         return Err(AllocError);
@@ -106,7 +117,7 @@ pub(crate) fn remove<R: Drop>(
 }
 
 /// Makes the node of the member with this name of the node `from` a member of the node `to`, under another
-/// name. Fails only if memory runs out, and then no value and no member changes.
+/// name. Fails only if memory runs out, and then no node changes.
 pub(crate) fn relink<R>(
     nodes: &mut Slab<Node<R>>,
     alloc: Global,
@@ -121,10 +132,12 @@ pub(crate) fn relink<R>(
     ensures ok { OnOk result (MovesNode (get nodes.old) (get nodes.new) from name.now to new_name.now) }
     ensures err { OnErr result (SameNodes (get nodes.old) (get nodes.new)) }
 {
+    let own_name = String::from_str(alloc, new_name)?;
     let new_name = String::from_str(alloc, new_name)?;
     if let Some(number) = member(nodes, from, name) {
         enter(nodes, to, new_name, number)?;
         leave(nodes, from, name);
+        set_spot(nodes, number, to, own_name);
     }
     Ok(())
 }

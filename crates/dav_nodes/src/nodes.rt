@@ -6,15 +6,19 @@ ghost use Rattle.slab.specs.Slab.{get};
 ghost use Rattle.dav_key.specs.Key.{Key, parent};
 ghost use Rattle.dav_key.specs.Below.{AreApart};
 ghost use Rattle.dav_nodes.specs.Tree.{root_tree, IsAdded, IsReplaced, IsRemoved, IsTreeMoved, HasNoMember};
-ghost use Rattle.dav_nodes.specs.Links.{place, member_at, HoldsTree, HoldsTree-prop};
+ghost use Rattle.dav_nodes.specs.Links.{place, member_at, spot_at, HoldsTree, HoldsTree-prop, AreSpots, AreSpots-prop};
 ghost use Rattle.dav_nodes.specs.Memo.{AreKnown, AreKnown-prop};
 
 mod listing;
+mod loading;
+mod rows;
 
 use crate::memo::Memo;
 use crate::node::Node;
 use crate::{links, lookup};
 use dav_key::FlatKey;
+pub use loading::{NumberedValue, RowsError};
+pub use rows::PlacedValue;
 use slab::Slab;
 use std::alloc::{AllocError, Global};
 use std::marker::Model;
@@ -27,6 +31,7 @@ pub struct Nodes<R> {
     memo: Memo,
     ghost tree: { HoldsTree (get nodes) } by { HoldsTree-prop (get nodes) R.code },
     ghost known: { AreKnown (place (member_at (get nodes))) memo } by { AreKnown-prop (place (member_at (get nodes))) memo },
+    ghost spots: { AreSpots (member_at (get nodes)) (spot_at (get nodes)) } by { AreSpots-prop (member_at (get nodes)) (spot_at (get nodes)) },
 }
 
 impl<R> Model for Nodes<R> {
@@ -50,7 +55,7 @@ impl<R> Nodes<R> {
         ensures { IfOk result (λ nodes. nodes ≡ root_tree value) }
     {
         let mut nodes = Slab::new(alloc);
-        nodes.insert(Node::new(alloc, value))?;
+        nodes.insert(Node::new(alloc, 0, String::new(alloc), value))?;
         Ok(Nodes {
             alloc,
             nodes,
@@ -82,6 +87,13 @@ impl<R> Nodes<R> {
         ensures distinct { AreDistinct self.now }
         ensures joined { AreJoined self.now }
         ensures numbered { (key : Key) → is_some (map.get self.now.numbers key) ≡ is_some (map.get self.now.values key) }
+    {
+        let _ = &self.nodes;
+    }
+
+    /// The number of the root is 0. It does nothing: callers learn this of the tree.
+    pub fn show_root(&self)
+        ensures { map.get self.now.numbers [] ≡ Some 0 }
     {
         let _ = &self.nodes;
     }

@@ -6,6 +6,7 @@ use Rattle.dav_key.specs.Key.{parent}
 use Rattle.dav_nodes.specs.Tree.{Tree, IsAdded}
 use Rattle.dav_nodes.specs.Links.{place, member_at}
 use Rattle.dav_nodes.proofs.Outcomes.{linked_now, of_held, node_there, added, known_after, added_keeps, added_at}
+use Rattle.dav_nodes.proofs.Spots.{spots_after_add}
 use Rattle.dav_nodes.proofs.nodes.Nodes.add.Goals as goal
 
 pub add-added-requires : goal.add-added-requires
@@ -32,7 +33,7 @@ invariant_of-self-inside g c =
             (known_after old new c.args.self.now done.0 linked done.1 c.self.inside.memo
             (added_keeps old new c.args.self.now done.0 linked done.1 c.args.key.now c.in-Ok.number c.args.value c.requires.absent is) c.self.inside.known)
             (added_at old new c.args.self.now done.0 linked done.1 c.args.key.now c.in-Ok.number c.in-Some.above c.args.value c.requires.absent at is),
-        tt,
+        (spots_after_add old new c.self.inside.spots c.in-Some.above c.in-Some-name.name.now c.args.value c.add-added.result c.add-added.ensures.ok c.add-added.ensures.err, tt),
       ),
     )
 
@@ -49,7 +50,7 @@ invariant_of-self-inside-in_default-added g c =
       (done.0, done.1),
       (
         known_after old new c.args.self.now done.0 linked done.1 c.self.inside.memo (λ key n is. ap (λ (t : Tree g.row.R.Denot). get t.numbers key) same ∙ is) c.self.inside.known,
-        tt,
+        (spots_after_add old new c.self.inside.spots c.in-Some.above c.in-Some-name.name.now c.args.value c.add-added.result c.add-added.ensures.ok c.add-added.ensures.err, tt),
       ),
     )
 

@@ -3,6 +3,7 @@ use Rattle.std.specs.FinMap.{get}
 use Rattle.slab.specs.Slab as slab
 use Rattle.dav_nodes.specs.Tree.{IsReplaced}
 use Rattle.dav_nodes.proofs.Outcomes.{linked_now, of_held, node_there, replaced, known_after}
+use Rattle.dav_nodes.proofs.Spots.{spots_set}
 use Rattle.dav_nodes.proofs.nodes.Nodes.exchange.Goals as goal
 
 pub exchange-requires : goal.exchange-requires
@@ -18,7 +19,7 @@ invariant_of-self-inside g c =
     let done =
     replaced old new c.args.self.now linked c.requires.0 c.args.number c.exchange.new.value c.args.value.now c.requires.1 c.exchange.ensures.value c.exchange.ensures.nodes in (
       (done.0, done.1),
-      (known_after old new c.args.self.now done.0 linked done.1 c.self.inside.memo (λ key n is. ap (λ m. get m key) done.2.numbers ∙ is) c.self.inside.known, tt),
+      (known_after old new c.args.self.now done.0 linked done.1 c.self.inside.memo (λ key n is. ap (λ m. get m key) done.2.numbers ∙ is) c.self.inside.known, (spots_set old new c.self.inside.spots c.args.number c.args.value.now c.exchange.ensures.nodes, tt)),
     )
 
 pub returns : goal.returns

@@ -6,6 +6,7 @@ use Rattle.dav_key.specs.Key.{parent}
 use Rattle.dav_nodes.specs.Tree.{IsRemoved}
 use Rattle.dav_nodes.specs.Links.{value_at, place, member_at}
 use Rattle.dav_nodes.proofs.Outcomes.{linked_now, of_held, member_number, no_orphan, no_number, removed, parent_apart, removed_keeps}
+use Rattle.dav_nodes.proofs.Spots.{spots_removed, not_zero}
 use Rattle.dav_nodes.proofs.nodes.Nodes.remove.Goals as goal
 
 pub unreachable-requires-in_default-find_above : goal.unreachable-requires-in_default-find_above
@@ -44,7 +45,11 @@ invariant_of-self-inside g c =
       (
         c.forget.ensures (place (member_at old)) (place (member_at new)) c.self.inside.known
             (removed_keeps old new c.args.self.now done.0 linked done.1 c.args.key.now c.in-Some-member.number there done.2),
-        tt,
+        (
+          spots_removed old new c.self.inside.spots c.in-Some-find_above.above c.in-Some.name.now c.in-Some-member.number
+              (not_zero old c.args.self.now linked c.args.key.now c.in-Some-member.number c.requires.root there) (sym c.member.ensures ∙ c.in-Some-member.is) c.remove.ensures.nodes,
+          tt,
+        ),
       ),
     )
 

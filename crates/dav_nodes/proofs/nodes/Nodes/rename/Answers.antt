@@ -6,6 +6,7 @@ use Rattle.dav_nodes.specs.Tree.{IsTreeMoved}
 use Rattle.dav_nodes.specs.Links.{place, member_at}
 use Rattle.dav_nodes.proofs.Linking.{not_root}
 use Rattle.dav_nodes.proofs.Outcomes.{linked_now, of_held, node_there, member_number, no_orphan, renamed}
+use Rattle.dav_nodes.proofs.Spots.{spots_renamed}
 use Rattle.dav_nodes.proofs.nodes.Nodes.rename.Goals as goal
 
 pub unreachable-requires-in_default-find_above : goal.unreachable-requires-in_default-find_above
@@ -39,7 +40,10 @@ invariant_of-self-inside g c =
     let done =
     renamed old new c.args.self.now linked c.args.from.now c.args.to.now c.in-Some-Some.name.now c.in-Some-Some.new_name.now c.in-Some.above c.in-Some-find_above.new_above
     c.in-Some-Some.ensures.last c.in-Some-Some.ensures'.last c.requires.apart at new_at c.requires.free c.relink.result c.relink.ensures.ok c.relink.ensures.err in
-    ((done.after, done.linked), (c.clear.ensures (place (member_at new)), tt))
+    let spots =
+    spots_renamed old new c.args.self.now linked c.self.inside.spots c.args.from.now c.in-Some.above c.in-Some-Some.name.now c.in-Some-find_above.new_above c.in-Some-Some.new_name.now
+    c.in-Some-Some.ensures.last c.requires.there at c.relink.result c.relink.ensures.ok c.relink.ensures.err in
+    ((done.after, done.linked), (c.clear.ensures (place (member_at new)), (spots, tt)))
 
 pub returns-clause-ok : goal.returns-clause-ok
 returns-clause-ok g c =
