@@ -15,7 +15,7 @@ use Rattle.dav_data.specs.declared.hash.Tail.{Tail}
 use Rattle.dav_data.specs.Digests.{hashed, IsHashed, AreHashed}
 use Rattle.dav_tree.specs.Bodies.{KeepsBodies}
 use Rattle.dav_store.specs.Calls.{written_at}
-use Rattle.dav_data.specs.Data.{Keeps, body_bytes, is_held}
+use Rattle.dav_data.specs.Data.{Keeps, body_bytes, is_held, is_synced}
 use Rattle.dav_data.proofs.Bodies.{body-kept, body-bytes}
 
 module _ {D : Type 0} {g : Ghosts D} where
@@ -31,10 +31,11 @@ module _ {D : Type 0} {g : Ghosts D} where
     honest = λ is. first.honest (second.honest is);
   }
 
-  pub keeps-bodies : (old new : DataFile D g) → Keeps old new → KeepsBodies (body_bytes {D = D} {g = g}) (is_held {D = D} {g = g}) old new
+  pub keeps-bodies : (old new : DataFile D g) → Keeps old new → KeepsBodies (body_bytes {D = D} {g = g}) (is_held {D = D} {g = g}) (is_synced {D = D} {g = g}) old new
   keeps-bodies old new keeps = record {
     held = λ body held. body-kept _ _ keeps.blocks.used body held;
     same = λ body held. body-bytes _ _ _ keeps.blocks.same body held;
+    still = λ body safe. body-kept _ _ keeps.blocks.safe body safe;
   }
 
 pub if-err : {T E : Type 0} (result : Result T E) {P Q : Type 0} → (P → Q) → OnErr result P → OnErr result Q

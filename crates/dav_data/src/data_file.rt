@@ -16,6 +16,7 @@ use dav_space::Range;
 use sqlite_disk::Disk;
 use std::alloc::Global;
 use std::io;
+pub(crate) use writing::failure;
 
 /// A data file, which holds what files contain as blocks, each with a digest.
 ///

@@ -1,6 +1,6 @@
 //! The data file as a medium.
 
-use crate::data_file::DataFile;
+use crate::data_file::{DataFile, failure};
 use dav_pieces::Body;
 use dav_resource::{FsError, FsResult};
 use dav_tree::Medium;
@@ -11,21 +11,24 @@ use std::alloc::Global;
 const MAX_LEN: u64 = (1 << 63) - 1;
 
 impl<D: Disk + Drop> Medium for DataFile<D> {
-    ghost use Rattle.std.specs.Prelude.{◌≡◌, ◌<◌, ◌+◌, ◌^◌, true, false, length, IfOk, IfErr, OnOk, OnErr};
+    ghost use Rattle.std.specs.Prelude.{◌≡◌, ◌<◌, ◌+◌, ◌^◌, List, true, false, is_ok, length, IfOk, IfErr, OnOk, OnErr};
+    ghost use Rattle.dav_pieces.specs.declared.piece.Piece.{Piece};
     ghost use Rattle.std.specs.Coded.{coded_list};
     ghost use Rattle.dav_pieces.specs.Pieces.{piece_code};
     ghost use Rattle.dav_resource.specs.declared.error.FsError.TheVariants.{Memory};
     ghost use Rattle.dav_store.specs.Calls.{bytes_from, written_at};
     ghost use Rattle.dav_tree.specs.Bodies.{KeepsBodies, KeepsMarked, IsCopy, FailsFor};
     ghost use Rattle.dav_data.specs.Errors.{is_own_error};
-    ghost use Rattle.dav_data.specs.Data.{body_bytes, is_held, has_digests, is_marked, is_honest, IsBegun, GivesUpRest, FailsToWrite, FailsToJoin, IsReadChecked, IsUnread};
-    ghost use Rattle.dav_data.specs.Owning.{held_small, own_refused, none_trusted};
+    ghost use Rattle.dav_data.specs.Data.{body_bytes, is_held, is_synced, has_digests, is_marked, is_honest, is_usable, HasFailed, KeepsSweep, IsBegun, GivesUpRest, FailsToWrite, FailsToJoin, IsReadChecked, IsUnread};
+    ghost use Rattle.dav_data.specs.Owning.{synced_held, held_small, own_refused, none_trusted};
 
     type Body = Body;
 
     ghost bytes = { body_bytes };
 
     ghost holds = { is_held };
+
+    ghost safe = { is_synced };
 
     ghost marked = { is_marked };
 
@@ -36,6 +39,8 @@ impl<D: Disk + Drop> Medium for DataFile<D> {
     ghost is_honest = { is_honest };
 
     ghost is_trusted = { false };
+
+    ghost safe_held = { λ it body safe. synced_held it body safe };
 
     ghost small = { λ medium body held. held_small medium body held };
 
@@ -68,7 +73,7 @@ impl<D: Disk + Drop> Medium for DataFile<D> {
         ensures same { OnErr result (body_bytes self.new body.new ≡ body_bytes self.old body.old) }
         ensures err { IfErr result (FailsFor is_own_error) }
         ensures held { is_held self.new body.new ≡ true }
-        ensures kept { KeepsBodies body_bytes is_held self.old self.new }
+        ensures kept { KeepsBodies body_bytes is_held is_synced self.old self.new }
         ensures digests { OnOk result (has_digests self.old body.old ≡ true → has_digests self.new body.new ≡ true) }
         ensures cause { IfErr result (FailsToWrite place (length more.now) self.old self.new) }
     {
@@ -95,7 +100,7 @@ impl<D: Disk + Drop> Medium for DataFile<D> {
         ensures same { OnErr result (body_bytes self.new body.new ≡ body_bytes self.old body.old) }
         ensures err { IfErr result (FailsFor is_own_error) }
         ensures held { is_held self.new body.new ≡ true }
-        ensures kept { KeepsBodies body_bytes is_held self.old self.new }
+        ensures kept { KeepsBodies body_bytes is_held is_synced self.old self.new }
         ensures cause { IfErr result (FailsToJoin place (length (body_bytes self.old from.now))) }
     {
         if place + from.len() > MAX_LEN {
@@ -112,13 +117,28 @@ impl<D: Disk + Drop> Medium for DataFile<D> {
         ensures checked { IfOk result (λ found. IsReadChecked self.old body.now place count found.items) }
         ensures err { IfErr result (FailsFor is_own_error) }
         ensures cause { IfErr result (IsUnread (has_digests self.old body.now) self.old self.new) }
-        ensures kept { KeepsBodies body_bytes is_held self.old self.new }
+        ensures kept { KeepsBodies body_bytes is_held is_synced self.old self.new }
     {
         self.read_checked(alloc, body, place, count)
     }
 
+    fn sync(&mut self) -> FsResult<()>
+        ensures safe { OnOk result ((body : List Piece) → is_held self.old body ≡ true → is_synced self.new body ≡ true) }
+        ensures err { IfErr result (λ e. is_own_error e ≡ true) }
+        ensures kept { KeepsBodies body_bytes is_held is_synced self.old self.new }
+        ensures cause { IfErr result (λ e. HasFailed self.old self.new) }
+        ensures sweep { KeepsSweep self.old self.new }
+        ensures usable { is_usable self.new ≡ is_ok result }
+        ensures honest { is_honest self.new ≡ is_honest self.old }
+    {
+        match DataFile::sync(self) {
+            Ok(()) => Ok(()),
+            Err(error) => Err(failure(&error)),
+        }
+    }
+
     fn begin_sweep(&mut self)
-        ensures kept { KeepsBodies body_bytes is_held self.old self.new }
+        ensures kept { KeepsBodies body_bytes is_held is_synced self.old self.new }
         ensures begun { IsBegun self.new }
     {
         self.begin();
@@ -129,7 +149,7 @@ impl<D: Disk + Drop> Medium for DataFile<D> {
     }
 
     fn end_sweep(&mut self)
-        ensures kept { KeepsMarked body_bytes is_held is_marked self.old self.new }
+        ensures kept { KeepsMarked body_bytes is_held is_synced is_marked self.old self.new }
         ensures rest { GivesUpRest self.old self.new }
     {
         self.end();

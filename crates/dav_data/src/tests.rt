@@ -31,7 +31,7 @@ fn write(
 ) -> FsResult<()>
     requires { is_held file.old body.old ≡ true }
     ensures held { is_held file.new body.new ≡ true }
-    ensures kept { KeepsBodies body_bytes is_held file.old file.new }
+    ensures kept { KeepsBodies body_bytes is_held is_synced file.old file.new }
 {
     assert!(rt; place < 1 << 40);
     file.write(alloc, body, place, bytes)
@@ -46,7 +46,7 @@ fn body_of(
     count: usize,
 ) -> FsResult<Body>
     ensures held { IfOk result (λ body. is_held file.new body ≡ true) }
-    ensures kept { KeepsBodies body_bytes is_held file.old file.new }
+    ensures kept { KeepsBodies body_bytes is_held is_synced file.old file.new }
 {
     let mut body = file.empty(alloc);
     let bytes = vec![in alloc; byte; count]?;

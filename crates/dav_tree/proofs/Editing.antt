@@ -13,7 +13,7 @@ use Rattle.dav_store.specs.BelowLaws.{at_or_below-tail}
 use Rattle.dav_tree.specs.Memory.{Stored, Resources, size_of, used_by, change_at}
 use Rattle.dav_tree.specs.EachLaws.{each-put_at, each-IsMoved, put_at-same}
 use Rattle.dav_tree.specs.Entry.{node_by, stored_by, is_held}
-use Rattle.dav_tree.specs.Kept.{Kept, kept_by, resources_by, AreHeld, AreKept, IsAt, IsTaken, Has, HasMoved, held_of}
+use Rattle.dav_tree.specs.Kept.{Kept, Rest, kept_by, resources_by, AreHeld, AreKept, IsAt, IsTaken, Has, HasMoved, held_of}
 use Rattle.dav_tree.specs.declared.entry.Entry.{Entry}
 use Rattle.dav_tree.proofs.Keeping.{kept-resources, held-tree, resources-before, has-now, kept-now, counted-before}
 use Rattle.dav_tree.proofs.Sums.{total, part, total-insert, total-remove, total-moved}
@@ -76,19 +76,19 @@ change-there : (key : Key) (change : Stored → Stored) (resources : Resources) 
 change-there key change resources s here = ap (λ o. put_at resources key (option_map change o)) here
 
 module _ {B : Type 0} (b0 b1 : B → List ℕ) (h0 h1 : B → Bool) (keeps : (body : B) → h0 body ≡ true → h1 body ≡ true) (same : (body : B) → h0 body ≡ true → b1 body ≡ b0 body)
-    (honest : Bool) (t0 : Tree (Entry B)) (used : ℕ) (bodies : BTreeMap ℕ B) (next : ℕ) (past : Gv) (kept : Kept) (is : kept_by b0 honest t0 bodies next past ≡ kept) (inv : AreKept b0 h0 t0 used bodies next)
+    (rest : Rest) (t0 : Tree (Entry B)) (used : ℕ) (bodies : BTreeMap ℕ B) (next : ℕ) (past : Gv) (kept : Kept) (is : kept_by b0 rest t0 bodies next past ≡ kept) (inv : AreKept b0 h0 t0 used bodies next)
     (key : Key) (t1 : Tree (Entry B)) where
   before : resources_by b1 t0 ≡ kept.resources
-  before = resources-before b0 b1 h0 h1 keeps same honest t0 used bodies next past kept is inv
+  before = resources-before b0 b1 h0 h1 keeps same rest t0 used bodies next past kept is inv
 
   count_before : used ≡ used_by kept.resources
-  count_before = counted-before b0 b1 h0 h1 keeps same honest t0 used bodies next past kept is inv
+  count_before = counted-before b0 b1 h0 h1 keeps same rest t0 used bodies next past kept is inv
 
   -- ---- an entry is replaced
 
   module _ (e0 e1 : Entry B) (r : IsReplaced key e0 e1 t0 t1) where
     pub was-there : get kept.resources key ≡ Some (stored_by b0 e0)
-    was-there = kept-resources b0 honest t0 bodies next past kept is key ∙ ap (option_map (stored_by b0)) r.there
+    was-there = kept-resources b0 rest t0 bodies next past kept is key ∙ ap (option_map (stored_by b0)) r.there
 
     pub edited-fits : size_of (node_by b0 e0.content) ≤ used
     edited-fits = omega (arith, ap (part size) was-there, part-fits kept.resources key, count_before)
@@ -105,20 +105,20 @@ module _ {B : Type 0} (b0 b1 : B → List ℕ) (h0 h1 : B → Bool) (keeps : (bo
     edited-kept used1 own count =
         let sums : total size (insert kept.resources key (stored_by b1 e1)) + size (stored_by b0 e0) ≡ total size kept.resources + size (stored_by b1 e1) =
         ap (λ o. total size (insert kept.resources key (stored_by b1 e1)) + part size o) (sym was-there) ∙ total-insert size kept.resources key (stored_by b1 e1) in
-        kept-now b0 b1 h0 h1 keeps same honest t0 used bodies next past kept is inv t1 (insert kept.resources key (stored_by b1 e1)) used1
+        kept-now b0 b1 h0 h1 keeps same rest t0 used bodies next past kept is inv t1 (insert kept.resources key (stored_by b1 e1)) used1
         (held-insert h1 key t0 t1 e1 r.values (held-tree b0 b1 h0 h1 keeps same t0 inv.held) own) edited (omega (arith, count, sums, count_before))
 
-    pub edited-change : (honest1 : Bool) (past1 : Gv) → past1 ≡ past → (change : Stored → Stored) → stored_by b1 e1 ≡ change (stored_by b0 e0) → Has (change_at key change kept.resources) (held_of kept) (kept_by b1 honest1 t1 bodies next past1)
-    edited-change honest1 past1 same_past change changed =
-        has-now b0 b1 h0 h1 keeps same honest t0 used bodies next past kept is inv honest1 t1 past1 same_past _
+    pub edited-change : (rest1 : Rest) (past1 : Gv) → past1 ≡ past → (change : Stored → Stored) → stored_by b1 e1 ≡ change (stored_by b0 e0) → Has (change_at key change kept.resources) (held_of kept) (kept_by b1 rest1 t1 bodies next past1)
+    edited-change rest1 past1 same_past change changed =
+        has-now b0 b1 h0 h1 keeps same rest t0 used bodies next past kept is inv rest1 t1 past1 same_past _
         (edited ∙ ap (insert kept.resources key) changed ∙ sym (change-there key change kept.resources (stored_by b0 e0) was-there))
 
-    pub edited-has : (honest1 : Bool) (past1 : Gv) → past1 ≡ past → (s : Stored) → stored_by b1 e1 ≡ s → Has (insert kept.resources key s) (held_of kept) (kept_by b1 honest1 t1 bodies next past1)
-    edited-has honest1 past1 same_past s new = has-now b0 b1 h0 h1 keeps same honest t0 used bodies next past kept is inv honest1 t1 past1 same_past _ (edited ∙ ap (insert kept.resources key) new)
+    pub edited-has : (rest1 : Rest) (past1 : Gv) → past1 ≡ past → (s : Stored) → stored_by b1 e1 ≡ s → Has (insert kept.resources key s) (held_of kept) (kept_by b1 rest1 t1 bodies next past1)
+    edited-has rest1 past1 same_past s new = has-now b0 b1 h0 h1 keeps same rest t0 used bodies next past kept is inv rest1 t1 past1 same_past _ (edited ∙ ap (insert kept.resources key) new)
 
-    pub edited-same : (honest1 : Bool) (past1 : Gv) → past1 ≡ past → stored_by b1 e1 ≡ stored_by b0 e0 → Has kept.resources (held_of kept) (kept_by b1 honest1 t1 bodies next past1)
-    edited-same honest1 past1 same_past unchanged =
-        has-now b0 b1 h0 h1 keeps same honest t0 used bodies next past kept is inv honest1 t1 past1 same_past _
+    pub edited-same : (rest1 : Rest) (past1 : Gv) → past1 ≡ past → stored_by b1 e1 ≡ stored_by b0 e0 → Has kept.resources (held_of kept) (kept_by b1 rest1 t1 bodies next past1)
+    edited-same rest1 past1 same_past unchanged =
+        has-now b0 b1 h0 h1 keeps same rest t0 used bodies next past kept is inv rest1 t1 past1 same_past _
         (edited ∙ ap (insert kept.resources key) unchanged ∙ put_at-same kept.resources key (Some (stored_by b0 e0)) was-there)
 
   -- ---- an entry is added
@@ -131,11 +131,11 @@ module _ {B : Type 0} (b0 b1 : B → List ℕ) (h0 h1 : B → Bool) (keeps : (bo
     added-kept used1 own count =
         let sums : total size (insert kept.resources key (stored_by b1 e)) + 0 ≡ total size kept.resources + size (stored_by b1 e) =
         ap (λ o. total size (insert kept.resources key (stored_by b1 e)) + part size o) (sym none) ∙ total-insert size kept.resources key (stored_by b1 e) in
-        kept-now b0 b1 h0 h1 keeps same honest t0 used bodies next past kept is inv t1 (insert kept.resources key (stored_by b1 e)) used1
+        kept-now b0 b1 h0 h1 keeps same rest t0 used bodies next past kept is inv t1 (insert kept.resources key (stored_by b1 e)) used1
         (held-insert h1 key t0 t1 e r (held-tree b0 b1 h0 h1 keeps same t0 inv.held) own) added (omega (arith, count, sums, count_before))
 
-    pub added-has : (honest1 : Bool) (past1 : Gv) → past1 ≡ past → (s : Stored) → stored_by b1 e ≡ s → Has (insert kept.resources key s) (held_of kept) (kept_by b1 honest1 t1 bodies next past1)
-    added-has honest1 past1 same_past s new = has-now b0 b1 h0 h1 keeps same honest t0 used bodies next past kept is inv honest1 t1 past1 same_past _ (added ∙ ap (insert kept.resources key) new)
+    pub added-has : (rest1 : Rest) (past1 : Gv) → past1 ≡ past → (s : Stored) → stored_by b1 e ≡ s → Has (insert kept.resources key s) (held_of kept) (kept_by b1 rest1 t1 bodies next past1)
+    added-has rest1 past1 same_past s new = has-now b0 b1 h0 h1 keeps same rest t0 used bodies next past kept is inv rest1 t1 past1 same_past _ (added ∙ ap (insert kept.resources key) new)
 
   -- ---- an entry is removed
 
@@ -145,11 +145,11 @@ module _ {B : Type 0} (b0 b1 : B → List ℕ) (h0 h1 : B → Bool) (keeps : (bo
 
     pub removed-kept : (used1 : ℕ) → used1 + part size (get kept.resources key) ≡ used → AreKept b1 h1 t1 used1 bodies next
     removed-kept used1 count =
-        kept-now b0 b1 h0 h1 keeps same honest t0 used bodies next past kept is inv t1 (remove kept.resources key) used1
+        kept-now b0 b1 h0 h1 keeps same rest t0 used bodies next past kept is inv t1 (remove kept.resources key) used1
         (held-remove h1 key t0 t1 r (held-tree b0 b1 h0 h1 keeps same t0 inv.held)) removed (omega (arith, count, total-remove size kept.resources key, count_before))
 
-    pub removed-has : (honest1 : Bool) (past1 : Gv) → past1 ≡ past → Has (remove kept.resources key) (held_of kept) (kept_by b1 honest1 t1 bodies next past1)
-    removed-has honest1 past1 same_past = has-now b0 b1 h0 h1 keeps same honest t0 used bodies next past kept is inv honest1 t1 past1 same_past _ removed
+    pub removed-has : (rest1 : Rest) (past1 : Gv) → past1 ≡ past → Has (remove kept.resources key) (held_of kept) (kept_by b1 rest1 t1 bodies next past1)
+    removed-has rest1 past1 same_past = has-now b0 b1 h0 h1 keeps same rest t0 used bodies next past kept is inv rest1 t1 past1 same_past _ removed
 
   -- ---- an entry and all below it are moved; the key is the one they are moved from
 
@@ -171,7 +171,7 @@ module _ {B : Type 0} (b0 b1 : B → List ℕ) (h0 h1 : B → Bool) (keeps : (bo
     pub moved-kept : ((below : Key) → get kept.resources (to ++ below) ≡ None) → AreKept b1 h1 t1 used bodies next
     moved-kept none =
         let sums : total size kept.resources ≡ total size (resources_by b1 t1) = total-moved size key to kept.resources (resources_by b1 t1) moved none in
-        kept-now b0 b1 h0 h1 keeps same honest t0 used bodies next past kept is inv t1 (resources_by b1 t1) used (λ q x here. moved_at x q here) refl (count_before ∙ sums)
+        kept-now b0 b1 h0 h1 keeps same rest t0 used bodies next past kept is inv t1 (resources_by b1 t1) used (λ q x here. moved_at x q here) refl (count_before ∙ sums)
 
-    pub moved-has : (honest1 : Bool) (past1 : Gv) → past1 ≡ past → HasMoved key to kept (kept_by b1 honest1 t1 bodies next past1)
-    moved-has honest1 past1 same_past = record { resources_are = moved; held_are = (has-now b0 b1 h0 h1 keeps same honest t0 used bodies next past kept is inv honest1 t1 past1 same_past _ refl).held_are }
+    pub moved-has : (rest1 : Rest) (past1 : Gv) → past1 ≡ past → HasMoved key to kept (kept_by b1 rest1 t1 bodies next past1)
+    moved-has rest1 past1 same_past = record { resources_are = moved; held_are = (has-now b0 b1 h0 h1 keeps same rest t0 used bodies next past kept is inv rest1 t1 past1 same_past _ refl).held_are }

@@ -14,7 +14,7 @@ use Rattle.dav_tree.specs.Memory.{Stored, size_of, used_by, none_held, each, fre
 use Rattle.dav_store.specs.Store.{Directory}
 use Rattle.dav_tree.specs.EachLaws.{get-each-some}
 use Rattle.dav_tree.specs.Entry.{node_by, stored_by, is_held}
-use Rattle.dav_tree.specs.Kept.{kept_by, resources_by, AreKept, held_of}
+use Rattle.dav_tree.specs.Kept.{Rest, kept_by, resources_by, AreKept, held_of}
 use Rattle.dav_tree.specs.declared.entry.Entry.{Entry}
 use Rattle.dav_tree.proofs.Keeping.{get-bodies}
 use Rattle.dav_tree.proofs.Sums.{total, part, total-insert}
@@ -63,5 +63,5 @@ module _ {B : Type 0} (bytes : B → List ℕ) (holds : B → Bool) (root : Entr
       count : 0 ≡ used_by (resources_by bytes tree)
       count = omega (arith, sums, used_none, small, ap used_by first-resources)
 
-  pub first-held : (honest : Bool) (past : Gv) → past ≡ gnil → held_of (kept_by bytes honest tree bodies 0 past) ≡ none_held
-  first-held honest past never = λ i. record { bodies = λ n. (get-bodies bytes bodies n ∙ ap (option_map bytes) (no_body n)) i; next = 0; before = never i }
+  pub first-held : (rest : Rest) (past : Gv) → past ≡ gnil → held_of (kept_by bytes rest tree bodies 0 past) ≡ none_held
+  first-held rest past never = λ i. record { bodies = λ n. (get-bodies bytes bodies n ∙ ap (option_map bytes) (no_body n)) i; next = 0; before = never i }

@@ -20,10 +20,10 @@ use Rattle.dav_nodes.specs.Tree.{Tree}
 use Rattle.dav_store.specs.Store.{File, Bodies}
 use Rattle.dav_store.specs.Calls.{written_at}
 use Rattle.dav_store.specs.BodyCalls.{stored_bytes, put_body}
-use Rattle.dav_tree.specs.Memory.{Stored, Resources, Held, is_directory, size_of, used_by, fresh}
+use Rattle.dav_tree.specs.Memory.{Stored, Resources, Held, is_directory, size_of, used_by, fresh, asked}
 use Rattle.dav_tree.specs.EachLaws.{get-each-some}
 use Rattle.dav_tree.specs.Entry.{node_by, stored_by, is_held, is_file}
-use Rattle.dav_tree.specs.Kept.{Kept, kept_by, resources_by, bodies_by, held_of, AreHeld, AreStored, AreKept, IsAt, IsFound, IsAbsent, Has}
+use Rattle.dav_tree.specs.Kept.{Kept, Rest, kept_by, resources_by, bodies_by, held_of, AreHeld, AreStored, AreKept, IsAt, IsFound, IsAbsent, Has}
 use Rattle.dav_tree.specs.declared.entry.Content.{Content}
 use Rattle.dav_tree.specs.declared.entry.Content.TheVariants as contents
 use Rattle.dav_tree.specs.declared.entry.Entry.{Entry}
@@ -74,7 +74,7 @@ module _ {B : Type 0} (bytes : B → List ℕ) where
   file_by (contents.File body) e = refl
   file_by contents.Directory e = absurd cc
 
-  module _ (honest : Bool) (tree : Tree (Entry B)) (bodies : BTreeMap ℕ B) (next : ℕ) (past : Gv) (kept : Kept) (is : kept_by bytes honest tree bodies next past ≡ kept) where
+  module _ (rest : Rest) (tree : Tree (Entry B)) (bodies : BTreeMap ℕ B) (next : ℕ) (past : Gv) (kept : Kept) (is : kept_by bytes rest tree bodies next past ≡ kept) where
     pub kept-resources : (key : Key) → get kept.resources key ≡ option_map (stored_by bytes) (get tree.values key)
     kept-resources key = ap (λ (k : Kept). get k.resources key) (sym is) ∙ get-resources tree key
 
@@ -172,16 +172,20 @@ module _ {B : Type 0} (b0 b1 : B → List ℕ) (h0 h1 : B → Bool) (keeps : (bo
   pub stored-bodies : (bodies : BTreeMap ℕ B) → AreStored h0 bodies → AreStored h1 bodies
   stored-bodies bodies stored = λ number body here. keeps body (stored number body here)
 
-  module _ (honest : Bool) (tree : Tree (Entry B)) (used : ℕ) (bodies : BTreeMap ℕ B) (next : ℕ) (past : Gv) (kept : Kept) (is : kept_by b0 honest tree bodies next past ≡ kept) (inv : AreKept b0 h0 tree used bodies next) where
+  module _ (rest : Rest) (tree : Tree (Entry B)) (used : ℕ) (bodies : BTreeMap ℕ B) (next : ℕ) (past : Gv) (kept : Kept) (is : kept_by b0 rest tree bodies next past ≡ kept) (inv : AreKept b0 h0 tree used bodies next) where
     pub resources-before : resources_by b1 tree ≡ kept.resources
     resources-before = same-resources tree inv.held ∙ ap (λ (k : Kept). k.resources) is
 
-    held_before : (honest1 : Bool) (tree1 : Tree (Entry B)) (past1 : Gv) → past1 ≡ past → held_of (kept_by b1 honest1 tree1 bodies next past1) ≡ held_of kept
-    held_before honest1 tree1 past1 same_past = (λ i. record { bodies = λ number. get (same-bodies bodies inv.stored i) number; next = next; before = same_past i }) ∙ ap held_of is
+    held_before : (rest1 : Rest) (tree1 : Tree (Entry B)) (past1 : Gv) → past1 ≡ past → held_of (kept_by b1 rest1 tree1 bodies next past1) ≡ held_of kept
+    held_before rest1 tree1 past1 same_past = (λ i. record { bodies = λ number. get (same-bodies bodies inv.stored i) number; next = next; before = same_past i }) ∙ ap held_of is
 
     -- with another tree
-    pub has-now : (honest1 : Bool) (tree1 : Tree (Entry B)) (past1 : Gv) → past1 ≡ past → (these : Resources) → resources_by b1 tree1 ≡ these → Has these (held_of kept) (kept_by b1 honest1 tree1 bodies next past1)
-    has-now honest1 tree1 past1 same_past these are = record { resources_are = are; held_are = held_before honest1 tree1 past1 same_past }
+    pub has-now : (rest1 : Rest) (tree1 : Tree (Entry B)) (past1 : Gv) → past1 ≡ past → (these : Resources) → resources_by b1 tree1 ≡ these → Has these (held_of kept) (kept_by b1 rest1 tree1 bodies next past1)
+    has-now rest1 tree1 past1 same_past these are = record { resources_are = are; held_are = held_before rest1 tree1 past1 same_past }
+
+    -- it was asked what has changed
+    pub has-asked : (rest1 : Rest) (tree1 : Tree (Entry B)) → tree1 ≡ tree → (past1 : Gv) → Has kept.resources (asked past1 (held_of kept)) (kept_by b1 rest1 tree1 bodies next past1)
+    has-asked rest1 tree1 same_tree past1 = record { resources_are = ap (resources_by b1) same_tree ∙ resources-before; held_are = ap (asked past1) (held_before rest1 tree1 past refl) }
 
     pub kept-now : (tree1 : Tree (Entry B)) (these : Resources) (used1 : ℕ) → AreHeld h1 tree1 → resources_by b1 tree1 ≡ these → used1 ≡ used_by these → AreKept b1 h1 tree1 used1 bodies next
     kept-now tree1 these used1 held are count = record {
@@ -194,18 +198,22 @@ module _ {B : Type 0} (b0 b1 : B → List ℕ) (h0 h1 : B → Bool) (keeps : (bo
     pub counted-before : used ≡ used_by kept.resources
     counted-before = inv.counted ∙ ap (λ (k : Kept). used_by k.resources) is
 
+    -- with the same tree
+    pub kept-same : AreKept b1 h1 tree used bodies next
+    kept-same = kept-now tree kept.resources used (held-tree tree inv.held) resources-before counted-before
+
     -- ---- with other bodies
 
-    pub has-held : (honest1 : Bool) (bodies1 : BTreeMap ℕ B) (next1 : ℕ) (held1 : Held) → ((n : ℕ) → get (bodies_by b1 bodies1) n ≡ held1.bodies n) → next1 ≡ held1.next
-        → past ≡ held1.before → Has kept.resources held1 (kept_by b1 honest1 tree bodies1 next1 past)
-    has-held honest1 bodies1 next1 held1 each last same_past = record { resources_are = resources-before; held_are = λ i. record { bodies = λ n. each n i; next = last i; before = same_past i } }
+    pub has-held : (rest1 : Rest) (bodies1 : BTreeMap ℕ B) (next1 : ℕ) (held1 : Held) → ((n : ℕ) → get (bodies_by b1 bodies1) n ≡ held1.bodies n) → next1 ≡ held1.next
+        → (past1 : Gv) → past1 ≡ held1.before → Has kept.resources held1 (kept_by b1 rest1 tree bodies1 next1 past1)
+    has-held rest1 bodies1 next1 held1 each last past1 same_past = record { resources_are = resources-before; held_are = λ i. record { bodies = λ n. each n i; next = last i; before = same_past i } }
 
     pub bodies-put : (bodies1 : BTreeMap ℕ B) (k : ℕ) (w : Option B) (body : Option (List ℕ)) → ((q : ℕ) → ordered.get nat_cmp bodies1 q ≡ cond (is_at (nat_cmp k) q) w (ordered.get nat_cmp bodies q))
         → option_map b1 w ≡ body → (n : ℕ) → get (bodies_by b1 bodies1) n ≡ put_body (held_of kept).bodies k body n
     bodies-put bodies1 k w body updates gives n =
         get-bodies b1 bodies1 n ∙ ap (option_map b1) (updates n) ∙ ap (λ t. option_map b1 (cond t w (ordered.get nat_cmp bodies n))) (tied_number k n)
         ∙ map_either b1 (nat_eq n k) w (ordered.get nat_cmp bodies n)
-        ∙ (λ i. cond (nat_eq n k) (gives i) ((same_body (ordered.get nat_cmp bodies n) (inv.stored n) ∙ sym (body-in b0 honest tree bodies next past kept is n)) i))
+        ∙ (λ i. cond (nat_eq n k) (gives i) ((same_body (ordered.get nat_cmp bodies n) (inv.stored n) ∙ sym (body-in b0 rest tree bodies next past kept is n)) i))
 
     pub kept-with : (bodies1 : BTreeMap ℕ B) (next1 : ℕ) → AreStored h1 bodies1 → ((number : ℕ) → next1 ≤ number → ordered.get nat_cmp bodies1 number ≡ None) → AreKept b1 h1 tree used bodies1 next1
     kept-with bodies1 next1 stored below = record {

@@ -21,3 +21,4 @@ pub mod Listings
 pub mod Dumps
 pub mod Firsts
 mod Sweeping
+mod Saving

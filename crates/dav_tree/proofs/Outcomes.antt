@@ -1,5 +1,5 @@
 -- From the outcome of one call to that of another.
-use Rattle.std.specs.Prelude.{Result, Ok, Err, IfOk, IfErr, OnOk, OnErr}
+use Rattle.std.specs.Prelude.{Option, Some, None, IfSome, Result, Ok, Err, IfOk, IfErr, OnOk, OnErr}
 
 pub ok_then : {A E : Type 0} {P Q : A → Type 0} (answer : Result A E) → ((a : A) → P a → Q a) → IfOk answer P → IfOk answer Q
 ok_then (Ok a) f h = f a h
@@ -29,3 +29,7 @@ on_ok (Err e) p = tt
 pub on_err : {A E : Type 0} {P : Type 0} (answer : Result A E) → P → OnErr answer P
 on_err (Ok a) p = tt
 on_err (Err e) p = p
+
+pub some_then : {A : Type 0} {P Q : A → Type 0} (found : Option A) → ((a : A) → P a → Q a) → IfSome found P → IfSome found Q
+some_then None f h = tt
+some_then (Some a) f h = f a h

@@ -16,7 +16,7 @@ use Rattle.dav_store.specs.Store.{Store}
 use Rattle.dav_store.specs.BodyCalls.{StartsBody, with_body}
 use Rattle.dav_tree.specs.Memory.{Held, begun, seen_of}
 use Rattle.dav_tree.specs.MemoryCalls.{start_error}
-use Rattle.dav_tree.specs.Kept.{Kept, kept_by, held_of, Has}
+use Rattle.dav_tree.specs.Kept.{Kept, Rest, kept_by, held_of, Has}
 use Rattle.dav_tree.proofs.Answering.{own_failure}
 use Rattle.dav_tree.proofs.Effects.{memory_by, memory-has}
 
@@ -45,8 +45,8 @@ module _ (version moment : ℕ) (limit : Option (Option ℕ)) (log : List Logged
       record { started = tt; refused = (ap (λ m. seen_of m log) (memory-has version moment limit e1 e0.resources (held_of e0) same), own_start (held_of e0) e due) }
 
 -- there is no body at the next number
-pub next-free : {B : Type 0} (bytes : B → List ℕ) (honest : Bool) (tree : Tree (Entry B)) (bodies : BTreeMap ℕ B) (next : ℕ) (past : Gv) (kept : Kept) → kept_by bytes honest tree bodies next past ≡ kept
+pub next-free : {B : Type 0} (bytes : B → List ℕ) (rest : Rest) (tree : Tree (Entry B)) (bodies : BTreeMap ℕ B) (next : ℕ) (past : Gv) (kept : Kept) → kept_by bytes rest tree bodies next past ≡ kept
     → ((number : ℕ) → next ≤ number → ordered.get nat_cmp bodies number ≡ None) → (held_of kept).bodies kept.next ≡ None
-next-free bytes honest tree bodies next past kept is below =
+next-free bytes rest tree bodies next past kept is below =
     let same : next ≡ kept.next = ap (λ (k : Kept). k.next) is in
-    body-in bytes honest tree bodies next past kept is kept.next ∙ ap (option_map bytes) (below kept.next (omega arith))
+    body-in bytes rest tree bodies next past kept is kept.next ∙ ap (option_map bytes) (below kept.next (omega arith))

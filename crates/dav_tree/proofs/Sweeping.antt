@@ -1,14 +1,13 @@
 -- A sweep of the medium: what is marked is held afterwards, with its bytes.
-use Rattle.std.proofs.Common.{◌≡◌, ◌∙◌, ◌⊎◌, inl, inr, ℕ, Bool, true, false, cond, List, [], ◌∷◌, Option, Some, None, refl, sym, ap}
+use Rattle.std.proofs.Common.{◌≡◌, ◌∙◌, ◌⊎◌, inl, inr, ℕ, Bool, true, false, cond, List, [], ◌∷◌, Some, refl, sym, ap}
 use Rattle.std.specs.Ordering.{nat_cmp}
-use Rattle.std.specs.FinMap.{get}
 use Rattle.std.specs.Map.{lookup}
 use Rattle.std.specs.BTreeMap.{BTreeMap, is_at}
 use base.Stored.{Gv}
 use Rattle.dav_nodes.specs.Tree.{Tree}
-use Rattle.dav_tree.specs.Memory.{Resources, used_by}
+use Rattle.dav_tree.specs.Memory.{used_by}
 use Rattle.dav_tree.specs.Bodies.{KeepsBodies, KeepsMarked}
-use Rattle.dav_tree.specs.Kept.{Kept, kept_by, resources_by, bodies_by, held_of, AreHeld, AreStored, AreKept, Has}
+use Rattle.dav_tree.specs.Kept.{Kept, Rest, kept_by, resources_by, bodies_by, held_of, AreHeld, AreStored, AreKept, Has}
 use Rattle.dav_tree.specs.Entry.{is_held}
 use Rattle.dav_tree.specs.declared.entry.Content.{Content}
 use Rattle.dav_tree.specs.declared.entry.Content.TheVariants as contents
@@ -37,24 +36,25 @@ marked-end marked number body (inr is) = is
 
 -- ---- the files
 
-more_held : {B : Type 0} (h0 h1 : B → Bool) → ((body : B) → h0 body ≡ true → h1 body ≡ true) → (content : Content B) → is_held h0 content ≡ true → is_held h1 content ≡ true
-more_held h0 h1 more (contents.File body) is = more body is
-more_held h0 h1 more contents.Directory is = refl
+pub more-held : {B : Type 0} (h0 h1 : B → Bool) → ((body : B) → h0 body ≡ true → h1 body ≡ true) → (content : Content B) → is_held h0 content ≡ true → is_held h1 content ≡ true
+more-held h0 h1 more (contents.File body) is = more body is
+more-held h0 h1 more contents.Directory is = refl
 
 pub files-more : {B : Type 0} (h0 h1 : B → Bool) → ((body : B) → h0 body ≡ true → h1 body ≡ true) → (tree : Tree (Entry B)) → AreHeld h0 tree → AreHeld h1 tree
-files-more h0 h1 more tree held = λ key e here. more_held h0 h1 more e.content (held key e here)
+files-more h0 h1 more tree held = λ key e here. more-held h0 h1 more e.content (held key e here)
 
 -- ---- the medium
 
-module _ {M B : Type 0} (bytes : M → B → List ℕ) (holds : M → B → Bool) where
-  pub bodies-trans : (a b c : M) → KeepsBodies bytes holds a b → KeepsBodies bytes holds b c → KeepsBodies bytes holds a c
+module _ {M B : Type 0} (bytes : M → B → List ℕ) (holds safe : M → B → Bool) where
+  pub bodies-trans : (a b c : M) → KeepsBodies bytes holds safe a b → KeepsBodies bytes holds safe b c → KeepsBodies bytes holds safe a c
   bodies-trans a b c x y = record {
     held = λ body is. y.held body (x.held body is);
     same = λ body is. y.same body (x.held body is) ∙ x.same body is;
+    still = λ body is. y.still body (x.still body is);
   }
 
-  module _ (marked : M → B → Bool) (m0 m1 m2 : M) (before : KeepsBodies bytes holds m0 m1) (ends : KeepsMarked bytes holds marked m1 m2)
-      (honest : Bool) (tree : Tree (Entry B)) (used : ℕ) (bodies : BTreeMap ℕ B) (next : ℕ) (past : Gv) (kept : Kept) (is : kept_by (bytes m0) honest tree bodies next past ≡ kept)
+  module _ (marked : M → B → Bool) (m0 m1 m2 : M) (before : KeepsBodies bytes holds safe m0 m1) (ends : KeepsMarked bytes holds safe marked m1 m2)
+      (rest : Rest) (tree : Tree (Entry B)) (used : ℕ) (bodies : BTreeMap ℕ B) (next : ℕ) (past : Gv) (kept : Kept) (is : kept_by (bytes m0) rest tree bodies next past ≡ kept)
       (inv : AreKept (bytes m0) (holds m0) tree used bodies next) (files : AreHeld (marked m1) tree) (stored : AreStored (marked m1) bodies) where
     resources_are : resources_by (bytes m1) tree ≡ resources_by (bytes m0) tree
     resources_are = same-resources (bytes m0) (bytes m1) (holds m0) (holds m1) before.held before.same tree inv.held
@@ -62,22 +62,22 @@ module _ {M B : Type 0} (bytes : M → B → List ℕ) (holds : M → B → Bool
     bodies_are : bodies_by (bytes m1) bodies ≡ bodies_by (bytes m0) bodies
     bodies_are = same-bodies (bytes m0) (bytes m1) (holds m0) (holds m1) before.held before.same bodies inv.stored
 
-    marked_is : kept_by (bytes m1) honest tree bodies next past ≡ kept
-    marked_is = (λ i. record { resources = resources_are i; numbers = tree.numbers; bodies = bodies_are i; next = next; honest = honest; before = past }) ∙ is
+    marked_is : kept_by (bytes m1) rest tree bodies next past ≡ kept
+    marked_is = (λ i. record { resources = resources_are i; numbers = tree.numbers; bodies = bodies_are i; next = next; honest = rest.honest; tree = rest.tree; before = past }) ∙ is
 
     marked_kept : AreKept (bytes m1) (marked m1) tree used bodies next
     marked_kept = record { held = files; counted = inv.counted ∙ ap used_by (sym resources_are); stored = stored; below = inv.below }
 
-    swept_resources : resources_by (bytes m2) tree ≡ kept.resources
-    swept_resources = resources-before (bytes m1) (bytes m2) (marked m1) (holds m2) ends.held ends.same honest tree used bodies next past kept marked_is marked_kept
+    pub swept-resources : resources_by (bytes m2) tree ≡ kept.resources
+    swept-resources = resources-before (bytes m1) (bytes m2) (marked m1) (holds m2) ends.held ends.same rest tree used bodies next past kept marked_is marked_kept
 
     -- what was marked is kept
     pub swept-kept : AreKept (bytes m2) (holds m2) tree used bodies next
-    swept-kept = kept-now (bytes m1) (bytes m2) (marked m1) (holds m2) ends.held ends.same honest tree used bodies next past kept marked_is marked_kept tree kept.resources used
-        (held-tree (bytes m1) (bytes m2) (marked m1) (holds m2) ends.held ends.same tree files) swept_resources
-        (counted-before (bytes m1) (bytes m2) (marked m1) (holds m2) ends.held ends.same honest tree used bodies next past kept marked_is marked_kept)
+    swept-kept = kept-now (bytes m1) (bytes m2) (marked m1) (holds m2) ends.held ends.same rest tree used bodies next past kept marked_is marked_kept tree kept.resources used
+        (held-tree (bytes m1) (bytes m2) (marked m1) (holds m2) ends.held ends.same tree files) swept-resources
+        (counted-before (bytes m1) (bytes m2) (marked m1) (holds m2) ends.held ends.same rest tree used bodies next past kept marked_is marked_kept)
 
     -- nothing has changed
-    pub swept-has : (honest1 : Bool) → Has kept.resources (held_of kept) (kept_by (bytes m2) honest1 tree bodies next past)
-    swept-has honest1 =
-        has-now (bytes m1) (bytes m2) (marked m1) (holds m2) ends.held ends.same honest tree used bodies next past kept marked_is marked_kept honest1 tree past refl kept.resources swept_resources
+    pub swept-has : (rest1 : Rest) (past1 : Gv) → past1 ≡ past → Has kept.resources (held_of kept) (kept_by (bytes m2) rest1 tree bodies next past1)
+    swept-has rest1 past1 same_past =
+        has-now (bytes m1) (bytes m2) (marked m1) (holds m2) ends.held ends.same rest tree used bodies next past kept marked_is marked_kept rest1 tree past1 same_past kept.resources swept-resources

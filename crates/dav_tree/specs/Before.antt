@@ -1,16 +1,29 @@
 -- What has changed since a store was last asked: this project's own choice.
-use Rattle.std.specs.Prelude.{◌≡◌, ℕ, true, List, Option, Some, None, refl}
+use Rattle.std.specs.Prelude.{◌≡◌, ℕ, Bool, true, List, Option, Some, None, refl}
 use Rattle.std.specs.Coded.{Coded, code_by, coded×, coded_option, coded_ℕ}
 use base.Stored.{Gv, gnil, gcons}
 use Rattle.dav_nodes.specs.Tree.{Tree}
 use Rattle.dav_nodes.specs.Codes.{tree_code}
-use Rattle.dav_nodes.specs.Rows.{HasNoted, is_noted}
+use Rattle.dav_nodes.specs.Rows.{Row, HasRow, KeepsRow, HasNoted, is_noted}
 use Rattle.dav_nodes.specs.declared.changes.Changes.{Changes}
-use Rattle.dav_tree.specs.Codes.{property_map_code}
-use Rattle.dav_tree.specs.Kept.{Kept, resources_by}
+use Rattle.dav_tree.specs.Codes.{property_map_code, resources_code}
+use Rattle.dav_tree.specs.Memory.{Resources}
+use Rattle.dav_tree.specs.Kept.{Kept, Rest, resources_by, AreHeld}
 use Rattle.dav_tree.specs.declared.entry.Content.{Content}
 use Rattle.dav_tree.specs.declared.entry.Content.TheVariants as contents
 use Rattle.dav_tree.specs.declared.entry.Entry.{Entry}
+
+-- a tree of entries, as one value, with its resources
+abbrev pub saved_code : Gv → Resources → Gv
+saved_code tree resources = gcons tree (resources_code.code resources)
+
+-- the value is that of this tree of entries with its resources
+abbrev pub IsTreeIn : Gv → Gv → Type 0
+IsTreeIn before tree = (resources : Resources) × (saved_code tree resources ≡ before)
+
+-- what is saved elsewhere is all that there is now
+abbrev pub IsSaved : Kept → Type 0
+IsSaved kept = saved_code kept.tree kept.resources ≡ kept.before
 
 module _ {B : Type 0} where
   -- the body of a file; a directory has none
@@ -38,21 +51,42 @@ module _ {B : Type 0} where
       (λ p. record { content = p.0; version = p.1.0; created = p.1.1.0; modified = p.1.1.1.0; properties = p.1.1.1.1 })
       (λ _. refl)
 
-  -- a tree of resources, or none, as one value
-  abbrev pub before_code : Coded B → Option (Tree (Entry B)) → Gv
-  before_code body None = gnil
-  before_code body (Some tree) = gcons gnil ((tree_code (entry_code body)).code tree)
+  -- a tree of entries as one value
+  abbrev pub entries_code : Coded B → Tree (Entry B) → Gv
+  entries_code body tree = (tree_code (entry_code body)).code tree
+
+  abbrev pub rest_of : Coded B → Bool → Tree (Entry B) → Rest
+  rest_of body honest tree = record { honest = honest; tree = entries_code body tree }
+
+  -- a tree of entries with its resources, or none, as one value
+  abbrev pub past_code : Coded B → (B → List ℕ) → Option (Tree (Entry B)) → Gv
+  past_code body bytes None = gnil
+  past_code body bytes (Some tree) = saved_code (entries_code body tree) (resources_by bytes tree)
+
+  -- what is saved of a tree of entries is safe, and has these bytes
+  pub record IsSafe (bytes : B → List ℕ) (safe : B → Bool) (tree : Tree (Entry B)) (resources : Resources) : Type 0 where
+    pub held : AreHeld safe tree
+    pub bytes_are : resources_by bytes tree ≡ resources
+
+  -- the same of each tree of which this is the value
+  abbrev pub HasSaved : Coded B → (B → List ℕ) → (B → Bool) → Gv → Type 0
+  HasSaved body bytes safe before =
+      (tree : Tree (Entry B)) (resources : Resources) → saved_code (entries_code body tree) resources ≡ before → IsSafe bytes safe tree resources
 
   -- what has changed from the one tree to the other is noted: a number that is not among the changes has the same row in both; where there was no tree
   -- before, every number is noted
   pub record IsNotedBetween (body : Coded B) (changes : Changes) (before now : Gv) : Type 0 where
     pub first : before ≡ gnil → (number : ℕ) → is_noted changes number ≡ true
-    pub later : (old new : Tree (Entry B)) → before_code body (Some old) ≡ before → before_code body (Some new) ≡ now → HasNoted changes old new
+    pub later : (old new : Tree (Entry B)) → IsTreeIn before (entries_code body old) → entries_code body new ≡ now → HasNoted changes old new
 
-  -- these are the resources of the tree, and their numbers
-  pub record IsTreeOf (body : Coded B) (kept : Kept) (now : Gv) : Type 0 where
-    pub tree : Tree (Entry B)
-    pub is : before_code body (Some tree) ≡ now
-    pub bytes : B → List ℕ
-    pub resources : resources_by bytes tree ≡ kept.resources
-    pub numbers : tree.numbers ≡ kept.numbers
+  -- each number has the row that it had in the tree that is saved
+  abbrev pub AreSameRows : Coded B → Gv → Gv → Type 0
+  AreSameRows body before now =
+      (old new : Tree (Entry B)) → IsTreeIn before (entries_code body old) → entries_code body new ≡ now → (number : ℕ) → KeepsRow number old new
+
+  -- a number has this row in the tree of entries, or none
+  abbrev pub HasEntry : Coded B → Gv → ℕ → Row (Entry B) → Type 0
+  HasEntry body now number row = (tree : Tree (Entry B)) → entries_code body tree ≡ now → HasRow tree number row
+
+  abbrev pub HasNoEntry : Coded B → Gv → ℕ → Type 0
+  HasNoEntry body now number = (tree : Tree (Entry B)) (row : Row (Entry B)) → entries_code body tree ≡ now → HasRow tree number row → ⊥

@@ -1,5 +1,6 @@
 -- What contracts see of the resources and bodies of a store: this project's own choice.
-use Rattle.std.specs.Prelude.{◌≡◌, ℕ, ◌≤◌, Bool, true, false, List, [], map, Some, None}
+use Rattle.std.specs.Prelude.{◌≡◌, ℕ, ◌≤◌, Bool, true, false, List, [], map, Option, Some, None}
+use Rattle.std.specs.Option.{ForSome}
 use Rattle.std.specs.Ordering.{nat_cmp}
 use Rattle.std.specs.FinMap.{FinMap, empty, from_entries, get, insert}
 use Rattle.std.specs.BTreeMap as ordered
@@ -14,14 +15,21 @@ use Rattle.dav_tree.specs.Entry.{stored_by, is_held}
 use Rattle.dav_tree.specs.declared.entry.Entry.{Entry}
 
 -- the resources, the numbers under which they are found, the bodies held for requests to come, the number of the next one, whether the medium has
--- returned what was written to it, and the tree when it was last asked what has changed
+-- returned what was written to it, the tree of entries (`entries_code`), and that tree when it was last asked what has changed, with its resources
+-- (`past_code`)
 pub record Kept : Type 0 where
   pub resources : Resources
   pub numbers : FinMap key_cmp ℕ
   pub bodies : FinMap nat_cmp (List ℕ)
   pub next : ℕ
   pub honest : Bool
+  pub tree : Gv
   pub before : Gv
+
+-- what no call of the store says anything of: whether the medium has returned what was written to it, and the tree of entries
+pub record Rest : Type 0 where
+  pub honest : Bool
+  pub tree : Gv
 
 abbrev pub held_of : Kept → Held
 held_of kept = record { bodies = λ number. get kept.bodies number; next = kept.next; before = kept.before }
@@ -34,14 +42,15 @@ resources_by bytes tree = each (λ e. Some (stored_by bytes e)) tree.values
 abbrev pub bodies_by : {B : Type 0} → (B → List ℕ) → BTreeMap ℕ B → FinMap nat_cmp (List ℕ)
 bodies_by bytes bodies = from_entries (map (λ e. (e.0, bytes e.1)) bodies.entries)
 
-abbrev pub kept_by : {B : Type 0} → (B → List ℕ) → Bool → Tree (Entry B) → BTreeMap ℕ B → ℕ → Gv → Kept
-kept_by bytes honest tree bodies next before =
+abbrev pub kept_by : {B : Type 0} → (B → List ℕ) → Rest → Tree (Entry B) → BTreeMap ℕ B → ℕ → Gv → Kept
+kept_by bytes rest tree bodies next before =
     record {
       resources = resources_by bytes tree;
       numbers = tree.numbers;
       bodies = bodies_by bytes bodies;
       next = next;
-      honest = honest;
+      honest = rest.honest;
+      tree = rest.tree;
       before = before;
     }
 
@@ -57,6 +66,10 @@ IsMarkedAt {B} marked tree number =
 -- the medium holds each body that waits for a request
 abbrev pub AreStored : {B : Type 0} → (B → Bool) → BTreeMap ℕ B → Type 0
 AreStored {B} holds bodies = (number : ℕ) (body : B) → ordered.get nat_cmp bodies number ≡ Some body → holds body ≡ true
+
+-- what is saved elsewhere, the tree when it was last asked what has changed, is safe
+abbrev pub AreSaved : {B : Type 0} → (B → Bool) → Option (Tree (Entry B)) → Type 0
+AreSaved safe before = ForSome before (AreHeld safe)
 
 -- the invariant: the medium holds all bodies, their numbers are below the next one, and the count is the number of bytes in all files
 pub record AreKept {B : Type 0} (bytes : B → List ℕ) (holds : B → Bool) (tree : Tree (Entry B)) (used : ℕ) (bodies : BTreeMap ℕ B) (next : ℕ) : Type 0 where

@@ -29,7 +29,7 @@ abbrev pub Resources : Type 0
 Resources = FinMap key_cmp Stored
 
 -- what is held beside the resources: the bodies for requests to come, the number of the next one, and the tree of numbered resources when it was last
--- asked what has changed (`before_code`)
+-- asked what has changed (`past_code`)
 pub record Held : Type 0 where
   pub bodies : Bodies
   pub next : ℕ

@@ -30,9 +30,13 @@ module _ {M B : Type 0} {g : Ghosts M B} where
   abbrev pub store_of : TreeFs M B g → Store
   store_of store = seen_of (memory_of store) (map logged_of store.log.items)
 
-  -- the tree when it was last asked what has changed
+  -- the tree of entries when it was last asked what has changed, with its resources (`past_code`)
   abbrev pub before_of : TreeFs M B g → Gv
   before_of store = (memory_of store).held.before
+
+  -- the tree of entries (`entries_code`)
+  abbrev pub entries_of : TreeFs M B g → Gv
+  entries_of store = store.entries.tree
 
   -- the bytes of the file at a key
   abbrev pub file_of : TreeFs M B g → Key → List ℕ

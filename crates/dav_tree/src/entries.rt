@@ -1,5 +1,5 @@
 //! The resources and the bodies of a store, over a medium.
-ghost use Rattle.std.specs.Prelude.{◌≡◌, ◌≢◌, ◌<◌, ◌+◌, ◌^◌, ◌++◌, ◌∷◌, [], IfOk, OnOk, OnErr, Some, None, MatchOption, IsSome, List, ℕ};
+ghost use Rattle.std.specs.Prelude.{◌≡◌, ◌≢◌, ◌<◌, ◌≤◌, ◌+◌, ◌^◌, ◌++◌, ◌∷◌, [], true, false, IfOk, IfSome, IfErr, OnOk, OnErr, Some, None, MatchOption, IsSome, List, ℕ};
 ghost use Rattle.std.specs.FinMap as map;
 ghost use Rattle.dav_key.specs.Key.{Key, parent};
 ghost use Rattle.dav_key.specs.Below.{AreApart};
@@ -7,7 +7,8 @@ ghost use Rattle.dav_nodes.specs.Noted.{tree_of, before_of};
 ghost use Rattle.dav_store.specs.Store.{File, Directory};
 ghost use Rattle.dav_store.specs.PropertyCalls.{patched};
 ghost use Rattle.dav_tree.specs.Memory.{Stored, used_by, size_of, meta_of, fresh, with_properties, asked};
-ghost use Rattle.dav_tree.specs.Before.{IsNotedBetween, IsTreeOf};
+ghost use Rattle.dav_nodes.specs.Rows.{row_in};
+ghost use Rattle.dav_tree.specs.Before.{IsNotedBetween, IsSaved, HasSaved, AreSameRows, HasEntry, HasNoEntry};
 ghost use Rattle.dav_tree.specs.KeptCalls.{IsUnchanged, ChangesAt};
 ghost use Rattle.dav_tree.specs.Kept.{held_of, IsFirst, IsAbsent, IsFound, IsNumber, IsAt, IsTaken, Has, HasMoved};
 
@@ -21,8 +22,8 @@ use crate::entry::{self, Content, Entry};
 use crate::medium::Medium;
 use crate::properties::Properties;
 use dav_key::FlatKey;
-use dav_nodes::{Changes, Nodes, NotedNodes};
-use dav_resource::{DavProp, Meta};
+use dav_nodes::{Changes, Nodes, NotedNodes, PlacedValue};
+use dav_resource::{DavProp, FsResult, Meta};
 use std::alloc::{AllocError, Global};
 use std::collections::BTreeMap;
 use std::marker::Model;
@@ -50,12 +51,12 @@ impl<M: Medium> Model for Entries<M> {
     ghost coded = { kept_code };
 
     ghost use Rattle.dav_nodes.specs.Noted.{tree_of, before_of};
-    ghost use Rattle.dav_tree.specs.Kept.{kept_by, AreKept};
-    ghost use Rattle.dav_tree.specs.Before.{before_code};
+    ghost use Rattle.dav_tree.specs.Kept.{kept_by, AreKept, AreSaved};
+    ghost use Rattle.dav_tree.specs.Before.{rest_of, past_code};
 
-    ghost view = { λ e. kept_by (M.bytes e.medium) (M.is_honest e.medium) (tree_of e.tree) e.bodies e.next (before_code M.body_code (before_of e.tree)) };
+    ghost view = { λ e. kept_by (M.bytes e.medium) (rest_of M.body_code (M.is_honest e.medium) (tree_of e.tree)) (tree_of e.tree) e.bodies e.next (past_code M.body_code (M.bytes e.medium) (before_of e.tree)) };
 
-    ghost invariant = { λ e. AreKept (M.bytes e.medium) (M.holds e.medium) (tree_of e.tree) e.used e.bodies e.next };
+    ghost invariant = { λ e. AreKept (M.bytes e.medium) (M.holds e.medium) (tree_of e.tree) e.used e.bodies e.next × AreSaved (M.safe e.medium) (before_of e.tree) };
 }
 
 /// Where a resource is: its number, and whether it is a directory.
@@ -193,14 +194,49 @@ impl<M: Medium> Entries<M> {
         self.tree.rename(from, to)
     }
 
-    /// Returns the numbers of the resources that were made, changed or removed since this was last called, and
-    /// begins to note anew. The first call returns `Changes::All`.
-    pub fn take_changes(&mut self) -> Changes
-        ensures noted { IsNotedBetween M.body_code result self.old.before self.new.before }
-        ensures now { IsTreeOf M.body_code self.new self.new.before }
-        ensures same { Has self.old.resources (asked self.new.before (held_of self.old)) self.new }
+    /// Makes safe what files contain, returns the numbers of the resources that were made, changed or removed
+    /// since this was last called, and begins to note anew. The first call returns `Changes::All`. Returns an
+    /// error of the medium's own if it cannot make all bodies safe, and then nothing changes.
+    pub fn take_changes(&mut self) -> FsResult<Changes>
+        ensures noted { IfOk result (λ changes. IsNotedBetween M.body_code changes self.old.before self.old.tree) }
+        ensures saved { OnOk result (IsSaved self.new) }
+        ensures tree { self.new.tree ≡ self.old.tree }
+        ensures ok { OnOk result (Has self.old.resources (asked self.new.before (held_of self.old)) self.new) }
+        ensures same { OnErr result (IsUnchanged self.old self.new) }
+        ensures err { IfErr result (λ e. M.refuses e ≡ true) }
     {
-        self.tree.take_changes()
+        self.medium.sync()?;
+        Ok(self.tree.take_changes())
+    }
+
+    /// Whether something may have changed since it was last asked what has. If not, each resource has the same row
+    /// as then.
+    pub fn has_changes(&self) -> bool
+        ensures { result ≡ false → AreSameRows M.body_code self.now.before self.now.tree }
+    {
+        self.tree.has_changes()
+    }
+
+    /// Returns the resource with a number, with its place in the tree, if there is one.
+    pub fn resource(&self, number: usize) -> Option<PlacedValue<'_, Entry<M::Body>>>
+        ensures some { IfSome result (λ placed. HasEntry M.body_code self.now.tree number (row_in placed)) }
+        ensures none { result ≡ None → HasNoEntry M.body_code self.now.tree number }
+    {
+        self.tree.nodes.placed(number)
+    }
+
+    /// Returns a number that is greater than that of each resource.
+    pub fn number_limit(&self) -> usize
+        ensures { (number : ℕ) → result ≤ number → HasNoEntry M.body_code self.now.tree number }
+    {
+        self.tree.nodes.max_len()
+    }
+
+    /// Returns the medium. What was saved when it was last asked what has changed is safe there.
+    pub fn into_medium(self) -> M
+        ensures { HasSaved M.body_code (M.bytes result) (M.safe result) self.before }
+    {
+        self.medium
     }
 
     /// Sets and removes properties of the resource with a number, as `Properties::patch` does. Fails only if

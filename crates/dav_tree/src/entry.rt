@@ -12,19 +12,23 @@ use std::alloc::{AllocError, Global};
 
 /// What is at a key: a file, with the body that has its bytes, or a directory.
 #[derive(Debug, Drop)]
-pub(crate) enum Content<B> {
+pub enum Content<B> {
     File(B),
     Directory,
 }
 
-/// A resource: its content, the number of its last counted change, the times of its creation and of its last
-/// counted change, and its properties.
+/// A resource.
 #[derive(Debug, Drop)]
-pub(crate) struct Entry<B> {
+pub struct Entry<B> {
+    /// What it contains.
     pub content: Content<B>,
+    /// The number of its last counted change.
     pub version: u64,
+    /// When it was created, in whole seconds since 1970.
     pub created: u64,
+    /// When its last counted change was made, in whole seconds since 1970.
     pub modified: u64,
+    /// Its dead properties.
     pub properties: Properties,
 }
 
@@ -135,7 +139,7 @@ pub(crate) fn write<M: Medium>(
     ensures same { OnErr result (stored_by (M.bytes medium.new) entry.new ≡ stored_by (M.bytes medium.old) entry.old) }
     ensures err { IfErr result (FailsFor M.refuses) }
     ensures held { is_held (M.holds medium.new) entry.new.content ≡ true }
-    ensures kept { KeepsBodies M.bytes M.holds medium.old medium.new }
+    ensures kept { KeepsBodies M.bytes M.holds M.safe medium.old medium.new }
 {
     let Content::File(body) = &mut entry.content else {
         unreachable!()
@@ -164,7 +168,7 @@ pub(crate) fn write_body<M: Medium>(
     ensures same { OnErr result (stored_by (M.bytes medium.new) entry.new ≡ stored_by (M.bytes medium.old) entry.old) }
     ensures err { IfErr result (FailsFor M.refuses) }
     ensures held { is_held (M.holds medium.new) entry.new.content ≡ true }
-    ensures kept { KeepsBodies M.bytes M.holds medium.old medium.new }
+    ensures kept { KeepsBodies M.bytes M.holds M.safe medium.old medium.new }
 {
     let Content::File(body) = &mut entry.content else {
         unreachable!()

@@ -48,6 +48,8 @@ impl Medium for InMemory {
 
     ghost holds = { λ _ body. is_small body };
 
+    ghost safe = { λ _ body. is_small body };
+
     ghost marked = { λ _ body. is_small body };
 
     ghost body_code = { coded_list coded_ℕ };
@@ -57,6 +59,8 @@ impl Medium for InMemory {
     ghost is_honest = { λ _. true };
 
     ghost is_trusted = { true };
+
+    ghost safe_held = { λ _ _ held. held };
 
     ghost small = { λ _ body held. small_is body held };
 
@@ -98,6 +102,10 @@ impl Medium for InMemory {
 
     fn read(&mut self, alloc: Global, body: &Bytes, place: u64, count: usize) -> FsResult<Vec<u8>> {
         Ok(bytes_from(&body.items, place, count).to_vec(alloc)?)
+    }
+
+    fn sync(&mut self) -> FsResult<()> {
+        Ok(())
     }
 
     fn begin_sweep(&mut self) {}

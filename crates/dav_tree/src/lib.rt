@@ -8,9 +8,11 @@ mod medium;
 mod properties;
 mod tree_fs;
 
-pub use dav_nodes::Changes;
+pub use dav_nodes::{Changes, PlacedValue};
+pub use entry::{Content, Entry};
 pub use in_memory::{Bytes, InMemory};
 pub use medium::Medium;
+pub use properties::Properties;
 pub use tree_fs::TreeFs;
 
 /// A store in memory.

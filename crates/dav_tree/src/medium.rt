@@ -26,6 +26,9 @@ pub trait Medium: Drop {
     /// Whether the medium holds a body. Only of such a body the bytes stay the same.
     ghost holds: { Self → Self.Body → Bool };
 
+    /// Whether a body is safe: it is held, and is not lost when the program ends at any moment.
+    ghost safe: { Self → Self.Body → Bool };
+
     /// Whether a body was kept in the sweep under way.
     ghost marked: { Self → Self.Body → Bool };
 
@@ -74,7 +77,7 @@ pub trait Medium: Drop {
         ensures same { OnErr result (bytes self.new body.new ≡ bytes self.old body.old) }
         ensures err { IfErr result (FailsFor refuses) }
         ensures held { holds self.new body.new ≡ true }
-        ensures kept { KeepsBodies bytes holds self.old self.new };
+        ensures kept { KeepsBodies bytes holds safe self.old self.new };
 
     /// Writes the bytes of another body at an offset of a body, as `write` does.
     fn write_body(
@@ -91,7 +94,7 @@ pub trait Medium: Drop {
         ensures same { OnErr result (bytes self.new body.new ≡ bytes self.old body.old) }
         ensures err { IfErr result (FailsFor refuses) }
         ensures held { holds self.new body.new ≡ true }
-        ensures kept { KeepsBodies bytes holds self.old self.new };
+        ensures kept { KeepsBodies bytes holds safe self.old self.new };
 
     /// Returns `count` bytes of a body from an offset on, or fewer if the body ends before. How many they are
     /// is always right. Returns `Memory` if memory runs out, or an error of the medium's own.
@@ -106,21 +109,31 @@ pub trait Medium: Drop {
         ensures bytes { IfOk result (λ found. is_honest self.new ≡ true → found.items ≡ bytes_from place count (bytes self.old body.now)) }
         ensures count { IfOk result (λ found. length found.items ≡ length (bytes_from place count (bytes self.old body.now))) }
         ensures err { IfErr result (FailsFor refuses) }
-        ensures kept { KeepsBodies bytes holds self.old self.new };
+        ensures kept { KeepsBodies bytes holds safe self.old self.new };
+
+    /// Makes each body safe that the medium holds. Returns an error of the medium's own if it cannot, and may
+    /// then return one from every later call.
+    fn sync(&mut self) -> FsResult<()>
+        ensures safe { OnOk result ((body : Self.Body) → holds self.old body ≡ true → safe self.new body ≡ true) }
+        ensures err { IfErr result (λ e. refuses e ≡ true) }
+        ensures kept { KeepsBodies bytes holds safe self.old self.new };
 
     /// Begins a sweep. What was marked before need not be any more.
     fn begin_sweep(&mut self)
-        ensures { KeepsBodies bytes holds self.old self.new };
+        ensures { KeepsBodies bytes holds safe self.old self.new };
 
     /// Marks a body, if the medium holds it. The end of the sweep does not give it up.
     fn keep(&mut self, body: &Self::Body)
         ensures marked { holds self.old body.now ≡ true → marked self.new body.now ≡ true }
         ensures marks { KeepsMarks marked self.old self.new }
-        ensures kept { KeepsBodies bytes holds self.old self.new };
+        ensures kept { KeepsBodies bytes holds safe self.old self.new };
 
     /// Ends a sweep. The medium may give up the bodies that are not marked.
     fn end_sweep(&mut self)
-        ensures { KeepsMarked bytes holds marked self.old self.new };
+        ensures { KeepsMarked bytes holds safe marked self.old self.new };
+
+    /// Each body that is safe is held.
+    ghost safe_held: { (medium : Self) (body : Self.Body) → safe medium body ≡ true → holds medium body ≡ true };
 
     /// Each body that the medium holds has fewer than 2^63 bytes.
     ghost small: { (medium : Self) (body : Self.Body) → holds medium body ≡ true → length (bytes medium body) < 2 ^ 63 };

@@ -1,5 +1,5 @@
 //! A store with its tree in memory.
-ghost use Rattle.std.specs.Prelude.{◌≡◌, ◌≢◌, ◌<◌, ◌+◌, ◌^◌, [], ◌∷◌, map, All, length, option_map, replicate, false, true, IfOk, IfErr, Some, None, refl};
+ghost use Rattle.std.specs.Prelude.{◌≡◌, ◌≢◌, ◌⊎◌, ◌<◌, ◌≤◌, ℕ, ◌+◌, ◌^◌, [], ◌∷◌, map, All, length, option_map, replicate, false, true, IfOk, IfErr, OnOk, OnErr, IfSome, Some, None, refl};
 ghost use Rattle.dav_store.specs.Logged.{logged_of};
 ghost use Rattle.dav_store.specs.Store.{Directory};
 ghost use Rattle.dav_store.specs.Calls.{LooksUp, MakesDirectory, Opens, ReadsBytes, bytes_from, Seeks, Writes, Flushes, LooksUpFile};
@@ -20,9 +20,10 @@ mod records;
 mod tree;
 
 use crate::entries::Entries;
+use crate::entry::Entry;
 use crate::in_memory::InMemory;
 use crate::medium::Medium;
-use dav_nodes::Changes;
+use dav_nodes::{Changes, PlacedValue};
 use dav_resource::{
     BodyNumber, DavFile, DavPath, DavProp, DirEntry, Element, FsError, FsResult, Items, Meta, Op,
     OpenOptions, Record,
@@ -106,9 +107,11 @@ impl TreeFs<InMemory> {
 }
 
 impl<M: Medium> TreeFs<M> {
-    ghost use Rattle.dav_tree.specs.TreeFs.{memory_of, store_of, records_of, before_of};
+    ghost use Rattle.dav_tree.specs.TreeFs.{memory_of, store_of, records_of, before_of, entries_of};
     ghost use Rattle.dav_tree.specs.Memory.{first_memory, asked};
-    ghost use Rattle.dav_tree.specs.Before.{IsNotedBetween, IsTreeOf};
+    ghost use Rattle.dav_nodes.specs.Rows.{row_in};
+    ghost use Rattle.dav_tree.specs.Before.{IsNotedBetween, IsSaved, HasSaved, AreSameRows, HasEntry, HasNoEntry};
+    ghost use base.Stored.{gnil};
 
     /// Creates a store over a medium. It holds only the root, created at time 0, and no bodies. The change
     /// counter is at `version`, the quota is `limit`, and the log is empty. Fails only if memory runs out.
@@ -132,12 +135,41 @@ impl<M: Medium> TreeFs<M> {
         })
     }
 
-    /// Returns the numbers of the resources that were made, changed or removed since this was last called. A
-    /// rename changes the one resource that it moves, and none below it. The first call returns `Changes::All`,
-    /// and so does a call after memory ran out. Until the first call nothing is noted.
-    pub fn take_changes(&mut self) -> Changes
-        ensures noted { IsNotedBetween M.body_code result (before_of self.old) (before_of self.new) }
-        ensures now { IsTreeOf M.body_code self.new.entries (before_of self.new) }
+    /// Whether a resource may have been made, changed or removed since `take_changes` was last called. If not, each
+    /// has the number, the place and the content that it had then.
+    pub fn has_changes(&self) -> bool
+        ensures { result ≡ false → AreSameRows M.body_code (before_of self.now) (entries_of self.now) }
+    {
+        self.entries.has_changes()
+    }
+
+    /// Returns the resource with a number, with its place in the tree, if there is one.
+    pub fn resource(&self, number: usize) -> Option<PlacedValue<'_, Entry<M::Body>>>
+        ensures some { IfSome result (λ placed. HasEntry M.body_code (entries_of self.now) number (row_in placed)) }
+        ensures none { result ≡ None → HasNoEntry M.body_code (entries_of self.now) number }
+    {
+        self.entries.resource(number)
+    }
+
+    /// Returns a number that is greater than that of each resource.
+    pub fn number_limit(&self) -> usize
+        ensures { (number : ℕ) → result ≤ number → HasNoEntry M.body_code (entries_of self.now) number }
+    {
+        self.entries.number_limit()
+    }
+
+    /// Makes safe what files contain, and returns the numbers of the resources that were made, changed or removed
+    /// since this was last called. A rename changes the one resource that it moves, and none below it. The first
+    /// call returns `Changes::All`, and so does a call after memory ran out. Until the first call nothing is noted.
+    /// What there is now stays safe on the medium until the next call.
+    ///
+    /// Returns an error of the medium's own if it cannot make all bodies safe, and then nothing changes.
+    pub fn take_changes(&mut self) -> FsResult<Changes>
+        ensures noted { IfOk result (λ changes. IsNotedBetween M.body_code changes (before_of self.old) (entries_of self.old)) }
+        ensures saved { OnOk result (IsSaved self.new.entries) }
+        ensures entries { entries_of self.new ≡ entries_of self.old }
+        ensures same { OnErr result (before_of self.new ≡ before_of self.old) }
+        ensures err { IfErr result (λ e. M.refuses e ≡ true) }
         ensures memory { memory_of self.new ≡ with_held (asked (before_of self.new)) (memory_of self.old) }
         ensures records { records_of self.new ≡ records_of self.old }
     {
@@ -145,12 +177,22 @@ impl<M: Medium> TreeFs<M> {
     }
 
     /// Has the medium give up the bodies that neither a file has nor a request waits for, so that their room can
-    /// be used again. Nothing else changes. Passes each body to the medium once.
+    /// be used again. Nothing else changes. Passes each body to the medium once. Must come after `take_changes`, if
+    /// that was ever called, without a change between: what is safe for the last call would be lost otherwise.
     pub fn sweep(&mut self)
+        requires { (before_of self.old ≡ gnil) ⊎ IsSaved self.old.entries }
         ensures memory { memory_of self.new ≡ memory_of self.old }
+        ensures entries { entries_of self.new ≡ entries_of self.old }
         ensures records { records_of self.new ≡ records_of self.old }
     {
         self.entries.sweep();
+    }
+
+    /// Returns the medium. What there was at the last call of `take_changes` is safe there.
+    pub fn into_medium(self) -> M
+        ensures { HasSaved M.body_code (M.bytes result) (M.safe result) (before_of self) }
+    {
+        self.entries.into_medium()
     }
 
     /// Sets the current time, in whole seconds since 1970. The contents and the log stay the same.

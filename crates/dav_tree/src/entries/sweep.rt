@@ -1,5 +1,7 @@
 //! A sweep of the medium: what no file and no stored body has is given up.
-ghost use Rattle.std.specs.Prelude.{◌≡◌, true};
+ghost use Rattle.std.specs.Prelude.{◌≡◌, ◌⊎◌, true};
+ghost use base.Stored.{gnil};
+ghost use Rattle.dav_tree.specs.Before.{IsSaved};
 ghost use Rattle.dav_tree.specs.Bodies.{KeepsBodies, KeepsMarks};
 ghost use Rattle.dav_tree.specs.Entry.{is_held};
 ghost use Rattle.dav_tree.specs.Kept.{AreHeld, AreStored, IsMarkedAt};
@@ -13,9 +15,11 @@ use std::collections::BTreeMap;
 
 impl<M: Medium> Entries<M> {
     /// Has the medium give up the bodies that neither a file has nor a request waits for, so that their room can
-    /// be used again. Passes each body to the medium once.
+    /// be used again. Passes each body to the medium once. What is saved elsewhere must be all that there is now.
     pub fn sweep(&mut self)
-        ensures { IsUnchanged self.old self.new }
+        requires { (self.old.before ≡ gnil) ⊎ IsSaved self.old }
+        ensures same { IsUnchanged self.old self.new }
+        ensures tree { self.new.tree ≡ self.old.tree }
     {
         let tree = &self.tree;
         self.medium.begin_sweep();
@@ -30,7 +34,7 @@ fn keep_files<M: Medium>(medium: &mut M, tree: &Nodes<Entry<M::Body>>)
     requires { AreHeld (M.holds medium.old) tree.now }
     ensures marked { AreHeld (M.marked medium.new) tree.now }
     ensures marks { KeepsMarks M.marked medium.old medium.new }
-    ensures kept { KeepsBodies M.bytes M.holds medium.old medium.new }
+    ensures kept { KeepsBodies M.bytes M.holds M.safe medium.old medium.new }
 {
     tree.show_linked();
     for number in 0..tree.max_len() {
@@ -43,7 +47,7 @@ fn keep_file<M: Medium>(medium: &mut M, tree: &Nodes<Entry<M::Body>>, number: us
     requires { AreHeld (M.holds medium.old) tree.now }
     ensures marked { IsMarkedAt (M.marked medium.new) tree.now number }
     ensures marks { KeepsMarks M.marked medium.old medium.new }
-    ensures kept { KeepsBodies M.bytes M.holds medium.old medium.new }
+    ensures kept { KeepsBodies M.bytes M.holds M.safe medium.old medium.new }
 {
     if let Some(entry) = tree.at(number) {
         keep_content(medium, &entry.content);
@@ -54,7 +58,7 @@ fn keep_file<M: Medium>(medium: &mut M, tree: &Nodes<Entry<M::Body>>, number: us
 fn keep_content<M: Medium>(medium: &mut M, content: &Content<M::Body>)
     ensures marked { is_held (M.holds medium.old) content.now ≡ true → is_held (M.marked medium.new) content.now ≡ true }
     ensures marks { KeepsMarks M.marked medium.old medium.new }
-    ensures kept { KeepsBodies M.bytes M.holds medium.old medium.new }
+    ensures kept { KeepsBodies M.bytes M.holds M.safe medium.old medium.new }
 {
     if let Content::File(body) = content {
         medium.keep(body);
@@ -66,7 +70,7 @@ fn keep_stored<M: Medium>(medium: &mut M, bodies: &BTreeMap<u64, M::Body>)
     requires { AreStored (M.holds medium.old) bodies.now }
     ensures marked { AreStored (M.marked medium.new) bodies.now }
     ensures marks { KeepsMarks M.marked medium.old medium.new }
-    ensures kept { KeepsBodies M.bytes M.holds medium.old medium.new }
+    ensures kept { KeepsBodies M.bytes M.holds M.safe medium.old medium.new }
 {
     for (_, body) in bodies {
         medium.keep(body);

@@ -16,4 +16,4 @@ returns-clause-small g c =
     let f = c.self.inside in
     let (key, e, numbered, _) = entry-in (g.M.Medium.bytes f.medium) _ f.tree.nodes f.bodies f.next _ c.args.self.now c.self.view_is c.requires.0 c.args.number c.requires.1 c.requires.2 in
     subst (λ n. n < 2 ^ 63) (sym c.len.ensures)
-    (content-small (g.M.Medium.bytes f.medium) (g.M.Medium.holds f.medium) (g.met.M.Medium.small f.medium) c.entry_at.result.now.content (c.self.invariant.held key c.entry_at.result.now (c.entry_at.ensures key numbered)))
+    (content-small (g.M.Medium.bytes f.medium) (g.M.Medium.holds f.medium) (g.met.M.Medium.small f.medium) c.entry_at.result.now.content (c.self.invariant.0.held key c.entry_at.result.now (c.entry_at.ensures key numbered)))

@@ -11,7 +11,7 @@ meta-requires g c =
     let f = c.self.inside in
     let inv = c.loop-name.invariant in
     let left = ap (λ (es : List (List ℕ × Entry g.row.M-Body.Denot)). inv.done ++ es) (sym c.in-Some.ensures.steps) ∙ inv.left in
-    c.self.invariant.held _ c.in-Some.entry.now
+    c.self.invariant.0.held _ c.in-Some.entry.now
     (all-at (IsMemberAt f.tree.nodes.values c.args.directory.now) inv.done c.next.new.self inv.all (c.in-Some.name.now, c.in-Some.entry.now) left inv.values)
 
 pub loop-name-preserved : goal.loop-name-preserved

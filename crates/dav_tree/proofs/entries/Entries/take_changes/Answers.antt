@@ -1,25 +1,46 @@
-use Rattle.std.proofs.Common.{refl, sym, ap}
+use Rattle.std.proofs.Common.{refl, sym, ap, subst}
 use Rattle.dav_nodes.specs.Noted.{tree_of, before_of}
-use Rattle.dav_tree.specs.Kept.{resources_by}
-use Rattle.dav_tree.specs.Before.{before_code}
+use Rattle.dav_tree.specs.Before.{rest_of}
+use Rattle.dav_tree.specs.Kept.{AreKept}
+use Rattle.dav_tree.proofs.Keeping.{kept-same, has-now, has-asked, resources-before}
+use Rattle.dav_tree.proofs.Outcomes.{on_err}
 use Rattle.dav_tree.proofs.PastTrees.{noted-between}
+use Rattle.dav_tree.proofs.Saving.{saved-all, saved-now, past-now}
+use Rattle.dav_tree.proofs.Sweeping.{files-more}
 use Rattle.dav_tree.proofs.entries.Entries.take_changes.Goals as goal
 
 pub returns-clause-noted : goal.returns-clause-noted
 returns-clause-noted g c =
     let tree = c.self.inside.tree in
-    let after = c.take_changes.new.self in
-    noted-between g.M.Medium.body_code c.take_changes.result (before_of tree) (before_of after) (tree_of tree) c.args.self.now.before _
-    c.take_changes.ensures.kept c.take_changes.ensures.before (ap (λ k. k.before) c.self.view_is) refl
+    noted-between g.M.Medium.body_code (g.M.Medium.bytes c.self.inside.medium) c.take_changes.result (before_of tree) (tree_of tree) c.args.self.now.before _
+    c.take_changes.ensures.kept (ap (λ k. k.before) c.self.view_is) (ap (λ k. k.tree) c.self.view_is)
 
-pub returns-clause-now : goal.returns-clause-now
-returns-clause-now g c =
-    let bytes = g.M.Medium.bytes c.self.inside.medium in
-    let same = c.take_changes.ensures.tree in
-    record {
-      tree = tree_of c.self.inside.tree;
-      is = sym (ap (before_code g.M.Medium.body_code) c.take_changes.ensures.before);
-      bytes = bytes;
-      resources = ap (resources_by bytes) (sym same);
-      numbers = ap (λ t. t.numbers) (sym same);
-    }
+pub invariant_of-self : goal.invariant_of-self
+invariant_of-self g c =
+    let f = c.self.inside in let m = g.M.Medium in (
+      kept-same (m.bytes f.medium) (m.bytes c.sync.new.self) (m.holds f.medium) (m.holds c.sync.new.self) c.sync.ensures.kept.held c.sync.ensures.kept.same (rest_of m.body_code (m.is_honest f.medium) f.tree.nodes) f.tree.nodes f.used f.bodies f.next _ c.args.self.now c.self.view_is c.self.invariant.0,
+      saved-now m.bytes m.holds m.safe f.medium c.sync.new.self c.sync.ensures.kept _ _ refl c.self.invariant.1,
+    )
+
+pub returns-in_err-sync-clause-same : goal.returns-in_err-sync-clause-same
+returns-in_err-sync-clause-same g c =
+    let f = c.self.inside in let m = g.M.Medium in
+    let rest = rest_of m.body_code (m.is_honest f.medium) f.tree.nodes in
+    on_err c.from_residual.result
+    (has-now (m.bytes f.medium) (m.bytes c.sync.new.self) (m.holds f.medium) (m.holds c.sync.new.self) c.sync.ensures.kept.held c.sync.ensures.kept.same rest f.tree.nodes f.used f.bodies f.next _ c.args.self.now c.self.view_is c.self.invariant.0 _ f.tree.nodes _
+    (past-now m.bytes m.holds m.safe f.medium c.sync.new.self c.sync.ensures.kept m.body_code g.met.M.Medium.safe_held _ _ refl c.self.invariant.1) c.args.self.now.resources
+    (resources-before (m.bytes f.medium) (m.bytes c.sync.new.self) (m.holds f.medium) (m.holds c.sync.new.self) c.sync.ensures.kept.held c.sync.ensures.kept.same rest f.tree.nodes f.used f.bodies f.next _ c.args.self.now c.self.view_is c.self.invariant.0))
+
+pub invariant_of-self-2 : goal.invariant_of-self-2
+invariant_of-self-2 g c =
+    let f = c.self.inside in let m = g.M.Medium in
+    let kept =
+    kept-same (m.bytes f.medium) (m.bytes c.sync.new.self) (m.holds f.medium) (m.holds c.sync.new.self) c.sync.ensures.kept.held c.sync.ensures.kept.same (rest_of m.body_code (m.is_honest f.medium) f.tree.nodes) f.tree.nodes f.used f.bodies f.next _ c.args.self.now c.self.view_is c.self.invariant.0 in (
+      subst (λ t. AreKept (m.bytes c.sync.new.self) (m.holds c.sync.new.self) t f.used f.bodies f.next) (sym c.take_changes.ensures.tree) kept,
+      saved-all (m.safe c.sync.new.self) _ (tree_of f.tree) c.take_changes.ensures.before (files-more (m.holds f.medium) (m.safe c.sync.new.self) c.in_ok-sync.ensures.safe (tree_of f.tree) c.self.invariant.0.held),
+    )
+
+pub returns-clause-ok : goal.returns-clause-ok
+returns-clause-ok g c =
+    let f = c.self.inside in let m = g.M.Medium in
+    has-asked (m.bytes f.medium) (m.bytes c.sync.new.self) (m.holds f.medium) (m.holds c.sync.new.self) c.sync.ensures.kept.held c.sync.ensures.kept.same (rest_of m.body_code (m.is_honest f.medium) f.tree.nodes) f.tree.nodes f.used f.bodies f.next _ c.args.self.now c.self.view_is c.self.invariant.0 _ (tree_of c.take_changes.new.self) c.take_changes.ensures.tree _

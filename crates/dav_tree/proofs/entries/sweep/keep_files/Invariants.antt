@@ -8,5 +8,5 @@ abbrev pub invariant-loop-number : goal.invariant-loop-number
 invariant-loop-number g l = record {
   marked : (n : ℕ) → n < l.number → IsMarkedAt (g.M.Medium.marked l.medium) l.tree n;
   marks : KeepsMarks g.M.Medium.marked l.initial.medium l.medium;
-  kept : KeepsBodies g.M.Medium.bytes g.M.Medium.holds l.initial.medium l.medium;
+  kept : KeepsBodies g.M.Medium.bytes g.M.Medium.holds g.M.Medium.safe l.initial.medium l.medium;
 }

@@ -15,7 +15,7 @@ loop-body-preserved g c =
           let held = subst (λ b. medium.holds c.loop-body.medium b ≡ true) (sym same) (before.kept.held body (c.requires number body at)) in
           subst (λ b. medium.marked c.keep.new.self b ≡ true) same (c.keep.ensures.marked held));
       marks = λ body is. c.keep.ensures.marks body (before.marks body is);
-      kept = bodies-trans medium.bytes medium.holds c.args.medium.now c.loop-body.medium c.keep.new.self before.kept c.keep.ensures.kept;
+      kept = bodies-trans medium.bytes medium.holds medium.safe c.args.medium.now c.loop-body.medium c.keep.new.self before.kept c.keep.ensures.kept;
     }
 
 pub returns-clause-marked : goal.returns-clause-marked

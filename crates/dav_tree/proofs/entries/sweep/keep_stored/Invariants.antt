@@ -10,5 +10,5 @@ abbrev pub invariant-loop-body : goal.invariant-loop-body
 invariant-loop-body g l = record {
   marked : (number : ℕ) (body : g.row.M-Body.Denot) → ordered.get nat_cmp l.bodies number ≡ Some body → IsMarkedOrLeft (g.M.Medium.marked l.medium) l.body-iterator number body;
   marks : KeepsMarks g.M.Medium.marked l.initial.medium l.medium;
-  kept : KeepsBodies g.M.Medium.bytes g.M.Medium.holds l.initial.medium l.medium;
+  kept : KeepsBodies g.M.Medium.bytes g.M.Medium.holds g.M.Medium.safe l.initial.medium l.medium;
 }
