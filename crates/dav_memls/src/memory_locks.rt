@@ -69,7 +69,8 @@ pub struct MemLs {
 }
 
 impl MemLs {
-    ghost use Rattle.dav_memls.specs.MemLs.{list_of};
+    ghost use Rattle.dav_memls.specs.MemLs.{list_of, locks_of};
+    ghost use Rattle.dav_store.specs.LockCalls.{AddsLock, RefusesLock};
 
     /// Creates a lock system without locks.
     pub fn new(alloc: Global) -> MemLs
@@ -116,6 +117,21 @@ impl MemLs {
         ensures { result ≡ earliest_expiry (list_of self.now) }
     {
         self.locks.next_expiry()
+    }
+
+    /// Adds a lock at the end of the list, such as one that was granted in an earlier run. After an error nothing
+    /// has changed. `Conflict`: the token is in use, or the lock conflicts with another one, as in `lock`. The only
+    /// other error is `Memory`.
+    pub fn add(&mut self, lock: DavLock) -> Result<(), LockError>
+        ensures granted { OnOk result (AddsLock lock (locks_of self.old) (locks_of self.new)) }
+        ensures err { OnErr result (locks_of self.new ≡ locks_of self.old) }
+        ensures cause { IfErr result (RefusesLock (locks_of self.old) lock) }
+    {
+        if !list::grants(&self.locks, &lock) {
+            return Err(LockError::Conflict);
+        }
+        self.locks.push(lock)?;
+        Ok(())
     }
 
     /// Removes each lock that has expired: whose `timeout_at` is `now` or earlier. `now` is in whole seconds
@@ -170,11 +186,8 @@ impl DavLockSystem for MemLs {
             shared,
             deep,
         };
-        if !list::grants(&self.locks, &lock) {
-            return Err(LockError::Conflict);
-        }
         let copy = lock.clone()?;
-        self.locks.push(lock)?;
+        self.add(lock)?;
         Ok(copy)
     }
 

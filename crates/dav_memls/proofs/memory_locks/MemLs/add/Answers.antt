@@ -4,7 +4,7 @@ use Rattle.dav_store.specs.LockCalls.{HasDistinctTokens}
 use Rattle.dav_memls.specs.IndexedLocks.{locks_in}
 use Rattle.dav_memls.specs.MemLs.{list_of}
 use Rattle.dav_memls.proofs.LockLists.{distinct-push, compatible-push, free_token, either_way}
-use Rattle.dav_memls.proofs.memory_locks.MemLsDavLockSystem.lock.Goals as goal
+use Rattle.dav_memls.proofs.memory_locks.MemLs.add.Goals as goal
 
 pub push-requires : goal.push-requires
 push-requires c = free_token _ _ _ (sym c.grants.ensures ∙ c.if-not-grants.false)
