@@ -14,7 +14,7 @@ use std::alloc::AllocError;
 
 impl Writer {
     /// Writes a flag: the byte 0 for no, or the byte 1 for yes. Fails only if memory runs out.
-    pub(crate) fn write_flag(&mut self, value: bool) -> Result<(), AllocError>
+    pub fn write_flag(&mut self, value: bool) -> Result<(), AllocError>
         ensures { Writes flag value self.old result self.new }
     {
         if value {
@@ -25,7 +25,7 @@ impl Writer {
     }
 
     /// Writes an optional number: the byte 0, or the byte 1 and the number. Fails only if memory runs out.
-    pub(crate) fn write_optional_number(&mut self, value: Option<u64>) -> Result<(), AllocError>
+    pub fn write_optional_number(&mut self, value: Option<u64>) -> Result<(), AllocError>
         ensures { Writes (optional number) value self.old result self.new }
     {
         match value {
@@ -41,7 +41,7 @@ impl Writer {
     ///
     /// - `Malformed`: the element has more levels.
     /// - `Memory`: memory runs out.
-    pub(crate) fn write_optional_element(
+    pub fn write_optional_element(
         &mut self,
         element: Option<&Element>,
         levels: usize,
