@@ -1,0 +1,13 @@
+pub mod PartMaps
+pub mod Appending
+pub mod Putting
+pub mod PutRows
+pub mod Saved
+pub mod Updating
+pub mod Empty
+pub mod Ascending
+pub mod Maps
+pub mod Whole
+pub mod SoFar
+pub mod Decoding
+pub mod Progress

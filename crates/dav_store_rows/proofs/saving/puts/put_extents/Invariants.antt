@@ -1,0 +1,9 @@
+use Rattle.std.proofs.Common.{length}
+use Rattle.dav_store_rows.proofs.Putting.{PutsSome}
+use Rattle.dav_store_rows.proofs.saving.puts.put_extents.Given as goal
+
+abbrev pub invariant-groups : goal.invariant-groups
+invariant-groups l = PutsSome l.number l.pieces l.rest l.place l.count l.fn.changes.items l.changes.items
+
+abbrev pub decreases-groups : goal.decreases-groups
+decreases-groups l = length l.rest

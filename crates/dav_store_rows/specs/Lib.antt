@@ -1,0 +1,9 @@
+pub mod Parts
+pub mod Resources
+pub mod Stands
+pub mod Changed
+pub mod Puts
+pub mod Saves
+pub mod Updates
+pub mod LoadErrors
+pub mod Loads

@@ -1,0 +1,147 @@
+//! One resource made from its rows.
+ghost use Rattle.std.specs.Prelude.{◌≡◌, ℕ, pos, List, option_map, option_copied, string_bytes, IfOk};
+ghost use Rattle.dav_store.specs.Store.{PropertyMap, element_key};
+ghost use Rattle.dav_store.specs.PropertyCalls.{named_element};
+ghost use Rattle.dav_nodes.specs.Rows.{Row};
+ghost use Rattle.dav_nodes.specs.TreeRows.{numbered_row};
+ghost use Rattle.dav_tree.specs.declared.entry.Content.{Content};
+ghost use Rattle.dav_pieces.specs.declared.piece.Piece.{Piece};
+ghost use Rattle.dav_store_rows.specs.Resources.{Kept};
+ghost use Rattle.dav_store_rows.specs.Loads.{HavePieces, HaveProperties, IsContent, LoadsAs, IsOneResource};
+
+use crate::LoadError;
+use dav_cells::{decode_element, decode_pieces};
+use dav_nodes::NumberedValue;
+use dav_pieces::{Body, Piece};
+use dav_resource::{DavProp, Element, SharedElement, Text};
+use dav_rows::{ExtentRow, PropertyRow, ResourceRow};
+use dav_tree::{Content, Entry, Properties};
+use std::alloc::{AllocError, Global};
+
+/// Returns a number of a row, which is not negative. Returns `Damaged` if it is.
+pub(crate) fn unsigned(value: i64) -> Result<u64, LoadError>
+    ensures { (n : ℕ) → value ≡ pos n → result ≡ Ok n }
+{
+    match u64::try_from(value) {
+        Ok(number) => Ok(number),
+        Err(_) => Err(LoadError::Damaged),
+    }
+}
+
+/// Returns the pieces of a file from the rows of its extents.
+///
+/// - `Damaged`: a row is of another resource, or does not decode.
+/// - `Memory`: memory runs out.
+fn decode_extents(alloc: Global, number: i64, rows: &[ExtentRow]) -> Result<Vec<Piece>, LoadError>
+    ensures { (pieces : List Piece) → HavePieces number rows.now pieces → LoadsAs result (λ all. all.items ≡ pieces) }
+{
+    let mut pieces = Vec::new(alloc);
+    'rows: for row in rows {
+        if row.resource != number {
+            return Err(LoadError::Damaged);
+        }
+        decode_pieces(&row.pieces, &mut pieces)?;
+    }
+    Ok(pieces)
+}
+
+/// Returns the properties of a resource from their rows.
+///
+/// - `Damaged`: a row is of another resource, or does not decode.
+/// - `Memory`: memory runs out.
+fn decode_properties(
+    alloc: Global,
+    number: i64,
+    rows: &[PropertyRow],
+) -> Result<Properties, LoadError>
+    ensures { (all : PropertyMap) → HaveProperties number rows.now all → LoadsAs result (λ properties. properties ≡ all) }
+{
+    let mut properties = Properties::new(alloc);
+    'rows: for row in rows {
+        if row.resource != number {
+            return Err(LoadError::Damaged);
+        }
+        let prop = property_of(alloc, decode_element(alloc, &row.element)?)?;
+        properties.patch(&[(true, prop)])?;
+    }
+    Ok(properties)
+}
+
+/// Returns the property that an element is the value of. Fails only if memory runs out.
+fn property_of(alloc: Global, element: Element) -> Result<DavProp, AllocError>
+    ensures { IfOk result (λ prop. named_element prop ≡ (element_key element, Some element)) }
+{
+    let name = Text::from_string(element.name.clone()?);
+    let prefix = text_of(element.prefix.as_ref())?;
+    let namespace = text_of(element.namespace.as_ref())?;
+    Ok(DavProp {
+        name,
+        prefix,
+        namespace,
+        element: Some(SharedElement::new(alloc, element)?),
+    })
+}
+
+/// Copies a string, if there is one.
+fn text_of(text: Option<&String>) -> Result<Option<Text>, AllocError>
+    ensures { IfOk result (λ copy. copy ≡ option_map string_bytes (option_copied text.entry)) }
+{
+    match text {
+        Some(text) => Ok(Some(Text::from_string(text.clone()?))),
+        None => Ok(None),
+    }
+}
+
+/// Returns what a resource contains: a file with these pieces, or a directory, which has none.
+///
+/// - `Damaged`: the size is not that of the pieces, or a directory has some.
+fn content_of(directory: bool, size: i64, pieces: Vec<Piece>) -> Result<Content<Body>, LoadError>
+    ensures { (content : Content (List Piece)) → IsContent directory size pieces.items content → result ≡ Ok content }
+{
+    let Some(body) = Body::from_pieces(pieces) else {
+        return Err(LoadError::Damaged);
+    };
+    if unsigned(size)? != body.len() {
+        return Err(LoadError::Damaged);
+    }
+    if !directory {
+        return Ok(Content::File(body));
+    }
+    if body.pieces().is_empty() {
+        Ok(Content::Directory)
+    } else {
+        Err(LoadError::Damaged)
+    }
+}
+
+/// Returns a resource from its row, the rows of its extents and those of its properties.
+///
+/// - `Damaged`: the rows are not those of a resource.
+/// - `Memory`: memory runs out.
+pub(crate) fn load_one(
+    alloc: Global,
+    row: &ResourceRow,
+    extents: &[ExtentRow],
+    properties: &[PropertyRow],
+) -> Result<NumberedValue<Entry<Body>>, LoadError>
+    ensures { (n : ℕ) (one : Row Kept) → IsOneResource n one row.now extents.now properties.now → LoadsAs result (λ value. numbered_row value ≡ (n, one)) }
+{
+    let pieces = decode_extents(alloc, row.number, extents)?;
+    let content = content_of(row.directory, row.size, pieces)?;
+    let properties = decode_properties(alloc, row.number, properties)?;
+    let version = unsigned(row.version)?;
+    let created = unsigned(row.created)?;
+    let modified = unsigned(row.modified)?;
+    Ok(NumberedValue {
+        number: unsigned(row.number)? as usize,
+        above: unsigned(row.parent)? as usize,
+        name: row.name.clone()?,
+        value: Entry {
+            content,
+            version,
+            created,
+            modified,
+            properties,
+        },
+    })
+}

@@ -1,0 +1,118 @@
+//! The rows of a resource.
+ghost use Rattle.std.specs.Prelude.{◌≡◌, ◌<◌, ◌^◌, [], pos, true, IfOk, OnOk, string_bytes};
+ghost use Rattle.std.specs.Option.{unwrap_or, option_map, option_copied};
+ghost use Rattle.dav_wire.specs.Writes.{IsEncoding};
+ghost use Rattle.dav_cells.specs.Elements.{element_codec};
+ghost use Rattle.dav_cells.specs.Pieces.{pieces_codec};
+ghost use Rattle.dav_nodes.specs.Rows.{row_in};
+ghost use Rattle.dav_rows.specs.Changes.{resource_entry, extent_entry, property_entry};
+ghost use Rattle.dav_store_rows.specs.Parts.{MOST, part_key};
+ghost use Rattle.dav_store_rows.specs.Resources.{resource_values, extent_values, property_values};
+
+use crate::SaveError;
+use crate::part_key::key_of_part;
+use dav_cells::{CellError, encode_element, encode_pieces};
+use dav_nodes::PlacedValue;
+use dav_pieces::{Body, Piece};
+use dav_resource::Element;
+use dav_rows::{ExtentRow, PropertyRow, ResourceRow};
+use dav_tree::{Content, Entry};
+use std::alloc::{AllocError, Global};
+
+/// Returns the row of a resource.
+///
+/// - `TooLarge`: a number, a size or a time does not fit in 63 bits.
+/// - `Memory`: memory runs out.
+pub(super) fn resource_row(
+    alloc: Global,
+    number: usize,
+    placed: &PlacedValue<'_, Entry<Body>>,
+) -> Result<ResourceRow, SaveError>
+    ensures row { IfOk result (λ row. resource_entry row ≡ (pos number, resource_values (row_in placed.now))) }
+    ensures few { OnOk result (number < 2 ^ 63) }
+{
+    let entry = placed.value;
+    let (directory, size) = match &entry.content {
+        Content::File(body) => (false, body.len()),
+        Content::Directory => (true, 0),
+    };
+    Ok(ResourceRow {
+        number: i64::try_from(number)?,
+        parent: i64::try_from(placed.above)?,
+        name: String::from_str(alloc, placed.name.unwrap_or(""))?,
+        directory,
+        size: i64::try_from(size)?,
+        version: i64::try_from(entry.version)?,
+        created: i64::try_from(entry.created)?,
+        modified: i64::try_from(entry.modified)?,
+    })
+}
+
+/// Returns the row of some pieces of a file, the first of which begins at a place of the file.
+///
+/// - `TooLarge`: a number or the place does not fit in 63 bits, or there are too many extents.
+/// - `Memory`: memory runs out.
+pub(super) fn extent_row(
+    alloc: Global,
+    number: usize,
+    index: usize,
+    place: u64,
+    pieces: &[Piece],
+) -> Result<ExtentRow, SaveError>
+    ensures row { IfOk result (λ row. extent_entry row ≡ (part_key number index, extent_values number place pieces.now)) }
+    ensures valid { OnOk result (pieces_codec.is_valid pieces.now ≡ true) }
+    ensures few { OnOk result (index < MOST) }
+{
+    Ok(ExtentRow {
+        number: key_of_part(number, index)?,
+        resource: i64::try_from(number)?,
+        place: i64::try_from(place)?,
+        pieces: encode_pieces(alloc, pieces)?,
+    })
+}
+
+/// Returns the row of a property.
+///
+/// - `TooLarge`: a number does not fit in 63 bits, or there are too many properties.
+/// - `TooDeep`: the element has more levels than a cell holds.
+/// - `Memory`: memory runs out.
+pub(super) fn property_row(
+    alloc: Global,
+    number: usize,
+    index: usize,
+    element: &Element,
+) -> Result<PropertyRow, SaveError>
+    ensures row { IfOk result (λ row. property_entry row ≡ (part_key number index, property_values number ([], element.now))) }
+    ensures valid { OnOk result (element_codec.is_valid element.now ≡ true) }
+    ensures few { OnOk result (index < MOST) }
+{
+    Ok(PropertyRow {
+        number: key_of_part(number, index)?,
+        resource: i64::try_from(number)?,
+        namespace: copied_or_empty(alloc, element.namespace.as_ref())?,
+        name: element.name.clone()?,
+        element: encoded(alloc, element)?,
+    })
+}
+
+/// Copies a string, or returns an empty one. Fails only if memory runs out.
+fn copied_or_empty(alloc: Global, text: Option<&String>) -> Result<String, AllocError>
+    ensures { IfOk result (λ copy. string_bytes copy ≡ unwrap_or (option_map string_bytes (option_copied text.entry)) []) }
+{
+    match text {
+        Some(text) => Ok(text.clone()?),
+        None => Ok(String::new(alloc)),
+    }
+}
+
+/// Encodes an element as a cell. Returns `TooDeep` if it has more levels than a cell holds, and `Memory` if
+/// memory runs out.
+fn encoded(alloc: Global, element: &Element) -> Result<Vec<u8>, SaveError>
+    ensures { IfOk result (λ bytes. IsEncoding element_codec element.now bytes.items) }
+{
+    match encode_element(alloc, element) {
+        Ok(bytes) => Ok(bytes),
+        Err(CellError::TooDeep) => Err(SaveError::TooDeep),
+        Err(_) => Err(SaveError::Memory),
+    }
+}

@@ -1,0 +1,3 @@
+//! Tests each public call once, with ample memory.
+mod loading;
+mod saving;
