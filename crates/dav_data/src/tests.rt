@@ -1,7 +1,7 @@
 //! What bodies on a disk in memory read back, and how they use its space.
 ghost use Rattle.std.specs.Prelude.{◌≡◌, true, IfOk};
 ghost use Rattle.dav_tree.specs.Bodies.{KeepsBodies};
-ghost use Rattle.dav_data.specs.Data.{is_held, body_bytes};
+ghost use Rattle.dav_data.specs.Data.{is_held, is_synced, body_bytes};
 
 use crate::{Block, Body, DataFile, Piece};
 use dav_resource::{FsError, FsResult};
