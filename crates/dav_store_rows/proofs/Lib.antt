@@ -11,3 +11,7 @@ pub mod Whole
 pub mod SoFar
 pub mod Decoding
 pub mod Progress
+pub mod LockMaps
+pub mod LockSteps
+pub mod LockLoads
+pub mod LockSaves

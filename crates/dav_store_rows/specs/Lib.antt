@@ -7,3 +7,4 @@ pub mod Saves
 pub mod Updates
 pub mod LoadErrors
 pub mod Loads
+pub mod LockRows

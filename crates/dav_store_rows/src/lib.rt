@@ -2,10 +2,12 @@
 #![tactic(auto)]
 
 mod loading;
+mod locks;
 mod part_key;
 mod saving;
 
 pub use loading::{LoadError, load_resources};
+pub use locks::{SavedLocks, load_locks};
 pub use saving::{Counts, SaveError, SavedCounts, save_changes};
 
 #[cfg(test)]

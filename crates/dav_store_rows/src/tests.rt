@@ -1,3 +1,4 @@
 //! Tests each public call once, with ample memory.
 mod loading;
+mod locks;
 mod saving;

@@ -1,0 +1,5 @@
+use Rattle.dav_store_rows.proofs.LockSaves.{AreFirst}
+use Rattle.dav_store_rows.proofs.locks.values.rows_of_locks.Given as goal
+
+abbrev pub invariant-locks : goal.invariant-locks
+invariant-locks l = AreFirst l.rows.items l.lock-iterator l.fn.locks
