@@ -11,6 +11,7 @@ mod Spots
 mod LinkedParts
 mod Pending
 mod Loads
+mod SameTrees
 mod Slots
 mod MemberEntries
 mod Subtrees

@@ -47,7 +47,7 @@ pub none_more : {R : Type 0} (nodes : ℕ → Option (Node R)) (left more : List
 none_more nodes left more entry is none left_none =
     subst (NoneAttachable nodes) (sym is) (all_both (λ e. linked_part nodes e.above ≡ None) left (entry ∷ []) left_none (none, tt))
 
-same_option : {X : Type 0} (o p : Option X) → ((x : X) → p ≡ Some x → o ≡ Some x) → ((x : X) → o ≡ Some x → p ≡ Some x) → o ≡ p
+pub same_option : {X : Type 0} (o p : Option X) → ((x : X) → p ≡ Some x → o ≡ Some x) → ((x : X) → o ≡ Some x → p ≡ Some x) → o ≡ p
 same_option None None f g = refl
 same_option None (Some y) f g = f y refl
 same_option (Some x) p f g = sym (g x refl)

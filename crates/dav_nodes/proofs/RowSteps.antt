@@ -10,7 +10,7 @@ use Rattle.dav_key.specs.Key.{Key, parent}
 use Rattle.dav_key.specs.Below.{is_at_or_below}
 use Rattle.dav_key.proofs.FlatLemmas.{parent-push}
 use Rattle.dav_nodes.specs.Tree.{Tree, IsAdded, IsReplaced, IsRemoved, IsTreeMoved, HasNoMember}
-use Rattle.dav_nodes.specs.Rows.{Row, own_name, row_of, HasRow, KeepsRow, HasSameRows, AreDistinct, AreJoined, AreNoted, is_noted}
+use Rattle.dav_nodes.specs.Rows.{Row, own_name, row_of, HasRow, KeepsRow, AreNumbered, AreDistinct, AreJoined, AreNoted, is_noted}
 use Rattle.dav_nodes.specs.declared.changes.Changes.{Changes}
 use Rattle.dav_nodes.proofs.KeyMaps.{insert-here, insert-elsewhere, remove-here, remove-elsewhere, key_same_or_not}
 use Rattle.dav_nodes.proofs.BelowKeys.{below_or_not, split_or_none, not_below_above, not_below, same_below}
@@ -25,7 +25,7 @@ own_name-push key s =
     slice_get_read (key ++ s ∷ []) (length (key ++ s ∷ [])) (length (key ++ s ∷ []) - 1) s refl (omega (arith, n))
     (sym (ap (λ i. get_or (key ++ s ∷ []) i s) at ∙ get_or-append_seam key s [] s))
 
-both : (b : Bool) → b ≡ false → b ≡ true → ⊥
+pub both : (b : Bool) → b ≡ false → b ≡ true → ⊥
 both b f t = absurd (let e : true ≡ false = sym t ∙ f in cc)
 
 still_out : (a b : Bool) → (a ≡ true → b ≡ true) → b ≡ false → a ≡ false
@@ -264,6 +264,7 @@ module _ {R : Type 0} where
       → ((n : ℕ) → n ≢ number → KeepsRow n old new) → AreDistinct new → AreNoted changes before old → AreNoted more before new
   noted_more number changes more None old new is_in stays keeps distinct noted = λ n. stays n (noted n)
   noted_more number changes more (Some then) old new is_in stays keeps distinct noted = record {
+    numbered_old = noted.numbered_old;
     distinct_old = noted.distinct_old;
     distinct_now = distinct;
     kept = λ n out.
@@ -289,10 +290,6 @@ module _ {R : Type 0} where
   moved_or_same (Err e) from to old new P moved same ok err = subst P (sym err) same
 
   -- a tree that was just asked
-  pub noted_none : (changes : Changes) (tree : Tree R) → AreDistinct tree → AreNoted changes (Some tree) tree
-  noted_none changes tree distinct = record { distinct_old = distinct; distinct_now = distinct; kept = λ n _. keeps-refl n tree }
-
--- no number is noted
-pub same-rows : {R : Type 0} (changes : Changes) (before : Option (Tree R)) (now : Tree R) → AreNoted changes before now → ((number : ℕ) → is_noted changes number ≡ false) → HasSameRows before now
-same-rows changes None now noted none = absurd (both (is_noted changes 0) (none 0) (noted 0))
-same-rows changes (Some old) now noted none = (old, refl, λ number. noted.kept number (none number))
+  pub noted_none : (changes : Changes) (tree : Tree R) → AreNumbered tree → AreDistinct tree → AreNoted changes (Some tree) tree
+  noted_none changes tree numbered distinct =
+      record { numbered_old = numbered; distinct_old = distinct; distinct_now = distinct; kept = λ n _. keeps-refl n tree }

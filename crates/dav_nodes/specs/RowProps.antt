@@ -1,5 +1,5 @@
 -- Laws for the ghost fields of `NotedNodes`: each fact has at most one proof.
-use Rattle.std.specs.Prelude.{◌≡◌, ℕ, true, List, Option, Some, None, refl}
+use Rattle.std.specs.Prelude.{◌≡◌, ℕ, true, List, Option, Some, None, is_some, refl}
 use Rattle.std.specs.Coded.{Coded, Coded-set, code_by, coded×, coded_option, coded_list, coded_ℕ, coded_bool}
 use Rattle.std.specs.FinMap.{get}
 use mathlib.Core.HLevel.{is_prop→PathP}
@@ -39,6 +39,7 @@ module _ {R : Type 0} where
 
     HasNoted-prop : (changes : Changes) (old now : Tree R) → IsProp (HasNoted changes old now)
     HasNoted-prop changes old now x y = λ i. record {
+      numbered_old = λ key. Coded-set coded_bool (is_some (get old.numbers key)) (is_some (get old.values key)) (x.numbered_old key) (y.numbered_old key) i;
       distinct_old = AreDistinct-prop old x.distinct_old y.distinct_old i;
       distinct_now = AreDistinct-prop now x.distinct_now y.distinct_now i;
       kept = λ number out. KeepsRow-prop number old now x.distinct_old x.distinct_now (x.kept number out) (y.kept number out) i;

@@ -1,5 +1,5 @@
 -- What a tree says of a number, and which numbers have changed: this project's own choice.
-use Rattle.std.specs.Prelude.{◌≡◌, ℕ, ◌-◌, Bool, true, false, List, ◌++◌, length, Option, Some, None, slice_get}
+use Rattle.std.specs.Prelude.{◌≡◌, ℕ, ◌-◌, Bool, true, false, List, ◌++◌, length, Option, Some, None, is_some, slice_get}
 use Rattle.std.specs.Option.{option_map, option_copied}
 use Rattle.std.specs.Ordering.{nat_cmp}
 use Rattle.std.specs.FinMap.{get}
@@ -38,10 +38,6 @@ module _ {R : Type 0} where
   abbrev pub row_in : PlacedValue R → Row R
   row_in placed = record { above = Some placed.above; name = option_copied placed.name; value = placed.value.now }
 
-  -- there was a tree, and each number has the row that it had there
-  abbrev pub HasSameRows : Option (Tree R) → Tree R → Type 0
-  HasSameRows before now = (old : Tree R) × (before ≡ Some old) × ((number : ℕ) → KeepsRow number old now)
-
   -- no two keys have the same number
   abbrev pub AreDistinct : Tree R → Type 0
   AreDistinct tree = (a b : Key) (number : ℕ) → get tree.numbers a ≡ Some number → get tree.numbers b ≡ Some number → a ≡ b
@@ -56,8 +52,13 @@ is_noted All number = true
 is_noted (Numbers set) number = contains nat_cmp set number
 
 module _ {R : Type 0} where
+  -- the keys with a number are those with a value
+  abbrev pub AreNumbered : Tree R → Type 0
+  AreNumbered tree = (key : Key) → is_some (get tree.numbers key) ≡ is_some (get tree.values key)
+
   -- each number is one key's only, and each number that is not noted has the row that it had in the old tree
   pub record HasNoted (changes : Changes) (old now : Tree R) : Type 0 where
+    pub numbered_old : AreNumbered old
     pub distinct_old : AreDistinct old
     pub distinct_now : AreDistinct now
     pub kept : (number : ℕ) → is_noted changes number ≡ false → KeepsRow number old now

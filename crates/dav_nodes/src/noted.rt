@@ -28,7 +28,7 @@ pub struct NotedNodes<R> {
 
 impl<R> NotedNodes<R> {
     ghost use Rattle.dav_nodes.specs.Noted.{tree_of, before_of, IsSame, IsReplacedAt};
-    ghost use Rattle.dav_nodes.specs.Rows.{is_noted, HasSameRows};
+    ghost use Rattle.dav_nodes.specs.Rows.{is_noted};
     ghost use Rattle.dav_nodes.specs.Tree.{root_tree, IsAdded, IsRemoved, IsTreeMoved, HasNoMember};
 
     /// Creates a tree with this value at the root, under the number 0. Fails only if memory runs out.
@@ -130,11 +130,11 @@ impl<R> NotedNodes<R> {
         }
     }
 
-    /// Whether a number may have been noted since the tree was last asked. If not, each number has the same row as
-    /// then.
+    /// Whether a number may have been noted since the tree was last asked. If not, the tree is as it was then.
     pub fn has_changes(&self) -> bool
-        ensures { result ≡ false → HasSameRows (before_of self.now) (tree_of self.now) }
+        ensures { result ≡ false → before_of self.now ≡ Some (tree_of self.now) }
     {
+        self.nodes.show_linked();
         !self.changes.is_empty()
     }
 

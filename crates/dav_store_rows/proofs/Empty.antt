@@ -1,5 +1,5 @@
 -- The first save: tables with no rows stand for a tree with no resources.
-use Rattle.std.proofs.Common.{◌≡◌, ◌≢◌, ℕ, ℤ, pos, List, [], Option, Some, None, sym, ap, ◌∙◌, arith}
+use Rattle.std.proofs.Common.{◌≡◌, ◌≢◌, ℕ, ℤ, pos, List, [], Option, Some, None, is_some, sym, ap, ◌∙◌, arith}
 use Rattle.std.specs.Ordering.{int_cmp}
 use Rattle.std.specs.FinMap.{get, empty, get-empty}
 use Rattle.dav_key.specs.Key.{Key, key_cmp}
@@ -48,6 +48,7 @@ saved_none m no_resources no_extents no_properties = record {
 -- every number is noted since there was no resource
 pub noted_all : (tree : Tree Kept) → AreDistinct tree → HasNoted All no_tree tree
 noted_all tree distinct = record {
+  numbered_old = λ key. ap is_some (get-empty {X = ℕ} key_cmp key) ∙ sym (ap is_some (get-empty {X = Kept} key_cmp key));
   distinct_old = λ a b number at also. absurd (no_number a number at);
   distinct_now = distinct;
   kept = λ number not_noted. cc;

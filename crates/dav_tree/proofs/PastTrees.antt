@@ -4,12 +4,12 @@ use Rattle.std.specs.Coded.{Coded}
 use base.Stored.{Gv, gnil, gcons}
 use Rattle.dav_nodes.specs.Tree.{Tree}
 use Rattle.dav_nodes.specs.Codes.{tree_code}
-use Rattle.dav_nodes.specs.Rows.{Row, HasRow, KeepsRow, HasSameRows, HasNoted, AreNoted, is_noted}
+use Rattle.dav_nodes.specs.Rows.{Row, HasRow, HasNoted, AreNoted, is_noted}
 use Rattle.dav_nodes.specs.declared.changes.Changes.{Changes}
 use Rattle.dav_tree.specs.Codes.{resources_code}
 use Rattle.dav_tree.specs.Memory.{Resources}
 use Rattle.dav_tree.specs.Kept.{Kept, AreSaved, resources_by}
-use Rattle.dav_tree.specs.Before.{entry_code, entries_code, saved_code, past_code, IsTreeIn, IsSaved, IsNotedBetween, IsSafe, HasSaved, AreSameRows, HasEntry, HasNoEntry}
+use Rattle.dav_tree.specs.Before.{entry_code, entries_code, saved_code, past_code, IsTreeIn, IsSaved, IsNotedBetween, IsSafe, HasSaved, HasEntry, HasNoEntry}
 use Rattle.dav_tree.specs.declared.entry.Entry.{Entry}
 
 same_head : (a b c d : Gv) → gcons a b ≡ gcons c d → a ≡ c
@@ -74,12 +74,10 @@ module _ {B : Type 0} (code : Coded B) (bytes : B → List ℕ) where
             bytes_are = ap (resources_by bytes) (sym same) ∙ same_resources code old tree (resources_by bytes old) resources e;
           }
 
-  -- the rows are those of the tree that is saved
-  pub same-rows : (before : Option (Tree (Entry B))) (tree : Tree (Entry B)) (past now : Gv) → past_code code bytes before ≡ past → entries_code code tree ≡ now → HasSameRows before tree → AreSameRows code past now
-  same-rows before tree past now was is (then, at, rows) = λ old new is_old is_new number.
-      let same_old : Some then ≡ Some old = sym at ∙ tree-before before past was old is_old in
-      let same_new : tree ≡ new = same-entries code tree new (is ∙ sym is_new) in
-      subst (KeepsRow number old) same_new (subst (λ t. KeepsRow number t tree) (some_tree then old same_old) (rows number))
+  -- the tree is the one that is saved
+  pub unchanged : (before : Option (Tree (Entry B))) (tree : Tree (Entry B)) (kept : Kept) → past_code code bytes before ≡ kept.before → entries_code code tree ≡ kept.tree
+      → resources_by bytes tree ≡ kept.resources → before ≡ Some tree → IsSaved kept
+  unchanged before tree kept was now resources is = (λ i. saved_code (sym now i) (sym resources i)) ∙ sym (ap (past_code code bytes) is) ∙ was
 
 -- the row of a number
 pub has-entry : {B : Type 0} (code : Coded B) (tree : Tree (Entry B)) (now : Gv) (number : ℕ) (row : Row (Entry B)) → entries_code code tree ≡ now → HasRow tree number row → HasEntry code now number row

@@ -4,7 +4,7 @@ use Rattle.std.specs.Coded.{Coded, code_by, coded×, coded_option, coded_ℕ}
 use base.Stored.{Gv, gnil, gcons}
 use Rattle.dav_nodes.specs.Tree.{Tree}
 use Rattle.dav_nodes.specs.Codes.{tree_code}
-use Rattle.dav_nodes.specs.Rows.{Row, HasRow, KeepsRow, HasNoted, is_noted}
+use Rattle.dav_nodes.specs.Rows.{Row, HasRow, HasNoted, is_noted}
 use Rattle.dav_nodes.specs.declared.changes.Changes.{Changes}
 use Rattle.dav_tree.specs.Codes.{property_map_code, resources_code}
 use Rattle.dav_tree.specs.Memory.{Resources}
@@ -78,11 +78,6 @@ module _ {B : Type 0} where
   pub record IsNotedBetween (body : Coded B) (changes : Changes) (before now : Gv) : Type 0 where
     pub first : before ≡ gnil → (number : ℕ) → is_noted changes number ≡ true
     pub later : (old new : Tree (Entry B)) → IsTreeIn before (entries_code body old) → entries_code body new ≡ now → HasNoted changes old new
-
-  -- each number has the row that it had in the tree that is saved
-  abbrev pub AreSameRows : Coded B → Gv → Gv → Type 0
-  AreSameRows body before now =
-      (old new : Tree (Entry B)) → IsTreeIn before (entries_code body old) → entries_code body new ≡ now → (number : ℕ) → KeepsRow number old new
 
   -- a number has this row in the tree of entries, or none
   abbrev pub HasEntry : Coded B → Gv → ℕ → Row (Entry B) → Type 0

@@ -8,7 +8,7 @@ ghost use Rattle.dav_store.specs.Store.{File, Directory};
 ghost use Rattle.dav_store.specs.PropertyCalls.{patched};
 ghost use Rattle.dav_tree.specs.Memory.{Stored, used_by, size_of, meta_of, fresh, with_properties, asked};
 ghost use Rattle.dav_nodes.specs.Rows.{row_in};
-ghost use Rattle.dav_tree.specs.Before.{IsNotedBetween, IsSaved, HasSaved, AreSameRows, HasEntry, HasNoEntry};
+ghost use Rattle.dav_tree.specs.Before.{IsNotedBetween, IsSaved, HasSaved, HasEntry, HasNoEntry};
 ghost use Rattle.dav_tree.specs.KeptCalls.{IsUnchanged, ChangesAt};
 ghost use Rattle.dav_tree.specs.Kept.{held_of, IsFirst, IsAbsent, IsFound, IsNumber, IsAt, IsTaken, Has, HasMoved};
 
@@ -209,10 +209,10 @@ impl<M: Medium> Entries<M> {
         Ok(self.tree.take_changes())
     }
 
-    /// Whether something may have changed since it was last asked what has. If not, each resource has the same row
-    /// as then.
+    /// Whether something may have changed since it was last asked what has. If not, what is saved is all that there
+    /// is.
     pub fn has_changes(&self) -> bool
-        ensures { result ≡ false → AreSameRows M.body_code self.now.before self.now.tree }
+        ensures { result ≡ false → IsSaved self.now }
     {
         self.tree.has_changes()
     }

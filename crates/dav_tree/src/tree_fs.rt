@@ -110,7 +110,7 @@ impl<M: Medium> TreeFs<M> {
     ghost use Rattle.dav_tree.specs.TreeFs.{memory_of, store_of, records_of, before_of, entries_of};
     ghost use Rattle.dav_tree.specs.Memory.{first_memory, asked};
     ghost use Rattle.dav_nodes.specs.Rows.{row_in};
-    ghost use Rattle.dav_tree.specs.Before.{IsNotedBetween, IsSaved, HasSaved, AreSameRows, HasEntry, HasNoEntry};
+    ghost use Rattle.dav_tree.specs.Before.{IsNotedBetween, IsSaved, HasSaved, HasEntry, HasNoEntry};
     ghost use base.Stored.{gnil};
 
     /// Creates a store over a medium. It holds only the root, created at time 0, and no bodies. The change
@@ -135,10 +135,10 @@ impl<M: Medium> TreeFs<M> {
         })
     }
 
-    /// Whether a resource may have been made, changed or removed since `take_changes` was last called. If not, each
-    /// has the number, the place and the content that it had then.
+    /// Whether a resource may have been made, changed or removed since `take_changes` was last called. If not, what
+    /// is saved is all that there is.
     pub fn has_changes(&self) -> bool
-        ensures { result ≡ false → AreSameRows M.body_code (before_of self.now) (entries_of self.now) }
+        ensures { result ≡ false → IsSaved self.now.entries }
     {
         self.entries.has_changes()
     }
