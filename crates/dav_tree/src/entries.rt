@@ -233,6 +233,13 @@ impl<M: Medium> Entries<M> {
     }
 
     /// Returns the medium. What was saved when it was last asked what has changed is safe there.
+    pub fn medium(&self) -> &M
+        ensures { HasSaved M.body_code (M.bytes result.now) (M.safe result.now) self.now.before }
+    {
+        &self.medium
+    }
+
+    /// Returns the medium. What was saved when it was last asked what has changed is safe there.
     pub fn into_medium(self) -> M
         ensures { HasSaved M.body_code (M.bytes result) (M.safe result) self.before }
     {

@@ -189,6 +189,13 @@ impl<M: Medium> TreeFs<M> {
     }
 
     /// Returns the medium. What there was at the last call of `take_changes` is safe there.
+    pub fn medium(&self) -> &M
+        ensures { HasSaved M.body_code (M.bytes result.now) (M.safe result.now) (before_of self.now) }
+    {
+        self.entries.medium()
+    }
+
+    /// Returns the medium. What there was at the last call of `take_changes` is safe there.
     pub fn into_medium(self) -> M
         ensures { HasSaved M.body_code (M.bytes result) (M.safe result) (before_of self) }
     {
