@@ -22,8 +22,8 @@ use Rattle.dav_rows.specs.Texts.{creation}
 use Rattle.dav_rows.specs.Tables.{rows_schema}
 use Rattle.dav_rows.specs.Stored.{stored, AreRows, IsOurs}
 use Rattle.dav_rows.specs.Contents.{Holds}
-use Rattle.dav_rows.specs.declared.state.StateRow.{StateRow}
-use Rattle.dav_rows.specs.Changes.{put_state}
+use Rattle.dav_rows.specs.declared.change.Change.{Change}
+use Rattle.dav_rows.specs.Changes.{after}
 use Rattle.dav_rows.specs.Saving.{IsReady, Edits}
 use Rattle.dav_rows.specs.Creating.{place, nothing, first, schema_of, AreEmpty, IsBare, IsBuilt, IsFilled, IsWhole}
 use Rattle.dav_rows.proofs.ChangeLemmas.{went, same_value, ours}
@@ -124,13 +124,13 @@ none_built s bare = record {
 pub all_built : (s : State) → IsBuilt 5 s → IsReady s
 all_built s built = record { is_open = built.is_open; inside = built.inside; schema = built.schema }
 
-pub filled : (a b c : State) (row : StateRow) (r : Result ℕ Error) → IsBuilt 5 b → b.committed ≡ a.committed → OnOk r (Edits b c (put_state row)) → OnOk r (IsFilled a c (first row))
-filled a b c row (Ok count) built same it = record {
+pub filled : {X : Type 0} (a b c : State) (changes : List Change) (r : Result X Error) → IsBuilt 5 b → b.committed ≡ a.committed → OnOk r (Edits b c (after changes)) → OnOk r (IsFilled a c (first changes))
+filled a b c changes (Ok done) built same it = record {
   ready = it.ready;
   committed = it.committed ∙ same;
   holds = it.holds nothing (holds_nothing b.now built.schema (ours b.now built.schema (built.sound (omega arith))) built.empty);
 }
-filled a b c row (Err e) built same it = tt
+filled a b c changes (Err e) built same it = tt
 
 pub whole : (db : Database) → IsDatabase db → IsWhole db
 unfolding IsWhole

@@ -16,3 +16,4 @@ pub mod LoadLemmas
 pub mod CreateLemmas
 pub mod ListingTexts
 pub mod ListingLemmas
+pub mod OnlyReads

@@ -24,7 +24,7 @@ use Rattle.dav_rows.proofs.Suits.{Selects}
 use Rattle.dav_rows.proofs.ReadLemmas.{loads}
 
 module _ (schema : Schema) (sql : List ℕ) (plain : IsPlain (understood schema sql)) (old new : State) (has : old.now.schema ≡ schema) where
-  leaves_old : Survives old new (CommitsShowing sql [] old) → HasCleanDisk new → (db : Trees) → new.may_leave db → old.may_leave db
+  pub leaves_old : Survives old new (CommitsShowing sql [] old) → HasCleanDisk new → (db : Trees) → new.may_leave db → old.may_leave db
   leaves_old survives clean db may = elim (survives.crash clean db may) [
     | inl was ↦ was
     | inr commits ↦ absurd (never_commits sql [] old db (subst (λ s. IsPlain (understood s sql)) (sym has) plain) commits)
@@ -34,7 +34,7 @@ module _ (schema : Schema) (sql : List ℕ) (plain : IsPlain (understood schema 
   shown_same c params rows None none h = h.3
   shown_same c params rows (Some what) none h = absurd (let e = none in cc)
 
-  shown_keeps : (rows : List Row) → Shown sql [] old new rows → IsUnchanged old new
+  pub shown_keeps : (rows : List Row) → Shown sql [] old new rows → IsUnchanged old new
   unfolding Shown
   shown_keeps rows h =
       let bare = subst IsPlain (ap (λ s. understood s sql) (sym has) ∙ h.1.is) plain in

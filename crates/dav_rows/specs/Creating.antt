@@ -1,5 +1,5 @@
 -- How the tables are made.
-use Rattle.std.specs.Prelude.{◌≡◌, ◌⊎◌, ◌<◌, ℕ, [], take, Result, OnOk, IsTrue}
+use Rattle.std.specs.Prelude.{◌≡◌, ◌⊎◌, ◌<◌, ℕ, List, [], take, Result, OnOk, IsTrue}
 use Rattle.std.specs.List.{AllByRecursion}
 use Rattle.std.specs.FinMap.{empty}
 use Rattle.sqlite.specs.declared.error.Error.{Error}
@@ -9,10 +9,10 @@ use Rattle.sqlite.specs.Tree.{Trees}
 use Rattle.sqlite.specs.State.{State, HasCleanDisk}
 use Rattle.dav_rows.specs.declared.change.Table.{Table}
 use Rattle.dav_rows.specs.declared.change.Table.TheVariants.{Resource, Extent, Property, Lock, State as TheState}
-use Rattle.dav_rows.specs.declared.state.StateRow.{StateRow}
+use Rattle.dav_rows.specs.declared.change.Change.{Change}
 use Rattle.dav_rows.specs.Tables.{with_tables, rows_tables, no_schema}
 use Rattle.dav_rows.specs.Contents.{Contents, Holds}
-use Rattle.dav_rows.specs.Changes.{put_state}
+use Rattle.dav_rows.specs.Changes.{after}
 use Rattle.dav_rows.specs.Saving.{IsReady, IsAt}
 
 abbrev pub place : Table → ℕ
@@ -22,12 +22,13 @@ place Property = 2
 place Lock = 3
 place TheState = 4
 
+-- the maps of empty tables
 abbrev pub nothing : Contents
 nothing = record { resources = empty; extents = empty; properties = empty; locks = empty; states = empty }
 
--- the tables as they are first, with one row of the state
-abbrev pub first : StateRow → Contents
-first row = put_state row nothing
+-- the maps of new tables, after their first changes
+abbrev pub first : List Change → Contents
+first changes = after changes nothing
 
 -- the trees list the schema, and obey it
 unfoldable pub IsWhole : Database → Type 0

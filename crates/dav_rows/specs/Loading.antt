@@ -8,7 +8,7 @@ use Rattle.sqlite.specs.declared.types.Value.{Value}
 use Rattle.sqlite.specs.Order.{Row, column, bytes}
 use Rattle.sqlite.specs.Edit.{id_in}
 use Rattle.sqlite.specs.Tree.{Trees}
-use Rattle.sqlite.specs.State.{State, HasCleanDisk, Shown}
+use Rattle.sqlite.specs.State.{State, HasCleanDisk, Shown, IsUnchanged}
 use Rattle.sqlite.specs.Given.{IsPlain}
 use Rattle.sqlite.specs.Listing.{understood}
 use Rattle.std.specs.declared.alloc.Global.{Global}
@@ -67,6 +67,11 @@ pub record ReadsBlank {X : Type 0} (old new : State) (result : Result X Error) (
   pub ok : HasCleanDisk new → IfOk result (λ x. IsBlank old → IsBlank new × Is x)
   pub at : HasCleanDisk new → IsBlank old → IsTrue new.is_open → IsBlank new
   pub crash : HasCleanDisk new → IsBlank old → (db : Trees) → new.may_leave db → old.may_leave db
+
+-- the connection sees the same database, and a crash leaves nothing that it did not leave before
+pub record LeavesAlone (old new : State) : Type 0 where
+  pub same : IsUnchanged old new
+  pub crash : (db : Trees) → new.may_leave db → old.may_leave db
 
 -- where there was nothing, the rows and the state are those of these maps
 abbrev pub AreNew : State → State → Contents → Rows → Type 0

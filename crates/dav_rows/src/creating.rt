@@ -1,4 +1,4 @@
-//! Makes the tables of an empty database.
+//! Makes the tables of an empty database, with the first rows.
 ghost use Rattle.std.specs.Prelude.{◌≡◌, ◌≤◌, ◌+◌, false, OnOk, OnErr};
 ghost use Rattle.sqlite_trees.specs.View.{doubt};
 ghost use Rattle.sqlite.specs.State.{HasCleanDisk, KeepsCommit, Survives};
@@ -6,9 +6,9 @@ ghost use Rattle.sqlite.specs.Held.{state};
 ghost use Rattle.dav_rows.specs.Texts.{creation};
 ghost use Rattle.dav_rows.specs.Creating.{place, first, IsBare, Builds, Makes, IsFilled, StaysBlank, LeavesBlankOr};
 
-use crate::change::Table;
+use crate::change::{Change, Table};
 use crate::execute::execute;
-use crate::state::{self, StateRow};
+use crate::saving::apply_all;
 use sqlite::{Alter, Connection, Error, Transaction};
 
 pub(crate) fn creation_of(table: Table) -> &'static str
@@ -63,27 +63,30 @@ fn create_tables<S: Alter>(tx: &mut Transaction<'_, S>) -> Result<(), Error>
     Ok(())
 }
 
-fn fill<S: Alter>(tx: &mut Transaction<'_, S>, row: &StateRow) -> Result<usize, Error>
+fn fill<S: Alter>(tx: &mut Transaction<'_, S>, changes: &[Change]) -> Result<(), Error>
     ensures same_reference { tx.new.conn.ghost_name ≡ tx.old.conn.ghost_name }
     ensures made { HasCleanDisk (state S.Store tx.new.conn.now) → IsBare (state S.Store tx.old.conn.now)
-        → OnOk result (IsFilled (state S.Store tx.old.conn.now) (state S.Store tx.new.conn.now) (first row.now)) }
+        → OnOk result (IsFilled (state S.Store tx.old.conn.now) (state S.Store tx.new.conn.now) (first changes.now)) }
     ensures kept { HasCleanDisk (state S.Store tx.new.conn.now) → KeepsCommit (state S.Store tx.old.conn.now) (state S.Store tx.new.conn.now) }
     ensures survives { Survives (state S.Store tx.old.conn.now) (state S.Store tx.new.conn.now) (λ _. ⊥) }
 {
     create_tables(tx)?;
-    state::put(tx, row)
+    apply_all(tx, changes)
 }
 
-/// Makes the tables and the first row of the state in one transaction. A crash leaves all of them or nothing.
-pub fn create<S: Alter>(conn: &mut Connection<S>, row: &StateRow) -> Result<(), Error>
+/// Makes the tables of an empty database and applies the changes to them, in one transaction.
+/// A crash leaves the tables with all of the changes, or an empty database.
+/// It fails if SQLite fails, as when the database has such a table already, memory runs out or the disk fails.
+/// After an `Err` the database is still empty, or the connection is closed.
+pub fn create<S: Alter>(conn: &mut Connection<S>, changes: &[Change]) -> Result<(), Error>
     requires { conn.old.in_transaction ≡ false }
     ensures idle { conn.new.in_transaction ≡ false }
-    ensures ok { HasCleanDisk (state S.Store conn.new) → OnOk result (Makes (state S.Store conn.old) (state S.Store conn.new) (first row.now)) }
+    ensures ok { HasCleanDisk (state S.Store conn.new) → OnOk result (Makes (state S.Store conn.old) (state S.Store conn.new) (first changes.now)) }
     ensures err { HasCleanDisk (state S.Store conn.new) → OnErr result (StaysBlank (state S.Store conn.old) (state S.Store conn.new)) }
-    ensures crash { HasCleanDisk (state S.Store conn.new) → LeavesBlankOr (state S.Store conn.old) (state S.Store conn.new) (first row.now) }
+    ensures crash { HasCleanDisk (state S.Store conn.new) → LeavesBlankOr (state S.Store conn.old) (state S.Store conn.new) (first changes.now) }
     ensures clean { doubt (state S.Store conn.old).is_clean ≤ doubt (state S.Store conn.new).is_clean }
 {
     let mut tx = conn.transaction();
-    fill(&mut tx, row)?;
+    fill(&mut tx, changes)?;
     tx.commit()
 }

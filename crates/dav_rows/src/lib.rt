@@ -25,6 +25,3 @@ pub use property::PropertyRow;
 pub use resource::ResourceRow;
 pub use saving::save;
 pub use state::StateRow;
-
-#[cfg(test)]
-mod tests;

@@ -1,16 +1,16 @@
 //! Loads the rows of a database, or makes its tables.
-ghost use Rattle.std.specs.Prelude.{◌≡◌, ◌≢◌, ◌≤◌, [], false, IfOk};
+ghost use Rattle.std.specs.Prelude.{◌≡◌, ◌≢◌, ◌≤◌, [], false, IfOk, IsErrOf};
 ghost use Rattle.sqlite_trees.specs.View.{doubt};
 ghost use Rattle.sqlite.specs.State.{HasCleanDisk};
 ghost use Rattle.sqlite.specs.Held.{state};
 ghost use Rattle.dav_rows.specs.Saving.{Stays, LeavesNoOther};
-ghost use Rattle.dav_rows.specs.Creating.{first, LeavesBlankOr};
-ghost use Rattle.dav_rows.specs.Loading.{Reads, ReadsBlank, AreHeld, AreNew};
+ghost use Rattle.dav_rows.specs.Creating.{first, IsBlank, LeavesBlankOr};
+ghost use Rattle.dav_rows.specs.Loading.{Reads, ReadsBlank, AreHeld, AreNew, LeavesAlone};
+ghost use Rattle.dav_rows.specs.declared.opening.StartError.TheVariants.{Foreign, Sqlite};
 
-use crate::change::Table;
+use crate::change::{Change, Table};
 use crate::creating::{create, creation_of};
 use crate::loading::{Rows, read_all};
-use crate::state::StateRow;
 use sqlite::{Alter, Connection, Error, Row};
 use std::alloc::Global;
 
@@ -26,6 +26,8 @@ pub enum StartError {
 }
 
 impl From<Error> for StartError {
+    ghost from_gives = { λ error e. e ≡ Sqlite error };
+
     fn from(error: Error) -> StartError {
         StartError::Sqlite(error)
     }
@@ -39,24 +41,29 @@ enum Found {
     Other,
 }
 
-/// Loads all rows, or makes the tables if the database has none, with the first row of the state.
+/// Loads all rows of a database with this store's tables. In an empty database it makes the tables and applies the changes to them,
+/// in one transaction, and loads the rows that these make. In a database with the tables it applies no change.
 /// It fails with `Foreign` if the database has other tables, and changes nothing then.
+/// It fails with `Sqlite` if SQLite fails, as when memory runs out or the disk fails. Then the rows stay as they were, a database that was empty
+/// has no table or the tables with all of the changes, or the connection is closed.
 pub fn load_or_create<S: Alter>(
     conn: &mut Connection<S>,
     alloc: Global,
-    row: &StateRow,
+    changes: &[Change],
 ) -> Result<Rows, StartError>
     requires { conn.old.in_transaction ≡ false }
     ensures idle { conn.new.in_transaction ≡ false }
     ensures ours { HasCleanDisk (state S.Store conn.new) → IfOk result (AreHeld (state S.Store conn.old)) }
-    ensures blank { HasCleanDisk (state S.Store conn.new) → IfOk result (AreNew (state S.Store conn.old) (state S.Store conn.new) (first row.now)) }
+    ensures blank { HasCleanDisk (state S.Store conn.new) → IfOk result (AreNew (state S.Store conn.old) (state S.Store conn.new) (first changes.now)) }
     ensures at { HasCleanDisk (state S.Store conn.new) → Stays (state S.Store conn.old) (state S.Store conn.new) }
     ensures crash { HasCleanDisk (state S.Store conn.new) → LeavesNoOther (state S.Store conn.old) (state S.Store conn.new) }
-    ensures blank_crash { HasCleanDisk (state S.Store conn.new) → LeavesBlankOr (state S.Store conn.old) (state S.Store conn.new) (first row.now) }
+    ensures blank_crash { HasCleanDisk (state S.Store conn.new) → LeavesBlankOr (state S.Store conn.old) (state S.Store conn.new) (first changes.now) }
+    ensures foreign { HasCleanDisk (state S.Store conn.new) → IsErrOf result Foreign → LeavesAlone (state S.Store conn.old) (state S.Store conn.new) }
+    ensures foreign_has_tables { HasCleanDisk (state S.Store conn.new) → IsErrOf result Foreign → IsBlank (state S.Store conn.old) → ⊥ }
     ensures clean { doubt (state S.Store conn.old).is_clean ≤ doubt (state S.Store conn.new).is_clean }
 {
     match found_in(conn)? {
-        Found::Nothing => Ok(create_and_load(conn, alloc, row)?),
+        Found::Nothing => Ok(create_and_load(conn, alloc, changes)?),
         Found::Ours => Ok(read_all(conn, alloc)?),
         Found::Other => Err(StartError::Foreign),
     }
@@ -65,15 +72,15 @@ pub fn load_or_create<S: Alter>(
 fn create_and_load<S: Alter>(
     conn: &mut Connection<S>,
     alloc: Global,
-    row: &StateRow,
+    changes: &[Change],
 ) -> Result<Rows, Error>
     requires { conn.old.in_transaction ≡ false }
     ensures idle { conn.new.in_transaction ≡ false }
-    ensures ok { HasCleanDisk (state S.Store conn.new) → IfOk result (AreNew (state S.Store conn.old) (state S.Store conn.new) (first row.now)) }
-    ensures crash { HasCleanDisk (state S.Store conn.new) → LeavesBlankOr (state S.Store conn.old) (state S.Store conn.new) (first row.now) }
+    ensures ok { HasCleanDisk (state S.Store conn.new) → IfOk result (AreNew (state S.Store conn.old) (state S.Store conn.new) (first changes.now)) }
+    ensures crash { HasCleanDisk (state S.Store conn.new) → LeavesBlankOr (state S.Store conn.old) (state S.Store conn.new) (first changes.now) }
     ensures clean { doubt (state S.Store conn.old).is_clean ≤ doubt (state S.Store conn.new).is_clean }
 {
-    create(conn, row)?;
+    create(conn, changes)?;
     read_all(conn, alloc)
 }
 
@@ -81,7 +88,8 @@ fn found_in<S: Alter>(conn: &mut Connection<S>) -> Result<Found, Error>
     requires { conn.old.in_transaction ≡ false }
     ensures idle { conn.new.in_transaction ≡ false }
     ensures reads { Reads (state S.Store conn.old) (state S.Store conn.new) result (λ found m. found ≢ Found.Nothing) }
-    ensures blank { ReadsBlank (state S.Store conn.old) (state S.Store conn.new) result (λ found. found ≢ Found.Ours) }
+    ensures blank { ReadsBlank (state S.Store conn.old) (state S.Store conn.new) result (λ found. found ≡ Found.Nothing) }
+    ensures alone { HasCleanDisk (state S.Store conn.new) → IfOk result (λ _. LeavesAlone (state S.Store conn.old) (state S.Store conn.new)) }
 {
     let rows = listing_of(conn)?;
     kind_of(rows.as_slice())
@@ -93,12 +101,14 @@ fn listing_of<S: Alter>(conn: &mut Connection<S>) -> Result<Vec<Row>, Error>
     ensures idle { conn.new.in_transaction ≡ false }
     ensures reads { Reads (state S.Store conn.old) (state S.Store conn.new) result (λ rows m. rows.items ≢ []) }
     ensures blank { ReadsBlank (state S.Store conn.old) (state S.Store conn.new) result (λ rows. rows.items ≡ []) }
+    ensures alone { HasCleanDisk (state S.Store conn.new) → IfOk result (λ _. LeavesAlone (state S.Store conn.old) (state S.Store conn.new)) }
 {
     conn.query_all("SELECT sql FROM sqlite_schema ORDER BY name", &[])
 }
 
 fn kind_of(rows: &[Row]) -> Result<Found, Error>
     ensures nothing { IfOk result (λ found. found ≡ Found.Nothing → rows.now ≡ []) }
+    ensures empty { IfOk result (λ found. rows.now ≡ [] → found ≡ Found.Nothing) }
     ensures ours { IfOk result (λ found. found ≡ Found.Ours → rows.now ≢ []) }
 {
     if rows.is_empty() {

@@ -50,7 +50,10 @@ fn apply<S: Alter>(tx: &mut Transaction<'_, S>, change: &Change) -> Result<usize
     }
 }
 
-fn apply_all<S: Alter>(tx: &mut Transaction<'_, S>, changes: &[Change]) -> Result<(), Error>
+pub(crate) fn apply_all<S: Alter>(
+    tx: &mut Transaction<'_, S>,
+    changes: &[Change],
+) -> Result<(), Error>
     ensures same_reference { tx.new.conn.ghost_name ≡ tx.old.conn.ghost_name }
     ensures rows { Applies (state S.Store tx.old.conn.now) (state S.Store tx.new.conn.now) (after changes.now) result }
     ensures kept { HasCleanDisk (state S.Store tx.new.conn.now) → KeepsCommit (state S.Store tx.old.conn.now) (state S.Store tx.new.conn.now) }

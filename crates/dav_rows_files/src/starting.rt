@@ -5,27 +5,28 @@ ghost use Rattle.sqlite.specs.WalFiles.{image_at};
 ghost use Rattle.dav_rows.specs.Creating.{first};
 ghost use Rattle.dav_rows_files.specs.Starting.{Finds, BeginsAt, BeginsNew};
 
-use dav_rows::{Rows, StartError, StateRow, load_or_create};
+use dav_rows::{Change, Rows, StartError, load_or_create};
 use sqlite::{Connection, FileFrom, FileStore, Start};
 
 /// Opens the files and loads all rows. They stand for the maps that the files keep, whatever a crash made of them.
-/// Where the files have no table, it makes the tables, with the first row of the state.
-/// It fails with `Foreign` if the database has other tables, and changes none of them, and with `Sqlite` if the files fail.
+/// Where the files have no table, it makes the tables and applies the changes to them, in one transaction. Otherwise it applies no change.
+/// It fails with `Foreign` if the database has other tables, and changes none of them.
+/// It fails with `Sqlite` if SQLite fails, as when memory runs out or the files cannot be read or written.
 pub fn start<S: Start>(
     rt: &HostRuntime,
     path: &str,
     start: S,
-    row: &StateRow,
+    changes: &[Change],
 ) -> Result<(Connection<FileStore<FileFrom<S>>>, Rows), StartError>
     ensures found { IfOk result (λ r. Finds (image_at S.Start) (file_state r.0) r.1) }
     ensures at { IfOk result (λ r. BeginsAt (image_at S.Start) (file_state r.0)) }
-    ensures blank { IfOk result (λ r. BeginsNew (image_at S.Start) (file_state r.0) (first row.now) r.1) }
+    ensures blank { IfOk result (λ r. BeginsNew (image_at S.Start) (file_state r.0) (first changes.now) r.1) }
     ensures idle { IfOk result (λ r. r.0.in_transaction ≡ false) }
 {
     let mut conn = match Connection::open_from(rt, path, false, start) {
         Ok(conn) => conn,
         Err((error, _)) => return Err(StartError::Sqlite(error)),
     };
-    let rows = load_or_create(&mut conn, rt.alloc(), row)?;
+    let rows = load_or_create(&mut conn, rt.alloc(), changes)?;
     Ok((conn, rows))
 }

@@ -1,21 +1,42 @@
-//! What no clause says: that a start on no file makes the tables, that a second start finds the rows, and that another database is refused.
+//! What no clause says: that the calls succeed with a row in each table, that a second start knows the tables that the first made, and that another database is refused.
 
-use crate::start;
-use dav_rows::{Change, LockRow, StartError, StateRow, save};
+use crate::{save_to_the_end, start};
+use dav_rows::{Change, ExtentRow, LockRow, PropertyRow, ResourceRow, StartError, StateRow, Table};
 use sqlite::{Connection, Unknown};
 use std::alloc::Global;
 use std::fs;
 use std::test::Fail;
 
-fn first_state() -> StateRow {
-    StateRow {
-        number: 0,
-        counter: 1,
-        time: 0,
-        batch: 0,
-        data_end: 0,
-        digest_key: 77,
-    }
+fn resource(alloc: Global) -> Result<Change, Fail> {
+    Ok(Change::PutResource(ResourceRow {
+        number: 7,
+        parent: 0,
+        name: String::from_str(alloc, "seven")?,
+        directory: false,
+        size: 12,
+        version: 3,
+        created: 4,
+        modified: 5,
+    }))
+}
+
+fn property(alloc: Global) -> Result<Change, Fail> {
+    Ok(Change::PutProperty(PropertyRow {
+        number: 1,
+        resource: 7,
+        namespace: String::from_str(alloc, "DAV:")?,
+        name: String::from_str(alloc, "owner")?,
+        element: Vec::from_slice(alloc, b"<owner/>")?,
+    }))
+}
+
+fn extent(alloc: Global) -> Result<Change, Fail> {
+    Ok(Change::PutExtent(ExtentRow {
+        number: 5,
+        resource: 7,
+        place: 4096,
+        pieces: Vec::from_slice(alloc, b"pieces")?,
+    }))
 }
 
 fn lock(alloc: Global) -> Result<Change, Fail> {
@@ -27,21 +48,42 @@ fn lock(alloc: Global) -> Result<Change, Fail> {
     }))
 }
 
+fn state() -> Change {
+    Change::PutState(StateRow {
+        number: 0,
+        counter: 1,
+        time: 0,
+        batch: 0,
+        data_end: 0,
+        digest_key: 77,
+    })
+}
+
+fn batch(alloc: Global) -> Result<Vec<Change>, Fail> {
+    let mut all = Vec::new(alloc);
+    all.push(resource(alloc)?)?;
+    all.push(property(alloc)?)?;
+    all.push(extent(alloc)?)?;
+    all.push(lock(alloc)?)?;
+    all.push(state())?;
+    Ok(all)
+}
+
+/// Starts on the file, counts its locks, and removes one.
+fn count_locks(rt: &HostRuntime, path: &str, changes: &[Change]) -> Result<usize, StartError> {
+    let (conn, rows) = start(rt, path, Unknown, changes)?;
+    let (saved, _) = save_to_the_end(conn, &[Change::Remove(Table::Lock, 2)]);
+    saved?;
+    Ok(rows.locks.len())
+}
+
 #[test]
 fn on_a_file(rt: HostRuntime) -> Result<(), Fail> {
     let _ = fs::remove_dir_all(&rt, "dav_rows_test");
     fs::create_dir(&rt, "dav_rows_test")?;
-    let (mut conn, rows) = start(&rt, "dav_rows_test/rows.db", Unknown, &first_state())?;
-    assert_eq!(rt; rows.states.len(), 1usize);
-    let mut changes = Vec::new(rt.alloc());
-    changes.push(lock(rt.alloc())?)?;
-    save(&mut conn, changes.as_slice())?;
-    drop(conn);
-    let (conn, rows) = start(&rt, "dav_rows_test/rows.db", Unknown, &first_state())?;
-    assert_eq!(rt; rows.locks.len(), 1usize);
-    assert_eq!(rt; rows.states.len(), 1usize);
-    assert_eq!(rt; rows.states[0].digest_key, 77i64);
-    conn.close()?;
+    let all = batch(rt.alloc())?;
+    assert!(rt; count_locks(&rt, "dav_rows_test/rows.db", all.as_slice())? == 1);
+    assert!(rt; count_locks(&rt, "dav_rows_test/rows.db", all.as_slice())? == 0);
     fs::remove_dir_all(&rt, "dav_rows_test")?;
     Ok(())
 }
@@ -50,10 +92,11 @@ fn on_a_file(rt: HostRuntime) -> Result<(), Fail> {
 fn another_database(rt: HostRuntime) -> Result<(), Fail> {
     let _ = fs::remove_dir_all(&rt, "dav_rows_other");
     fs::create_dir(&rt, "dav_rows_other")?;
-    let mut conn = Connection::open(&rt, "dav_rows_other/rows.db")?;
-    conn.execute("CREATE TABLE note (title TEXT)", &[])?;
-    drop(conn);
-    let refused = match start(&rt, "dav_rows_other/rows.db", Unknown, &first_state()) {
+    Connection::open(&rt, "dav_rows_other/rows.db")?.execute(
+        "CREATE TABLE note (title TEXT)",
+        &[],
+    )?;
+    let refused = match count_locks(&rt, "dav_rows_other/rows.db", &[]) {
         Ok(_) => false,
         Err(error) => matches!(error, StartError::Foreign),
     };

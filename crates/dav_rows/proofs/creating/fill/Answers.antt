@@ -8,6 +8,6 @@ pub returns-clause-made : goal.returns-clause-made
 returns-clause-made g c clean bare =
     let old = state g.S.Store c.args.tx.now.conn.now in
     let mid = state g.S.Store c.create_tables.new.tx.conn.now in
-    let early : HasCleanDisk mid = omega (arith, c.put.ensures.survives.clean) in
+    let early : HasCleanDisk mid = omega (arith, c.apply_all.ensures.survives.clean) in
     let built = c.in_ok-create_tables.ensures.made early (none_built old bare) in
-    filled old mid (state g.S.Store c.put.new.tx.conn.now) c.args.row.now c.put.result built.0 built.1 (c.put.ensures.row clean (all_built mid built.0))
+    filled old mid (state g.S.Store c.apply_all.new.tx.conn.now) c.args.changes.now c.apply_all.result built.0 built.1 (c.apply_all.ensures.rows clean (all_built mid built.0))
