@@ -8,7 +8,7 @@ use Rattle.sqlite_disk.specs.Refusal.{is_no_room}
 use Rattle.sqlite_disk.specs.Tally.{CountsRefusal}
 use Rattle.dav_pieces.specs.Pieces.{bytes_at}
 use Rattle.dav_blocks.specs.Runs.{are_clear}
-use Rattle.dav_space.specs.Ranges.{is_clear}
+use Rattle.dav_space.specs.Ranges.{is_clear, used_of}
 use Rattle.dav_space.specs.Space.{unused, IsFull, MakesRoom, MakesNoRoom}
 use Rattle.dav_blocks.specs.declared.run.Run.{Run}
 use Rattle.dav_blocks.specs.declared.block_file.BlockFile.{BlockFile}
@@ -49,6 +49,10 @@ module _ {D : Type 0} {g : Ghosts D} where
   -- the n bytes from a place on have been written, and no other bytes will be written there
   abbrev pub in_use : BlockFile D g → ℕ → ℕ → Bool
   in_use it at n = nat_le (at + n) it.end && are_clear (unused it.space) at n
+
+  -- how many bytes before the last unused range are in no unused range
+  abbrev pub used_bytes : BlockFile D g → ℕ
+  used_bytes it = used_of (unused it.space)
 
   -- a crash leaves them as they are
   abbrev pub is_safe : BlockFile D g → ℕ → ℕ → Bool

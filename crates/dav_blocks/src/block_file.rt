@@ -37,7 +37,7 @@ pub struct BlockFile<D: Disk> {
 }
 
 impl<D: Disk> BlockFile<D> {
-    ghost use Rattle.dav_blocks.specs.Blocks.{disk_of, data_of, may_leave, is_usable, is_honest, is_settled, tally_of, in_use, is_safe, IsFree};
+    ghost use Rattle.dav_blocks.specs.Blocks.{disk_of, data_of, may_leave, is_usable, is_honest, is_settled, tally_of, in_use, used_bytes, is_safe, IsFree};
     ghost use Rattle.dav_blocks.specs.Blocks.{KeepsBlocks, ChangesOnly, AreWritten, ReservesRoom, HasFailed, HasCause, HasReadCause, TellsRoom, IsNotOpened};
 
     /// Opens the data file of which all bytes up to a place are in use. What is after them is cut off. It is an
@@ -215,6 +215,7 @@ impl<D: Disk> BlockFile<D> {
         ensures disk { result ≡ true → Only (data_of self.old) (may_leave self.old) }
         ensures settled { result ≡ true → is_settled self.new ≡ true }
         ensures none { result ≡ false → self.new ≡ self.old }
+        ensures end { self.new.synced ≡ self.old.synced }
         ensures same { data_of self.new ≡ data_of self.old }
         ensures usable { is_usable self.new ≡ is_usable self.old }
         ensures honest { is_honest self.new ≡ is_honest self.old }
@@ -235,7 +236,15 @@ impl<D: Disk> BlockFile<D> {
         ensures value { result ≡ self.now.synced }
         ensures survives { (c : List ℕ) → may_leave self.now c → (at n : ℕ) → is_safe self.now at n ≡ true → bytes_at c at n ≡ bytes_at (data_of self.now) at n }
         ensures within { (c : List ℕ) → may_leave self.now c → result ≤ length c }
+        ensures small { result < 2 ^ 63 }
     {
         self.synced
+    }
+
+    /// Returns how many bytes are in use: those before the last unused range that are in no other one.
+    pub fn used(&self) -> usize
+        ensures { result ≡ used_bytes self.now }
+    {
+        self.space.used()
     }
 }

@@ -1,6 +1,7 @@
 pub mod Runs
 pub mod Hashing
 pub mod Bodies
+pub mod Places
 pub mod Keeping
 pub mod Adding
 pub mod Reading

@@ -1,11 +1,12 @@
 -- What contracts see of a `DataFile`: this project's own choice.
-use Rattle.std.specs.Prelude.{◌≡◌, ◌⊎◌, ◌≤◌, ◌<◌, ℕ, ◌+◌, ◌^◌, Bool, true, false, ◌&&◌, ◌||◌, ltb, nat_le, List, [], ◌++◌, length, take, slice_index_or, Option, IfSome, Err}
+use Rattle.std.specs.Prelude.{◌≡◌, ◌⊎◌, ◌≤◌, ◌<◌, ℕ, ◌+◌, ◌*◌, ◌^◌, Bool, true, false, ◌&&◌, ◌||◌, ltb, nat_lt, nat_le, List, [], ◌∷◌, ◌++◌, length, take, slice_index_or, Option, IfSome, Err}
 use Rattle.sqlite_disk.specs.declared.Disk.{Ghosts}
 use Rattle.sqlite_disk.specs.Disk.{MoreFaults}
 use Rattle.sqlite_disk.specs.Digest.{digest}
 use Rattle.sqlite_disk.specs.Tally.{CountsRefusal}
 use Rattle.dav_store.specs.Calls.{bytes_from}
 use Rattle.dav_pieces.specs.declared.piece.Piece.{Piece}
+use Rattle.dav_pieces.specs.declared.piece.Piece.TheVariants.{Part}
 use Rattle.dav_pieces.specs.declared.piece.Block.{Block}
 use Rattle.dav_pieces.specs.Pieces.{bytes_at, piece_bytes, piece_len, bytes_of, size_of, is_sound}
 use Rattle.dav_data.specs.Runs.{run_passes, blocks_pass}
@@ -19,6 +20,7 @@ use Rattle.dav_blocks.specs.declared.block_file.BlockFile.{BlockFile}
 use Rattle.dav_blocks.specs.Blocks as blocks
 use Rattle.dav_data.specs.Errors.{failure_of}
 use Rattle.dav_data.specs.declared.data_file.DataFile.{DataFile}
+use Rattle.dav_data.specs.declared.data_file.sweeping.TheConstants.{MAX_UNSWEPT}
 use Rattle.dav_data.specs.declared.data_file.writing.Added.{Added}
 use Rattle.dav_data.specs.declared.data_file.writing.Grown.{Grown}
 use Rattle.dav_data.specs.declared.hash.Tail.{Tail}
@@ -27,6 +29,10 @@ use Rattle.dav_data.specs.Digests.{IsHashed, is_right, are_right, IsChecked, Are
 -- the blocks of a body end at or before a place, and it has fewer than 2^63 bytes
 abbrev pub is_below : ℕ → List Piece → Bool
 is_below end body = ltb (size_of body) (2 ^ 63) && blocks_pass (λ at n. nat_le (at + n) end) body
+
+-- a body of no bytes, which has a block of no bytes at a place
+abbrev pub nothing_at : ℕ → List Piece
+nothing_at place = Part (record { at = place; size = 0; digest = 0 }) 0 0 ∷ []
 
 -- a body that has so many bytes at this place would have 2^63 bytes or more
 pub record IsTooLong (place count : ℕ) (e : FsError) : Type 0 where
@@ -98,6 +104,38 @@ module _ {D : Type 0} {g : Ghosts D} where
   abbrev pub key_of : DataFile D g → ℕ
   key_of it = it.key
 
+  -- how many bytes are in use
+  abbrev pub used_bytes : DataFile D g → ℕ
+  used_bytes it = blocks.used_bytes it.file
+
+  -- how many were in use after the last sweep that gave something up; 0 if the data file was opened since
+  abbrev pub swept_bytes : DataFile D g → ℕ
+  swept_bytes it = it.swept
+
+  -- more bytes are in use than need no sweep, and more than twice as many as after the last sweep
+  abbrev pub wants_sweep : DataFile D g → Bool
+  wants_sweep it = nat_lt MAX_UNSWEPT (used_bytes it) && nat_lt (2 * swept_bytes it) (used_bytes it)
+
+  -- where the body of no bytes was safe, it still is
+  abbrev pub KeepsPlaces : DataFile D g → DataFile D g → Type 0
+  KeepsPlaces old new = (place : ℕ) → is_synced old (nothing_at place) ≡ true → is_synced new (nothing_at place) ≡ true
+
+  -- contents in which each safe body has the bytes that it has now
+  abbrev pub LeavesBytes : DataFile D g → List ℕ → Type 0
+  LeavesBytes it c = (body : List Piece) → is_synced it body ≡ true → bytes_of c body ≡ body_bytes it body
+
+  -- contents in which the blocks of each safe body have their digests, if they have them now
+  abbrev pub LeavesDigests : DataFile D g → List ℕ → Type 0
+  LeavesDigests it c = (body : List Piece) → is_synced it body ≡ true → has_digests it body ≡ true → are_right it.key c body ≡ true
+
+  -- contents that do not end before a safe body
+  abbrev pub LeavesEnds : DataFile D g → List ℕ → Type 0
+  LeavesEnds it c = (body : List Piece) → is_synced it body ≡ true → is_below (length c) body ≡ true
+
+  -- the blocks of each body below a place have their digests, if they have them in these contents
+  abbrev pub FindsDigests : ℕ → List ℕ → DataFile D g → Type 0
+  FindsDigests end file it = (body : List Piece) → is_below end body ≡ true → are_right it.key file body ≡ true → has_digests it body ≡ true
+
   -- each block that was in use still is, with the same bytes, and what was safe still is
   pub record Keeps (old new : DataFile D g) : Type 0 where
     pub blocks : blocks.KeepsBlocks old.file new.file
@@ -167,9 +205,19 @@ module _ {D : Type 0} {g : Ghosts D} where
   abbrev pub IsIdle : DataFile D g → Type 0
   IsIdle it = it.keeps_all ≡ true
 
+  -- the end of a sweep gives nothing up
+  pub record GivesUpNothing (old new : DataFile D g) : Type 0 where
+    pub file : new.file ≡ old.file
+    pub swept : swept_bytes new ≡ swept_bytes old
+
+  -- it gives up each byte that is not spared, and notes how many are in use then
+  pub record GivesUpUnspared (old new : DataFile D g) : Type 0 where
+    pub rest : (i : ℕ) → i < LIMIT → is_spared old i 1 ≡ false → in_use new i 1 ≡ false
+    pub swept : swept_bytes new ≡ used_bytes new
+
   -- each byte that is not spared is given up, or nothing is
   abbrev pub GivesUpRest : DataFile D g → DataFile D g → Type 0
-  GivesUpRest old new = (new.file ≡ old.file) ⊎ ((i : ℕ) → i < LIMIT → is_spared old i 1 ≡ false → in_use new i 1 ≡ false)
+  GivesUpRest old new = GivesUpNothing old new ⊎ GivesUpUnspared old new
 
   -- the bytes, the key and the state of the disk are the same
   pub record KeepsDisk (old new : DataFile D g) : Type 0 where

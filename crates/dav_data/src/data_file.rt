@@ -1,5 +1,5 @@
 //! The data file, of which bodies are lists of pieces.
-ghost use Rattle.std.specs.Prelude.{◌≡◌, ◌≤◌, ◌<◌, ◌^◌, ℕ, List, All, true, is_ok, IfOk, IfErr, OnOk, OnErr};
+ghost use Rattle.std.specs.Prelude.{◌≡◌, ◌≤◌, ◌<◌, ◌^◌, ℕ, List, All, length, true, is_ok, IfOk, IfErr, OnOk, OnErr};
 ghost use Rattle.dav_pieces.specs.declared.piece.Piece.{Piece};
 ghost use Rattle.dav_pieces.specs.Pieces.{bytes_of};
 ghost use Rattle.dav_space.specs.declared.range.TheConstants.{LIMIT};
@@ -33,12 +33,15 @@ pub struct DataFile<D: Disk> {
     marks: Vec<Range>,
     /// Whether nothing is given up when the sweep ends: none is under way, or memory ran out in it.
     keeps_all: bool,
+    /// How many bytes were in use after the last sweep that gave something up, or 0 before the first.
+    swept: usize,
     ghost hashed: { AreHashed key (blocks.data_of file) (blocks.in_use file) tails.items },
     ghost marked: { All (λ r. r.end ≤ LIMIT) marks.items },
 }
 
 impl<D: Disk> DataFile<D> {
-    ghost use Rattle.dav_data.specs.Data.{is_below, is_honest, is_usable, may_leave, key_of, body_bytes, is_held, is_synced, HasFailed, KeepsSweep, IsIdle};
+    ghost use Rattle.dav_data.specs.Data.{is_below, nothing_at, is_honest, is_usable, may_leave, key_of, swept_bytes, body_bytes, is_held, is_synced};
+    ghost use Rattle.dav_data.specs.Data.{HasFailed, KeepsSweep, IsIdle, LeavesBytes, LeavesDigests, LeavesEnds, FindsDigests};
 
     /// Opens the data file of which all bytes up to a place are in use. What is after them is cut off. It is an
     /// error if the file is shorter, or the disk fails. `key` is the key of the digests of its blocks.
@@ -49,7 +52,9 @@ impl<D: Disk> DataFile<D> {
         requires below { end < 2 ^ 63 }
         ensures held { IfOk result (λ it. (body : List Piece) → is_below end body ≡ true → is_synced it body ≡ true) }
         ensures same { IfOk result (λ it. is_honest it ≡ true → (body : List Piece) → is_below end body ≡ true → body_bytes it body ≡ bytes_of (D.Disk.seen disk) body) }
+        ensures digests { IfOk result (λ it. is_honest it ≡ true → FindsDigests end (D.Disk.seen disk) it) }
         ensures key { IfOk result (λ it. key_of it ≡ key) }
+        ensures swept { IfOk result (λ it. swept_bytes it ≡ 0) }
         ensures idle { IfOk result IsIdle }
         ensures usable { IfOk result (λ it. is_usable it ≡ true) }
         ensures err { IfErr result (blocks.IsNotOpened D.Disk disk end) }
@@ -60,6 +65,7 @@ impl<D: Disk> DataFile<D> {
             tails: Vec::new(alloc),
             marks: Vec::new(alloc),
             keeps_all: true,
+            swept: 0,
         })
     }
 
@@ -78,10 +84,25 @@ impl<D: Disk> DataFile<D> {
         self.file.sync()
     }
 
-    /// Says what a crash leaves: the bytes of each body that was held at the last sync.
+    /// Says what a crash leaves: a file in which each safe body ends, with its bytes and the digests of its blocks.
     pub fn show_synced(&self)
-        ensures { (c : List ℕ) → may_leave self.now c → (body : List Piece) → is_synced self.now body ≡ true → bytes_of c body ≡ body_bytes self.now body }
+        ensures bytes { (c : List ℕ) → may_leave self.now c → LeavesBytes self.now c }
+        ensures digests { (c : List ℕ) → may_leave self.now c → LeavesDigests self.now c }
+        ensures ends { (c : List ℕ) → may_leave self.now c → LeavesEnds self.now c }
     {
         self.file.synced();
+    }
+
+    /// Returns the place up to which a crash leaves the data file as it is. Each safe body ends there or before, so a
+    /// data file that is opened with this place after a crash has all of them.
+    ///
+    /// The body of no bytes at this place is safe. As long as it is, a crash leaves a file that is no shorter.
+    pub fn safe_end(&self) -> usize
+        ensures below { (body : List Piece) → is_synced self.now body ≡ true → is_below result body ≡ true }
+        ensures reached { is_synced self.now (nothing_at result) ≡ true }
+        ensures left { (c : List ℕ) → may_leave self.now c → result ≤ length c }
+        ensures small { result < 2 ^ 63 }
+    {
+        self.file.synced()
     }
 }

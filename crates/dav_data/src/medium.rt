@@ -19,7 +19,7 @@ impl<D: Disk + Drop> Medium for DataFile<D> {
     ghost use Rattle.dav_store.specs.Calls.{bytes_from, written_at};
     ghost use Rattle.dav_tree.specs.Bodies.{KeepsBodies, KeepsMarked, IsCopy, FailsFor};
     ghost use Rattle.dav_data.specs.Errors.{is_own_error};
-    ghost use Rattle.dav_data.specs.Data.{body_bytes, is_held, is_synced, has_digests, is_marked, is_honest, is_usable, HasFailed, KeepsSweep, IsBegun, GivesUpRest, FailsToWrite, FailsToJoin, IsReadChecked, IsUnread};
+    ghost use Rattle.dav_data.specs.Data.{body_bytes, is_held, is_synced, has_digests, is_marked, is_honest, is_usable, HasFailed, KeepsSweep, KeepsPlaces, IsBegun, GivesUpRest, FailsToWrite, FailsToJoin, IsReadChecked, IsUnread};
     ghost use Rattle.dav_data.specs.Owning.{synced_held, held_small, own_refused, none_trusted};
 
     type Body = Body;
@@ -150,6 +150,7 @@ impl<D: Disk + Drop> Medium for DataFile<D> {
 
     fn end_sweep(&mut self)
         ensures kept { KeepsMarked body_bytes is_held is_synced is_marked self.old self.new }
+        ensures places { KeepsPlaces self.old self.new }
         ensures rest { GivesUpRest self.old self.new }
     {
         self.end();

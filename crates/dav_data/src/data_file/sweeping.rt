@@ -9,8 +9,11 @@ use dav_space::{LIMIT, Range};
 use sqlite_disk::Disk;
 use std::mem;
 
+/// The most bytes in use that need no sweep.
+const MAX_UNSWEPT: usize = 64 << 20;
+
 impl<D: Disk> DataFile<D> {
-    ghost use Rattle.dav_data.specs.Data.{in_use, is_held, is_spared, is_marked, is_synced, is_honest, body_bytes, SparesMore, Keeps, KeepsDisk, IsBegun, IsIdle, GivesUpRest};
+    ghost use Rattle.dav_data.specs.Data.{in_use, is_held, is_spared, is_marked, is_synced, is_honest, body_bytes, SparesMore, Keeps, KeepsDisk, KeepsPlaces, IsBegun, IsIdle, GivesUpRest, wants_sweep};
 
     /// Begins a sweep. Nothing is marked.
     pub(crate) fn begin(&mut self)
@@ -64,6 +67,7 @@ impl<D: Disk> DataFile<D> {
         ensures held { (body : List Piece) → is_marked self.old body ≡ true → is_held self.new body ≡ true }
         ensures same { (body : List Piece) → is_marked self.old body ≡ true → body_bytes self.new body ≡ body_bytes self.old body }
         ensures synced { (body : List Piece) → is_marked self.old body ≡ true → is_synced self.old body ≡ true → is_synced self.new body ≡ true }
+        ensures places { KeepsPlaces self.old self.new }
         ensures rest { GivesUpRest self.old self.new }
         ensures idle { IsIdle self.new }
         ensures disk { KeepsDisk self.old self.new }
@@ -75,6 +79,17 @@ impl<D: Disk> DataFile<D> {
         let alloc = *self.marks.allocator();
         let marks = mem::replace(&mut self.marks, Vec::new(alloc));
         self.tails.clear();
-        self.file.keep_only(alloc, marks);
+        if self.file.keep_only(alloc, marks) {
+            self.swept = self.file.used();
+        }
+    }
+
+    /// Returns whether it is time for a sweep: more than 64 MiB are in use, and more than twice as many bytes as
+    /// after the last sweep that gave something up. Before the first such sweep only the 64 MiB count.
+    pub fn wants_sweep(&self) -> bool
+        ensures { result ≡ wants_sweep self.now }
+    {
+        let used = self.file.used();
+        used > MAX_UNSWEPT && used.saturating_sub(self.swept) > self.swept
     }
 }

@@ -6,13 +6,13 @@ use Rattle.dav_data.specs.Data.{is_held, is_spared}
 use Rattle.dav_data.proofs.Bodies.{marked-body, spared-closed}
 use Rattle.dav_data.proofs.data_file.DataFile.end.Goals as goal
 
-pub returns-clause-held : goal.returns-clause-held
-returns-clause-held g c = λ body marked.
+pub returns-then-keep_only-clause-held : goal.returns-then-keep_only-clause-held
+returns-then-keep_only-clause-held g c = λ body marked.
     let down : c.args.self.now.keeps_all ≡ false = sym c.replace.ensures.value ∙ c.if-replace.false in
     marked-body _ _ _ (λ at n spared used. c.keep_only.ensures.used at n (ap (λ v. is_covered v.items at n) c.replace-marks.ensures.value ∙ spared-closed _ _ down spared) used) body marked
 
-pub returns-clause-synced : goal.returns-clause-synced
-returns-clause-synced g c = λ body marked synced.
+pub returns-then-keep_only-clause-synced : goal.returns-then-keep_only-clause-synced
+returns-then-keep_only-clause-synced g c = λ body marked synced.
     let down : c.args.self.now.keeps_all ≡ false = sym c.replace.ensures.value ∙ c.if-replace.false in
     let spares = and_parts (is_held c.args.self.now body) (blocks_pass (is_spared c.args.self.now) body) marked in
     marked-body _ _ _ (λ at n spared safe. c.keep_only.ensures.safe at n (ap (λ v. is_covered v.items at n) c.replace-marks.ensures.value ∙ spared-closed _ _ down spared) safe) body (and_from _ _ synced spares.1)
