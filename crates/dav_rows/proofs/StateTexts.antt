@@ -13,14 +13,14 @@ pub suits : Suits state_cells (codes "state") 4 state_columns
 suits = record { there = refl; cast = λ v. simp cast_int; filled = λ v. refl; seen = λ db. refl }
 
 abbrev pub put_text : List ℕ
-put_text = codes "INSERT OR REPLACE INTO state (number, counter, time, batch, data_end, digest_key) VALUES (?1, ?2, ?3, ?4, ?5, ?6)"
+put_text = codes "INSERT OR REPLACE INTO state (number, counter, time, batch, digest_key) VALUES (?1, ?2, ?3, ?4, ?5)"
 
 abbrev terms : List Term
-terms = col 0 0 ∷ lit Null ∷ col 0 1 ∷ col 0 2 ∷ col 0 3 ∷ col 0 4 ∷ col 0 5 ∷ []
+terms = col 0 0 ∷ lit Null ∷ col 0 1 ∷ col 0 2 ∷ col 0 3 ∷ col 0 4 ∷ []
 
 pub puts : Puts state_cells 4 put_text
 unfolding understood everything
-puts = record { terms = terms; width = 7; is = refl; plain = (refl, refl); given = λ n v. refl }
+puts = record { terms = terms; width = 6; is = refl; plain = (refl, refl); given = λ n v. refl }
 
 abbrev pub remove_text : List ℕ
 remove_text = codes "DELETE FROM state WHERE number = ?1"
@@ -30,13 +30,13 @@ unfolding understood everything
 removes = record { is = refl; plain = (refl, refl) }
 
 abbrev pub select_text : List ℕ
-select_text = codes "SELECT number, counter, time, batch, data_end, digest_key FROM state ORDER BY number"
+select_text = codes "SELECT number, counter, time, batch, digest_key FROM state ORDER BY number"
 
 abbrev project : List Term
-project = col 1 0 ∷ col 1 2 ∷ col 1 3 ∷ col 1 4 ∷ col 1 5 ∷ col 1 6 ∷ []
+project = col 1 0 ∷ col 1 2 ∷ col 1 3 ∷ col 1 4 ∷ col 1 5 ∷ []
 
 abbrev names : List (List ℕ)
-names = codes "number" ∷ codes "counter" ∷ codes "time" ∷ codes "batch" ∷ codes "data_end" ∷ codes "digest_key" ∷ []
+names = codes "number" ∷ codes "counter" ∷ codes "time" ∷ codes "batch" ∷ codes "digest_key" ∷ []
 
 pub selects : Selects state_cells 4 select_text
 unfolding understood everything

@@ -28,7 +28,7 @@ abbrev pub lock_entry : LockRow → ℤ × LockValues
 lock_entry r = (r.number, record { token = string_bytes r.token; path = string_bytes r.path; lock = r.lock.items })
 
 abbrev pub state_entry : StateRow → ℤ × StateValues
-state_entry r = (r.number, record { counter = r.counter; time = r.time; batch = r.batch; data_end = r.data_end; digest_key = r.digest_key })
+state_entry r = (r.number, record { counter = r.counter; time = r.time; batch = r.batch; digest_key = r.digest_key })
 
 -- ---- the maps after a change
 

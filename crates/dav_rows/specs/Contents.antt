@@ -34,7 +34,6 @@ pub record StateValues : Type 0 where
   pub counter : ℤ
   pub time : ℤ
   pub batch : ℤ
-  pub data_end : ℤ
   pub digest_key : ℤ
 
 pub record Contents : Type 0 where
@@ -62,7 +61,7 @@ abbrev pub lock_cells : LockValues → Row
 lock_cells v = Text v.token ∷ Text v.path ∷ Blob v.lock ∷ []
 
 abbrev pub state_cells : StateValues → Row
-state_cells v = Int v.counter ∷ Int v.time ∷ Int v.batch ∷ Int v.data_end ∷ Int v.digest_key ∷ []
+state_cells v = Int v.counter ∷ Int v.time ∷ Int v.batch ∷ Int v.digest_key ∷ []
 
 -- The trees are our database, and the rows of each table are those of its map.
 pub record Holds (db : Trees) (m : Contents) : Type 0 where

@@ -37,7 +37,7 @@ abbrev pub lock_in : Row → ℤ × LockValues
 lock_in row = (id_in (column row 0), record { token = bytes (column row 1); path = bytes (column row 2); lock = bytes (column row 3) })
 
 abbrev pub state_in : Row → ℤ × StateValues
-state_in row = (id_in (column row 0), record { counter = id_in (column row 1); time = id_in (column row 2); batch = id_in (column row 3); data_end = id_in (column row 4); digest_key = id_in (column row 5) })
+state_in row = (id_in (column row 0), record { counter = id_in (column row 1); time = id_in (column row 2); batch = id_in (column row 3); digest_key = id_in (column row 4) })
 
 -- the rows are the entries of the maps, in the order of the numbers
 pub record AreAll (rows : Rows) (m : Contents) : Type 0 where

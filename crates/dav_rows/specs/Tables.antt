@@ -47,9 +47,7 @@ abbrev pub lock_columns : List Column
 lock_columns = filled (codes "token") Text ∷ filled (codes "path") Text ∷ filled (codes "lock") Blob ∷ []
 
 abbrev pub state_columns : List Column
-state_columns =
-    filled (codes "counter") Integer ∷ filled (codes "time") Integer ∷ filled (codes "batch") Integer ∷ filled (codes "data_end") Integer
-    ∷ filled (codes "digest_key") Integer ∷ []
+state_columns = filled (codes "counter") Integer ∷ filled (codes "time") Integer ∷ filled (codes "batch") Integer ∷ filled (codes "digest_key") Integer ∷ []
 
 abbrev pub with_tables : List Table → Schema
 with_tables tables = record { tables = tables; indexes = []; views = [] }

@@ -17,4 +17,4 @@ creation Resource = codes "CREATE TABLE resource (number INTEGER PRIMARY KEY, pa
 creation Extent = codes "CREATE TABLE extent (number INTEGER PRIMARY KEY, resource INTEGER NOT NULL, place INTEGER NOT NULL, pieces BLOB NOT NULL) STRICT"
 creation Property = codes "CREATE TABLE property (number INTEGER PRIMARY KEY, resource INTEGER NOT NULL, namespace TEXT NOT NULL, name TEXT NOT NULL, element BLOB NOT NULL) STRICT"
 creation Lock = codes "CREATE TABLE lock (number INTEGER PRIMARY KEY, token TEXT NOT NULL, path TEXT NOT NULL, lock BLOB NOT NULL) STRICT"
-creation State = codes "CREATE TABLE state (number INTEGER PRIMARY KEY, counter INTEGER NOT NULL, time INTEGER NOT NULL, batch INTEGER NOT NULL, data_end INTEGER NOT NULL, digest_key INTEGER NOT NULL) STRICT"
+creation State = codes "CREATE TABLE state (number INTEGER PRIMARY KEY, counter INTEGER NOT NULL, time INTEGER NOT NULL, batch INTEGER NOT NULL, digest_key INTEGER NOT NULL) STRICT"

@@ -28,7 +28,7 @@ pub(crate) fn creation_of(table: Table) -> &'static str
             "CREATE TABLE lock (number INTEGER PRIMARY KEY, token TEXT NOT NULL, path TEXT NOT NULL, lock BLOB NOT NULL) STRICT"
         }
         Table::State => {
-            "CREATE TABLE state (number INTEGER PRIMARY KEY, counter INTEGER NOT NULL, time INTEGER NOT NULL, batch INTEGER NOT NULL, data_end INTEGER NOT NULL, digest_key INTEGER NOT NULL) STRICT"
+            "CREATE TABLE state (number INTEGER PRIMARY KEY, counter INTEGER NOT NULL, time INTEGER NOT NULL, batch INTEGER NOT NULL, digest_key INTEGER NOT NULL) STRICT"
         }
     }
 }

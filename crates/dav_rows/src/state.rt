@@ -18,7 +18,6 @@ pub struct StateRow {
     pub counter: i64,
     pub time: i64,
     pub batch: i64,
-    pub data_end: i64,
     pub digest_key: i64,
 }
 
@@ -30,13 +29,12 @@ pub(crate) fn put<S: Alter>(tx: &mut Transaction<'_, S>, row: &StateRow) -> Resu
 {
     execute(
         tx,
-        "INSERT OR REPLACE INTO state (number, counter, time, batch, data_end, digest_key) VALUES (?1, ?2, ?3, ?4, ?5, ?6)",
+        "INSERT OR REPLACE INTO state (number, counter, time, batch, digest_key) VALUES (?1, ?2, ?3, ?4, ?5)",
         params![
             &row.number,
             &row.counter,
             &row.time,
             &row.batch,
-            &row.data_end,
             &row.digest_key
         ],
     )
@@ -53,7 +51,7 @@ pub(crate) fn load_all<S: Alter>(
 {
     let rows = rows_of(
         conn,
-        "SELECT number, counter, time, batch, data_end, digest_key FROM state ORDER BY number",
+        "SELECT number, counter, time, batch, digest_key FROM state ORDER BY number",
     )?;
     rows_in(alloc, rows.as_slice())
 }
@@ -76,7 +74,6 @@ fn row_of(row: &Row) -> Result<StateRow, Error>
         counter: row.get(1)?,
         time: row.get(2)?,
         batch: row.get(3)?,
-        data_end: row.get(4)?,
-        digest_key: row.get(5)?,
+        digest_key: row.get(4)?,
     })
 }

@@ -54,7 +54,6 @@ fn state() -> Change {
         counter: 1,
         time: 0,
         batch: 0,
-        data_end: 0,
         digest_key: 77,
     })
 }
