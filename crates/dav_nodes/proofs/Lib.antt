@@ -2,14 +2,14 @@ mod NodeSteps
 mod Walks
 mod KeyMaps
 mod Linking
-mod BelowKeys
+pub mod BelowKeys
 mod KeyMoves
 mod Moving
 mod Outcomes
-mod RowSteps
+pub mod RowSteps
 mod Spots
 mod LinkedParts
-mod Pending
+pub mod Pending
 mod Loads
 mod SameTrees
 mod Slots

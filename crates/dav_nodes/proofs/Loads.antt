@@ -1,9 +1,9 @@
 -- A tree that is made row by row.
-use Rattle.std.proofs.Common.{◌≡◌, ◌≢◌, ◌⊎◌, inl, inr, ℕ, ◌<◌, ◌==◌, cond, true, false, List, [], ◌∷◌, ◌++◌, Option, Some, None, is_some, IsSome, string_bytes, refl, sym, ap, subst, ◌∙◌, append_assoc}
+use Rattle.std.proofs.Common.{◌≡◌, ◌≢◌, ◌⊎◌, inl, inr, ℕ, ◌<◌, ◌==◌, cond, Bool, true, false, List, [], ◌∷◌, ◌++◌, Option, Some, None, is_some, IsSome, string_bytes, refl, sym, ap, subst, ◌∙◌, append_assoc}
 use Rattle.std.specs.List.{AllByRecursion}
 use Rattle.std.specs.Option.{option_and_then}
 use Rattle.std.specs.BTreeMap.{IsEmpty}
-use Rattle.std.specs.FinMap.{empty as empty_map, get, insert, same_map, get-empty}
+use Rattle.std.specs.FinMap.{FinMap, empty as empty_map, get, insert, same_map, get-empty}
 use Rattle.std.proofs.lemmas.Bool.{cases_eq}
 use Rattle.std.proofs.lemmas.List.{append-nil}
 use Rattle.slab.specs.Slab as slab
@@ -41,6 +41,17 @@ of_value {R} nodes n is = by (nodes n) is
 not_some : {X : Type 0} (o : Option X) → is_some o ≡ true → o ≡ None → ⊥
 not_some o is none = absurd (let both : true ≡ false = sym is ∙ ap is_some none in cc)
 
+some_value : {X : Type 0} (x y : X) → Some x ≡ Some y → x ≡ y
+some_value x y e = cc
+
+-- one value more that passes the test
+only_more : {R : Type 0} (test : R → Bool) (m : FinMap key_cmp R) (key : Key) (x : R) → ((q : Key) (y : R) → get m q ≡ Some y → test y ≡ true) → test x ≡ true
+    → (q : Key) (y : R) → get (insert m key x) q ≡ Some y → test y ≡ true
+only_more test m key x only passes q y at = elim (key_same_or_not q key) [
+  | inl same ↦ ap test (sym (some_value x y (sym (insert-here m key x) ∙ ap (get (insert m key x)) (sym same) ∙ at))) ∙ passes
+  | inr apart ↦ only q y (sym (insert-elsewhere m key x q apart) ∙ at)
+]
+
 -- one row more whose parent is not in the tree
 pub none_more : {R : Type 0} (nodes : ℕ → Option (Node R)) (left more : List (NumberedValue R)) (entry : NumberedValue R) → more ≡ left ++ entry ∷ [] → linked_part nodes entry.above ≡ None
     → NoneAttachable nodes left → NoneAttachable nodes more
@@ -63,6 +74,7 @@ module _ {R : Type 0} (all : List (NumberedValue R)) where
     tree = loaded.tree;
     linked = loaded.linked;
     spots = loaded.spots;
+    only = λ test each. let before = loaded.only test each in (before.0, rows (λ entry. test entry.value ≡ true) before.1);
     part = λ whole are. let loading = loaded.part whole are in record {
       numbers = loading.numbers;
       values = loading.values;
@@ -256,6 +268,9 @@ module _ {R : Type 0} (all : List (NumberedValue R)) where
             linked_added (linked_part nodes) (linked_part (slab.get new)) loaded.tree loaded.linked (above_key nodes above_in free loaded).0 (string_bytes entry.name) entry.above entry.number entry.value
             above_at absent attaches.adds;
         spots = spots_added (linked_part nodes) (linked_part (slab.get new)) loaded.spots entry.above (string_bytes entry.name) entry.number entry.value attaches.adds;
+        only = λ test each.
+            let passing = loaded.only test each in
+            (only_more test loaded.tree.values key entry.value passing.0 (own (λ e. test e.value ≡ true) passing.1), others (λ e. test e.value ≡ true) passing.1);
         part = more_loading;
       }
 
@@ -379,6 +394,8 @@ module _ {R : Type 0} (start new : Slab (Node R)) (first : NumberedValue R) (row
     tree = root_tree first.value;
     linked = linked_alone (linked_part (slab.get new)) node at_zero alone empty first.value node_value;
     spots = spots_alone (linked_part (slab.get new)) node at_zero alone empty node_above node_name;
+    only = λ test each.
+        (only_more test empty_map [] first.value (λ q y at. absurd (let no : None ≡ Some y = sym (get-empty key_cmp q) ∙ at in cc)) each.0, each.1);
     part = first_loading;
   }
 

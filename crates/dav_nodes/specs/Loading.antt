@@ -1,12 +1,12 @@
 -- How a tree is made from its rows: this project's own choice.
-use Rattle.std.specs.Prelude.{◌≡◌, ◌≢◌, ℕ, ◌==◌, ◌⊎◌, cond, List, [], ◌∷◌, Option, Some, None, IsSome, string_bytes}
+use Rattle.std.specs.Prelude.{◌≡◌, ◌≢◌, ℕ, ◌==◌, ◌⊎◌, cond, Bool, true, List, [], ◌∷◌, Option, Some, None, IsSome, string_bytes}
 use Rattle.std.specs.List.{AllByRecursion}
 use Rattle.std.specs.Option.{option_and_then}
 use Rattle.std.specs.FinMap.{get}
 use Rattle.dav_key.specs.Key.{Key}
 use Rattle.dav_nodes.specs.Tree.{Tree}
 use Rattle.dav_nodes.specs.Rows.{HasRow}
-use Rattle.dav_nodes.specs.TreeRows.{row_with, AreRowsOf}
+use Rattle.dav_nodes.specs.TreeRows.{row_with, HasOnly, AreRowsOf}
 use Rattle.slab.specs.Slab as slab
 use Rattle.slab.specs.Slab.{Slab}
 use Rattle.dav_nodes.specs.NodeChanges.{AddsNode}
@@ -39,11 +39,17 @@ module _ {R : Type 0} where
     pub rows : AllByRecursion (λ entry. HasRow whole entry.number (row_with entry)) pending
     pub rest : (key : Key) (number : ℕ) → get whole.numbers key ≡ Some number → (get tree.numbers key ≡ Some number) ⊎ HasNumber number pending
 
-  -- the linked nodes are a tree. If all rows are those of a tree, it is a part of that tree, and the pending rows are the rest.
+  -- the value of each row passes the test
+  abbrev pub ArePassing : (R → Bool) → List (NumberedValue R) → Type 0
+  ArePassing test rows = AllByRecursion (λ entry. test entry.value ≡ true) rows
+
+  -- the linked nodes are a tree. A test that all rows' values pass is passed by the tree's values and those of the pending rows. If all rows are those of a
+  -- tree, it is a part of that tree, and the pending rows are the rest.
   pub record IsLoaded (all : List (NumberedValue R)) (nodes : ℕ → Option (Node R)) (pending : List (NumberedValue R)) : Type 0 where
     pub tree : Tree R
     pub linked : AreLinked (value_at (linked_part nodes)) (member_at (linked_part nodes)) tree
     pub spots : AreSpots (member_at (linked_part nodes)) (spot_at (linked_part nodes))
+    pub only : (test : R → Bool) → ArePassing test all → HasOnly test tree × ArePassing test pending
     pub part : (whole : Tree R) → AreRowsOf all whole → IsLoading whole nodes tree pending
 
   -- the row's number has no slot, or its parent has a member with its name already

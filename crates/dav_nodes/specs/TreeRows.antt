@@ -1,5 +1,5 @@
 -- The rows of a whole tree: this project's own choice.
-use Rattle.std.specs.Prelude.{◌≡◌, ◌↔◌, ℕ, zero, suc, List, [], map, Option, Some, None, is_some, string_bytes}
+use Rattle.std.specs.Prelude.{◌≡◌, ◌↔◌, ℕ, zero, suc, Bool, true, List, [], map, Option, Some, None, is_some, string_bytes}
 use Rattle.std.specs.List.{Contains}
 use Rattle.std.specs.List.Sorted.{IsStrictlySortedBy}
 use Rattle.std.specs.Ordering.{nat_cmp}
@@ -26,6 +26,10 @@ module _ {R : Type 0} where
   -- the numbers of the rows ascend
   abbrev pub AreAscending : List (NumberedValue R) → Type 0
   AreAscending rows = IsStrictlySortedBy nat_cmp (map (λ entry. entry.number) rows)
+
+  -- each value of the tree passes the test
+  abbrev pub HasOnly : (R → Bool) → Tree R → Type 0
+  HasOnly test tree = (key : Key) (value : R) → get tree.values key ≡ Some value → test value ≡ true
 
   -- these are the rows of the tree: each number with a row is among them once, and there is no other. The numbers ascend.
   pub record AreRowsOf (rows : List (NumberedValue R)) (tree : Tree R) : Type 0 where

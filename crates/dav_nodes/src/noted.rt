@@ -28,7 +28,7 @@ pub struct NotedNodes<R> {
 
 impl<R> NotedNodes<R> {
     ghost use Rattle.dav_nodes.specs.Noted.{tree_of, before_of, IsSame, IsReplacedAt};
-    ghost use Rattle.dav_nodes.specs.Rows.{is_noted};
+    ghost use Rattle.dav_nodes.specs.Rows.{is_noted, AreDistinct};
     ghost use Rattle.dav_nodes.specs.Tree.{root_tree, IsAdded, IsRemoved, IsTreeMoved, HasNoMember};
 
     /// Creates a tree with this value at the root, under the number 0. Fails only if memory runs out.
@@ -44,6 +44,22 @@ impl<R> NotedNodes<R> {
             changes: Changes::All,
             before: None,
         })
+    }
+
+    /// Takes a tree that counts as just asked: nothing is noted.
+    pub fn saved(alloc: Global, nodes: Nodes<R>) -> NotedNodes<R>
+        ensures tree { tree_of result ≡ nodes }
+        ensures before { before_of result ≡ Some nodes }
+        ensures none { (number : ℕ) → is_noted result.changes number ≡ false }
+    {
+        nodes.show_linked();
+        let before = Snapshot::of(&nodes);
+        NotedNodes {
+            alloc,
+            nodes,
+            changes: Changes::none(alloc),
+            before: Some(before),
+        }
     }
 
     /// Returns the number of the value at a key, as `Nodes::find` does.
@@ -139,16 +155,18 @@ impl<R> NotedNodes<R> {
     }
 
     /// Returns the numbers that were noted since the tree was last asked, and begins to note anew. A number that
-    /// is not among them has the same row as then.
-    pub fn take_changes(&mut self) -> Changes
-        ensures kept { AreNoted result (before_of self.old) (tree_of self.old) }
+    /// is not among them has the same row as then. The second part is the tree as it was then, for contracts only.
+    pub fn take_changes(&mut self) -> (Changes, Option<Snapshot<Nodes<R>>>)
+        ensures kept { AreNoted result.0 (before_of self.old) (tree_of self.old) }
+        ensures older { option_map (λ s. s.value) result.1 ≡ before_of self.old }
+        ensures distinct { AreDistinct (tree_of self.old) }
         ensures tree { tree_of self.new ≡ tree_of self.old }
         ensures before { before_of self.new ≡ Some (tree_of self.old) }
         ensures none { (number : ℕ) → is_noted self.new.changes number ≡ false }
     {
         self.nodes.show_linked();
         let changes = mem::replace(&mut self.changes, Changes::none(self.alloc));
-        self.before = Some(Snapshot::of(&self.nodes));
-        changes
+        let older = mem::replace(&mut self.before, Some(Snapshot::of(&self.nodes)));
+        (changes, older)
     }
 }

@@ -58,7 +58,7 @@ fn a_rename_notes_one_number(rt: HostRuntime) -> Result<(), Fail> {
     let to = rename(&rt, &mut noted, &from, &root, "b")?;
     assert!(rt; noted.find(&member(&rt, &to, "c")?) == Some(beside));
     assert!(rt; matches!(noted.nodes.placed(moved), Some(placed) if placed.name == Some("b")));
-    let changes = noted.take_changes();
+    let (changes, _) = noted.take_changes();
     assert!(rt; !changes.is_empty());
     assert!(rt; changes.contains(moved));
     assert!(rt; !changes.contains(beside));

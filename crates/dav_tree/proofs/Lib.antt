@@ -22,3 +22,8 @@ pub mod Dumps
 pub mod Firsts
 mod Sweeping
 mod Saving
+mod EachEntry
+mod Soundness
+mod Naming
+mod Segments
+mod Loaded

@@ -4,7 +4,7 @@ use Rattle.std.specs.Coded.{Coded}
 use base.Stored.{Gv, gnil, gcons}
 use Rattle.dav_nodes.specs.Tree.{Tree}
 use Rattle.dav_nodes.specs.Codes.{tree_code}
-use Rattle.dav_nodes.specs.Rows.{Row, HasRow, HasNoted, AreNoted, is_noted}
+use Rattle.dav_nodes.specs.Rows.{Row, HasRow, HasNoted, AreNoted, AreDistinct, is_noted}
 use Rattle.dav_nodes.specs.declared.changes.Changes.{Changes}
 use Rattle.dav_tree.specs.Codes.{resources_code}
 use Rattle.dav_tree.specs.Memory.{Resources}
@@ -43,9 +43,10 @@ module _ {B : Type 0} (code : Coded B) (bytes : B → List ℕ) where
 
   -- what is noted of trees is noted of their values
   pub noted-between : (changes : Changes) (before : Option (Tree (Entry B))) (tree : Tree (Entry B)) (past now : Gv)
-      → AreNoted changes before tree → past_code code bytes before ≡ past → entries_code code tree ≡ now → IsNotedBetween code changes past now
-  noted-between changes before tree past now noted was is = record {
+      → AreNoted changes before tree → AreDistinct tree → past_code code bytes before ≡ past → entries_code code tree ≡ now → IsNotedBetween code changes past now
+  noted-between changes before tree past now noted distinct was is = record {
     first = λ none. all-noted changes before tree noted (was ∙ none);
+    distinct = λ new is_new. subst AreDistinct (same-entries code tree new (is ∙ sym is_new)) distinct;
     later = λ old new is_old is_new.
         subst (HasNoted changes old) (same-entries code tree new (is ∙ sym is_new))
         (subst (λ b. AreNoted changes b tree) (tree-before before past was old is_old) noted);

@@ -30,6 +30,14 @@ below_less k x (e ∷ es) p h =
     let parts = both_parts (is_lt (key_cmp x e.0)) (below_all key_cmp x es) h in
     both (is_lt (key_cmp k e.0)) (below_all key_cmp k es) (subst (λ r. T (is_lt r)) (sym (key_cmp_total.trans k x e.0 p (less (key_cmp x e.0) parts.0))) tt) (below_less k x es p parts.1)
 
+-- what is found later is found after one more entry too
+pub found-later : {X : Type 0} (e : Key × X) (es : List (Key × X)) → T (below_all key_cmp e.0 es) → (k : Key) (x : X) → find key_cmp k es ≡ Some x → find key_cmp k (e ∷ es) ≡ Some x
+found-later {X} e es below k x here = by (eq_by_cmp key_cmp k e.0) refl
+  where
+    by : (b : Bool) → eq_by_cmp key_cmp k e.0 ≡ b → cond b (Some e.1) (find key_cmp k es) ≡ Some x
+    by true tied = absurd (let clash : None ≡ Some x = sym (find_below e.0 es below) ∙ ap (λ q. find key_cmp q es) (sym ((tied_decides k e.0).0 tied)) ∙ here in cc)
+    by false apart = here
+
 module _ {X : Type 0} (f : X → ℕ) where
   abbrev of_entry : Key × X → ℕ
   of_entry e = f e.1
@@ -85,14 +93,6 @@ module _ {X : Type 0} (f : X → ℕ) where
 
   pub total-remove : (m : FinMap key_cmp X) (k : Key) → total (remove m k) + part (get m k) ≡ total m
   total-remove m k = total_removed m k (get m k) refl
-
-  -- what is found later is found after one more entry too
-  found-later : (e : Key × X) (es : List (Key × X)) → T (below_all key_cmp e.0 es) → (k : Key) (x : X) → find key_cmp k es ≡ Some x → find key_cmp k (e ∷ es) ≡ Some x
-  found-later e es below k x here = by (eq_by_cmp key_cmp k e.0) refl
-    where
-      by : (b : Bool) → eq_by_cmp key_cmp k e.0 ≡ b → cond b (Some e.1) (find key_cmp k es) ≡ Some x
-      by true tied = absurd (let clash : None ≡ Some x = sym (find_below e.0 es below) ∙ ap (λ q. find key_cmp q es) (sym ((tied_decides k e.0).0 tied)) ∙ here in cc)
-      by false apart = here
 
   sum-le : (most : ℕ) (es : List (Key × X)) → T (is_sorted key_cmp es) → ((k : Key) (x : X) → find key_cmp k es ≡ Some x → f x ≤ most) → sum_by of_entry es ≤ length es * most
   sum-le most [] h small = omega arith

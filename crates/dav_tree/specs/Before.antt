@@ -1,10 +1,12 @@
 -- What has changed since a store was last asked: this project's own choice.
-use Rattle.std.specs.Prelude.{◌≡◌, ℕ, Bool, true, List, Option, Some, None, refl}
+use Rattle.std.specs.Prelude.{◌≡◌, ℕ, Bool, true, List, [], Option, Some, None, is_some, refl}
 use Rattle.std.specs.Coded.{Coded, code_by, coded×, coded_option, coded_ℕ}
+use Rattle.std.specs.FinMap.{get}
 use base.Stored.{Gv, gnil, gcons}
+use Rattle.dav_key.specs.Key.{Key}
 use Rattle.dav_nodes.specs.Tree.{Tree}
 use Rattle.dav_nodes.specs.Codes.{tree_code}
-use Rattle.dav_nodes.specs.Rows.{Row, HasRow, HasNoted, is_noted}
+use Rattle.dav_nodes.specs.Rows.{Row, HasRow, HasNoted, AreDistinct, AreJoined, is_noted}
 use Rattle.dav_nodes.specs.declared.changes.Changes.{Changes}
 use Rattle.dav_tree.specs.Codes.{property_map_code, resources_code}
 use Rattle.dav_tree.specs.Memory.{Resources}
@@ -55,13 +57,13 @@ module _ {B : Type 0} where
   abbrev pub entries_code : Coded B → Tree (Entry B) → Gv
   entries_code body tree = (tree_code (entry_code body)).code tree
 
-  abbrev pub rest_of : Coded B → Bool → Tree (Entry B) → Rest
-  rest_of body honest tree = record { honest = honest; tree = entries_code body tree }
-
   -- a tree of entries with its resources, or none, as one value
   abbrev pub past_code : Coded B → (B → List ℕ) → Option (Tree (Entry B)) → Gv
   past_code body bytes None = gnil
   past_code body bytes (Some tree) = saved_code (entries_code body tree) (resources_by bytes tree)
+
+  abbrev pub rest_of : Coded B → (B → List ℕ) → Bool → Tree (Entry B) → Option (Tree (Entry B)) → Rest
+  rest_of body bytes honest tree older = record { honest = honest; tree = entries_code body tree; older = past_code body bytes older }
 
   -- what is saved of a tree of entries is safe, and has these bytes
   pub record IsSafe (bytes : B → List ℕ) (safe : B → Bool) (tree : Tree (Entry B)) (resources : Resources) : Type 0 where
@@ -74,10 +76,23 @@ module _ {B : Type 0} where
       (tree : Tree (Entry B)) (resources : Resources) → saved_code (entries_code body tree) resources ≡ before → IsSafe bytes safe tree resources
 
   -- what has changed from the one tree to the other is noted: a number that is not among the changes has the same row in both; where there was no tree
-  -- before, every number is noted
+  -- before, every number is noted. No two keys have the same number now.
   pub record IsNotedBetween (body : Coded B) (changes : Changes) (before now : Gv) : Type 0 where
     pub first : before ≡ gnil → (number : ℕ) → is_noted changes number ≡ true
+    pub distinct : (new : Tree (Entry B)) → entries_code body new ≡ now → AreDistinct new
     pub later : (old new : Tree (Entry B)) → IsTreeIn before (entries_code body old) → entries_code body new ≡ now → HasNoted changes old new
+
+  -- there is a tree of entries with this value, and with these resources for some bytes of the bodies. Its root has the number 0, each key with a
+  -- value has a number that no other key has, and below a key without a number no key has one.
+  pub record HasTree (body : Coded B) (now : Gv) (resources : Resources) : Type 0 where
+    pub bytes : B → List ℕ
+    pub tree : Tree (Entry B)
+    pub entries : entries_code body tree ≡ now
+    pub resources_are : resources_by bytes tree ≡ resources
+    pub root : get tree.numbers [] ≡ Some 0
+    pub distinct : AreDistinct tree
+    pub joined : AreJoined tree
+    pub numbered : (key : Key) → is_some (get tree.numbers key) ≡ is_some (get tree.values key)
 
   -- a number has this row in the tree of entries, or none
   abbrev pub HasEntry : Coded B → Gv → ℕ → Row (Entry B) → Type 0

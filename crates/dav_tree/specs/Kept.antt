@@ -16,7 +16,7 @@ use Rattle.dav_tree.specs.declared.entry.Entry.{Entry}
 
 -- the resources, the numbers under which they are found, the bodies held for requests to come, the number of the next one, whether the medium has
 -- returned what was written to it, the tree of entries (`entries_code`), and that tree when it was last asked what has changed, with its resources
--- (`past_code`)
+-- (`past_code`), and when it was asked before that, unless the medium was swept since
 pub record Kept : Type 0 where
   pub resources : Resources
   pub numbers : FinMap key_cmp ℕ
@@ -25,11 +25,14 @@ pub record Kept : Type 0 where
   pub honest : Bool
   pub tree : Gv
   pub before : Gv
+  pub older : Gv
 
--- what no call of the store says anything of: whether the medium has returned what was written to it, and the tree of entries
+-- what no call of the store says anything of: whether the medium has returned what was written to it, the tree of entries, and an older tree that
+-- may still be saved elsewhere
 pub record Rest : Type 0 where
   pub honest : Bool
   pub tree : Gv
+  pub older : Gv
 
 abbrev pub held_of : Kept → Held
 held_of kept = record { bodies = λ number. get kept.bodies number; next = kept.next; before = kept.before }
@@ -52,6 +55,7 @@ kept_by bytes rest tree bodies next before =
       honest = rest.honest;
       tree = rest.tree;
       before = before;
+      older = rest.older;
     }
 
 -- the medium holds each file's body

@@ -16,3 +16,4 @@ pub mod Found
 pub mod TreeFs
 pub mod Before
 pub mod KeptCalls
+pub mod Loading

@@ -34,6 +34,10 @@ module _ {M B : Type 0} {g : Ghosts M B} where
   abbrev pub before_of : TreeFs M B g → Gv
   before_of store = (memory_of store).held.before
 
+  -- that tree when it was asked before that, unless the medium was swept since
+  abbrev pub older_of : TreeFs M B g → Gv
+  older_of store = store.entries.older
+
   -- the tree of entries (`entries_code`)
   abbrev pub entries_of : TreeFs M B g → Gv
   entries_of store = store.entries.tree

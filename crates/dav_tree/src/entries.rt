@@ -8,14 +8,16 @@ ghost use Rattle.dav_store.specs.Store.{File, Directory};
 ghost use Rattle.dav_store.specs.PropertyCalls.{patched};
 ghost use Rattle.dav_tree.specs.Memory.{Stored, used_by, size_of, meta_of, fresh, with_properties, asked};
 ghost use Rattle.dav_nodes.specs.Rows.{row_in};
-ghost use Rattle.dav_tree.specs.Before.{IsNotedBetween, IsSaved, HasSaved, HasEntry, HasNoEntry};
+ghost use Rattle.dav_tree.specs.Before.{IsNotedBetween, IsSaved, HasSaved, HasTree, HasEntry, HasNoEntry};
 ghost use Rattle.dav_tree.specs.KeptCalls.{IsUnchanged, ChangesAt};
 ghost use Rattle.dav_tree.specs.Kept.{held_of, IsFirst, IsAbsent, IsFound, IsNumber, IsAt, IsTaken, Has, HasMoved};
 
 mod bodies;
 mod contents;
 mod listing;
+mod loading;
 mod lookups;
+mod soundness;
 mod sweep;
 
 use crate::entry::{self, Content, Entry};
@@ -24,9 +26,11 @@ use crate::properties::Properties;
 use dav_key::FlatKey;
 use dav_nodes::{Changes, Nodes, NotedNodes, PlacedValue};
 use dav_resource::{DavProp, FsResult, Meta};
+pub(crate) use soundness::are_sound;
 use std::alloc::{AllocError, Global};
 use std::collections::BTreeMap;
 use std::marker::Model;
+use std::snapshot::Snapshot;
 
 /// No file has as many bytes.
 const MOST_BYTES: u128 = 1 << 63;
@@ -40,6 +44,9 @@ pub(crate) struct Entries<M: Medium> {
     used: u128,
     bodies: BTreeMap<u64, M::Body>,
     next: u64,
+    /// The tree when it was asked for its changes before the last time, unless the medium was swept since, for
+    /// contracts only.
+    older: Option<Snapshot<Nodes<Entry<M::Body>>>>,
 }
 
 impl<M: Medium> Model for Entries<M> {
@@ -50,13 +57,14 @@ impl<M: Medium> Model for Entries<M> {
 
     ghost coded = { kept_code };
 
+    ghost use Rattle.std.specs.Option.{option_map};
     ghost use Rattle.dav_nodes.specs.Noted.{tree_of, before_of};
     ghost use Rattle.dav_tree.specs.Kept.{kept_by, AreKept, AreSaved};
     ghost use Rattle.dav_tree.specs.Before.{rest_of, past_code};
 
-    ghost view = { λ e. kept_by (M.bytes e.medium) (rest_of M.body_code (M.is_honest e.medium) (tree_of e.tree)) (tree_of e.tree) e.bodies e.next (past_code M.body_code (M.bytes e.medium) (before_of e.tree)) };
+    ghost view = { λ e. kept_by (M.bytes e.medium) (rest_of M.body_code (M.bytes e.medium) (M.is_honest e.medium) (tree_of e.tree) (option_map (λ s. s.value) e.older)) (tree_of e.tree) e.bodies e.next (past_code M.body_code (M.bytes e.medium) (before_of e.tree)) };
 
-    ghost invariant = { λ e. AreKept (M.bytes e.medium) (M.holds e.medium) (tree_of e.tree) e.used e.bodies e.next × AreSaved (M.safe e.medium) (before_of e.tree) };
+    ghost invariant = { λ e. AreKept (M.bytes e.medium) (M.holds e.medium) (tree_of e.tree) e.used e.bodies e.next × AreSaved (M.safe e.medium) (before_of e.tree) × AreSaved (M.safe e.medium) (option_map (λ s. s.value) e.older) };
 }
 
 /// Where a resource is: its number, and whether it is a directory.
@@ -79,6 +87,7 @@ impl<M: Medium> Entries<M> {
             used: 0,
             bodies: BTreeMap::new(alloc),
             next: 0,
+            older: None,
         })
     }
 
@@ -196,17 +205,22 @@ impl<M: Medium> Entries<M> {
 
     /// Makes safe what files contain, returns the numbers of the resources that were made, changed or removed
     /// since this was last called, and begins to note anew. The first call returns `Changes::All`. Returns an
-    /// error of the medium's own if it cannot make all bodies safe, and then nothing changes.
+    /// error of the medium's own if it cannot make all bodies safe, and then nothing changes. What was saved before
+    /// stays safe until the next call or the next sweep.
     pub fn take_changes(&mut self) -> FsResult<Changes>
         ensures noted { IfOk result (λ changes. IsNotedBetween M.body_code changes self.old.before self.old.tree) }
         ensures saved { OnOk result (IsSaved self.new) }
         ensures tree { self.new.tree ≡ self.old.tree }
         ensures ok { OnOk result (Has self.old.resources (asked self.new.before (held_of self.old)) self.new) }
+        ensures older { OnOk result (self.new.older ≡ self.old.before) }
+        ensures older_same { OnErr result (self.new.older ≡ self.old.older) }
         ensures same { OnErr result (IsUnchanged self.old self.new) }
         ensures err { IfErr result (λ e. M.refuses e ≡ true) }
     {
         self.medium.sync()?;
-        Ok(self.tree.take_changes())
+        let (changes, older) = self.tree.take_changes();
+        self.older = older;
+        Ok(changes)
     }
 
     /// Whether something may have changed since it was last asked what has. If not, what is saved is all that there
@@ -215,6 +229,14 @@ impl<M: Medium> Entries<M> {
         ensures { result ≡ false → IsSaved self.now }
     {
         self.tree.has_changes()
+    }
+
+    /// The resources have a tree of entries. It does nothing: callers learn this of the tree.
+    pub fn show(&self)
+        ensures { HasTree M.body_code self.now.tree self.now.resources }
+    {
+        self.tree.nodes.show_linked();
+        self.tree.nodes.show_root();
     }
 
     /// Returns the resource with a number, with its place in the tree, if there is one.
@@ -239,9 +261,11 @@ impl<M: Medium> Entries<M> {
         &self.medium
     }
 
-    /// Returns the medium. What was saved when it was last asked what has changed is safe there.
+    /// Returns the medium. What was saved when it was last asked what has changed is safe there, and so is what
+    /// was saved before.
     pub fn into_medium(self) -> M
-        ensures { HasSaved M.body_code (M.bytes result) (M.safe result) self.before }
+        ensures last { HasSaved M.body_code (M.bytes result) (M.safe result) self.before }
+        ensures older { HasSaved M.body_code (M.bytes result) (M.safe result) self.older }
     {
         self.medium
     }

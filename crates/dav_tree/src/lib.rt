@@ -8,7 +8,7 @@ mod medium;
 mod properties;
 mod tree_fs;
 
-pub use dav_nodes::{Changes, PlacedValue};
+pub use dav_nodes::{Changes, NumberedValue, PlacedValue, RowsError};
 pub use entry::{Content, Entry};
 pub use in_memory::{Bytes, InMemory};
 pub use medium::Medium;

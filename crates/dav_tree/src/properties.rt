@@ -8,6 +8,7 @@ ghost use Rattle.dav_tree.specs.PropertyNames.{key_of};
 ghost use Rattle.dav_tree.specs.Patching.{ArePut, AreKept, AreTaken, replaced_by};
 ghost use Rattle.dav_tree.specs.MemoryCalls.{IsPropertyList};
 
+mod naming;
 mod patching;
 
 use dav_resource::{DavProp, SharedElement, Text};

@@ -15,6 +15,7 @@ ghost use Rattle.std.proofs.Props.{props};
 ghost use Rattle.dav_tree.specs.KeyProps.{IsKey-prop};
 
 mod files;
+mod loading;
 mod patches;
 mod records;
 mod tree;
@@ -107,10 +108,10 @@ impl TreeFs<InMemory> {
 }
 
 impl<M: Medium> TreeFs<M> {
-    ghost use Rattle.dav_tree.specs.TreeFs.{memory_of, store_of, records_of, before_of, entries_of};
+    ghost use Rattle.dav_tree.specs.TreeFs.{memory_of, store_of, records_of, before_of, older_of, entries_of};
     ghost use Rattle.dav_tree.specs.Memory.{first_memory, asked};
     ghost use Rattle.dav_nodes.specs.Rows.{row_in};
-    ghost use Rattle.dav_tree.specs.Before.{IsNotedBetween, IsSaved, HasSaved, HasEntry, HasNoEntry};
+    ghost use Rattle.dav_tree.specs.Before.{IsNotedBetween, IsSaved, HasSaved, HasTree, HasEntry, HasNoEntry};
     ghost use base.Stored.{gnil};
 
     /// Creates a store over a medium. It holds only the root, created at time 0, and no bodies. The change
@@ -143,6 +144,20 @@ impl<M: Medium> TreeFs<M> {
         self.entries.has_changes()
     }
 
+    /// The resources have a tree of entries. It does nothing: callers learn this of the tree.
+    pub fn show_entries(&self)
+        ensures { HasTree M.body_code (entries_of self.now) (memory_of self.now).resources }
+    {
+        self.entries.show();
+    }
+
+    /// Returns the number of changes so far.
+    pub fn version(&self) -> u64
+        ensures { result ≡ (memory_of self.now).version }
+    {
+        self.version
+    }
+
     /// Returns the resource with a number, with its place in the tree, if there is one.
     pub fn resource(&self, number: usize) -> Option<PlacedValue<'_, Entry<M::Body>>>
         ensures some { IfSome result (λ placed. HasEntry M.body_code (entries_of self.now) number (row_in placed)) }
@@ -161,7 +176,8 @@ impl<M: Medium> TreeFs<M> {
     /// Makes safe what files contain, and returns the numbers of the resources that were made, changed or removed
     /// since this was last called. A rename changes the one resource that it moves, and none below it. The first
     /// call returns `Changes::All`, and so does a call after memory ran out. Until the first call nothing is noted.
-    /// What there is now stays safe on the medium until the next call.
+    /// What there is now stays safe on the medium until the second call from now. So what was saved before is still
+    /// safe while the changes are saved elsewhere; a sweep then gives it up.
     ///
     /// Returns an error of the medium's own if it cannot make all bodies safe, and then nothing changes.
     pub fn take_changes(&mut self) -> FsResult<Changes>
@@ -169,6 +185,8 @@ impl<M: Medium> TreeFs<M> {
         ensures saved { OnOk result (IsSaved self.new.entries) }
         ensures entries { entries_of self.new ≡ entries_of self.old }
         ensures same { OnErr result (before_of self.new ≡ before_of self.old) }
+        ensures older { OnOk result (older_of self.new ≡ before_of self.old) }
+        ensures older_same { OnErr result (older_of self.new ≡ older_of self.old) }
         ensures err { IfErr result (λ e. M.refuses e ≡ true) }
         ensures memory { memory_of self.new ≡ with_held (asked (before_of self.new)) (memory_of self.old) }
         ensures records { records_of self.new ≡ records_of self.old }
@@ -178,11 +196,13 @@ impl<M: Medium> TreeFs<M> {
 
     /// Has the medium give up the bodies that neither a file has nor a request waits for, so that their room can
     /// be used again. Nothing else changes. Passes each body to the medium once. Must come after `take_changes`, if
-    /// that was ever called, without a change between: what is safe for the last call would be lost otherwise.
+    /// that was ever called, without a change between: what is safe for the last call would be lost otherwise. What
+    /// was safe for the call before is given up.
     pub fn sweep(&mut self)
         requires { (before_of self.old ≡ gnil) ⊎ IsSaved self.old.entries }
         ensures memory { memory_of self.new ≡ memory_of self.old }
         ensures entries { entries_of self.new ≡ entries_of self.old }
+        ensures older { older_of self.new ≡ gnil }
         ensures records { records_of self.new ≡ records_of self.old }
     {
         self.entries.sweep();
@@ -195,9 +215,11 @@ impl<M: Medium> TreeFs<M> {
         self.entries.medium()
     }
 
-    /// Returns the medium. What there was at the last call of `take_changes` is safe there.
+    /// Returns the medium. What there was at the last call of `take_changes` is safe there. So is what there was at
+    /// the call before, unless `sweep` came after.
     pub fn into_medium(self) -> M
-        ensures { HasSaved M.body_code (M.bytes result) (M.safe result) (before_of self) }
+        ensures last { HasSaved M.body_code (M.bytes result) (M.safe result) (before_of self) }
+        ensures older { HasSaved M.body_code (M.bytes result) (M.safe result) (older_of self) }
     {
         self.entries.into_medium()
     }

@@ -1,8 +1,8 @@
 //! Trees made from rows.
-ghost use Rattle.std.specs.Prelude.{◌≡◌, ◌≢◌, ◌<◌, ◌≤◌, ℕ, true, [], ◌∷◌, Some, None, Err, is_some, IsSome, IfOk, OnOk, IfErr, length};
+ghost use Rattle.std.specs.Prelude.{◌≡◌, ◌≢◌, ◌<◌, ◌≤◌, ℕ, Bool, true, [], ◌∷◌, Some, None, Err, is_some, IsSome, IfOk, OnOk, IfErr, All, length};
 ghost use Rattle.slab.specs.Slab.{get, Updates};
 ghost use Rattle.dav_nodes.specs.Tree.{Tree};
-ghost use Rattle.dav_nodes.specs.TreeRows.{AreRowsOf, AreAscending};
+ghost use Rattle.dav_nodes.specs.TreeRows.{HasOnly, AreRowsOf, AreAscending};
 ghost use Rattle.dav_nodes.specs.Loading.{linked_part, HasNumber, IsLoaded, IsRefused, Attaches, NoneAttachable, StaysLoaded, IsErrorFor};
 
 use crate::links;
@@ -224,8 +224,8 @@ fn remove_unlinked<R: Drop>(nodes: &mut Slab<Node<R>>)
 impl<R> Nodes<R> {
     /// Makes the tree of which these are the rows, in ascending order of their numbers. Of the first row, the
     /// root's, it reads only the number and the value. `filler` makes a value for each number at first, and
-    /// these values are dropped. It goes over the rows at most once for each level of the tree. Fails if memory
-    /// runs out, and if the rows are not those of a tree.
+    /// these values are dropped: each value of the tree is that of a row. It goes over the rows at most once for
+    /// each level of the tree. Fails if memory runs out, and if the rows are not those of a tree.
     pub fn from_rows<F: FnMut() -> R>(
         alloc: Global,
         mut rows: Vec<NumberedValue<R>>,
@@ -236,6 +236,7 @@ impl<R> Nodes<R> {
         requires { F.IsAlwaysCallable filler }
         ensures ok { (tree : Tree R) → AreRowsOf rows.items tree → IfOk result (λ nodes. nodes ≡ tree) }
         ensures err { (tree : Tree R) → AreRowsOf rows.items tree → IfErr result (λ e. e ≡ RowsError.Memory) }
+        ensures values { (test : R → Bool) → All (λ row. test row.value ≡ true) rows.items → IfOk result (HasOnly test) }
     {
         if rows.is_empty() || !are_ascending(&rows) {
             return Err(RowsError::NotATree);

@@ -16,16 +16,19 @@ use std::collections::BTreeMap;
 impl<M: Medium> Entries<M> {
     /// Has the medium give up the bodies that neither a file has nor a request waits for, so that their room can
     /// be used again. Passes each body to the medium once. What is saved elsewhere must be all that there is now.
+    /// What was saved before is given up.
     pub fn sweep(&mut self)
         requires { (self.old.before ≡ gnil) ⊎ IsSaved self.old }
         ensures same { IsUnchanged self.old self.new }
         ensures tree { self.new.tree ≡ self.old.tree }
+        ensures older { self.new.older ≡ gnil }
     {
         let tree = &self.tree;
         self.medium.begin_sweep();
         keep_files(&mut self.medium, &tree.nodes);
         keep_stored(&mut self.medium, &self.bodies);
         self.medium.end_sweep();
+        self.older = None;
     }
 }
 

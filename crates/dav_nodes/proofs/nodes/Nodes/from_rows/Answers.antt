@@ -1,7 +1,8 @@
-use Rattle.std.proofs.Common.{◌≡◌, ◌∙◌, true, false, sym, subst, [], ◌∷◌, vec_len, arith}
+use Rattle.std.proofs.Common.{◌≡◌, ◌∙◌, true, false, sym, subst, [], ◌∷◌, vec_len, All, arith}
+use Rattle.std.proofs.lemmas.List.Elements.{recursion_from_All}
 use Rattle.slab.specs.Slab.{get}
 use Rattle.dav_nodes.specs.Links.{place, member_at}
-use Rattle.dav_nodes.specs.TreeRows.{AreRowsOf, AreAscending}
+use Rattle.dav_nodes.specs.TreeRows.{HasOnly, AreRowsOf, AreAscending}
 use Rattle.dav_nodes.specs.Loading.{HasNumber, IsLoaded}
 use Rattle.dav_nodes.specs.declared.nodes.loading.RowsError.TheVariants.{Memory}
 use Rattle.dav_nodes.proofs.Outcomes.{of_held}
@@ -62,3 +63,17 @@ returns-clause-ok g c = λ tree are.
     let new = get c.remove_unlinked.new.nodes in
     of_held g.row.R.coded new loaded.tree (λ t. t ≡ tree) (linked_left all old new loaded c.remove_unlinked.ensures)
     (tree_done all old loaded tree (subst (λ rows. AreRowsOf rows tree) (sym whole) are)) c.result-1.given.0
+
+pub returns-clause-values : goal.returns-clause-values
+returns-clause-values g c = λ test each.
+    let all = c.remove-root.result ∷ c.remove-root.new.self.items in
+    let start = subst (λ rows. IsLoaded (c.remove-root.result ∷ rows) (get c.in_ok-nodes.nodes) rows) c.deref-2.ensures.value c.in_ok-nodes.ensures in
+    let loaded = c.in_ok-attach_all.ensures.ok all start in
+    let some = positive_from (vec_len c.args.rows) c.if-is_empty.ensures in
+    let whole =
+    first_rest c.args.rows.items c.remove-root.result c.remove-root.new.self.items (omega (arith, some, c.args.rows.ok.0)) c.remove-root.ensures.value c.remove-root.ensures.items in
+    let old = get c.attach_all.new.nodes in
+    let new = get c.remove_unlinked.new.nodes in
+    let passes = subst (All (λ row. test row.value ≡ true)) (sym whole) each in
+    of_held g.row.R.coded new loaded.tree (HasOnly test) (linked_left all old new loaded c.remove_unlinked.ensures)
+    (loaded.only test (recursion_from_All (λ row. test row.value ≡ true) all passes)).0 c.result-1.given.0

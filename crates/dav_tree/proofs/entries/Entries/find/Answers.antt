@@ -21,4 +21,5 @@ invariant_of-self-2 g c =
     let f = c.self.inside in let m = g.M.Medium in (
       subst (λ t. AreKept (m.bytes f.medium) (m.holds f.medium) t f.used f.bodies f.next) (sym c.find.ensures.same.tree) c.self.invariant.0,
       saved-same (m.safe f.medium) _ _ c.find.ensures.same.before c.self.invariant.1,
+      c.self.invariant.2,
     )

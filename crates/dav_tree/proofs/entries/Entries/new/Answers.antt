@@ -1,4 +1,4 @@
-use Rattle.std.proofs.Common.{◌∙◌, ap, []}
+use Rattle.std.proofs.Common.{◌∙◌, ap, [], None, refl}
 use Rattle.std.specs.FinMap.{empty, insert}
 use Rattle.dav_tree.specs.Memory.{size_of}
 use Rattle.dav_tree.specs.Entry.{node_by, is_held}
@@ -15,6 +15,7 @@ invariant_of-result g c =
       first-kept b h c.new-root.result c.in_ok-new.field-0.nodes c.in_ok-new.ensures.tree c.new-2.result c.new-2.ensures.empty
           (ap (is_held h) c.new-root.ensures.content) (ap (λ x. size_of (node_by b x)) c.new-root.ensures.content),
       saved-none (g.M.Medium.safe c.args.medium) _ c.in_ok-new.ensures.before,
+      saved-none (g.M.Medium.safe c.args.medium) None refl,
     )
 
 pub returns : goal.returns
@@ -23,5 +24,5 @@ returns g c =
     record {
       resources = first-resources b h c.new-root.result c.in_ok-new.field-0.nodes c.in_ok-new.ensures.tree c.new-2.result c.new-2.ensures.empty
           ∙ ap (insert empty []) (stored-fresh b c.new-root.result Directory 0 0 c.new-root.ensures.content c.new-root.ensures.version c.new-root.ensures.created c.new-root.ensures.modified c.new-root.ensures.properties);
-      held = first-held b h c.new-root.result c.in_ok-new.field-0.nodes c.in_ok-new.ensures.tree c.new-2.result c.new-2.ensures.empty (rest_of g.M.Medium.body_code (g.M.Medium.is_honest c.args.medium) c.in_ok-new.field-0.nodes) _ (ap (past_code g.M.Medium.body_code b) c.in_ok-new.ensures.before);
+      held = first-held b h c.new-root.result c.in_ok-new.field-0.nodes c.in_ok-new.ensures.tree c.new-2.result c.new-2.ensures.empty (rest_of g.M.Medium.body_code b (g.M.Medium.is_honest c.args.medium) c.in_ok-new.field-0.nodes None) _ (ap (past_code g.M.Medium.body_code b) c.in_ok-new.ensures.before);
     }

@@ -1,8 +1,7 @@
-use Rattle.std.proofs.Common.{◌∙◌, sym, ap}
+use Rattle.std.proofs.Common.{◌∙◌, None, refl, sym, ap}
 use Rattle.dav_nodes.specs.Noted.{before_of}
-use Rattle.dav_tree.specs.Before.{rest_of}
 use Rattle.dav_tree.proofs.PastTrees.{saved-tree}
-use Rattle.dav_tree.proofs.Saving.{swept-saved, swept-past}
+use Rattle.dav_tree.proofs.Saving.{saved-none, swept-saved, swept-past}
 use Rattle.dav_tree.proofs.Sweeping.{files-more, bodies-trans, swept-kept, swept-has, swept-resources}
 use Rattle.dav_tree.proofs.entries.Entries.sweep.Goals as goal
 
@@ -20,9 +19,10 @@ invariant_of-self g c =
     (bodies-trans m.bytes m.holds m.safe c.begin_sweep.new.self c.keep_files.new.medium c.keep_stored.new.medium c.keep_files.ensures.kept c.keep_stored.ensures.kept) in
     let files = files-more (m.marked c.keep_files.new.medium) (m.marked c.keep_stored.new.medium) c.keep_stored.ensures.marks f.tree.nodes c.keep_files.ensures.marked in
     let past = saved-tree m.body_code (m.bytes f.medium) (before_of f.tree) f.tree.nodes c.args.self.now (ap (λ k. k.before) c.self.view_is) (ap (λ k. k.tree) c.self.view_is) c.requires in (
-      swept-kept m.bytes m.holds m.safe m.marked f.medium c.keep_stored.new.medium c.end_sweep.new.self kept c.end_sweep.ensures (rest_of m.body_code (m.is_honest f.medium) f.tree.nodes) f.tree.nodes f.used f.bodies f.next _ c.args.self.now
+      swept-kept m.bytes m.holds m.safe m.marked f.medium c.keep_stored.new.medium c.end_sweep.new.self kept c.end_sweep.ensures _ f.tree.nodes f.used f.bodies f.next _ c.args.self.now
           c.self.view_is c.self.invariant.0 files c.keep_stored.ensures.marked,
       swept-saved m.bytes m.holds m.safe m.marked f.medium c.keep_stored.new.medium c.end_sweep.new.self kept c.end_sweep.ensures f.tree.nodes files (before_of f.tree) past c.self.invariant.1,
+      saved-none (m.safe c.end_sweep.new.self) None refl,
     )
 
 pub returns-clause-same : goal.returns-clause-same
@@ -33,12 +33,11 @@ returns-clause-same g c =
     bodies-trans m.bytes m.holds m.safe f.medium c.begin_sweep.new.self c.keep_stored.new.medium c.begin_sweep.ensures
     (bodies-trans m.bytes m.holds m.safe c.begin_sweep.new.self c.keep_files.new.medium c.keep_stored.new.medium c.keep_files.ensures.kept c.keep_stored.ensures.kept) in
     let files = files-more (m.marked c.keep_files.new.medium) (m.marked c.keep_stored.new.medium) c.keep_stored.ensures.marks f.tree.nodes c.keep_files.ensures.marked in
-    let rest = rest_of m.body_code (m.is_honest f.medium) f.tree.nodes in
     let are =
-    swept-resources m.bytes m.holds m.safe m.marked f.medium c.keep_stored.new.medium c.end_sweep.new.self kept c.end_sweep.ensures rest f.tree.nodes f.used f.bodies f.next _ c.args.self.now
+    swept-resources m.bytes m.holds m.safe m.marked f.medium c.keep_stored.new.medium c.end_sweep.new.self kept c.end_sweep.ensures _ f.tree.nodes f.used f.bodies f.next _ c.args.self.now
     c.self.view_is c.self.invariant.0 files c.keep_stored.ensures.marked in
     let past = saved-tree m.body_code (m.bytes f.medium) (before_of f.tree) f.tree.nodes c.args.self.now (ap (λ k. k.before) c.self.view_is) (ap (λ k. k.tree) c.self.view_is) c.requires in
-    swept-has m.bytes m.holds m.safe m.marked f.medium c.keep_stored.new.medium c.end_sweep.new.self kept c.end_sweep.ensures rest f.tree.nodes f.used f.bodies f.next _ c.args.self.now
+    swept-has m.bytes m.holds m.safe m.marked f.medium c.keep_stored.new.medium c.end_sweep.new.self kept c.end_sweep.ensures _ f.tree.nodes f.used f.bodies f.next _ c.args.self.now
     c.self.view_is c.self.invariant.0 files c.keep_stored.ensures.marked _ _
     (swept-past m.bytes m.holds m.safe m.marked f.medium c.keep_stored.new.medium c.end_sweep.new.self kept c.end_sweep.ensures f.tree.nodes files m.body_code (before_of f.tree) past
     (are ∙ sym (ap (λ k. k.resources) c.self.view_is)))
