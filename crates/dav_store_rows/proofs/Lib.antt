@@ -15,3 +15,4 @@ pub mod LockMaps
 pub mod LockSteps
 pub mod LockLoads
 pub mod LockSaves
+pub mod Counting
