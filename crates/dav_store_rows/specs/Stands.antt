@@ -59,3 +59,9 @@ pub record KeepsOthers (number : ℕ) (old new : Contents) : Type 0 where
 pub record KeepsOtherTables (old new : Contents) : Type 0 where
   pub locks : new.locks ≡ old.locks
   pub states : new.states ≡ old.states
+
+-- the tables of resources, of extents and of properties are as they were
+pub record KeepsTreeTables (old new : Contents) : Type 0 where
+  pub resources : new.resources ≡ old.resources
+  pub extents : new.extents ≡ old.extents
+  pub properties : new.properties ≡ old.properties
