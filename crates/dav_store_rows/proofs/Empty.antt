@@ -1,13 +1,13 @@
 -- The first save: tables with no rows stand for a tree with no resources.
-use Rattle.std.proofs.Common.{◌≡◌, ◌≢◌, ℕ, ℤ, pos, List, [], Option, Some, None, is_some, sym, ap, ◌∙◌, arith}
+use Rattle.std.proofs.Common.{◌≡◌, ℕ, ℤ, pos, [], Some, None, is_some, sym, ap, ◌∙◌, arith}
 use Rattle.std.specs.Ordering.{int_cmp}
 use Rattle.std.specs.FinMap.{get, empty, get-empty}
 use Rattle.dav_key.specs.Key.{Key, key_cmp}
 use Rattle.dav_nodes.specs.Tree.{Tree}
-use Rattle.dav_nodes.specs.Rows.{Row, HasRow, AreDistinct, HasNoted}
+use Rattle.dav_nodes.specs.Rows.{AreDistinct, HasNoted}
 use Rattle.dav_nodes.specs.declared.changes.Changes.TheVariants.{All}
 use Rattle.dav_rows.specs.Stored.{Numbered}
-use Rattle.dav_rows.specs.Contents.{Contents, ResourceValues}
+use Rattle.dav_rows.specs.Contents.{Contents}
 use Rattle.dav_store_rows.specs.Parts.{part_key, HasParts, HasOnlyParts}
 use Rattle.dav_store_rows.specs.Resources.{Kept}
 use Rattle.dav_store_rows.specs.Updates.{IsSavedIn}

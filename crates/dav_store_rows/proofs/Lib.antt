@@ -15,3 +15,5 @@ pub mod LockMaps
 pub mod LockSteps
 pub mod LockLoads
 pub mod LockSaves
+pub mod SameTables
+pub mod Counting

@@ -1,5 +1,5 @@
 -- The locks of rows that are loaded.
-use Rattle.std.proofs.Common.{◌≡◌, ◌<◌, ℕ, zero, suc, true, List, [], ◌∷◌, length, map, get_or, Option, Some, None, refl, sym, ap, ap₂, ◌∙◌, arith}
+use Rattle.std.proofs.Common.{◌≡◌, ◌<◌, ℕ, zero, suc, List, [], ◌∷◌, length, map, get_or, Option, Some, None, refl, sym, ap, ap₂, ◌∙◌, arith}
 use Rattle.std.specs.List.{AllByRecursion}
 use Rattle.std.specs.FinMap.{entries}
 use Rattle.dav_cells.specs.Locks.{lock_codec, kept_lock}
@@ -9,7 +9,7 @@ use Rattle.dav_rows.specs.Contents.{LockValues}
 use Rattle.dav_rows.specs.Changes.{lock_entry}
 use Rattle.dav_rows.specs.declared.lock.LockRow.{LockRow}
 use Rattle.dav_store.specs.declared.lock.DavLock.{DavLock}
-use Rattle.dav_store_rows.specs.LockRows.{lock_values, row_values, IsValidLock, AreValuesOf, LocksStand}
+use Rattle.dav_store_rows.specs.LockRows.{lock_values, row_values, IsValidLock, LocksStand}
 
 abbrev pub lock_in_row : LockRow → Option DavLock
 lock_in_row row = decode lock_codec row.lock.items

@@ -1,7 +1,7 @@
 -- A list of entries in order, and what a put and a removal make of it.
 use Rattle.std.proofs.Common.{◌≡◌, ℤ, T, Bool, true, false, ◌&&◌, cond, not, List, [], ◌∷◌, ◌++◌, refl, sym, ap, subst, ◌∙◌, int_cmp, Ordering, Less, Equal, Greater}
 use Rattle.std.specs.Prelude.{◌<ℤ◌}
-use Rattle.std.specs.Ordering.{is_eq, is_lt, ordering_reverse, eq_by_cmp}
+use Rattle.std.specs.Ordering.{is_eq, is_lt, ordering_reverse}
 use Rattle.std.specs.List.{AllByRecursion}
 use Rattle.std.specs.Cmp.{int_cmp_is, tied_itself}
 use Rattle.std.proofs.lemmas.Cmp.{int_cmp_total}

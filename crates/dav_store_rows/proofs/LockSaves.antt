@@ -1,13 +1,13 @@
 -- The rows of locks in order, and the rows that are saved.
-use Rattle.std.proofs.Common.{◌≡◌, ℤ, List, [], ◌∷◌, ◌++◌, map, refl, sym, ap, ap₂, subst, ◌∙◌, append_assoc, append-nil}
+use Rattle.std.proofs.Common.{◌≡◌, ℤ, List, [], ◌∷◌, ◌++◌, map, length, refl, sym, ap, ap₂, subst, ◌∙◌, append_assoc, append-nil, length-append, arith}
 use Rattle.std.proofs.lemmas.List.{map-append}
 use Rattle.std.specs.FinMap.{entries}
-use Rattle.dav_rows.specs.Contents.{LockValues}
-use Rattle.dav_rows.specs.Changes.{lock_entry}
+use Rattle.dav_rows.specs.Contents.{Contents, LockValues}
+use Rattle.dav_rows.specs.Changes.{after, lock_entry}
 use Rattle.dav_rows.specs.declared.change.Change.{Change}
 use Rattle.dav_rows.specs.declared.lock.LockRow.{LockRow}
 use Rattle.dav_store.specs.declared.lock.DavLock.{DavLock}
-use Rattle.dav_store_rows.specs.LockRows.{lock_values, row_values, IsValidLock, AreValuesOf, BringsLocks, SavesLocks}
+use Rattle.dav_store_rows.specs.LockRows.{lock_values, row_values, IsValidLock, AreValuesOf, LocksStand, LocksBecome, BringsLocks, SavesLocks}
 
 values_entries : (rows : List LockRow) → map (λ e. e.1) (map lock_entry rows) ≡ map row_values rows
 values_entries [] = refl
@@ -41,3 +41,15 @@ saves locks old before now rows wanted brings values are = record {
     valid = are.valid;
   };
 }
+
+nothing_more : {A : Type 0} (xs ys : List A) → xs ++ ys ≡ xs → ys ≡ []
+nothing_more xs [] same = refl
+nothing_more xs (y ∷ ys) same = absurd (omega (arith, length-append xs (y ∷ ys), ap length same))
+
+-- if no change was appended, the table has the rows of the locks already, and the saved rows are the same
+pub saves_nothing : (locks : List DavLock) (old : List (ℤ × LockValues)) (before : List Change) (new : List (ℤ × LockValues)) (now : List Change)
+    → SavesLocks locks old before new now → now ≡ before → (m : Contents) → entries m.locks ≡ old → LocksStand m.locks locks × (new ≡ old)
+saves_nothing locks old before new now saved same m is =
+    let none : saved.brings.more ≡ [] = nothing_more before saved.brings.more (sym saved.brings.is ∙ same) in
+    let made : LocksBecome new m m = subst (λ more. LocksBecome new m (after more m)) none (saved.brings.makes m is) in
+    (saved.stands m made.locks, sym made.locks ∙ is)

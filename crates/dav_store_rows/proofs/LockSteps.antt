@@ -6,8 +6,7 @@ use Rattle.std.proofs.lemmas.Int.{ints}
 use Rattle.std.specs.Int.Signed.{≤ℤ_refl}
 use Rattle.std.specs.Prelude.{◌<ℤ◌, ◌≤ℤ◌}
 use Rattle.std.specs.List.{AllByRecursion}
-use Rattle.std.specs.FinMap.{entries}
-use Rattle.dav_rows.specs.Contents.{Contents, LockValues}
+use Rattle.dav_rows.specs.Contents.{LockValues}
 use Rattle.dav_rows.specs.Changes.{after, lock_entry}
 use Rattle.dav_rows.specs.declared.lock.LockRow.{LockRow}
 use Rattle.dav_rows.specs.declared.change.Change.{Change}

@@ -25,7 +25,7 @@ less_apart Less h = refl
 less_apart Equal h = absurd h
 less_apart Greater h = absurd h
 
-equal : (o : Ordering) → is_eq o ≡ true → o ≡ Equal
+pub equal : (o : Ordering) → is_eq o ≡ true → o ≡ Equal
 equal Less h = cc
 equal Equal h = refl
 equal Greater h = cc

@@ -7,11 +7,13 @@ use Rattle.std.specs.Ordering.{int_cmp}
 use Rattle.dav_nodes.specs.Rows.{Row}
 use Rattle.dav_rows.specs.Stored.{Numbered}
 use Rattle.dav_rows.specs.Contents.{Contents, ResourceValues, ExtentValues, PropertyValues}
+use Rattle.dav_rows.specs.Changes.{after}
 use Rattle.dav_rows.specs.declared.change.Change.{Change}
 use Rattle.dav_rows.specs.declared.change.Table.TheVariants.{Extent, Property}
 use Rattle.dav_store_rows.specs.declared.saving.Counts.{Counts}
 use Rattle.dav_store_rows.specs.Parts.{MOST, part_key, HasParts}
 use Rattle.dav_store_rows.specs.Resources.{Kept, resource_values}
+use Rattle.dav_store_rows.specs.Stands.{KeepsOtherTables}
 use Rattle.dav_store_rows.specs.Changed.{Appends, with_value, without_parts, removed_parts}
 use Rattle.dav_store_rows.specs.Puts.{AreRowsOf, PutsRows, with_rows}
 use Rattle.dav_store_rows.specs.Saves.{counts_of, HasAtMost, Fits, IsCounted, HasRowsOf, IsSaved, Saves}
@@ -87,14 +89,17 @@ is_saved number row extents properties old new old_counts new_counts m are exten
         resources = λ key apart. get-with_value_other (pos number) (option_map resource_values row) m.resources key apart;
         extents = replaced-others number extents old.extents m.extents small_extents;
         properties = replaced-others number properties old.properties m.properties small_properties;
-        locks = refl;
-        states = refl;
       };
       rows = rows_of number row extents properties (saved_maps number row extents properties old m) are
           (get-with_value_same (pos number) (option_map resource_values row) m.resources)
           (replaced-parts number extents old.extents m.extents small_extents most_extents)
           (replaced-parts number properties old.properties m.properties small_properties most_properties);
     }
+
+saved_maps-tables : (number : ℕ) (row : Option (Row Kept)) (extents : List ExtentValues) (properties : List PropertyValues) (old : Counts) (m : Contents)
+    → KeepsOtherTables m (saved_maps number row extents properties old m)
+unfolding saved_maps
+saved_maps-tables number row extents properties old m = record { locks = refl; states = refl }
 
 -- the rows put and the others removed, in one
 all_made : (number : ℕ) (row : Option (Row Kept)) (extents : List ExtentValues) (properties : List PropertyValues) (old new : Counts) (m : Contents)
@@ -134,11 +139,13 @@ saves number row old new old_counts new_counts before put_ cleared now old_is pu
     let properties_is = puts.properties_is in
     let enough_extents = puts.few_extents in
     let enough_properties = puts.few_properties in
+    let made : (m : Contents) → saved_maps number row puts.extents puts.properties old m ≡ after all.more m =
+    λ m. sym (all.makes m ∙ all_made number row puts.extents puts.properties old new m puts.extents_is puts.properties_is) in
     record {
       more = all.more;
       is = all.is;
-      saved = λ m fits. subst (IsSaved number row new_counts m)
-          (sym (all.makes m ∙ all_made number row puts.extents puts.properties old new m puts.extents_is puts.properties_is))
+      tables = λ m. subst (KeepsOtherTables m) (made m) (saved_maps-tables number row puts.extents puts.properties old m);
+      saved = λ m fits. subst (IsSaved number row new_counts m) (made m)
           (is_saved number row puts.extents puts.properties old new old_counts new_counts m puts.are puts.extents_is puts.properties_is
           (omega arith, λ less. few_extents (omega arith)) (omega arith, λ less. few_properties (omega arith)) old_is counted fits);
     }

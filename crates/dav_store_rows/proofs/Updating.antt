@@ -23,7 +23,7 @@ use Rattle.dav_tree.specs.Before.{entries_code, HasEntry, HasNoEntry}
 use Rattle.dav_store_rows.specs.declared.saving.Counts.{Counts}
 use Rattle.dav_store_rows.specs.Parts.{MOST, part_key, IsPartOf, HasParts, HasOnlyParts, KeepsOtherParts}
 use Rattle.dav_store_rows.specs.Resources.{Kept}
-use Rattle.dav_store_rows.specs.Stands.{HasRows, HasNoRows, KeepsOthers}
+use Rattle.dav_store_rows.specs.Stands.{HasRows, HasNoRows, KeepsOthers, KeepsOtherTables}
 use Rattle.dav_store_rows.specs.Saves.{counts_of, no_rows, HasRowsOf, IsSaved, Saves}
 use Rattle.dav_store_rows.specs.Updates.{IsSavedIn, Updates, StandsAt, StandsBut, Freshens}
 use Rattle.dav_store_rows.proofs.PartMaps.{part_key-number}
@@ -127,8 +127,14 @@ stands_next stale later number row old_counts new_counts m n tree fewer distinct
 
 -- ---- many numbers
 
+keeps_tables : (m : Contents) → KeepsOtherTables m m
+keeps_tables m = record { locks = refl; states = refl }
+
+keeps_tables_then : (a b c : Contents) → KeepsOtherTables a b → KeepsOtherTables b c → KeepsOtherTables a c
+keeps_tables_then a b c p q = record { locks = q.locks ∙ p.locks; states = q.states ∙ p.states }
+
 pub freshens_none : (body : Coded (List Piece)) (now : Gv) (stale : ℕ → Type 0) (counts : List Counts) (before : List Change) → Freshens body now stale stale counts before counts before
-freshens_none body now stale counts before = record { more = []; is = sym (append-nil before); does = λ tree m is distinct but. but }
+freshens_none body now stale counts before = record { more = []; is = sym (append-nil before); does = λ tree m is distinct but. but; tables = keeps_tables }
 
 pub freshens_next : (body : Coded (List Piece)) (now : Gv) (stale mid later : ℕ → Type 0) (number : ℕ) (row : Option (Row Kept)) (first second third : List Counts) (a b c : List Change)
     → Freshens body now stale mid first a second b → Saves number row second b third c
@@ -141,6 +147,9 @@ freshens_next body now stale mid later number row first second third a b c p q r
       let half = p.does tree m is distinct but in
       subst (λ n. StandsBut later n tree third) (sym (after-append p.more q.more m))
       (stands_next mid later number row second third (after p.more m) (after q.more (after p.more m)) tree fewer distinct (row_is tree is) (q.saved (after p.more m) half.fits) half);
+  tables = λ m.
+      subst (KeepsOtherTables m) (sym (after-append p.more q.more m))
+      (keeps_tables_then m (after p.more m) (after q.more (after p.more m)) (p.tables m) (q.tables (after p.more m)));
 }
 
 -- what `resource` answers
@@ -216,6 +225,7 @@ pub freshens_fewer : (body : Coded (List Piece)) (now : Gv) (stale mid later : �
 freshens_fewer body now stale mid later first second a b fewer p = record {
   more = p.more;
   is = p.is;
+  tables = p.tables;
   does = λ tree m is distinct but.
       let done = p.does tree m is distinct but in
       record {
@@ -233,6 +243,7 @@ freshens_below body now stale limit counts before short none =
     freshens_fewer body now stale (λ n. n < limit) (λ n. (0 ≤ n) × (n < limit)) counts counts before before (λ n low. (omega arith, low)) (record {
       more = [];
       is = sym (append-nil before);
+      tables = keeps_tables;
       does = λ tree m is distinct but. stale_below stale limit m tree counts short (λ number row from has. none number from tree row is has) but;
     })
 
@@ -253,9 +264,12 @@ left_none [] number none is = cc
 left_none (x ∷ left) number none is = cc
 
 -- changes that leave nothing stale save what is noted
-pub updated : (body : Coded (List Piece)) (noted : Changes) (now : Gv) (first second : List Counts) (before changes : List Change) → before ≡ []
-    → Freshens body now (λ n. is_noted noted n ≡ true) (λ _. ⊥) first before second changes → Updates body noted now first second changes
-updated body noted now first second before changes none p = λ old new m is changed saved.
-    let all : p.more ≡ changes = sym (p.is ∙ ap (λ xs. xs ++ p.more) none) in
-    stale_last (after changes m) new second
-    (subst (λ cs. StandsBut (λ _. ⊥) (after cs m) new second) all (p.does new m is changed.distinct_now (stale_first noted old new m first changed saved)))
+pub updated : (body : Coded (List Piece)) (noted : Changes) (now : Gv) (first second : List Counts) (before changes : List Change)
+    → Freshens body now (λ n. is_noted noted n ≡ true) (λ _. ⊥) first before second changes → Updates body noted now first before second changes
+updated body noted now first second before changes p = record {
+  more = p.more;
+  is = p.is;
+  saved = λ old new m is changed saved.
+      stale_last (after p.more m) new second (p.does new m is changed.distinct_now (stale_first noted old new m first changed saved));
+  tables = p.tables;
+}

@@ -4,6 +4,7 @@ pub mod Stands
 pub mod Changed
 pub mod Puts
 pub mod Saves
+pub mod Counted
 pub mod Updates
 pub mod LoadErrors
 pub mod Loads

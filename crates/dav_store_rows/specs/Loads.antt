@@ -6,7 +6,8 @@ use Rattle.dav_key.specs.Key.{Key}
 use Rattle.dav_store.specs.Store.{PropertyMap, AreNamed}
 use Rattle.dav_nodes.specs.Tree.{Tree}
 use Rattle.dav_nodes.specs.Rows.{Row, AreDistinct, AreJoined}
-use Rattle.dav_nodes.specs.TreeRows.{name_with}
+use Rattle.dav_nodes.specs.TreeRows.{name_with, numbered_row}
+use Rattle.dav_nodes.specs.declared.nodes.loading.NumberedValue.{NumberedValue}
 use Rattle.dav_tree.specs.declared.entry.Content.{Content}
 use Rattle.dav_pieces.specs.declared.piece.Piece.{Piece}
 use Rattle.dav_pieces.specs.Pieces.{size_of, are_within}
@@ -90,6 +91,11 @@ pub record IsOneResource (number : ℕ) (one : Row Kept) (row : ResourceRow) (ex
   pub extents_are : AreGroups number 0 (map extent_entry extents) (pieces_in one.value.content)
   pub properties_are : AreProperties number (map property_entry properties) one.value.properties
   pub within : are_within (pieces_in one.value.content) ≡ true
+
+-- if the rows are those of a resource, it is loaded with its number, unless memory runs out
+abbrev pub LoadsOne : ResourceRow → List ExtentRow → List PropertyRow → Result (NumberedValue Kept) LoadError → Type 0
+LoadsOne row extents properties result =
+    (n : ℕ) (one : Row Kept) → IsOneResource n one row extents properties → LoadsAs result (λ value. numbered_row value ≡ (n, one))
 
 -- the rows are those of a store with these resources
 pub record AreRowsFor (rows : Rows) (tree : Tree Kept) : Type 0 where

@@ -10,7 +10,7 @@ use Rattle.dav_rows.specs.declared.change.Change.{Change}
 use Rattle.dav_store_rows.specs.declared.saving.Counts.{Counts}
 use Rattle.dav_store_rows.specs.Parts.{MOST, part_key}
 use Rattle.dav_store_rows.specs.Resources.{Kept}
-use Rattle.dav_store_rows.specs.Stands.{HasRows, HasNoRows, KeepsOthers}
+use Rattle.dav_store_rows.specs.Stands.{HasRows, HasNoRows, KeepsOthers, KeepsOtherTables}
 
 -- ---- how many rows there are
 
@@ -45,7 +45,7 @@ abbrev pub HasRowsOf : Contents → ℕ → Option (Row Kept) → Type 0
 HasRowsOf m number None = HasNoRows m number
 HasRowsOf m number (Some row) = HasRows m number row
 
--- a number has the rows of its resource, the counts fit, and all else is as it was
+-- a number has the rows of its resource, the counts fit, and the rows of other numbers are as they were
 pub record IsSaved (number : ℕ) (row : Option (Row Kept)) (counts : List Counts) (old new : Contents) : Type 0 where
   pub fits : Fits counts new
   pub others : KeepsOthers number old new
@@ -57,3 +57,4 @@ pub record Saves (number : ℕ) (row : Option (Row Kept)) (old_counts : List Cou
   pub more : List Change
   pub is : now ≡ before ++ more
   pub saved : (m : Contents) → Fits old_counts m → IsSaved number row new_counts m (after more m)
+  pub tables : (m : Contents) → KeepsOtherTables m (after more m)

@@ -49,10 +49,19 @@ pub record StandFor (m : Contents) (tree : Tree Kept) : Type 0 where
   pub only_extents : HasOnlyParts m.extents
   pub only_properties : HasOnlyParts m.properties
 
--- the rows of other numbers, and of other tables, are as they were
+-- the rows of other numbers are as they were
 pub record KeepsOthers (number : ℕ) (old new : Contents) : Type 0 where
   pub resources : (key : ℤ) → key ≢ pos number → get new.resources key ≡ get old.resources key
   pub extents : KeepsOtherParts number old.extents new.extents
   pub properties : KeepsOtherParts number old.properties new.properties
+
+-- the tables of locks and of the state are as they were
+pub record KeepsOtherTables (old new : Contents) : Type 0 where
   pub locks : new.locks ≡ old.locks
   pub states : new.states ≡ old.states
+
+-- the tables of resources, of extents and of properties are as they were
+pub record KeepsTreeTables (old new : Contents) : Type 0 where
+  pub resources : new.resources ≡ old.resources
+  pub extents : new.extents ≡ old.extents
+  pub properties : new.properties ≡ old.properties

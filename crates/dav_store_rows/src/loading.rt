@@ -5,6 +5,7 @@ ghost use Rattle.dav_nodes.specs.TreeRows.{AreRowsOf};
 ghost use Rattle.dav_store_rows.specs.Resources.{Kept};
 ghost use Rattle.dav_store_rows.specs.Loads.{AreRowsFor, IsMemory};
 
+mod counts;
 mod parts;
 mod resources;
 

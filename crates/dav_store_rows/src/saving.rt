@@ -85,7 +85,7 @@ impl SavedCounts {
     }
 
     /// Returns how many numbers have counts.
-    fn len(&self) -> usize
+    pub(crate) fn len(&self) -> usize
         ensures { result ≡ length self.now }
     {
         self.counts.len()

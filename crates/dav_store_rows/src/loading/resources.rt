@@ -2,12 +2,9 @@
 ghost use Rattle.std.specs.Prelude.{◌≡◌, ℕ, pos, List, option_map, option_copied, string_bytes, IfOk};
 ghost use Rattle.dav_store.specs.Store.{PropertyMap, element_key};
 ghost use Rattle.dav_store.specs.PropertyCalls.{named_element};
-ghost use Rattle.dav_nodes.specs.Rows.{Row};
-ghost use Rattle.dav_nodes.specs.TreeRows.{numbered_row};
 ghost use Rattle.dav_tree.specs.declared.entry.Content.{Content};
 ghost use Rattle.dav_pieces.specs.declared.piece.Piece.{Piece};
-ghost use Rattle.dav_store_rows.specs.Resources.{Kept};
-ghost use Rattle.dav_store_rows.specs.Loads.{HavePieces, HaveProperties, IsContent, LoadsAs, IsOneResource};
+ghost use Rattle.dav_store_rows.specs.Loads.{HavePieces, HaveProperties, IsContent, LoadsAs, LoadsOne};
 
 use crate::LoadError;
 use dav_cells::{decode_element, decode_pieces};
@@ -124,7 +121,7 @@ pub(crate) fn load_one(
     extents: &[ExtentRow],
     properties: &[PropertyRow],
 ) -> Result<NumberedValue<Entry<Body>>, LoadError>
-    ensures { (n : ℕ) (one : Row Kept) → IsOneResource n one row.now extents.now properties.now → LoadsAs result (λ value. numbered_row value ≡ (n, one)) }
+    ensures { LoadsOne row.now extents.now properties.now result }
 {
     let pieces = decode_extents(alloc, row.number, extents)?;
     let content = content_of(row.directory, row.size, pieces)?;

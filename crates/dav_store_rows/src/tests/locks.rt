@@ -35,30 +35,53 @@ fn row_of(alloc: Global, change: Option<&Change>) -> Result<Vec<LockRow>, Fail> 
     Ok(rows)
 }
 
+/// Saves locks.
+fn changes_of(
+    alloc: Global,
+    saved: &mut SavedLocks,
+    locks: &BTreeMap<u64, DavLock>,
+) -> Result<Vec<Change>, Fail> {
+    let mut changes = Vec::new(alloc);
+    saved.save(&mut changes, locks.values())?;
+    Ok(changes)
+}
+
+/// Whether a change puts a lock of the path `/a` under this number.
+fn puts(change: Option<&Change>, number: i64) -> bool {
+    matches!(change, Some(Change::PutLock(row)) if row.number == number && row.path.as_str() == "/a")
+}
+
+/// Whether a change removes the lock with this number.
+fn removes(change: Option<&Change>, number: i64) -> bool {
+    matches!(change, Some(Change::Remove(Table::Lock, removed)) if *removed == number)
+}
+
 #[test]
-fn locks_are_saved_refreshed_removed_and_loaded(rt: HostRuntime) -> Result<(), Fail> {
-    let mut locks = BTreeMap::new(rt.alloc());
-    let mut saved = SavedLocks::new(rt.alloc());
-    locks.insert(1u64, lock(rt.alloc(), "urn:uuid:1", 10)?)?;
-    locks.insert(2u64, lock(rt.alloc(), "urn:uuid:2", 10)?)?;
-    let mut first = Vec::new(rt.alloc());
-    saved.save(&mut first, locks.values())?;
-    assert_eq!(rt; first.len(), 2);
-    assert!(rt;
-        matches!(first.get(1), Some(Change::PutLock(row)) if row.number == 2 && row.path.as_str() == "/a")
-    );
+fn locks_are_saved_refreshed_and_removed(rt: HostRuntime) -> Result<(), Fail> {
+    let alloc = rt.alloc();
+    let mut locks = BTreeMap::new(alloc);
+    let mut saved = SavedLocks::new(alloc);
+    locks.insert(1u64, lock(alloc, "urn:uuid:1", 10)?)?;
+    locks.insert(2u64, lock(alloc, "urn:uuid:2", 10)?)?;
+    let first = changes_of(alloc, &mut saved, &locks)?;
     locks.remove(&1u64);
-    locks.insert(2u64, lock(rt.alloc(), "urn:uuid:2", 20)?)?;
-    let mut second = Vec::new(rt.alloc());
-    saved.save(&mut second, locks.values())?;
-    assert_eq!(rt; second.len(), 2);
-    assert!(rt; matches!(second.get(0), Some(Change::Remove(Table::Lock, 1))));
-    assert!(rt; matches!(second.get(1), Some(Change::PutLock(row)) if row.number == 2));
-    let rows = row_of(rt.alloc(), second.get(1))?;
-    let loaded = load_locks(rt.alloc(), &rows)?;
+    locks.insert(2u64, lock(alloc, "urn:uuid:2", 20)?)?;
+    let second = changes_of(alloc, &mut saved, &locks)?;
+    assert!(rt; first.len() == 2 && puts(first.get(1), 2));
+    assert!(rt; second.len() == 2 && removes(second.get(0), 1) && puts(second.get(1), 2));
+    Ok(())
+}
+
+#[test]
+fn a_saved_lock_is_loaded(rt: HostRuntime) -> Result<(), Fail> {
+    let alloc = rt.alloc();
+    let mut locks = BTreeMap::new(alloc);
+    locks.insert(1u64, lock(alloc, "urn:uuid:1", 20)?)?;
+    let first = changes_of(alloc, &mut SavedLocks::new(alloc), &locks)?;
+    let rows = row_of(alloc, first.get(0))?;
+    let loaded = load_locks(alloc, &rows)?;
     assert!(rt; matches!(loaded.get(0), Some(lock) if lock.timeout == Some(20)));
-    let mut third = Vec::new(rt.alloc());
-    SavedLocks::from_rows(rows).save(&mut third, locks.values())?;
-    assert_eq!(rt; third.len(), 0);
+    let second = changes_of(alloc, &mut SavedLocks::from_rows(rows), &locks)?;
+    assert!(rt; second.is_empty());
     Ok(())
 }

@@ -74,29 +74,42 @@ fn a_file_is_saved_and_removed(rt: HostRuntime) -> Result<(), Fail> {
     Ok(())
 }
 
+/// Saves what has changed in a store.
+fn changes_of(
+    alloc: Global,
+    store: &mut TreeFs<DataFile<Memory>>,
+    saved: &mut SavedCounts,
+) -> Result<Vec<Change>, Fail> {
+    let noted = store.take_changes()?;
+    let mut changes = Vec::new(alloc);
+    save_changes(store, &noted, saved, &mut changes)?;
+    Ok(changes)
+}
+
+/// Whether the first change puts a resource with this number and name.
+fn puts(changes: &[Change], number: i64, name: &str) -> bool {
+    matches!(changes.first(), Some(Change::PutResource(row)) if row.number == number && row.name.as_str() == name)
+}
+
+/// Whether the first change removes the resource with this number.
+fn removes(changes: &[Change], number: i64) -> bool {
+    matches!(changes.first(), Some(Change::Remove(Table::Resource, removed)) if *removed == number)
+}
+
 #[test]
 fn the_changes_of_a_store_are_saved(rt: HostRuntime) -> Result<(), Fail> {
     let alloc = rt.alloc();
     let medium = DataFile::open(alloc, Memory::new(alloc), 7, 0)?;
     let mut store = TreeFs::over(alloc, medium, 0, None)?;
     let mut saved = SavedCounts::new(alloc);
-    let noted = store.take_changes()?;
-    let changes = save_changes(alloc, &store, &noted, &mut saved)?;
-    assert!(rt;
-        matches!(changes.get(0), Some(Change::PutResource(row)) if row.number == 0 && row.directory)
-    );
+    let first = changes_of(alloc, &mut store, &mut saved)?;
     let path = DavPath::from_str_and_prefix(alloc, "/a", "")?;
     store.create_dir(&path, &0)?;
-    let noted = store.take_changes()?;
-    let changes = save_changes(alloc, &store, &noted, &mut saved)?;
-    assert_eq!(rt; changes.len(), 1);
-    assert!(rt;
-        matches!(changes.get(0), Some(Change::PutResource(row)) if row.number == 1 && row.name.as_str() == "a")
-    );
+    let made = changes_of(alloc, &mut store, &mut saved)?;
     store.remove_dir(&path, &0)?;
-    let noted = store.take_changes()?;
-    let changes = save_changes(alloc, &store, &noted, &mut saved)?;
-    assert_eq!(rt; changes.len(), 1);
-    assert!(rt; matches!(changes.get(0), Some(Change::Remove(Table::Resource, 1))));
+    let removed = changes_of(alloc, &mut store, &mut saved)?;
+    assert!(rt; puts(&first, 0, ""));
+    assert!(rt; made.len() == 1 && puts(&made, 1, "a"));
+    assert!(rt; removed.len() == 1 && removes(&removed, 1));
     Ok(())
 }

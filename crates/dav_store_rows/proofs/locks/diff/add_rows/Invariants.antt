@@ -1,8 +1,4 @@
-use Rattle.std.proofs.Common.{◌≡◌, ◌++◌, map, take}
-use Rattle.std.specs.Prelude.{◌≤ℤ◌}
-use Rattle.std.specs.List.{AllByRecursion}
-use Rattle.dav_rows.specs.Changes.{lock_entry}
-use Rattle.dav_store_rows.specs.LockRows.{row_values, BringsLocks}
+use Rattle.std.proofs.Common.{take}
 use Rattle.dav_store_rows.proofs.LockSteps.{Adds}
 use Rattle.dav_store_rows.proofs.locks.diff.add_rows.Given as goal
 

@@ -1,4 +1,4 @@
-use Rattle.std.proofs.Common.{rules, w64, ◌++◌, map, ap, sym, ◌∙◌, append_assoc, ◌∷◌, []}
+use Rattle.std.proofs.Common.{rules, w64, map}
 use Rattle.std.proofs.lemmas.Int.{to_z-of_z}
 use mir.Val.{SFits}
 use Rattle.dav_rows.specs.Changes.{lock_entry}

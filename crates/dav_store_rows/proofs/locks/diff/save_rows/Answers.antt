@@ -1,7 +1,7 @@
-use Rattle.std.proofs.Common.{◌++◌, map, drop, ap, sym, subst, ◌∙◌, ◌+◌, append-nil, []}
+use Rattle.std.proofs.Common.{◌++◌, map, drop, ap, sym, subst, ◌∙◌, ◌+◌, append-nil}
 use Rattle.std.proofs.lemmas.List.{drop_all}
 use Rattle.dav_rows.specs.Changes.{lock_entry}
-use Rattle.dav_store_rows.specs.LockRows.{row_values, BringsLocks}
+use Rattle.dav_store_rows.specs.LockRows.{BringsLocks}
 use Rattle.dav_store_rows.proofs.LockSteps.{brings_then, saved_from}
 use Rattle.dav_store_rows.proofs.locks.diff.save_rows.Goals as goal
 
