@@ -8,3 +8,5 @@ pub mod Streams
 pub mod KeepingFiles
 pub mod ReadingBack
 pub mod StreamRuns
+pub mod Lasting
+pub mod KeptRuns

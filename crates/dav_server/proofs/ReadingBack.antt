@@ -1,5 +1,5 @@
 -- What a PUT wrote is what a later read returns.
-use Rattle.std.proofs.Common.{◌≡◌, ◌≢◌, ◌∙◌, ◌⊎◌, inl, inr, ℕ, Bool, false, List, [], ◌∷◌, ◌++◌, length, Option, Some, None, Ok, Err, refl, sym, ap, subst, arith}
+use Rattle.std.proofs.Common.{◌≡◌, ◌≢◌, ◌∙◌, ◌⊎◌, inl, inr, ℕ, Bool, false, List, [], ◌∷◌, ◌++◌, length, Option, Some, None, Ok, Err, refl, sym, ap, subst, arith, append-nil}
 use Rattle.std.specs.List.{AllZip, list_any}
 use Rattle.std.specs.FinMap.{get}
 use Rattle.std.proofs.lemmas.Bool.{or_parts}
@@ -19,11 +19,13 @@ use Rattle.dav_wire.specs.Frames.{RequestValue, ReadValue}
 use Rattle.dav_wire.specs.Replies.{PartValue, ReplyValue, Part, Collection, Failed}
 use Rattle.dav_server.specs.Batches.{BatchAnswer, Exchange, bare_answer, AnswersBatch, SkipsBatch, begun}
 use Rattle.dav_server.specs.Events.{Action, Malformed, OutOfMemory, BodyStarted, BodyExtended, BodyDropped, FileRead, ExpiryReturned, HeldReturned, Rejected, Served, Acts, Happen, events_of, ServesRequest}
-use Rattle.dav_server.specs.Exchanges.{IsAnswered, AreAnswered}
+use Rattle.dav_server.specs.Exchanges.{InOrder, IsAnswered}
+use Rattle.dav_server.specs.Keeping.{IsAnsweredAndSaved}
+use Rattle.dav_server.specs.Snapshots.{saved_of, resaved, OnlySavedDiffers}
 use Rattle.dav_server.specs.Parts.{ReadsFile, ReadsBy, ReturnsAt, ReturnsPart, is_same_version}
 use Rattle.dav_server.specs.State.{Rules, ServerState, settings_at}
 use Rattle.dav_server.proofs.KeepingFiles.{file_stays}
-use Rattle.dav_server.specs.Guarantees.{AreFor, bodies_by, bodies_after, may_rewrite, rewrites, WritesWhole, IsPartOf, IsReplyFrom, ReadsBack, joined, ActInOrder, AreOneRun}
+use Rattle.dav_server.specs.Guarantees.{AreFor, bodies_by, bodies_after, may_rewrite, rewrites, WritesWhole, IsPartOf, IsReplyFrom, ReadsBack, joined, IsSameStore, ActInOrder, AreOneRun}
 
 -- the file or directory at a key of a state
 abbrev node_at : ServerState → Key → Option Node
@@ -141,79 +143,105 @@ module _ {F : Type 0} (see_store : F → Store) (is_honest : F → Bool) (rules 
       reply_from old.seen.store.contents path.key asked reply bytes reads.store (ap (node_at old) same ∙ file)
       (subst (λ r. ReadsBy r (is_honest reads.store) old.seen.store.contents asked reply) read reads.reads)
 
-  -- ---- actions in order
+-- ---- actions in order
+
+-- a relation of stores that keeps the files and the bodies
+pub record KeepsFiles (Stays : Store → Store → Type 0) : Type 0 where
+  pub none : (store : Store) → Stays store store
+  pub both : (one two three : Store) → Stays one two → Stays two three → Stays one three
+  pub tree : (old new : Store) → Stays old new → new.contents.tree ≡ old.contents.tree
+  pub bodies : (old new : Store) → Stays old new → new.facts.bodies ≡ old.facts.bodies
+
+module _ {F : Type 0} (see_store : F → Store) (is_honest : F → Bool) (rules : Rules) (Stays : Store → Store → Type 0) (still : KeepsFiles Stays) where
+  -- the file at a key and the bodies are the same
+  same_node : (old new : Store) (key : Key) → Stays old new → get new.contents.tree key ≡ get old.contents.tree key
+  same_node old new key stays = ap (λ t. get t key) (still.tree old new stays)
+
+  -- the same store
+  same_store : (old new : Store) → new ≡ old → Stays old new
+  same_store old new same = subst (Stays old) (sym same) (still.none old)
 
   -- the actions up to a place, and those from there on
-  split : (xs ys : List Action) (old new : ServerState) → ActInOrder see_store is_honest rules (xs ++ ys) old new
-      → (mid : ServerState) × ActInOrder see_store is_honest rules xs old mid × ActInOrder see_store is_honest rules ys mid new
-  split [] ys old new run = (old, refl, run)
+  split : (xs ys : List Action) (old new : ServerState) → ActInOrder see_store is_honest Stays rules (xs ++ ys) old new
+      → (mid : ServerState) × ActInOrder see_store is_honest Stays rules xs old mid × ActInOrder see_store is_honest Stays rules ys mid new
+  split [] ys old new run = (old, still.none old.seen.store, run)
   split (x ∷ xs) ys old new run =
       let (before, after, same, acts, others) = run in
       let (mid, first, second) = split xs ys after new others in
       (mid, (before, after, same, acts, first), second)
 
   all_keep : (actions : List Action) (first old new : ServerState) (key : Key) (bytes : List ℕ)
-      → ActInOrder see_store is_honest rules actions old new → list_any (rewrites (settings_at rules first) key) actions ≡ false
+      → ActInOrder see_store is_honest Stays rules actions old new → list_any (rewrites (settings_at rules first) key) actions ≡ false
       → node_at old key ≡ Some (File bytes) → node_at new key ≡ Some (File bytes)
-  all_keep [] first old new key bytes run apart file = ap (λ (s : Store). get s.contents.tree key) run ∙ file
+  all_keep [] first old new key bytes run apart file = same_node old.seen.store new.seen.store key run ∙ file
   all_keep (action ∷ actions) first old new key bytes run apart file =
       let (before, after, same, acts, others) = run in
       let p = or_parts (rewrites (settings_at rules first) key action) (list_any (rewrites (settings_at rules first) key) actions) apart in
-      all_keep actions first after new key bytes others p.1 (keeps action first before after key bytes acts p.0 (ap (λ (s : Store). get s.contents.tree key) same ∙ file))
+      let here = same_node old.seen.store before.seen.store key same ∙ file in
+      all_keep actions first after new key bytes others p.1 (keeps see_store is_honest rules action first before after key bytes acts p.0 here)
 
-  all_hold : (actions : List Action) (old new : ServerState) → ActInOrder see_store is_honest rules actions old new → held_in new ≡ bodies_after actions (held_in old)
-  all_hold [] old new run = ap (λ (s : Store). s.facts.bodies) run
+  all_hold : (actions : List Action) (old new : ServerState) → ActInOrder see_store is_honest Stays rules actions old new → held_in new ≡ bodies_after actions (held_in old)
+  all_hold [] old new run = still.bodies old.seen.store new.seen.store run
   all_hold (action ∷ actions) old new run =
       let (before, after, same, acts, others) = run in
       all_hold actions after new others
-      ∙ ap (bodies_after actions) (holds action before after acts ∙ ap (λ (s : Store). bodies_by action s.facts.bodies) same)
+      ∙ ap (bodies_after actions)
+      (holds see_store is_honest rules action before after acts ∙ ap (bodies_by action) (still.bodies old.seen.store before.seen.store same))
 
   -- what a PUT wrote is what a later read returns
-  pub reads_back : (actions : List Action) (old new : ServerState) → ActInOrder see_store is_honest rules actions old new
+  pub reads_back : (actions : List Action) (old new : ServerState) → ActInOrder see_store is_honest Stays rules actions old new
       → ReadsBack is_honest (settings_at rules old) actions
   reads_back actions old new run h =
-      let all = subst (λ list. ActInOrder see_store is_honest rules list old new) h.in_order run in
+      let all = subst (λ list. ActInOrder see_store is_honest Stays rules list old new) h.in_order run in
       let (start, earlier, (put_at, written, same, put, later)) = split h.before (Served h.frame h.put h.answer ∷ (h.between ++ FileRead h.asked h.reply ∷ h.after)) old new all in
       let (end, middle, (read_at, left, kept, read, last)) = split h.between (FileRead h.asked h.reply ∷ h.after) written new later in
       let key = h.put.path.key in
       let bytes = new_bytes (bodies_after h.before (held_in old)) h.put.body in
-      let body : held_in put_at ≡ bodies_after h.before (held_in old) = ap (λ (s : Store). s.facts.bodies) same ∙ all_hold h.before old start earlier in
+      let body : held_in put_at ≡ bodies_after h.before (held_in old) =
+      still.bodies start.seen.store put_at.seen.store same ∙ all_hold h.before old start earlier in
       let file : node_at written key ≡ Some (File bytes) =
       put_writes rules h.frame h.put h.answer put_at written put h.whole ∙ ap (λ (held : Bodies). Some (File (new_bytes held h.put.body))) body in
-      let stays : node_at read_at key ≡ Some (File bytes) = ap (λ (s : Store). get s.contents.tree key) kept ∙ all_keep h.between old written end key bytes middle h.unchanged file in
-      read_gives read_at h.asked h.reply h.path key bytes read.1 h.read h.same stays
+      let stays : node_at read_at key ≡ Some (File bytes) =
+      same_node end.seen.store read_at.seen.store key kept ∙ all_keep h.between old written end key bytes middle h.unchanged file in
+      read_gives see_store is_honest rules read_at h.asked h.reply h.path key bytes read.1 h.read h.same stays
 
   -- ---- the actions of batches
 
-  from_same : (actions : List Action) (one other new : ServerState) → one.seen.store ≡ other.seen.store
-      → ActInOrder see_store is_honest rules actions one new → ActInOrder see_store is_honest rules actions other new
-  from_same [] one other new same run = run ∙ same
-  from_same (action ∷ actions) one other new same (before, after, kept, acts, others) = (before, after, kept ∙ same, acts, others)
+  from_same : (actions : List Action) (one other new : ServerState) → Stays other.seen.store one.seen.store
+      → ActInOrder see_store is_honest Stays rules actions one new → ActInOrder see_store is_honest Stays rules actions other new
+  from_same [] one other new same run = still.both other.seen.store one.seen.store new.seen.store same run
+  from_same (action ∷ actions) one other new same (before, after, kept, acts, others) =
+      (before, after, still.both other.seen.store one.seen.store before.seen.store same kept, acts, others)
 
   join : (xs ys : List Action) (old mid new : ServerState)
-      → ActInOrder see_store is_honest rules xs old mid → ActInOrder see_store is_honest rules ys mid new → ActInOrder see_store is_honest rules (xs ++ ys) old new
+      → ActInOrder see_store is_honest Stays rules xs old mid → ActInOrder see_store is_honest Stays rules ys mid new
+      → ActInOrder see_store is_honest Stays rules (xs ++ ys) old new
   join [] ys old mid new same second = from_same ys mid old new same second
   join (x ∷ xs) ys old mid new (before, after, kept, acts, others) second = (before, after, kept, acts, join xs ys after mid new others second)
 
   -- the actions of a batch, between which locks expire
   in_order : (actions : List Action) (old new : ServerState) → Happen see_store is_honest rules (events_of actions) old new
-      → ActInOrder see_store is_honest rules actions old new
-  in_order [] old new same = ap (λ (s : ServerState). s.seen.store) same
+      → ActInOrder see_store is_honest Stays rules actions old new
+  in_order [] old new same = same_store old.seen.store new.seen.store (ap (λ (s : ServerState). s.seen.store) same)
   in_order (action ∷ actions) old new (expired, is, (after, acts, others)) =
-      (expired, after, ap (λ (s : ServerState). s.seen.store) is, acts, in_order actions after new others)
+      (expired, after, same_store old.seen.store expired.seen.store (ap (λ (s : ServerState). s.seen.store) is), acts, in_order actions after new others)
 
   -- the actions for the batch of an exchange
-  record HasActions (exchange : Exchange) (old new : ServerState) : Type 0 where
-    actions : List Action
-    of : AreFor exchange actions
-    in_order : ActInOrder see_store is_honest rules actions old new
+  pub record HasActions (exchange : Exchange) (old new : ServerState) : Type 0 where
+    pub actions : List Action
+    pub of : AreFor exchange actions
+    pub in_order : ActInOrder see_store is_honest Stays rules actions old new
 
-  actions_of : (exchange : Exchange) (old new : ServerState) → IsAnswered see_store is_honest rules exchange old new → HasActions exchange old new
+  pub actions_of : (exchange : Exchange) (old new : ServerState) → IsAnswered see_store is_honest rules exchange old new → HasActions exchange old new
   actions_of exchange old new h = by_answer h.answers
     where
       none : (status : ℕ) → exchange.answer ≡ bare_answer status → status ≢ 200 → new.seen.store ≡ old.seen.store → HasActions exchange old new
       none status recorded other same =
-          record { actions = []; of = inr (record { status = λ h. other (sym (ap (λ (a : BatchAnswer). a.status) recorded) ∙ h); none = refl }); in_order = same }
+          record {
+            actions = [];
+            of = inr (record { status = λ h. other (sym (ap (λ (a : BatchAnswer). a.status) recorded) ∙ h); none = refl });
+            in_order = same_store old.seen.store new.seen.store same;
+          }
 
       skipped : (status : ℕ) → SkipsBatch status exchange.header exchange.answer old new → status ≢ 200 → HasActions exchange old new
       skipped status skips other = none status skips.answered other (ap (λ (s : ServerState). s.seen.store) skips.same)
@@ -223,33 +251,81 @@ module _ {F : Type 0} (see_store : F → Store) (is_honest : F → Bool) (rules 
           record {
             actions = serves.served.actions;
             of = inl (record { status = serves.status; frames = serves.frames; read = serves.read; of = serves.served.read; sent = serves.served.sent });
-            in_order = from_same serves.served.actions (begun exchange.header old) old new refl (in_order serves.served.actions (begun exchange.header old) new serves.served.happen);
+            in_order = from_same serves.served.actions (begun exchange.header old) old new (still.none old.seen.store) (in_order serves.served.actions (begun exchange.header old) new serves.served.happen);
           }
       by_answer (inr (inl (unread, skips))) = skipped 400 skips (λ h. omega arith)
       by_answer (inr (inr (inl skips))) = skipped 507 skips (λ h. omega arith)
       by_answer (inr (inr (inr refuses))) = none 409 refuses.answered (λ h. omega arith) (ap (λ (s : ServerState). s.seen.store) refuses.same)
 
+  -- the same, where the store stays after the batch
+  pub actions_before : (exchange : Exchange) (old mid new : ServerState) → HasActions exchange old mid → Stays mid.seen.store new.seen.store → HasActions exchange old new
+  actions_before exchange old mid new h stays =
+      record { actions = h.actions; of = h.of; in_order = subst (λ list. ActInOrder see_store is_honest Stays rules list old new) (append-nil h.actions) (join h.actions [] old mid new h.in_order stays) }
+
   -- ---- a run
 
-  -- the actions for each of some exchanges, in order
-  record HasActionsOfAll (exchanges : List Exchange) (old new : ServerState) : Type 0 where
-    actions : List (List Action)
-    of : AllZip AreFor exchanges actions
-    in_order : ActInOrder see_store is_honest rules (joined actions) old new
+  module _ (Does : Exchange → ServerState → ServerState → Type 0)
+      (acts_for : (exchange : Exchange) (old new : ServerState) → Does exchange old new → HasActions exchange old new) where
+    -- the actions for each of some exchanges, in order
+    record HasActionsOfAll (exchanges : List Exchange) (old new : ServerState) : Type 0 where
+      actions : List (List Action)
+      of : AllZip AreFor exchanges actions
+      in_order : ActInOrder see_store is_honest Stays rules (joined actions) old new
 
-  actions_of_all : (exchanges : List Exchange) (old new : ServerState) → AreAnswered see_store is_honest rules exchanges old new → HasActionsOfAll exchanges old new
-  actions_of_all [] old new same = record { actions = []; of = tt; in_order = ap (λ (s : ServerState). s.seen.store) same }
-  actions_of_all (exchange ∷ exchanges) old new (mid, answered, others) =
-      let first = actions_of exchange old mid answered in
-      let rest = actions_of_all exchanges mid new others in
-      record {
-        actions = first.actions ∷ rest.actions;
-        of = (first.of, rest.of);
-        in_order = join first.actions (joined rest.actions) old mid new first.in_order rest.in_order;
-      }
+    actions_of_all : (exchanges : List Exchange) (old new : ServerState) → InOrder Does exchanges old new → HasActionsOfAll exchanges old new
+    actions_of_all [] old new same =
+        record { actions = []; of = tt; in_order = same_store old.seen.store new.seen.store (ap (λ (s : ServerState). s.seen.store) same) }
+    actions_of_all (exchange ∷ exchanges) old new (mid, does, others) =
+        let first = acts_for exchange old mid does in
+        let rest = actions_of_all exchanges mid new others in
+        record {
+          actions = first.actions ∷ rest.actions;
+          of = (first.of, rest.of);
+          in_order = join first.actions (joined rest.actions) old mid new first.in_order rest.in_order;
+        }
 
-  pub one_run : (exchanges : List Exchange) (old new : ServerState) → AreAnswered see_store is_honest rules exchanges old new
-      → AreOneRun see_store is_honest rules exchanges old new
+    pub run_of : (exchanges : List Exchange) (old new : ServerState) → InOrder Does exchanges old new
+        → AreOneRun see_store is_honest Stays rules exchanges old new
+    run_of exchanges old new run =
+        let h = actions_of_all exchanges old new run in
+        record { actions = h.actions; of = h.of; in_order = h.in_order; reads_back = reads_back (joined h.actions) old new h.in_order }
+
+-- the same store keeps its files
+same_files : KeepsFiles IsSameStore
+same_files =
+    record {
+      none = λ store. refl;
+      both = λ one two three first second. second ∙ first;
+      tree = λ old new same. ap (λ (s : Store). s.contents.tree) same;
+      bodies = λ old new same. ap (λ (s : Store). s.facts.bodies) same;
+    }
+
+-- so does a store of which only what is saved differs
+resaved_files : KeepsFiles OnlySavedDiffers
+resaved_files =
+    record {
+      none = λ store. refl;
+      both = λ one two three first second. second ∙ ap (resaved (saved_of three)) first;
+      tree = λ old new differs. ap (λ (s : Store). s.contents.tree) differs;
+      bodies = λ old new differs. ap (λ (s : Store). s.facts.bodies) differs;
+    }
+
+module _ {F : Type 0} (see_store : F → Store) (is_honest : F → Bool) (rules : Rules) where
+  pub one_run : (exchanges : List Exchange) (old new : ServerState) → InOrder (IsAnswered see_store is_honest rules) exchanges old new
+      → AreOneRun see_store is_honest IsSameStore rules exchanges old new
   one_run exchanges old new answered =
-      let h = actions_of_all exchanges old new answered in
-      record { actions = h.actions; of = h.of; in_order = h.in_order; reads_back = reads_back (joined h.actions) old new h.in_order }
+      run_of see_store is_honest rules IsSameStore same_files (IsAnswered see_store is_honest rules)
+      (actions_of see_store is_honest rules IsSameStore same_files) exchanges old new answered
+
+  -- the actions for a batch, after which only what is saved of the store changes
+  saved_actions : (exchange : Exchange) (old new : ServerState) → IsAnsweredAndSaved see_store is_honest rules exchange old new
+      → HasActions see_store is_honest rules OnlySavedDiffers resaved_files exchange old new
+  saved_actions exchange old new h =
+      actions_before see_store is_honest rules OnlySavedDiffers resaved_files exchange old h.served new
+      (actions_of see_store is_honest rules OnlySavedDiffers resaved_files exchange old h.served h.answered)
+      (ap (λ (s : ServerState). s.seen.store) h.saved)
+
+  pub saved_run : (exchanges : List Exchange) (old new : ServerState) → InOrder (IsAnsweredAndSaved see_store is_honest rules) exchanges old new
+      → AreOneRun see_store is_honest OnlySavedDiffers rules exchanges old new
+  saved_run exchanges old new answered =
+      run_of see_store is_honest rules OnlySavedDiffers resaved_files (IsAnsweredAndSaved see_store is_honest rules) saved_actions exchanges old new answered

@@ -1,5 +1,5 @@
 -- An exchange from its parts, and runs of exchanges.
-use Rattle.std.proofs.Common.{◌≡◌, inr, ℕ, Bool, List, [], ◌∷◌, ◌++◌, length, flat_map, refl, sym, subst, Option, Some, None, IfSome, MatchOption, Result, Ok, Err, OnErr, Vec, append-nil}
+use Rattle.std.proofs.Common.{◌≡◌, ◌∙◌, inr, ℕ, Bool, List, [], ◌∷◌, ◌++◌, length, flat_map, refl, sym, ap, subst, Option, Some, None, IfSome, MatchOption, Result, Ok, Err, OnErr, Vec, append-nil}
 use Rattle.std.specs.Prelude.{⊤}
 use Rattle.std.specs.Io.KnownBytes.{Appends, Consumes}
 use Rattle.std.specs.declared.alloc.Global.{Global}
@@ -9,77 +9,89 @@ use Rattle.dav_store.specs.Store.{Store}
 use Rattle.dav_wire.specs.Batches.{batch_header}
 use Rattle.dav_wire.specs.declared.batch.BatchHeader.{BatchHeader}
 use Rattle.dav_server.specs.Batches.{BatchAnswer, Exchange, AnswersBatch}
-use Rattle.dav_server.specs.Exchanges.{Skips, answer_bytes, bytes_in, bytes_out, IsAnswered, AreAnswered, Exchanges, Ends, StopsInside, Runs, StopsAfter}
-use Rattle.dav_server.specs.Guarantees.{AreOneRun}
+use Rattle.dav_server.specs.Exchanges.{Skips, answer_bytes, bytes_in, bytes_out, InOrder, ExchangesBy, RunsBy, ReadsAndAnswers, Exchanges, Ends, StopsInside, Runs, StopsAfter}
 use Rattle.dav_server.specs.State.{Rules, ServerState}
-use Rattle.dav_server.proofs.ReadingBack.{one_run}
 
 module _ {F : Type 0} (see_store : F → Store) (is_honest : F → Bool) (rules : Rules) where
-  -- the content of a batch was read or skipped, and the batch was answered
-  pub record Answers (header : BatchHeader) (answer : BatchAnswer) (old new : ServerState) (input input' : Option (List ℕ)) : Type 0 where
-    pub content : List ℕ
-    pub read : Consumes input input' content
-    pub all : length content ≡ header.length
-    pub answers : AnswersBatch see_store is_honest rules header content answer old new
-
-  pub answered :
-      (header : BatchHeader) (answer : BatchAnswer) (old new : ServerState) (input input' : Option (List ℕ)) (content : Option (Vec ℕ Global))
-      → IfSome content (λ v. Consumes input input' v.items) → IfSome content (λ v. length v.items ≡ header.length)
-      → MatchOption content (Skips input input' header.length) (λ _. ⊤)
+  -- the header of a batch was read, and then its content was read or skipped, and the batch was answered
+  pub read_and_answered :
+      (header : BatchHeader) (answer : BatchAnswer) (old new : ServerState) (input middle input' : Option (List ℕ)) (content : Option (Vec ℕ Global))
+      → Consumes input middle (batch_header.encode header)
+      → IfSome content (λ v. Consumes middle input' v.items) → IfSome content (λ v. length v.items ≡ header.length)
+      → MatchOption content (Skips middle input' header.length) (λ _. ⊤)
       → ((bytes : List ℕ) → IfSome content (λ v. bytes ≡ v.items) → AnswersBatch see_store is_honest rules header bytes answer old new)
-      → Answers header answer old new input input'
-  answered header answer old new input input' None read all skipped answers =
-      record { content = skipped.bytes; read = skipped.read; all = skipped.all; answers = answers skipped.bytes tt }
-  answered header answer old new input input' (Some v) read all skipped answers =
-      record { content = v.items; read = read; all = all; answers = answers v.items refl }
+      → ReadsAndAnswers see_store is_honest rules header.number answer old new input input'
+  read_and_answered header answer old new input middle input' content first read all skipped answers = by_content content read all skipped answers
+    where
+      of_bytes : (bytes : List ℕ) → Consumes middle input' bytes → length bytes ≡ header.length → AnswersBatch see_store is_honest rules header bytes answer old new
+          → ReadsAndAnswers see_store is_honest rules header.number answer old new input input'
+      of_bytes bytes others all answers =
+          record {
+            exchange = record { header = header; content = bytes; answer = answer };
+            numbered = refl;
+            with_answer = refl;
+            answered = record { length = all; answers = answers };
+            read = Consumes-trans input middle input' (batch_header.encode header) bytes first others;
+          }
 
-  -- the whole exchange, whose header was read before
+      by_content : (content : Option (Vec ℕ Global)) → IfSome content (λ v. Consumes middle input' v.items) → IfSome content (λ v. length v.items ≡ header.length)
+          → MatchOption content (Skips middle input' header.length) (λ _. ⊤)
+          → ((bytes : List ℕ) → IfSome content (λ v. bytes ≡ v.items) → AnswersBatch see_store is_honest rules header bytes answer old new)
+          → ReadsAndAnswers see_store is_honest rules header.number answer old new input input'
+      by_content None read all skipped answers = of_bytes skipped.bytes skipped.read skipped.all (answers skipped.bytes tt)
+      by_content (Some v) read all skipped answers = of_bytes v.items read all (answers v.items refl)
+
+  -- the bytes of an answer are those of its exchange
+  pub answer_written :
+      (number : ℕ) (answer : BatchAnswer) (old new : ServerState) (input input' output output' : Option (List ℕ))
+      (h : ReadsAndAnswers see_store is_honest rules number answer old new input input') → Appends output output' (answer_bytes number answer)
+      → Appends output output' (bytes_out h.exchange)
+  answer_written number answer old new input input' output output' h written =
+      let same : answer_bytes number answer ≡ bytes_out h.exchange =
+      sym (ap (λ n. answer_bytes n h.exchange.answer) h.numbered ∙ ap (answer_bytes number) h.with_answer) in
+      subst (Appends output output') same written
+
+  -- the whole exchange
   pub exchanged :
-      (header : BatchHeader) (answer : BatchAnswer) (old new : ServerState) (input middle input' output output' : Option (List ℕ))
-      → Consumes input middle (batch_header.encode header) → Answers header answer old new middle input'
-      → Appends output output' (answer_bytes header.number answer)
+      (number : ℕ) (answer : BatchAnswer) (old new : ServerState) (input input' output output' : Option (List ℕ))
+      → ReadsAndAnswers see_store is_honest rules number answer old new input input' → Appends output output' (answer_bytes number answer)
       → Exchanges see_store is_honest rules old new input input' output output'
-  exchanged header answer old new input middle input' output output' first h written =
-      record {
-        exchange = record { header = header; content = h.content; answer = answer };
-        answered = record { length = h.all; answers = h.answers };
-        read = Consumes-trans input middle input' (batch_header.encode header) h.content first h.read;
-        written = written;
-      }
+  exchanged number answer old new input input' output output' h written =
+      record { exchange = h.exchange; answered = h.answered; read = h.read; written = answer_written number answer old new input input' output output' h written }
 
   -- the batch was answered, and then the output failed
   pub stopped :
-      {T E : Type 0} (r : Result T E) (header : BatchHeader) (answer : BatchAnswer) (old new : ServerState) (input input' : Option (List ℕ))
-      → Answers header answer old new input input' → OnErr r (StopsInside see_store is_honest rules old new)
-  stopped (Ok x) header answer old new input input' h = tt
-  stopped (Err e) header answer old new input input' h =
-      inr (record { header = header; content = h.content; answer = answer }, record { length = h.all; answers = h.answers })
+      {T E : Type 0} (r : Result T E) (number : ℕ) (answer : BatchAnswer) (old new : ServerState) (input input' : Option (List ℕ))
+      → ReadsAndAnswers see_store is_honest rules number answer old new input input' → OnErr r (StopsInside see_store is_honest rules old new)
+  stopped (Ok x) number answer old new input input' h = tt
+  stopped (Err e) number answer old new input input' h = inr (h.exchange, h.answered)
 
-  -- ---- runs
+-- ---- runs
 
-  none_read : (a : Option (List ℕ)) → Consumes a a []
-  none_read None = tt
-  none_read (Some bytes) = refl
+none_read : (a : Option (List ℕ)) → Consumes a a []
+none_read None = tt
+none_read (Some bytes) = refl
 
-  none_written : (a : Option (List ℕ)) → Appends a a []
-  none_written None = tt
-  none_written (Some bytes) = sym (append-nil bytes)
+none_written : (a : Option (List ℕ)) → Appends a a []
+none_written None = tt
+none_written (Some bytes) = sym (append-nil bytes)
 
+module _ (Does : Exchange → ServerState → ServerState → Type 0) (Law : List Exchange → ServerState → ServerState → Type 0)
+    (lawful : (exchanges : List Exchange) (old new : ServerState) → InOrder Does exchanges old new → Law exchanges old new) where
   -- no exchange yet
-  pub runs_none : (state : ServerState) (a u : Option (List ℕ)) → Runs see_store is_honest rules state state a a u u
+  pub runs_none : (state : ServerState) (a u : Option (List ℕ)) → RunsBy Does Law state state a a u u
   runs_none state a u =
-      record { exchanges = []; answered = refl; read = none_read a; written = none_written u; law = one_run see_store is_honest rules [] state state refl }
+      record { exchanges = []; answered = refl; read = none_read a; written = none_written u; law = lawful [] state state refl }
 
   -- one more exchange
   answered_more :
-      (xs : List Exchange) (x : Exchange) (old mid new : ServerState) → AreAnswered see_store is_honest rules xs old mid
-      → IsAnswered see_store is_honest rules x mid new → AreAnswered see_store is_honest rules (xs ++ x ∷ []) old new
-  answered_more [] x old mid new e h = (new, subst (λ (s : ServerState). IsAnswered see_store is_honest rules x s new) e h, refl)
+      (xs : List Exchange) (x : Exchange) (old mid new : ServerState) → InOrder Does xs old mid → Does x mid new → InOrder Does (xs ++ x ∷ []) old new
+  answered_more [] x old mid new e h = (new, subst (λ (s : ServerState). Does x s new) e h, refl)
   answered_more (y ∷ ys) x old mid new (next, first, others) h = (next, first, answered_more ys x next mid new others h)
 
   pub runs_more :
-      (old mid new : ServerState) (a b c u v w : Option (List ℕ)) → Runs see_store is_honest rules old mid a b u v
-      → Exchanges see_store is_honest rules mid new b c v w → Runs see_store is_honest rules old new a c u w
+      (old mid new : ServerState) (a b c u v w : Option (List ℕ)) → RunsBy Does Law old mid a b u v
+      → ExchangesBy Does mid new b c v w → RunsBy Does Law old new a c u w
   runs_more old mid new a b c u v w run more =
       let x = more.exchange in
       let all = answered_more run.exchanges x old mid new run.answered more.answered in
@@ -92,26 +104,26 @@ module _ {F : Type 0} (see_store : F → Store) (is_honest : F → Bool) (rules 
         written =
             subst (Appends u w) (flat_map_more bytes_out [] run.exchanges x)
             (Appends-trans u v w (flat_map bytes_out run.exchanges) (bytes_out x) run.written more.written);
-        law = one_run see_store is_honest rules (run.exchanges ++ x ∷ []) old new all;
+        law = lawful (run.exchanges ++ x ∷ []) old new all;
       }
 
   -- the input ends after a run
   pub runs_end :
-      (old mid new : ServerState) (a b c u v w : Option (List ℕ)) → Runs see_store is_honest rules old mid a b u v
-      → Ends mid new b c v w → Runs see_store is_honest rules old new a c u w
+      (old mid new : ServerState) (a b c u v w : Option (List ℕ)) → RunsBy Does Law old mid a b u v
+      → Ends mid new b c v w → RunsBy Does Law old new a c u w
   runs_end old mid new a b c u v w run end =
       record {
         exchanges = run.exchanges;
-        answered = subst (AreAnswered see_store is_honest rules run.exchanges old) (sym end.same) run.answered;
+        answered = subst (InOrder Does run.exchanges old) (sym end.same) run.answered;
         read = Consumes-kept a b c (flat_map bytes_in run.exchanges) run.read end.none_read;
         written = Appends-kept u v w (flat_map bytes_out run.exchanges) run.written end.none_written;
-        law = subst (AreOneRun see_store is_honest rules run.exchanges old) (sym end.same) run.law;
+        law = subst (Law run.exchanges old) (sym end.same) run.law;
       }
 
-  -- a stream fails after a run
-  pub runs_stopped :
-      {T E : Type 0} (r : Result T E) (old mid new : ServerState) (a b u v : Option (List ℕ)) → Runs see_store is_honest rules old mid a b u v
-      → StopsInside see_store is_honest rules mid new → OnErr r (StopsAfter see_store is_honest rules old new)
-  runs_stopped (Ok x) old mid new a b u v run inside = tt
-  runs_stopped (Err e) old mid new a b u v run inside =
-      record { exchanges = run.exchanges; mid = mid; answered = run.answered; law = run.law; stopped = inside }
+-- a stream fails after a run
+pub runs_stopped :
+    {F T E : Type 0} (see_store : F → Store) (is_honest : F → Bool) (rules : Rules) (r : Result T E) (old mid new : ServerState) (a b u v : Option (List ℕ))
+    → Runs see_store is_honest rules old mid a b u v → StopsInside see_store is_honest rules mid new → OnErr r (StopsAfter see_store is_honest rules old new)
+runs_stopped see_store is_honest rules (Ok x) old mid new a b u v run inside = tt
+runs_stopped see_store is_honest rules (Err e) old mid new a b u v run inside =
+    record { exchanges = run.exchanges; mid = mid; answered = run.answered; law = run.law; stopped = inside }

@@ -7,7 +7,7 @@ use Rattle.dav_wire.specs.Codec.{Codec}
 use Rattle.dav_wire.specs.Combine.{pair}
 use Rattle.dav_wire.specs.Numbers.{number}
 use Rattle.dav_server.specs.Batches.{BatchAnswer, Exchange, AnswersBatch}
-use Rattle.dav_server.specs.Guarantees.{AreOneRun}
+use Rattle.dav_server.specs.Guarantees.{IsSameStore, AreOneRun}
 use Rattle.dav_server.specs.State.{Rules, ServerState}
 
 -- a batch of replies: the number of the batch, its status, and the replies
@@ -61,41 +61,70 @@ pub record Ends (old new : ServerState) (input input' output output' : Option (L
   pub none_read : Keeps input input'
   pub none_written : Keeps output output'
 
+-- `Does` says what an exchange does to the state of the server
+module _ (Does : Exchange → ServerState → ServerState → Type 0) where
+  -- exchanges in order
+  abbrev pub InOrder : List Exchange → ServerState → ServerState → Type 0
+  InOrder [] old new = new ≡ old
+  InOrder (exchange ∷ exchanges) old new = (mid : ServerState) × Does exchange old mid × InOrder exchanges mid new
+
+  -- one exchange: its bytes are read, and those of its answer are written
+  pub record ExchangesBy (old new : ServerState) (input input' output output' : Option (List ℕ)) : Type 0 where
+    pub exchange : Exchange
+    pub answered : Does exchange old new
+    pub read : Consumes input input' (bytes_in exchange)
+    pub written : Appends output output' (bytes_out exchange)
+
+  -- nothing changed, or one exchange was under way
+  abbrev pub StopsBy : ServerState → ServerState → Type 0
+  StopsBy old new = (new ≡ old) ⊎ ((exchange : Exchange) × Does exchange old new)
+
+  -- the exchanges of a run, which keep this law: their bytes are read, and those of their answers are written
+  pub record RunsBy (Law : List Exchange → ServerState → ServerState → Type 0) (old new : ServerState) (input input' output output' : Option (List ℕ)) : Type 0 where
+    pub exchanges : List Exchange
+    pub answered : InOrder exchanges old new
+    pub read : Consumes input input' (flat_map bytes_in exchanges)
+    pub written : Appends output output' (flat_map bytes_out exchanges)
+    pub law : Law exchanges old new
+
 module _ {F : Type 0} (see_store : F → Store) (is_honest : F → Bool) where
   -- the batch of this exchange is answered
   pub record IsAnswered (rules : Rules) (exchange : Exchange) (old new : ServerState) : Type 0 where
     pub length : HasLength exchange
     pub answers : AnswersBatch see_store is_honest rules exchange.header exchange.content exchange.answer old new
 
-  -- exchanges in order
-  abbrev pub AreAnswered : Rules → List Exchange → ServerState → ServerState → Type 0
-  AreAnswered rules [] old new = new ≡ old
-  AreAnswered rules (exchange ∷ exchanges) old new =
-      (mid : ServerState) × IsAnswered rules exchange old mid × AreAnswered rules exchanges mid new
-
-  -- one exchange: its bytes are read, and those of its answer are written
-  pub record Exchanges (rules : Rules) (old new : ServerState) (input input' output output' : Option (List ℕ)) : Type 0 where
+  -- a batch of this number is read and answered, and nothing is written yet
+  pub record ReadsAndAnswers (rules : Rules) (number : ℕ) (answer : BatchAnswer) (old new : ServerState) (input input' : Option (List ℕ)) : Type 0 where
     pub exchange : Exchange
+    pub numbered : exchange.header.number ≡ number
+    pub with_answer : exchange.answer ≡ answer
     pub answered : IsAnswered rules exchange old new
     pub read : Consumes input input' (bytes_in exchange)
-    pub written : Appends output output' (bytes_out exchange)
+
+  -- exchanges in order
+  abbrev pub AreAnswered : Rules → List Exchange → ServerState → ServerState → Type 0
+  AreAnswered rules exchanges old new = InOrder (IsAnswered rules) exchanges old new
+
+  -- one exchange: its bytes are read, and those of its answer are written
+  abbrev pub Exchanges : Rules → ServerState → ServerState → Option (List ℕ) → Option (List ℕ) → Option (List ℕ) → Option (List ℕ) → Type 0
+  Exchanges rules old new input input' output output' = ExchangesBy (IsAnswered rules) old new input input' output output'
 
   -- a stream failed: before a batch was read whole, and nothing changed; or after it was answered, before the answer was written whole
   abbrev pub StopsInside : Rules → ServerState → ServerState → Type 0
-  StopsInside rules old new = (new ≡ old) ⊎ ((exchange : Exchange) × IsAnswered rules exchange old new)
+  StopsInside rules old new = StopsBy (IsAnswered rules) old new
+
+  -- exchanges between which the store stays as it is, and in which what a PUT wrote is what a later read returns
+  abbrev pub AreRun : Rules → List Exchange → ServerState → ServerState → Type 0
+  AreRun rules exchanges old new = AreOneRun see_store is_honest IsSameStore rules exchanges old new
 
   -- the exchanges of a run: their bytes are read, and those of their answers are written; what a PUT wrote is what a later read returns (`AreOneRun`)
-  pub record Runs (rules : Rules) (old new : ServerState) (input input' output output' : Option (List ℕ)) : Type 0 where
-    pub exchanges : List Exchange
-    pub answered : AreAnswered rules exchanges old new
-    pub read : Consumes input input' (flat_map bytes_in exchanges)
-    pub written : Appends output output' (flat_map bytes_out exchanges)
-    pub law : AreOneRun see_store is_honest rules exchanges old new
+  abbrev pub Runs : Rules → ServerState → ServerState → Option (List ℕ) → Option (List ℕ) → Option (List ℕ) → Option (List ℕ) → Type 0
+  Runs rules old new input input' output output' = RunsBy (IsAnswered rules) (AreRun rules) old new input input' output output'
 
   -- a run that a failed stream stops: all exchanges before were answered
   pub record StopsAfter (rules : Rules) (old new : ServerState) : Type 0 where
     pub exchanges : List Exchange
     pub mid : ServerState
     pub answered : AreAnswered rules exchanges old mid
-    pub law : AreOneRun see_store is_honest rules exchanges old mid
+    pub law : AreRun rules exchanges old mid
     pub stopped : StopsInside rules mid new

@@ -130,13 +130,18 @@ module _ {F : Type 0} (is_honest : F → Bool) where
 abbrev pub joined : List (List Action) → List Action
 joined actions = flat_map (λ each. each) actions
 
-module _ {F : Type 0} (see_store : F → Store) (is_honest : F → Bool) where
-  -- actions in order; before, between and after them the time, the number of the last batch and the locks may change, and the store stays as it is
+-- the store stays as it is
+abbrev pub IsSameStore : Store → Store → Type 0
+IsSameStore old new = new ≡ old
+
+-- `Stays` says how the store may differ where no action is done
+module _ {F : Type 0} (see_store : F → Store) (is_honest : F → Bool) (Stays : Store → Store → Type 0) where
+  -- actions in order; before, between and after them the time, the number of the last batch and the locks may change, and the store as `Stays` says
   abbrev pub ActInOrder : Rules → List Action → ServerState → ServerState → Type 0
-  ActInOrder rules [] old new = new.seen.store ≡ old.seen.store
+  ActInOrder rules [] old new = Stays old.seen.store new.seen.store
   ActInOrder rules (action ∷ actions) old new =
       (before after : ServerState)
-      × (before.seen.store ≡ old.seen.store) × Acts see_store is_honest rules action before after × ActInOrder rules actions after new
+      × Stays old.seen.store before.seen.store × Acts see_store is_honest rules action before after × ActInOrder rules actions after new
 
   -- the exchanges as one list of actions, for each exchange its own, in which what a PUT wrote is what a later read returns
   pub record AreOneRun (rules : Rules) (exchanges : List Exchange) (old new : ServerState) : Type 0 where

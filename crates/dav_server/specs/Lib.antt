@@ -10,3 +10,5 @@ pub mod Batches
 pub mod Answers
 pub mod Guarantees
 pub mod Exchanges
+pub mod Snapshots
+pub mod Keeping

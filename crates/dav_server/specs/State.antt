@@ -45,9 +45,13 @@ module _ {F L : Type 0} where
   rules_of server =
       record { prefix = string_bytes server.engine.prefix; allow = server.engine.allow; anyone_unlocks = server.anyone_unlocks }
 
+-- a server over this store and these locks, at this time and after the batch of this number
+abbrev pub resumed_state : Store → Locks → ℕ → ℕ → ServerState
+resumed_state store locks now last = record { seen = record { store = unlogged store; locks = Some locks }; now = now; last = last }
+
 -- a server over this store and these locks, at time 0, before batch 1
 abbrev pub first_state : Store → Locks → ServerState
-first_state store locks = record { seen = record { store = unlogged store; locks = Some locks }; now = 0; last = 0 }
+first_state store locks = resumed_state store locks 0 0
 
 -- the rules of a server whose OPTIONS may list all methods
 abbrev pub first_rules : List ℕ → Bool → Rules

@@ -26,10 +26,19 @@ const SKIPPED: usize = 4096;
 /// The reply that is sent in the place of one that cannot be encoded: a failure with status 507.
 const NOT_ENCODED: [u8; 9] = [7, 0, 0, 0, 0, 0, 0, 1, 251];
 
+/// A batch that is answered.
+#[derive(Drop)]
+pub(crate) struct Answered {
+    /// The number of the batch.
+    pub(crate) number: u64,
+    /// The answer, which is not written yet.
+    pub(crate) answer: BatchReply,
+}
+
 impl<'a, F: TimedStore, L: ExpiringLocks> Server<'a, F, L> {
     ghost use Rattle.dav_server.specs.State.{state_of, rules_of};
     ghost use Rattle.dav_server.specs.Batches.{AnswersBatch};
-    ghost use Rattle.dav_server.specs.Exchanges.{Exchanges, Ends, StopsInside, Runs, StopsAfter};
+    ghost use Rattle.dav_server.specs.Exchanges.{ReadsAndAnswers, Exchanges, Ends, StopsInside, Runs, StopsAfter};
 
     /// Serves batches until the input ends, and writes the replies of each before the next is read.
     ///
@@ -67,13 +76,34 @@ impl<'a, F: TimedStore, L: ExpiringLocks> Server<'a, F, L> {
         ensures stopped { OnErr result (StopsInside F.seen F.is_honest (rules_of self.old)
             (state_of F.seen L.seen self.old) (state_of F.seen L.seen self.new)) }
     {
-        let Some(header) = read_header(input)? else {
+        let Some(next) = self.answer_next(input)? else {
             return Ok(false);
+        };
+        write_answer(output, next.number, &next.answer)?;
+        Ok(true)
+    }
+
+    /// Reads a batch and serves it, and writes nothing. Returns `None` if the input has ended before it.
+    ///
+    /// Fails if the input fails, or if it ends inside the batch. Then nothing has changed.
+    pub(crate) fn answer_next<R: Read>(&mut self, input: &mut R) -> io::Result<Option<Answered>>
+        ensures rules { rules_of self.new ≡ rules_of self.old }
+        ensures answered { IfRead result (λ next. ReadsAndAnswers F.seen F.is_honest (rules_of self.old) next.number (answer_of next.answer)
+            (state_of F.seen L.seen self.old) (state_of F.seen L.seen self.new) (R.remaining input.old) (R.remaining input.new)) }
+        ensures ended { OnNone result (IsAtEnd (R.remaining input.new)) }
+        ensures unread { OnNone result (Keeps (R.remaining input.old) (R.remaining input.new)) }
+        ensures same { OnNone result (self.new ≡ self.old) }
+        ensures failed { OnErr result (self.new ≡ self.old) }
+    {
+        let Some(header) = read_header(input)? else {
+            return Ok(None);
         };
         let content = read_content(self.alloc, input, header.length, self.max_batch)?;
         let answer = self.answer_batch(&header, content);
-        write_answer(output, header.number, &answer)?;
-        Ok(true)
+        Ok(Some(Answered {
+            number: header.number,
+            answer,
+        }))
     }
 
     /// Serves a batch with this content. `None` is content that was skipped: the batch is then answered 507, or 409.
@@ -188,7 +218,11 @@ fn skip<R: Read>(input: &mut R, count: u64) -> io::Result<()>
 }
 
 /// Writes the answer to the batch of this number.
-fn write_answer<W: Write>(output: &mut W, number: u64, answer: &BatchReply) -> io::Result<()>
+pub(crate) fn write_answer<W: Write>(
+    output: &mut W,
+    number: u64,
+    answer: &BatchReply,
+) -> io::Result<()>
     ensures { OnOk result (Appends (W.contents output.old) (W.contents output.new) (answer_bytes number (answer_of answer.entry.now))) }
 {
     let header = ReplyHeader {

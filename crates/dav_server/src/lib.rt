@@ -4,12 +4,16 @@
 //! order and returns a reply to each. It reads no clock and draws no random number: the time, the lock tokens and the
 //! principals come with the frames. The same batches give the same replies and the same state, unless memory runs
 //! out.
+//!
+//! With a `Keeper` a server keeps each batch in a place that survives a crash, before it writes the replies.
 #![tactic(auto)]
 
 mod batch;
 mod bodies;
 mod exchange;
 mod held;
+mod keeper;
+mod keeping;
 mod memory;
 mod owners;
 mod parts;
@@ -19,6 +23,7 @@ mod served;
 mod server;
 
 pub use batch::BatchReply;
+pub use keeper::Keeper;
 pub use served::{ExpiringLocks, TimedStore};
 pub use server::{Options, Server};
 

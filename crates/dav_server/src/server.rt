@@ -42,7 +42,9 @@ pub struct Server<'a, F, L> {
 }
 
 impl<'a, F: TimedStore, L: ExpiringLocks> Server<'a, F, L> {
-    ghost use Rattle.dav_server.specs.State.{HasEmptyLog, state_of, rules_of, first_state, first_rules, after_expiry};
+    ghost use Rattle.dav_server.specs.State.{HasEmptyLog, state_of, rules_of, resumed_state, first_state, first_rules, after_expiry};
+    ghost use Rattle.dav_server.specs.Snapshots.{snapshot_at};
+    ghost use Rattle.dav_server.specs.Keeping.{snapshot_of};
     ghost use Rattle.dav_server.specs.Frames.{Reacts, ServesFrame};
     ghost use Rattle.dav_server.specs.Events.{AnswersRequest, Executes};
     ghost use Rattle.dav_server.specs.Owners.{is_forbidden};
@@ -56,12 +58,30 @@ impl<'a, F: TimedStore, L: ExpiringLocks> Server<'a, F, L> {
     ) -> Server<'a, F, L>
         ensures state { state_of F.seen L.seen result ≡ first_state (F.seen store.old) (L.seen locks.old) }
         ensures rules { rules_of result ≡ first_rules (string_bytes options.prefix) options.anyone_unlocks }
+        ensures snapshot { snapshot_of result ≡ Some (snapshot_at store.old locks.old 0 0) }
+    {
+        Server::resume(alloc, store, locks, options, 0, 0)
+    }
+
+    /// Creates a server over this store and this lock system that goes on from a time, in whole seconds since 1970, and
+    /// from the batch with this number, which is the last one. A keeper keeps both numbers.
+    pub fn resume(
+        alloc: Global,
+        store: &'a mut F,
+        locks: &'a mut L,
+        options: Options,
+        now: u64,
+        last: u64,
+    ) -> Server<'a, F, L>
+        ensures state { state_of F.seen L.seen result ≡ resumed_state (F.seen store.old) (L.seen locks.old) now last }
+        ensures rules { rules_of result ≡ first_rules (string_bytes options.prefix) options.anyone_unlocks }
+        ensures snapshot { snapshot_of result ≡ Some (snapshot_at store.old locks.old now last) }
     {
         Server {
             alloc,
             engine: DavInner::new(store, Some(locks), options.prefix, None, ()),
-            now: 0,
-            last: 0,
+            now,
+            last,
             anyone_unlocks: options.anyone_unlocks,
             max_batch: options.max_batch,
         }

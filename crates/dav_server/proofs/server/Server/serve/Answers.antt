@@ -1,5 +1,7 @@
 use Rattle.std.proofs.Common.{◌∙◌, inl, refl}
+use Rattle.dav_server.specs.Exchanges.{IsAnswered, AreRun}
 use Rattle.dav_server.specs.State.{rules_of}
+use Rattle.dav_server.proofs.ReadingBack.{one_run}
 use Rattle.dav_server.proofs.StreamRuns.{runs_none, runs_more, runs_end, runs_stopped}
 use Rattle.dav_server.proofs.server.Server.serve.Goals as goal
 
@@ -11,16 +13,19 @@ returns-in_err-exchange-clause-stopped g c =
 
 pub loop-init : goal.loop-init
 loop-init g c =
-    (refl, runs_none g.F.GuardedFileSystem.seen g.F.GuardedFileSystem.is_honest (rules_of c.args.self.now) _ (g.R.Read.remaining c.args.input.now) (g.W.Write.contents c.args.output.now))
+    let seen = g.F.GuardedFileSystem.seen in
+    let honest = g.F.GuardedFileSystem.is_honest in
+    let rules = rules_of c.args.self.now in
+    (refl, runs_none (IsAnswered seen honest rules) (AreRun seen honest rules) (one_run seen honest rules) _ (g.R.Read.remaining c.args.input.now) (g.W.Write.contents c.args.output.now))
 
 pub loop-preserved : goal.loop-preserved
 loop-preserved g c =
+    let seen = g.F.GuardedFileSystem.seen in
+    let honest = g.F.GuardedFileSystem.is_honest in
+    let rules = rules_of c.args.self.now in
     let (same, run) = c.loop.invariant in
-    let more = c.in_ok-exchange.ensures.served c.if-not-branch.false in (
-      c.in_ok-exchange.ensures.rules ∙ same,
-      runs_more g.F.GuardedFileSystem.seen g.F.GuardedFileSystem.is_honest (rules_of c.args.self.now) _ _ _ _ _ _ _ _ _
-          run (rw same at more),
-    )
+    let more = c.in_ok-exchange.ensures.served c.if-not-branch.false in
+    (c.in_ok-exchange.ensures.rules ∙ same, runs_more _ _ (one_run seen honest rules) _ _ _ _ _ _ _ _ _ run (rw same at more))
 
 pub returns-clause-stopped : goal.returns-clause-stopped
 returns-clause-stopped g c =
@@ -29,6 +34,8 @@ returns-clause-stopped g c =
 
 pub returns-then-not-branch-clause-ran : goal.returns-then-not-branch-clause-ran
 returns-then-not-branch-clause-ran g c =
+    let seen = g.F.GuardedFileSystem.seen in
+    let honest = g.F.GuardedFileSystem.is_honest in
+    let rules = rules_of c.args.self.now in
     let (same, run) = c.loop.invariant in
-    runs_end g.F.GuardedFileSystem.seen g.F.GuardedFileSystem.is_honest (rules_of c.args.self.now) _ _ _ _ _ _ _ _ _
-    run (c.in_ok-exchange.ensures.ended c.if-not-branch.true)
+    runs_end _ _ (one_run seen honest rules) _ _ _ _ _ _ _ _ _ run (c.in_ok-exchange.ensures.ended c.if-not-branch.true)

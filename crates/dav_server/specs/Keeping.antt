@@ -1,0 +1,84 @@
+-- Runs of a server with a keeper, which keeps each batch before its answer is written.
+use Rattle.std.specs.Prelude.{◌≡◌, ◌⊎◌, ℕ, Bool, List, flat_map, Option, Some, option_map}
+use Rattle.std.specs.Io.KnownBytes.{Appends, Keeps}
+use base.Stored.{Gv}
+use Rattle.dav_store.specs.Locks.{Locks}
+use Rattle.dav_store.specs.Store.{Store}
+use Rattle.dav_engine.specs.DavInner.{lent, lent_locks}
+use Rattle.dav_server.specs.Batches.{Exchange}
+use Rattle.dav_server.specs.Exchanges.{bytes_out, InOrder, ExchangesBy, StopsBy, RunsBy, IsAnswered}
+use Rattle.dav_server.specs.Guarantees.{AreOneRun}
+use Rattle.dav_server.specs.Snapshots.{Snapshot, snapshot_at, state_at, saved_of, OnlySavedDiffers, IsResaved}
+use Rattle.dav_server.specs.State.{Rules, ServerState, state_of}
+use Rattle.dav_server.specs.declared.server.Server.{Server}
+
+-- ---- exchanges
+
+module _ {F : Type 0} (see_store : F → Store) (is_honest : F → Bool) where
+  -- the batch of this exchange is answered, and then nothing changes but what is saved of the store
+  pub record IsAnsweredAndSaved (rules : Rules) (exchange : Exchange) (old new : ServerState) : Type 0 where
+    pub served : ServerState
+    pub answered : IsAnswered see_store is_honest rules exchange old served
+    pub saved : IsResaved served new
+
+  -- one exchange: its bytes are read, and those of its answer are written
+  abbrev pub ExchangesAndSaves : Rules → ServerState → ServerState → Option (List ℕ) → Option (List ℕ) → Option (List ℕ) → Option (List ℕ) → Type 0
+  ExchangesAndSaves rules old new input input' output output' = ExchangesBy (IsAnsweredAndSaved rules) old new input input' output output'
+
+  -- exchanges between which only what is saved of the store changes, and in which what a PUT wrote is what a later read returns
+  abbrev pub AreSavedRun : Rules → List Exchange → ServerState → ServerState → Type 0
+  AreSavedRun rules exchanges old new = AreOneRun see_store is_honest OnlySavedDiffers rules exchanges old new
+
+  -- the exchanges of a run: their bytes are read, and those of their answers are written; what a PUT wrote is what a later read returns
+  abbrev pub RunsAndSaves : Rules → ServerState → ServerState → Option (List ℕ) → Option (List ℕ) → Option (List ℕ) → Option (List ℕ) → Type 0
+  RunsAndSaves rules old new input input' output output' = RunsBy (IsAnsweredAndSaved rules) (AreSavedRun rules) old new input input' output output'
+
+-- ---- what a crash leaves
+
+module _ {F L : Type 0} where
+  -- the snapshot of a server, if it has a lock system
+  abbrev pub snapshot_of : Server F L → Option (Snapshot F L)
+  snapshot_of server = option_map (λ locks. snapshot_at (lent server.engine) locks server.now server.last) (lent_locks server.engine)
+
+module _ {F L K : Type 0} (see_store : F → Store) (lasts : K → Gv → Snapshot F L → Type 0) where
+  -- a crash leaves what is in the server now
+  pub record IsKept (keeper : K) (server : Server F L) : Type 0 where
+    pub snapshot : Snapshot F L
+    pub is : snapshot_of server ≡ Some snapshot
+    pub kept : lasts keeper (saved_of (see_store snapshot.store)) snapshot
+
+module _ {F L K : Type 0} (see_store : F → Store) (lasts_either : K → Gv → Snapshot F L → Snapshot F L → Type 0) where
+  -- a crash leaves what is in this snapshot, or what is in the server now
+  pub record LastsEither (keeper : K) (earlier : Snapshot F L) (server : Server F L) : Type 0 where
+    pub snapshot : Snapshot F L
+    pub is : snapshot_of server ≡ Some snapshot
+    pub kept : lasts_either keeper (saved_of (see_store snapshot.store)) earlier snapshot
+
+-- `lasts` and `lasts_either` are those of the keeper
+module _ {F L K : Type 0} (see_store : F → Store) (see_locks : L → Locks)
+    (lasts : K → Gv → Snapshot F L → Type 0) (lasts_either : K → Gv → Snapshot F L → Snapshot F L → Type 0) where
+  -- a crash leaves what was in the server in this earlier state, or what is in it now
+  pub record IsKeptOrWas (keeper : K) (before : ServerState) (server : Server F L) : Type 0 where
+    pub earlier : Snapshot F L
+    pub was : state_at see_store see_locks earlier ≡ before
+    pub either : LastsEither see_store lasts_either keeper earlier server
+
+  module _ (is_honest : F → Bool) (rules : Rules) where
+    -- An error stops an exchange. Nothing changed, or a batch was served (`stopped`). A crash leaves what was in the server before, or what is in it
+    -- now (`kept`). Nothing was written, or a crash leaves what is in the server now (`in_order`).
+    pub record StopsInsideKept (keeper keeper' : K) (old new : Server F L) (output output' : Option (List ℕ)) : Type 0 where
+      pub stopped : StopsBy (IsAnsweredAndSaved see_store is_honest rules) (state_of see_store see_locks old) (state_of see_store see_locks new)
+      pub kept : IsKept see_store lasts keeper old → IsKeptOrWas keeper' (state_of see_store see_locks old) new
+      pub in_order : Keeps output output' ⊎ (IsKept see_store lasts keeper old → IsKept see_store lasts keeper' new)
+
+    -- An error stops a run, after these exchanges and in this state. Nothing changed since, or one more batch was served (`stopped`). A crash leaves what
+    -- was in the server after the exchanges, or what is in it now (`kept`). Nothing but the answers of the exchanges was written, or a crash leaves what is
+    -- in the server now (`in_order`).
+    pub record StopsAfterKept (keeper keeper' : K) (old new : Server F L) (output output' : Option (List ℕ)) : Type 0 where
+      pub exchanges : List Exchange
+      pub mid : ServerState
+      pub answered : InOrder (IsAnsweredAndSaved see_store is_honest rules) exchanges (state_of see_store see_locks old) mid
+      pub law : AreSavedRun see_store is_honest rules exchanges (state_of see_store see_locks old) mid
+      pub stopped : StopsBy (IsAnsweredAndSaved see_store is_honest rules) mid (state_of see_store see_locks new)
+      pub kept : IsKept see_store lasts keeper old → IsKeptOrWas keeper' mid new
+      pub in_order : Appends output output' (flat_map bytes_out exchanges) ⊎ (IsKept see_store lasts keeper old → IsKept see_store lasts keeper' new)
