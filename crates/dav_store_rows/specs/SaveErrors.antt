@@ -1,15 +1,20 @@
--- Why saving a resource fails.
-use Rattle.std.specs.Prelude.{◌<◌, ◌≤◌, ◌^◌, ℕ, List, length, Option}
+-- Why saving fails.
+use Rattle.std.specs.Prelude.{◌≡◌, ◌<◌, ◌≤◌, ◌≤ℤ◌, ◌+◌, ◌^◌, ℕ, ℤ, pos, List, map, length, Option}
 use Rattle.std.specs.Option.{unwrap_or, IfSome}
 use Rattle.std.specs.List.{AllByRecursion}
 use Rattle.std.specs.FinMap.{entries}
 use Rattle.dav_cells.specs.Elements.{IsTooDeep}
+use Rattle.dav_cells.specs.Locks.{IsOwnerTooDeep}
 use Rattle.dav_nodes.specs.Rows.{Row}
 use Rattle.dav_pieces.specs.declared.piece.Piece.{Piece}
 use Rattle.dav_pieces.specs.Pieces.{size_of}
 use Rattle.dav_resource.specs.Tree.{Tree}
 use Rattle.dav_resource.specs.declared.property.DavProp.{DavProp}
 use Rattle.dav_store.specs.Store.{PropertyMap}
+use Rattle.dav_store.specs.declared.lock.DavLock.{DavLock}
+use Rattle.dav_rows.specs.Contents.{LockValues}
+use Rattle.dav_rows.specs.Changes.{lock_entry}
+use Rattle.dav_rows.specs.declared.lock.LockRow.{LockRow}
 use Rattle.dav_store_rows.specs.declared.saving.Counts.{Counts}
 use Rattle.dav_store_rows.specs.declared.saving.error.SaveError.{SaveError}
 use Rattle.dav_store_rows.specs.declared.saving.error.SaveError.TheVariants.{TooLarge, TooDeep, Memory}
@@ -70,3 +75,33 @@ HasFlat row = IfSome row (λ r. AreFlat r.value.properties)
 -- a resource is not saved: its rows do not fit, an element of a property has too many levels, or memory ran out
 abbrev pub FailsToSave : ℕ → Option (Row Kept) → Counts → SaveError → Type 0
 FailsToSave number row old = FailsUnless (FitsSave number row old) (HasFlat row)
+
+-- ---- locks
+
+-- memory ran out
+abbrev pub IsOutOfMemory : SaveError → Type 0
+IsOutOfMemory e = e ≡ Memory
+
+-- no row has a greater number
+abbrev pub AreUpTo : ℕ → List (ℤ × LockValues) → Type 0
+AreUpTo top rows = AllByRecursion (λ e. e.0 ≤ℤ pos top) rows
+
+-- if the row and the old rows have no greater number, then no new row has
+abbrev pub StaysUpTo : LockRow → List LockRow → List LockRow → Type 0
+StaysUpTo row old new = (top : ℕ) → AreUpTo top (map lock_entry old) → row.number ≤ℤ pos top → AreUpTo top (map lock_entry new)
+
+-- above the numbers of the rows so many more fit in 63 bits
+abbrev pub HaveRoom : List (ℤ × LockValues) → ℕ → Type 0
+HaveRoom rows count = (top : ℕ) × AreUpTo top rows × (top + count < 2 ^ 63)
+
+-- the owner has no more levels than a cell holds
+abbrev pub IsFlatLock : DavLock → Type 0
+IsFlatLock lock = IsOwnerTooDeep lock.owner → ⊥
+
+-- no owner has more levels than a cell holds
+abbrev pub AreFlatLocks : List DavLock → Type 0
+AreFlatLocks locks = AllByRecursion IsFlatLock locks
+
+-- the locks are not saved: a new row has no number, an owner has too many levels, or memory ran out
+abbrev pub FailsToSaveLocks : List (ℤ × LockValues) → List DavLock → SaveError → Type 0
+FailsToSaveLocks rows locks = FailsUnless (HaveRoom rows (length locks)) (AreFlatLocks locks)
