@@ -17,3 +17,4 @@ pub mod LockLoads
 pub mod LockSaves
 pub mod SameTables
 pub mod Counting
+pub mod Failing

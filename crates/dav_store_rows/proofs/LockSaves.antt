@@ -1,6 +1,6 @@
 -- The rows of locks in order, and the rows that are saved.
 use Rattle.std.proofs.Common.{◌≡◌, ℤ, List, [], ◌∷◌, ◌++◌, map, length, refl, sym, ap, ap₂, subst, ◌∙◌, append_assoc, append-nil, length-append, arith}
-use Rattle.std.proofs.lemmas.List.{map-append}
+use Rattle.std.proofs.lemmas.List.{map-append, length-map}
 use Rattle.std.specs.FinMap.{entries}
 use Rattle.dav_rows.specs.Contents.{Contents, LockValues}
 use Rattle.dav_rows.specs.Changes.{after, lock_entry}
@@ -41,6 +41,10 @@ saves locks old before now rows wanted brings values are = record {
     valid = are.valid;
   };
 }
+
+-- there are as many rows as locks
+pub values_length : (rows : List LockRow) (locks : List DavLock) → AreValuesOf (map row_values rows) locks → length rows ≡ length locks
+values_length rows locks are = sym (length-map rows row_values) ∙ ap length are.values_are ∙ length-map locks lock_values
 
 nothing_more : {A : Type 0} (xs ys : List A) → xs ++ ys ≡ xs → ys ≡ []
 nothing_more xs [] same = refl

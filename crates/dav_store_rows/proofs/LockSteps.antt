@@ -1,5 +1,5 @@
 -- The changes of the rows of locks, one after another.
-use Rattle.std.proofs.Common.{◌≡◌, ◌<◌, ◌+◌, ℕ, ℤ, List, [], ◌∷◌, ◌++◌, map, take, drop, length, get_or, refl, sym, ap, ap₂, subst, ◌∙◌, append_assoc, append-nil, add-one, arith, drop-cons}
+use Rattle.std.proofs.Common.{◌≡◌, ◌<◌, ◌+◌, ℕ, zero, suc, ℤ, pos, List, [], ◌∷◌, ◌++◌, map, take, drop, length, get_or, refl, sym, ap, ap₂, subst, ◌∙◌, append_assoc, append-nil, add-one, arith, drop-cons}
 use Rattle.std.proofs.Math.Seq.{take-suc}
 use Rattle.std.proofs.lemmas.List.{map-append}
 use Rattle.std.proofs.lemmas.Int.{ints}
@@ -14,6 +14,7 @@ use Rattle.dav_rows.specs.declared.change.Change.TheVariants.{Remove, PutLock}
 use Rattle.dav_rows.specs.declared.change.Table.TheVariants.{Lock}
 use Rattle.dav_rows.proofs.SavingLemmas.{after-append}
 use Rattle.dav_store_rows.specs.LockRows.{row_values, LocksBecome, BringsLocks}
+use Rattle.dav_store_rows.specs.SaveErrors.{AreUpTo}
 use Rattle.dav_store_rows.proofs.LockMaps.{insert_middle, remove_middle, insert_end}
 
 pub brings_none : (es : List (ℤ × LockValues)) (a : List Change) → BringsLocks es es a a
@@ -148,3 +149,16 @@ greatest_next rows index row old new was low at up last =
     let taken : take (index + 1) rows ≡ take index rows ++ row ∷ [] = ap (λ n. take n rows) (add-one index) ∙ take-suc rows index row low ∙ ap (λ x. take index rows ++ x ∷ []) (sym at) in
     subst (AllAtMost new) (sym (ap (map lock_entry) taken ∙ map-append lock_entry (take index rows) (row ∷ [])))
     (all_more (map lock_entry (take index rows)) (lock_entry row) old new was up last)
+
+-- the number of a row is not above the greatest
+pub up_to_at : (rows : List LockRow) (index : ℕ) (row : LockRow) (top : ℕ) → AreUpTo top (map lock_entry rows) → index < length rows → row ≡ get_or rows index row
+    → row.number ≤ℤ pos top
+up_to_at [] index row top all low at = absurd (omega arith)
+up_to_at (r ∷ rows) zero row top all low at = subst (λ (x : LockRow). x.number ≤ℤ pos top) (sym at) all.0
+up_to_at (r ∷ rows) (suc index) row top all low at = up_to_at rows index row top all.1 (omega arith) at
+
+-- one more row
+pub up_to_push : (old new : List LockRow) (copy : LockRow) (e : ℤ × LockValues) (top : ℕ) → new ≡ old ++ copy ∷ [] → lock_entry copy ≡ e → AreUpTo top (map lock_entry old)
+    → e.0 ≤ℤ pos top → AreUpTo top (map lock_entry new)
+up_to_push old new copy e top pushed copy_is all here =
+    subst (AreUpTo top) (sym (pushed_entries old new copy e pushed copy_is)) (all_more (map lock_entry old) e (pos top) (pos top) all (≤ℤ_refl (pos top)) here)

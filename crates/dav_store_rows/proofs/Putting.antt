@@ -1,8 +1,9 @@
 -- Changes that put parts, one after another.
-use Rattle.std.proofs.Common.{◌≡◌, ◌<◌, ◌≤◌, ◌+◌, true, ℕ, zero, suc, List, [], ◌∷◌, ◌++◌, length, take, map, get_or, Option, Some, refl, sym, ap, ◌∙◌, subst, arith, add-one, append_assoc, append-nil, length-append}
+use Rattle.std.proofs.Common.{◌≡◌, ◌<◌, ◌≤◌, ◌+◌, true, ℕ, zero, suc, List, [], ◌∷◌, ◌++◌, length, take, map, get_or, Option, Some, refl, sym, ap, ◌∙◌, subst, arith, add-one, append_assoc, append-nil, length-append, length-take}
 use Rattle.std.specs.Bool.{◌==◌}
 use Rattle.std.proofs.lemmas.Bool.{eqb-true}
 use Rattle.std.specs.List.{slice_get, AllByRecursion}
+use Rattle.std.specs.Option.{IfSome}
 use Rattle.std.specs.FinMap.{insert, entries}
 use Rattle.dav_key.specs.Key.{Key}
 use Rattle.dav_resource.specs.Tree.{Tree}
@@ -22,6 +23,7 @@ use Rattle.dav_cells.specs.Elements.{element_codec}
 use Rattle.dav_store_rows.specs.Stands.{AreValid}
 use Rattle.dav_store_rows.specs.Changed.{Appends, with_parts, with_extents, with_properties}
 use Rattle.dav_store_rows.specs.Puts.{PutsExtents}
+use Rattle.dav_store_rows.specs.SaveErrors.{IsFlat, AreFlatProps}
 use Rattle.dav_store_rows.proofs.Appending.{appends_none, appends_then, appends_same}
 
 -- one more item
@@ -109,6 +111,18 @@ puts_all number pieces rest place count before now p none = record {
   appends = p.appends;
 }
 
+-- the place and the size of the pieces that are left
+pub place_within : (number : ℕ) (pieces rest : List Piece) (place count : ℕ) (before now : List Change) → PutsSome number pieces rest place count before now
+    → place + size_of rest ≡ size_of pieces
+place_within number pieces rest place count before now p =
+    let sizes = size_of-append (joined p.groups) rest in let place_is = p.place_is in let whole = ap size_of p.joined_is in omega arith
+
+-- each group has a piece, so there are no more groups than pieces
+pub few_next : (count len : ℕ) (pieces rest group later : List Piece) → count + length rest ≤ length pieces → rest ≡ group ++ later → group ≡ take len rest
+    → 0 < len → len ≤ length rest → count + 1 + length later ≤ length pieces
+few_next count len pieces rest group later few split front some within =
+    let long = length-append group later in let whole = ap length split in let own = ap length front in let cut = length-take len rest in omega arith
+
 -- ---- properties
 
 -- the property at a place has the element of the entry there
@@ -179,3 +193,23 @@ property_next number all props i count prop element before mid now same low is t
 pub none_left : {A : Type 0} (xs : List A) → true ≡ (length xs == 0) → xs ≡ []
 none_left [] e = refl
 none_left (x ∷ xs) e = absurd (let no : suc (length xs) ≡ 0 = eqb-true (suc (length xs)) 0 (sym e) in omega arith)
+
+-- ---- levels
+
+-- the listed properties are as many as those of the map
+pub length_listed : (props : List DavProp) (all : List (Key × Tree)) → map named_element props ≡ map (λ e. (e.0, Some e.1)) all → length props ≡ length all
+length_listed [] [] same = refl
+length_listed [] (e ∷ all) same = cc
+length_listed (first ∷ props) [] same = cc
+length_listed (first ∷ props) (e ∷ all) same =
+    ap suc (length_listed props all (let tail : map named_element props ≡ map (λ e. (e.0, Some e.1)) all = cc in tail))
+
+-- and no deeper
+pub flat_listed : (props : List DavProp) (all : List (Key × Tree)) → map named_element props ≡ map (λ e. (e.0, Some e.1)) all
+    → AllByRecursion (λ property. IsFlat property.1) all → AreFlatProps props
+flat_listed [] all same flat = tt
+flat_listed (first ∷ props) [] same flat = cc
+flat_listed (first ∷ props) (e ∷ all) same flat =
+    let head : named_element first ≡ (e.0, Some e.1) = cc in
+    let tail : map named_element props ≡ map (λ e. (e.0, Some e.1)) all = cc in
+    (subst (λ o. IfSome o IsFlat) (sym (ap (λ (x : Key × Option Tree). x.1) head)) flat.0, flat_listed props all tail flat.1)

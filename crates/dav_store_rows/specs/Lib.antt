@@ -5,6 +5,7 @@ pub mod Changed
 pub mod Puts
 pub mod Saves
 pub mod Counted
+pub mod SaveErrors
 pub mod Updates
 pub mod LoadErrors
 pub mod Loads

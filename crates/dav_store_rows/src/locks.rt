@@ -1,7 +1,8 @@
 //! The rows of locks: what is saved of them, and how they are loaded.
-ghost use Rattle.std.specs.Prelude.{◌≡◌, [], map, OnOk};
+ghost use Rattle.std.specs.Prelude.{◌≡◌, [], map, IfErr, OnOk};
 ghost use Rattle.dav_rows.specs.Changes.{lock_entry};
 ghost use Rattle.dav_store_rows.specs.LockRows.{SavesLocks};
+ghost use Rattle.dav_store_rows.specs.SaveErrors.{FailsToSaveLocks};
 
 mod diff;
 mod loads;
@@ -62,7 +63,8 @@ impl SavedLocks {
         changes: &mut Vec<Change>,
         locks: Values<'_, u64, DavLock>,
     ) -> Result<(), SaveError>
-        ensures { OnOk result (SavesLocks locks.entry self.old changes.old.items self.new changes.new.items) }
+        ensures ok { OnOk result (SavesLocks locks.entry self.old changes.old.items self.new changes.new.items) }
+        ensures err { IfErr result (FailsToSaveLocks self.old locks.entry) }
     {
         let alloc = *changes.allocator();
         let wanted = rows_of_locks(alloc, locks)?;

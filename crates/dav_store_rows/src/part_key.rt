@@ -1,6 +1,7 @@
 //! How the rows of a resource's parts are numbered.
-ghost use Rattle.std.specs.Prelude.{◌≡◌, ◌<◌, IfOk, OnOk};
+ghost use Rattle.std.specs.Prelude.{◌≡◌, ◌<◌, IfOk, IfErr, OnOk};
 ghost use Rattle.dav_store_rows.specs.Parts.{MOST, part_key};
+ghost use Rattle.dav_store_rows.specs.SaveErrors.{FailsUnless, HasPartKeys};
 
 use crate::SaveError;
 
@@ -15,6 +16,7 @@ const MOST_RESOURCES: usize = 1 << 31;
 pub(crate) fn key_of_part(number: usize, index: usize) -> Result<i64, SaveError>
     ensures key { IfOk result (λ key. key ≡ part_key number index) }
     ensures few { OnOk result (index < MOST) }
+    ensures err { IfErr result (FailsUnless (HasPartKeys number × (index < MOST)) (Unit {0})) }
 {
     if index >= MOST_PARTS || number >= MOST_RESOURCES {
         return Err(SaveError::TooLarge);

@@ -1,10 +1,11 @@
 //! Changes that bring the rows of a resource up to date.
-ghost use Rattle.std.specs.Prelude.{◌≡◌, ◌<◌, ◌^◌, [], length, OnOk};
+ghost use Rattle.std.specs.Prelude.{◌≡◌, ◌<◌, ◌^◌, [], length, IfErr, OnOk};
 ghost use Rattle.std.specs.FinMap.{empty};
 ghost use Rattle.std.specs.Option.{option_map};
 ghost use Rattle.dav_nodes.specs.Rows.{row_in};
 ghost use Rattle.dav_rows.specs.Contents.{Contents};
 ghost use Rattle.dav_store_rows.specs.Saves.{counts_of, IsCounted, Saves, Fits};
+ghost use Rattle.dav_store_rows.specs.SaveErrors.{FailsToSave};
 
 mod error;
 mod groups;
@@ -69,6 +70,7 @@ impl SavedCounts {
         placed: Option<PlacedValue<'_, Entry<Body>>>,
     ) -> Result<(), SaveError>
         ensures ok { OnOk result (Saves number (option_map row_in placed.entry) self.old changes.old.items self.new changes.new.items) }
+        ensures err { IfErr result (FailsToSave number (option_map row_in placed.entry) (counts_of self.old number)) }
     {
         let old = self.counts_of(number);
         let new = put_rows(changes, number, placed)?;

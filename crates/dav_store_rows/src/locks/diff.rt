@@ -1,8 +1,9 @@
 //! The changes from the rows of locks that are saved to those that are wanted.
-ghost use Rattle.std.specs.Prelude.{◌≡◌, ◌≤ℤ◌, ◌<ℤ◌, [], ◌∷◌, ◌++◌, map, IfOk, OnOk, IsTrue};
+ghost use Rattle.std.specs.Prelude.{◌≡◌, ◌≤◌, ◌≤ℤ◌, ◌<ℤ◌, ◌+ℤ◌, ◌^◌, ℕ, ℤ, pos, [], ◌∷◌, ◌++◌, map, length, IfOk, IfErr, OnOk, IsTrue};
 ghost use Rattle.std.specs.List.{AllByRecursion};
 ghost use Rattle.dav_rows.specs.Changes.{lock_entry};
 ghost use Rattle.dav_store_rows.specs.LockRows.{row_values, values_in, BringsLocks, ReplacesRow, RenewsRow};
+ghost use Rattle.dav_store_rows.specs.SaveErrors.{FailsUnless, IsOutOfMemory, AreUpTo, HaveRoom, StaysUpTo};
 
 use crate::SaveError;
 use dav_rows::{Change, LockRow, Table};
@@ -20,6 +21,7 @@ pub(super) fn save_rows(
 ) -> Result<Vec<LockRow>, SaveError>
     ensures brings { IfOk result (λ rows. BringsLocks (map lock_entry saved.now) (map lock_entry rows.items) changes.old.items changes.new.items) }
     ensures values { IfOk result (λ rows. map row_values rows.items ≡ map row_values wanted.now) }
+    ensures err { IfErr result (FailsUnless (HaveRoom (map lock_entry saved.now) (length wanted.now)) (Unit {0})) }
 {
     let mut rows = Vec::new(alloc);
     let mut left = wanted;
@@ -40,6 +42,9 @@ fn save_row<'a>(
 ) -> Result<&'a [LockRow], SaveError>
     ensures brings { IfOk result (λ _. ReplacesRow rows.old.items row.now rows.new.items changes.old.items changes.new.items) }
     ensures values { IfOk result (λ left. values_in rows.new.items ++ values_in left.now ≡ values_in rows.old.items ++ values_in wanted.now) }
+    ensures fewer { IfOk result (λ left. length left.now ≤ length wanted.now) }
+    ensures low { OnOk result (StaysUpTo row.now rows.old.items rows.new.items) }
+    ensures err { IfErr result IsOutOfMemory }
 {
     if let Some((lock, left)) = wanted.split_first() {
         if row.token.as_str() == lock.token.as_str() {
@@ -60,6 +65,8 @@ fn keep_row(
 ) -> Result<(), SaveError>
     ensures brings { IfOk result (λ _. ReplacesRow rows.old.items row.now rows.new.items changes.old.items changes.new.items) }
     ensures values { IfOk result (λ _. map row_values rows.new.items ≡ map row_values rows.old.items ++ row_values lock.now ∷ []) }
+    ensures low { OnOk result (StaysUpTo row.now rows.old.items rows.new.items) }
+    ensures err { IfErr result IsOutOfMemory }
 {
     put_row(changes, row, lock)?;
     let copy = numbered(lock, row.number)?;
@@ -69,7 +76,8 @@ fn keep_row(
 
 /// Appends the change that puts a wanted row under the number of a saved one, unless they are the same.
 fn put_row(changes: &mut Vec<Change>, row: &LockRow, lock: &LockRow) -> Result<(), SaveError>
-    ensures { OnOk result (RenewsRow row.now lock.now changes.old.items changes.new.items) }
+    ensures ok { OnOk result (RenewsRow row.now lock.now changes.old.items changes.new.items) }
+    ensures err { IfErr result IsOutOfMemory }
 {
     if is_same(row, lock) {
         return Ok(());
@@ -87,6 +95,7 @@ fn add_rows(
 ) -> Result<(), SaveError>
     ensures brings { IfOk result (λ _. BringsLocks (map lock_entry rows.old.items) (map lock_entry rows.new.items) changes.old.items changes.new.items) }
     ensures values { IfOk result (λ _. map row_values rows.new.items ≡ map row_values rows.old.items ++ map row_values wanted.now) }
+    ensures err { IfErr result (FailsUnless (HaveRoom (map lock_entry rows.old.items) (length wanted.now)) (Unit {0})) }
 {
     let mut number = greatest_number(rows);
     'wanted: for lock in wanted {
@@ -102,7 +111,8 @@ fn add_rows(
 
 /// Returns a greater number. Returns `TooLarge` if it does not fit in 63 bits.
 fn next_number(number: i64) -> Result<i64, SaveError>
-    ensures { IfOk result (λ next. number <ℤ next) }
+    ensures greater { IfOk result (λ next. next ≡ number +ℤ pos 1) }
+    ensures err { IfErr result (FailsUnless ((number +ℤ pos 1) <ℤ pos (2 ^ 63)) (Unit {0})) }
 {
     match number.checked_add(1) {
         Some(next) => Ok(next),
@@ -112,7 +122,8 @@ fn next_number(number: i64) -> Result<i64, SaveError>
 
 /// Returns the greatest number of the rows, or 0 if none is greater.
 fn greatest_number(rows: &[LockRow]) -> i64
-    ensures { AllByRecursion (λ e. e.0 ≤ℤ result) (map lock_entry rows.now) }
+    ensures greatest { AllByRecursion (λ e. e.0 ≤ℤ result) (map lock_entry rows.now) }
+    ensures least { (top : ℕ) → AreUpTo top (map lock_entry rows.now) → result ≤ℤ pos top }
 {
     let mut greatest = 0;
     'rows: for row in rows {
@@ -125,6 +136,7 @@ fn greatest_number(rows: &[LockRow]) -> i64
 fn greater(number: i64, other: i64) -> i64
     ensures number { number ≤ℤ result }
     ensures other { other ≤ℤ result }
+    ensures least { (top : ℤ) → number ≤ℤ top → other ≤ℤ top → result ≤ℤ top }
 {
     if number < other { other } else { number }
 }

@@ -1,11 +1,12 @@
 //! Changes that put the rows of a resource, and that remove rows.
-ghost use Rattle.std.specs.Prelude.{◌≡◌, ◌<◌, ◌≤◌, ◌-◌, ◌^◌, [], true, Some, IfOk, OnOk};
+ghost use Rattle.std.specs.Prelude.{◌≡◌, ◌<◌, ◌≤◌, ◌-◌, ◌^◌, [], true, length, Some, IfOk, IfErr, OnOk};
 ghost use Rattle.dav_cells.specs.Elements.{element_codec};
 ghost use Rattle.dav_cells.specs.Pieces.{pieces_codec};
 ghost use Rattle.std.specs.Option.{option_map};
 ghost use Rattle.dav_nodes.specs.Rows.{row_in};
 ghost use Rattle.dav_store_rows.specs.Parts.{MOST};
 ghost use Rattle.dav_store_rows.specs.Resources.{extent_values, property_values, pieces_in};
+ghost use Rattle.dav_store_rows.specs.SaveErrors.{FailsUnless, HasPartKeys, FitsPieces, FitsRow, FitsRows, IsFlat, AreFlatProps, AreFlat, HasFlat};
 ghost use Rattle.dav_store_rows.specs.Changed.{Appends, with_extent, with_property, removed_parts};
 ghost use Rattle.dav_store_rows.specs.Puts.{PutsExtents, PutsListed, PutsRows};
 
@@ -28,6 +29,7 @@ pub(super) fn put_rows(
 ) -> Result<Counts, SaveError>
     ensures rows { IfOk result (λ counts. PutsRows number (option_map row_in placed.entry) counts changes.old.items changes.new.items) }
     ensures few { OnOk result (number < 2 ^ 63) }
+    ensures err { IfErr result (FailsUnless (FitsRows number (option_map row_in placed.entry)) (HasFlat (option_map row_in placed.entry))) }
 {
     match placed {
         Some(placed) => put_placed(changes, number, &placed),
@@ -49,6 +51,7 @@ fn put_placed(
 ) -> Result<Counts, SaveError>
     ensures rows { IfOk result (λ counts. PutsRows number (Some (row_in placed.now)) counts changes.old.items changes.new.items) }
     ensures few { OnOk result (number < 2 ^ 63) }
+    ensures err { IfErr result (FailsUnless (HasPartKeys number × FitsRow (row_in placed.now)) (AreFlat placed.now.value.now.properties)) }
 {
     let entry = placed.value;
     let row = resource_row(*changes.allocator(), number, placed)?;
@@ -68,7 +71,8 @@ fn put_content(
     number: usize,
     content: &Content<Body>,
 ) -> Result<usize, SaveError>
-    ensures { IfOk result (λ count. PutsExtents number (pieces_in content.now) count changes.old.items changes.new.items) }
+    ensures ok { IfOk result (λ count. PutsExtents number (pieces_in content.now) count changes.old.items changes.new.items) }
+    ensures err { IfErr result (FailsUnless (HasPartKeys number × FitsPieces (pieces_in content.now)) (Unit {0})) }
 {
     match content {
         Content::File(body) => put_extents(changes, number, body.pieces()),
@@ -82,7 +86,8 @@ fn put_extents(
     number: usize,
     pieces: &[Piece],
 ) -> Result<usize, SaveError>
-    ensures { IfOk result (λ count. PutsExtents number pieces.now count changes.old.items changes.new.items) }
+    ensures ok { IfOk result (λ count. PutsExtents number pieces.now count changes.old.items changes.new.items) }
+    ensures err { IfErr result (FailsUnless (HasPartKeys number × FitsPieces pieces.now) (Unit {0})) }
 {
     let mut rest = pieces;
     let mut place = 0;
@@ -111,6 +116,7 @@ fn put_extent(
     ensures ok { OnOk result (Appends (with_extent number index (extent_values number place group.now)) changes.old.items changes.new.items) }
     ensures valid { OnOk result (pieces_codec.is_valid group.now ≡ true) }
     ensures few { OnOk result (index < MOST) }
+    ensures err { IfErr result (FailsUnless (HasPartKeys number × (index < MOST) × (place < 2 ^ 63)) (Unit {0})) }
 {
     let row = extent_row(*changes.allocator(), number, index, place, group)?;
     changes.push(Change::PutExtent(row))?;
@@ -123,7 +129,8 @@ fn put_properties(
     number: usize,
     props: &[DavProp],
 ) -> Result<usize, SaveError>
-    ensures { IfOk result (λ count. PutsListed number props.now count changes.old.items changes.new.items) }
+    ensures ok { IfOk result (λ count. PutsListed number props.now count changes.old.items changes.new.items) }
+    ensures err { IfErr result (FailsUnless (HasPartKeys number × (length props.now ≤ MOST)) (AreFlatProps props.now)) }
 {
     let mut count = 0;
     'properties: for prop in props {
@@ -145,6 +152,7 @@ fn put_property(
     ensures ok { OnOk result (Appends (with_property number index (property_values number ([], element.now))) changes.old.items changes.new.items) }
     ensures valid { OnOk result (element_codec.is_valid element.now ≡ true) }
     ensures few { OnOk result (index < MOST) }
+    ensures err { IfErr result (FailsUnless (HasPartKeys number × (index < MOST)) (IsFlat element.now)) }
 {
     let row = property_row(*changes.allocator(), number, index, element)?;
     changes.push(Change::PutProperty(row))?;
@@ -161,6 +169,7 @@ pub(super) fn remove_parts(
 ) -> Result<(), SaveError>
     ensures ok { OnOk result (Appends (removed_parts table number from (to - from)) changes.old.items changes.new.items) }
     ensures few { OnOk result (from < to → to ≤ MOST) }
+    ensures err { IfErr result (FailsUnless (HasPartKeys number × (to ≤ MOST)) (Unit {0})) }
 {
     'parts: for index in from..to {
         changes.push(Change::Remove(table, key_of_part(number, index)?))?;

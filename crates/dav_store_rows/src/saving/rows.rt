@@ -1,5 +1,5 @@
 //! The rows of a resource.
-ghost use Rattle.std.specs.Prelude.{◌≡◌, ◌<◌, ◌^◌, [], pos, true, IfOk, OnOk, string_bytes};
+ghost use Rattle.std.specs.Prelude.{◌≡◌, ◌<◌, ◌^◌, [], pos, true, IfOk, IfErr, OnOk, string_bytes};
 ghost use Rattle.std.specs.Option.{unwrap_or, option_map, option_copied};
 ghost use Rattle.dav_wire.specs.Writes.{IsEncoding};
 ghost use Rattle.dav_cells.specs.Elements.{element_codec};
@@ -8,6 +8,7 @@ ghost use Rattle.dav_nodes.specs.Rows.{row_in};
 ghost use Rattle.dav_rows.specs.Changes.{resource_entry, extent_entry, property_entry};
 ghost use Rattle.dav_store_rows.specs.Parts.{MOST, part_key};
 ghost use Rattle.dav_store_rows.specs.Resources.{resource_values, extent_values, property_values};
+ghost use Rattle.dav_store_rows.specs.SaveErrors.{FailsUnless, HasPartKeys, FitsRow, IsFlat};
 
 use crate::SaveError;
 use crate::part_key::key_of_part;
@@ -30,6 +31,7 @@ pub(super) fn resource_row(
 ) -> Result<ResourceRow, SaveError>
     ensures row { IfOk result (λ row. resource_entry row ≡ (pos number, resource_values (row_in placed.now))) }
     ensures few { OnOk result (number < 2 ^ 63) }
+    ensures err { IfErr result (FailsUnless (HasPartKeys number × FitsRow (row_in placed.now)) (Unit {0})) }
 {
     let entry = placed.value;
     let (directory, size) = match &entry.content {
@@ -62,6 +64,7 @@ pub(super) fn extent_row(
     ensures row { IfOk result (λ row. extent_entry row ≡ (part_key number index, extent_values number place pieces.now)) }
     ensures valid { OnOk result (pieces_codec.is_valid pieces.now ≡ true) }
     ensures few { OnOk result (index < MOST) }
+    ensures err { IfErr result (FailsUnless (HasPartKeys number × (index < MOST) × (place < 2 ^ 63)) (Unit {0})) }
 {
     Ok(ExtentRow {
         number: key_of_part(number, index)?,
@@ -85,6 +88,7 @@ pub(super) fn property_row(
     ensures row { IfOk result (λ row. property_entry row ≡ (part_key number index, property_values number ([], element.now))) }
     ensures valid { OnOk result (element_codec.is_valid element.now ≡ true) }
     ensures few { OnOk result (index < MOST) }
+    ensures err { IfErr result (FailsUnless (HasPartKeys number × (index < MOST)) (IsFlat element.now)) }
 {
     Ok(PropertyRow {
         number: key_of_part(number, index)?,
@@ -108,7 +112,8 @@ fn copied_or_empty(alloc: Global, text: Option<&String>) -> Result<String, Alloc
 /// Encodes an element as a cell. Returns `TooDeep` if it has more levels than a cell holds, and `Memory` if
 /// memory runs out.
 fn encoded(alloc: Global, element: &Element) -> Result<Vec<u8>, SaveError>
-    ensures { IfOk result (λ bytes. IsEncoding element_codec element.now bytes.items) }
+    ensures ok { IfOk result (λ bytes. IsEncoding element_codec element.now bytes.items) }
+    ensures err { IfErr result (FailsUnless (Unit {0}) (IsFlat element.now)) }
 {
     match encode_element(alloc, element) {
         Ok(bytes) => Ok(bytes),

@@ -5,13 +5,13 @@ use Rattle.dav_store_rows.specs.LockRows.{row_values}
 use Rattle.dav_store_rows.proofs.LockSteps.{brings_same, brings_put}
 use Rattle.dav_store_rows.proofs.locks.diff.put_row.Goals as goal
 
-pub returns : goal.returns
-returns c = λ done rest.
+pub returns-clause-ok : goal.returns-clause-ok
+returns-clause-ok c = λ done rest.
     let fits : SFits w64 c.args.row.now.number = search rules in
     let put = simp to_z-of_z at c.in_ok-put.ensures in
     brings_put done c.args.row.now.number (row_values c.args.row.now) rest c.in_ok-put.put (row_values c.args.lock.now) c.args.changes.now.items c.push.new.self.items
     put c.in_ok-push.ensures.items
 
-pub returns-then-is_same : goal.returns-then-is_same
-returns-then-is_same c = λ done rest.
+pub returns-then-is_same-clause-ok : goal.returns-then-is_same-clause-ok
+returns-then-is_same-clause-ok c = λ done rest.
     brings_same done c.args.row.now (row_values c.args.lock.now) rest c.args.changes.now.items (c.is_same.ensures c.if-is_same.true)
