@@ -165,7 +165,7 @@ func startKillable(t *testing.T) (c client, kill func()) {
 	if err := os.WriteFile(program, []byte(script), 0o700); err != nil {
 		t.Fatal(err)
 	}
-	handler, err := New(Options{Davd: program, Log: log.New(io.Discard, "", 0)})
+	handler, err := New(context.Background(), Options{Davd: program, Log: log.New(io.Discard, "", 0)})
 	if err != nil {
 		t.Fatal(err)
 	}

@@ -1,8 +1,8 @@
 // Package davserve serves WebDAV (RFC 4918) over HTTP.
 //
 // A Handler speaks HTTP and XML. What it reads it passes on to a process of its own, davd, whose engine is proved: each
-// method changes and returns exactly what its definition says. davd holds files and locks in memory, and they are lost
-// when it ends.
+// method changes and returns exactly what its definition says. Without a folder, davd holds files and locks in memory,
+// and they are lost when it ends.
 package davserve
 
 import (
@@ -30,8 +30,9 @@ type Handler struct {
 	trees   trees
 }
 
-// New starts davd and returns a handler over it. The caller must close the handler.
-func New(options Options) (*Handler, error) {
+// New starts davd and returns a handler over it. The caller must close the handler. With a folder, New waits until davd
+// has loaded it. When ctx is done before, New fails. Later ctx has no effect.
+func New(ctx context.Context, options Options) (*Handler, error) {
 	options, err := options.complete()
 	if err != nil {
 		return nil, err
@@ -40,9 +41,10 @@ func New(options Options) (*Handler, error) {
 	if err != nil {
 		return nil, err
 	}
-	engine, err := davd.Start(davd.Config{
+	engine, err := davd.Start(ctx, davd.Config{
 		Program: options.Davd,
 		Args:    arguments(options),
+		Folder:  options.Folder,
 		Memory:  options.Memory,
 		Log:     options.Log,
 	})
@@ -53,13 +55,16 @@ func New(options Options) (*Handler, error) {
 	if options.Quota > 0 {
 		h.quota = newQuota(options.Quota, h.used)
 	}
-	if err := h.greet(); err != nil {
+	if options.Folder != "" && h.quota != nil {
+		h.quota.bound = options.Quota // So that davd is asked before the first bytes are written.
+	}
+	if err := h.greet(ctx); err != nil {
 		return nil, err
 	}
 	return h, nil
 }
 
-// arguments returns the arguments of davd.
+// arguments returns the arguments of davd without the folder.
 func arguments(options Options) []string {
 	var arguments []string
 	if options.Prefix != "" {
@@ -72,8 +77,8 @@ func arguments(options Options) []string {
 }
 
 // greet makes sure that the program that was started is davd.
-func (h *Handler) greet() error {
-	ctx, cancel := context.WithTimeout(context.Background(), 10*time.Second)
+func (h *Handler) greet(ctx context.Context) error {
+	ctx, cancel := context.WithTimeout(ctx, 10*time.Second)
 	defer cancel()
 	if err := h.Check(ctx); err != nil {
 		cancel()
@@ -152,7 +157,8 @@ func (h *Handler) isBelowPrefix(asked string) bool {
 	return h.options.Prefix == "" || asked == h.options.Prefix || strings.HasPrefix(asked, h.options.Prefix+"/")
 }
 
-// fail answers a request that failed. Each error has one status.
+// fail answers a request that failed. Each error has one status. If nobody knows the response, the connection is closed
+// without one.
 func (h *Handler) fail(w http.ResponseWriter, r *http.Request, err error) {
 	var own statusError
 	var failed *davd.StatusError
@@ -161,6 +167,10 @@ func (h *Handler) fail(w http.ResponseWriter, r *http.Request, err error) {
 		h.failWith(w, r, int(own))
 	case errors.As(err, &failed) && failed.Status >= 400 && failed.Status < 600:
 		h.failWith(w, r, failed.Status)
+	case errors.Is(err, davd.ErrKept), errors.Is(err, davd.ErrUnknown):
+		panic(http.ErrAbortHandler) // Any response could be wrong.
+	case errors.Is(err, davd.ErrFull):
+		h.failWith(w, r, http.StatusInsufficientStorage)
 	case errors.Is(err, davd.ErrLost), errors.Is(err, davd.ErrDown), errors.Is(err, davd.ErrClosed):
 		w.Header().Set("Retry-After", "1")
 		h.failWith(w, r, http.StatusServiceUnavailable)

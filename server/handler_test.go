@@ -39,7 +39,7 @@ func startServer(t *testing.T, options Options) client {
 	t.Helper()
 	options.Davd = davdForTests(t)
 	options.Log = log.New(io.Discard, "", 0)
-	handler, err := New(options)
+	handler, err := New(context.Background(), options)
 	if err != nil {
 		t.Fatal(err)
 	}
@@ -298,7 +298,7 @@ func TestNewNamesWhatIsWrong(t *testing.T) {
 		{Davd: "davd", MaxLock: -1},
 	} {
 		options.Log = log.New(io.Discard, "", 0)
-		if h, err := New(options); err == nil {
+		if h, err := New(context.Background(), options); err == nil {
 			t.Errorf("%+v is accepted", options)
 			h.Close(context.Background())
 		}

@@ -6,6 +6,7 @@ import (
 	"log"
 	"net/http"
 	"net/url"
+	"path/filepath"
 	"strings"
 	"time"
 )
@@ -14,6 +15,8 @@ import (
 type Options struct {
 	// Davd is the path of the program davd, or its name, which is then looked up in PATH.
 	Davd string
+	// Folder is the folder that davd keeps, for a davd that keeps one. Empty: davd holds everything in memory.
+	Folder string
 	// Prefix is what the path of each URL begins with, such as "/dav". The handler gets requests with the prefix.
 	Prefix string
 	// PublicURL is the URL by which clients reach the server, if a proxy changes the header field Host. A Destination
@@ -59,6 +62,13 @@ func (o Options) complete() (Options, error) {
 	}
 	if err := checkPrefix(o.Prefix); err != nil {
 		return o, err
+	}
+	if o.Folder != "" {
+		folder, err := filepath.Abs(o.Folder) // So that it does not look like an option of davd.
+		if err != nil {
+			return o, fmt.Errorf("the folder: %w", err)
+		}
+		o.Folder = folder
 	}
 	for _, n := range []int64{o.MaxBody, o.MaxXML, int64(o.MaxInfinity), o.Quota, o.Memory} {
 		if n < 0 {

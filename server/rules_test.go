@@ -4,7 +4,9 @@ import (
 	"fmt"
 	"io"
 	"log"
+	"net/http"
 	"net/http/httptest"
+	"path/filepath"
 	"strings"
 	"testing"
 
@@ -206,5 +208,42 @@ func TestALostRequestIs503(t *testing.T) {
 		if w.Code != 503 || w.Header().Get("Retry-After") == "" {
 			t.Errorf("%v: status %d, header %v", err, w.Code, w.Header())
 		}
+	}
+}
+
+func TestARequestThatAFullDiskEndedIs507(t *testing.T) {
+	w := httptest.NewRecorder()
+	h := &Handler{options: Options{Log: log.New(io.Discard, "", 0)}}
+	h.fail(w, httptest.NewRequest("PUT", "/f", nil), fmt.Errorf("a PUT: %w", davd.ErrFull))
+	if w.Code != 507 || w.Header().Get("Retry-After") != "" {
+		t.Errorf("status %d, header %v", w.Code, w.Header())
+	}
+}
+
+func TestARequestWhoseResponseNobodyKnowsHasNone(t *testing.T) {
+	h := &Handler{options: Options{Log: log.New(io.Discard, "", 0)}}
+	for _, err := range []error{davd.ErrKept, davd.ErrUnknown} {
+		for _, method := range []string{"PUT", "DELETE", "PROPFIND", "GET"} {
+			server := httptest.NewUnstartedServer(http.HandlerFunc(func(w http.ResponseWriter, r *http.Request) {
+				h.fail(w, r, fmt.Errorf("a request: %w", err))
+			}))
+			server.Config.ErrorLog = h.options.Log
+			server.Start()
+			answer := client{t, server}.raw(method + " /f HTTP/1.1\r\nHost: h\r\nContent-Length: 0\r\n\r\n")
+			server.Close()
+			if answer != "" {
+				t.Errorf("%v: the answer to a %s is %q", err, method, answer)
+			}
+		}
+	}
+}
+
+func TestTheFolderOfDavdLooksLikeNoOption(t *testing.T) {
+	options, err := Options{Davd: "davd", Folder: "-quota"}.complete()
+	if err != nil || !filepath.IsAbs(options.Folder) || filepath.Base(options.Folder) != "-quota" {
+		t.Errorf("the folder is %q, %v", options.Folder, err)
+	}
+	if options, err := (Options{Davd: "davd"}).complete(); err != nil || options.Folder != "" {
+		t.Errorf("without a folder it is %q, %v", options.Folder, err)
 	}
 }

@@ -28,7 +28,10 @@ func serve(ctx context.Context, c config, logger *log.Logger) (err error) {
 	}
 	c.options.Log = logger
 	c.options.Principal = func(r *http.Request) (string, bool) { return auth.User(r.Context()) }
-	dav, err := davserve.New(c.options)
+	dav, err := davserve.New(ctx, c.options)
+	if ctx.Err() != nil && errors.Is(err, ctx.Err()) {
+		return nil // It was interrupted while davd loaded its folder.
+	}
 	if err != nil {
 		return err
 	}
@@ -152,6 +155,10 @@ func (c *config) announce(logger *log.Logger, address net.Addr) {
 		scheme = "https"
 	}
 	logger.Printf("serving WebDAV at %s://%s%s/", scheme, address, c.options.Prefix)
+	if c.options.Folder != "" {
+		logger.Printf("files and locks are kept in the folder %s", c.options.Folder)
+		return
+	}
 	logger.Print("files and locks are kept in memory and are lost when the server ends")
 }
 

@@ -16,7 +16,9 @@ type call struct {
 	frame  []byte
 	only   *process // the davd that may get it; nil: any
 	sentTo *process // the davd that got it last
+	number uint64   // of the batch in which that davd got it
 	reads  bool     // it changes nothing, so that it may be sent again
+	upload bool     // it is about a body, which davd holds in memory
 	again  bool     // it was sent before
 	reply  []byte
 	err    error
@@ -26,10 +28,11 @@ type call struct {
 
 func newCall(f frame.Frame) *call {
 	return &call{
-		frame: frame.Append(nil, f),
-		reads: reads(f),
-		done:  make(chan struct{}, 1),
-		what:  describe(f),
+		frame:  frame.Append(nil, f),
+		reads:  reads(f),
+		upload: isUpload(f),
+		done:   make(chan struct{}, 1),
+		what:   describe(f),
 	}
 }
 
@@ -50,6 +53,15 @@ func reads(f frame.Frame) bool {
 	return false
 }
 
+// isUpload reports whether a frame is about a body that davd holds.
+func isUpload(f frame.Frame) bool {
+	switch f.(type) {
+	case frame.StartBody, frame.AddToBody, frame.DropBody:
+		return true
+	}
+	return false
+}
+
 // describe names a frame in the log.
 func describe(f frame.Frame) string {
 	switch f := f.(type) {
@@ -57,7 +69,8 @@ func describe(f frame.Frame) string {
 		return f.Method + " " + f.Path
 	case frame.Read:
 		return "read " + f.Path
-	case frame.StartBody, frame.AddToBody, frame.DropBody:
+	}
+	if isUpload(f) {
 		return "upload"
 	}
 	return "query"

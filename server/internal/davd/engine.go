@@ -1,7 +1,8 @@
 // Package davd runs the program davd and exchanges batches of frames with it.
 //
 // davd is started again when it ends. What it held in memory is then lost: the files, the locks and the bodies that
-// were arriving.
+// were arriving. A davd over a folder loses only the bodies. It names the last batch that it kept when it starts, and so
+// it is known which of the frames that were not answered were done.
 package davd
 
 import (
@@ -16,13 +17,31 @@ import (
 )
 
 var (
-	// ErrLost says that davd ended before it replied. What the frame asked for may have been done, but davd holds
-	// nothing of it any more.
+	// ErrLost says that davd ended before it replied. What the frame asked for was not done, or davd holds nothing of
+	// it any more.
 	ErrLost = errors.New("davd ended before it replied")
+	// ErrFull says that davd ended before it replied, because the disk of its folder, or the quota there, is full. What
+	// the frame asked for was not done.
+	ErrFull = errors.New("the disk of the folder is full")
+	// ErrKept says that davd ended before it replied, and what the frame asked for was done and kept. Nobody knows the
+	// reply.
+	ErrKept = errors.New("davd ended before it replied, and has kept what it did")
+	// ErrUnknown says that davd ended before it replied. Nobody knows whether what the frame asked for was done.
+	ErrUnknown = errors.New("davd ended before it replied, and may have kept what it did")
 	// ErrDown says that davd does not run at present. The frame was not sent.
 	ErrDown = errors.New("davd does not run")
 	// ErrClosed says that the engine is closed.
 	ErrClosed = errors.New("the engine is closed")
+)
+
+// Errors of a start over a folder.
+var (
+	// ErrNoStore says that the folder has other contents than those of davd, or is damaged. It is left as it is.
+	ErrNoStore = errors.New("the folder is no store of davd, or it is damaged")
+	// ErrInUse says that another process uses the folder.
+	ErrInUse = errors.New("the folder is in use by another process")
+	// ErrNoAccess says that the folder cannot be read or written.
+	ErrNoAccess = errors.New("the folder cannot be read or written")
 )
 
 // A StatusError is the reply of davd to a frame that failed.
@@ -39,10 +58,20 @@ func (e *StatusError) Error() string {
 type Config struct {
 	Program string   // a path, or a name to look up in PATH
 	Args    []string // as docs/FRAMES.md lists them
+	Folder  string   // the folder that it keeps, its last argument; empty: it holds everything in memory
 	Memory  int64    // limit of its address space in bytes; 0: none
 	Log     *log.Logger
 
 	pauses pauses // zero: the defaults
+}
+
+// arguments returns all arguments of davd.
+func (c Config) arguments() []string {
+	arguments := append([]string(nil), c.Args...)
+	if c.Folder != "" {
+		arguments = append(arguments, c.Folder)
+	}
+	return arguments
 }
 
 // An Engine is a davd that is started again whenever it ends. Its methods may be called at the same time.
@@ -53,6 +82,7 @@ type Engine struct {
 
 	mu      sync.Mutex
 	process *process // nil: not running
+	outage  *outage  // nil: davd runs, or has no folder
 	pausing bool     // davd does not run, and calls fail until it does
 	closing bool
 	writing bool // somebody writes a batch
@@ -61,16 +91,21 @@ type Engine struct {
 	started uint64 // how many times davd was started again
 }
 
-// Start starts davd. An error says why it could not be started.
-func Start(config Config) (*Engine, error) {
+// Start starts davd. An error says why it could not be started. Over a folder it may be ErrNoStore, ErrInUse or
+// ErrNoAccess, and Start waits until davd has loaded the folder or ctx is done.
+func Start(ctx context.Context, config Config) (*Engine, error) {
 	if config.pauses == (pauses{}) {
 		config.pauses = defaultPauses
 	}
-	process, err := start(config)
+	now := later(0, time.Now())
+	process, err := open(config, ctx.Done(), now)
+	if errors.Is(err, errStopped) {
+		return nil, ctx.Err()
+	}
 	if err != nil {
 		return nil, err
 	}
-	e := &Engine{config: config, process: process, closed: make(chan struct{}), ended: make(chan struct{})}
+	e := &Engine{config: config, process: process, now: now, closed: make(chan struct{}), ended: make(chan struct{})}
 	go e.supervise(process)
 	return e, nil
 }
@@ -91,6 +126,7 @@ func (e *Engine) Close(ctx context.Context) error {
 		e.closing = true
 		close(e.closed)
 		e.failWaiting(ErrClosed)
+		e.failOutage()
 		if process != nil && !e.writing {
 			process.input.Close()
 		}
@@ -110,8 +146,11 @@ func (e *Engine) Close(ctx context.Context) error {
 
 // Do sends a frame and returns the reply to it. A frame that failed is a *StatusError.
 //
-// If davd ends meanwhile, a frame that only reads is sent once more, to the next davd. When ctx is done, Do returns its
-// error, but it waits for the reply to a frame that was sent and changes something.
+// If davd ends meanwhile, a frame that only reads is sent once more, to the next davd. Over a folder that is done if its
+// batch was not kept, and the other frames of the batch are ErrLost or ErrFull. Those of a batch that was kept are
+// ErrKept. If the next davd is not in service in time, they are ErrUnknown.
+//
+// When ctx is done, Do returns its error, but it waits for the reply to a frame that was sent and changes something.
 func (e *Engine) Do(ctx context.Context, f frame.Frame) (frame.Reply, error) {
 	return e.do(ctx, newCall(f))
 }
@@ -161,7 +200,7 @@ func (e *Engine) refusal(c *call) error {
 	case e.closing:
 		return ErrClosed
 	case c.only != nil && c.only != e.process:
-		return ErrLost
+		return c.only.lost
 	case e.pausing:
 		return ErrDown
 	}
@@ -195,7 +234,7 @@ func (e *Engine) next() *batch {
 	b.written.Add(1)
 	b.calls, e.waiting = cut(e.waiting)
 	for _, c := range b.calls {
-		c.sentTo = p
+		c.sentTo, c.number = p, b.number
 	}
 	p.sent <- b
 	return b

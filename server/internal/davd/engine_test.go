@@ -248,7 +248,7 @@ func TestWithdraw(t *testing.T) {
 
 func TestCloseKillsADavdThatDoesNotEnd(t *testing.T) {
 	t.Setenv(behavior, "sound")
-	engine, err := Start(Config{Program: "/bin/sleep", Args: []string{"60"}, Log: (&logged{}).logger()})
+	engine, err := Start(context.Background(), Config{Program: "/bin/sleep", Args: []string{"60"}, Log: (&logged{}).logger()})
 	if err != nil {
 		t.Fatal(err)
 	}
@@ -263,7 +263,7 @@ func TestCloseKillsADavdThatDoesNotEnd(t *testing.T) {
 }
 
 func TestStartNamesAMissingProgram(t *testing.T) {
-	_, err := Start(Config{Program: "/no/such/davd"})
+	_, err := Start(context.Background(), Config{Program: "/no/such/davd"})
 	if !errors.Is(err, os.ErrNotExist) {
 		t.Errorf("Start: %v", err)
 	}

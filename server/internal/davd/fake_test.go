@@ -1,9 +1,11 @@
 package davd
 
 import (
+	"context"
 	"encoding/binary"
 	"io"
 	"os"
+	"strings"
 	"testing"
 	"time"
 )
@@ -21,6 +23,9 @@ func TestMain(m *testing.M) {
 
 // fake reads batches and writes replies, until its input ends or its behavior says otherwise.
 func fake(how string) {
+	if acts := strings.TrimPrefix(how, "folder: "); acts != how {
+		fakeOver(fakeFolder(os.Args[len(os.Args)-1]), strings.Split(acts, ", "))
+	}
 	for count := 1; ; count++ {
 		number, frames := readBatch()
 		switch {
@@ -75,6 +80,9 @@ func readBatch() (number uint64, frames [][]byte) {
 	content := make([]byte, binary.BigEndian.Uint64(header[16:]))
 	if _, err := io.ReadFull(os.Stdin, content); err != nil {
 		os.Exit(3)
+	}
+	if len(content) == 0 {
+		return binary.BigEndian.Uint64(header[:]), nil
 	}
 	count := binary.BigEndian.Uint64(content)
 	for content = content[8:]; count > 0; count-- {
@@ -138,7 +146,7 @@ func startProgram(t *testing.T, program, how string) (*Engine, *logged) {
 	t.Setenv(behavior, how)
 	said := &logged{}
 	quick := pauses{first: time.Millisecond, greatest: 10 * time.Millisecond}
-	engine, err := Start(Config{Program: program, Log: said.logger(), pauses: quick})
+	engine, err := Start(context.Background(), Config{Program: program, Log: said.logger(), pauses: quick})
 	if err != nil {
 		t.Fatal(err)
 	}

@@ -17,6 +17,8 @@ const (
 	underWay   = 4        // how many batches are sent before the replies to the first have arrived
 	bufferSize = 64 << 10 // of the input and of the output of davd, in bytes
 	replyLimit = 4 << 30  // bytes of the longest reply that is read
+
+	statusNotNext = 409 // of a batch that is not the next one
 )
 
 // A process is a running davd.
@@ -28,6 +30,7 @@ type process struct {
 	number  uint64      // of the last batch
 	sent    chan *batch // the batches whose replies were not begun to be read
 	reading *batch      // the batch whose replies are read, or could not be read whole
+	lost    error       // why a call that it has not done failed; set when it has ended
 }
 
 // start starts davd. In a process group of its own it does not get the interrupts of a terminal.
@@ -36,10 +39,11 @@ func start(config Config) (*process, error) {
 	if err != nil {
 		return nil, fmt.Errorf("davd cannot be started: %w", err)
 	}
-	command := exec.Command(program, config.Args...)
+	arguments := config.arguments()
+	command := exec.Command(program, arguments...)
 	if config.Memory > 0 {
 		kib := strconv.FormatInt((config.Memory+1023)/1024, 10)
-		limited := append([]string{"-c", `ulimit -v "$1" && shift && exec "$@"`, "sh", kib, program}, config.Args...)
+		limited := append([]string{"-c", `ulimit -v "$1" && shift && exec "$@"`, "sh", kib, program}, arguments...)
 		command = exec.Command("/bin/sh", limited...)
 	}
 	command.SysProcAttr = &syscall.SysProcAttr{Setpgid: true}
@@ -98,10 +102,11 @@ func (p *process) read(b *batch) error {
 	if err != nil {
 		return err
 	}
-	if header.Number != b.number {
-		return fmt.Errorf("replies to batch %d, where those to batch %d were expected", header.Number, b.number)
-	}
 	switch {
+	case header.Status == statusNotNext:
+		return fmt.Errorf("batch %d is not the next one: the status is 409, and the number %d", b.number, header.Number)
+	case header.Number != b.number:
+		return fmt.Errorf("replies to batch %d, where those to batch %d were expected", header.Number, b.number)
 	case header.Status == 507 && header.Count == 0:
 		for _, c := range b.calls {
 			c.finish(nil, &StatusError{Status: 507})

@@ -12,9 +12,17 @@ import (
 type pauses struct {
 	first, greatest time.Duration
 	long            time.Duration // a davd that ran for so long counts as sound
+	load            time.Duration // how long a davd may take to load its folder
+	patience        time.Duration // how long calls wait for the next davd over a folder
 }
 
-var defaultPauses = pauses{first: 100 * time.Millisecond, greatest: 30 * time.Second, long: time.Minute}
+var defaultPauses = pauses{
+	first:    100 * time.Millisecond,
+	greatest: 30 * time.Second,
+	long:     time.Minute,
+	load:     5 * time.Minute,
+	patience: 40 * time.Second, // the greatest pause, and ten seconds to load the folder
+}
 
 // after returns the pause after a davd that ran for so long and was started after the pause last.
 func (p pauses) after(ran, last time.Duration) time.Duration {
@@ -46,7 +54,7 @@ func (e *Engine) supervise(p *process) {
 			p.kill()
 		}
 		end := p.wait()
-		lost := e.detach(p)
+		lost := e.detach(p, end)
 		if e.isClosing() {
 			return
 		}
@@ -76,26 +84,32 @@ func (e *Engine) read(p *process) error {
 }
 
 // detach takes a davd that has ended out of service. The calls that only read are queued once more, the others fail.
-// It returns what was lost.
-func (e *Engine) detach(p *process) []string {
+// Over a folder, those that were sent wait for the next davd. It returns what was lost.
+func (e *Engine) detach(p *process, end error) []string {
 	e.mu.Lock()
 	defer e.mu.Unlock()
-	e.process = nil
+	e.process, p.lost = nil, lossOf(end)
+	isKept := e.config.Folder != ""
 	var lost []string
-	var again []*call
+	var again, unknown []*call
 	for _, c := range append(p.unanswered(), e.waiting...) {
 		switch {
 		case c.sentTo == nil && c.only == nil: // It was not sent yet.
 			again = append(again, c)
+		case isKept && c.sentTo != nil && !c.upload:
+			unknown = append(unknown, c)
 		case c.reads && !c.again && !e.closing:
 			c.again, c.sentTo = true, nil
 			again = append(again, c)
 		default:
 			lost = append(lost, c.what)
-			c.finish(nil, ErrLost)
+			c.finish(nil, p.lost)
 		}
 	}
 	e.waiting = again
+	if isKept {
+		e.beginOutage(unknown)
+	}
 	return lost
 }
 
@@ -117,16 +131,22 @@ func (p *process) unanswered() []*call {
 
 // report logs how davd ended and what was lost.
 func (e *Engine) report(err, end error, lost []string) {
-	how := "status 0"
-	if end != nil {
-		how = end.Error()
-	}
+	how := howEnded(end)
 	if err != nil && !errors.Is(err, io.EOF) {
 		how += ", " + err.Error()
 	}
-	e.config.Log.Printf("davd ended (%s). All files, locks and uploads that it held in memory are lost.", how)
-	if len(lost) > 0 {
-		e.config.Log.Printf("davd had not answered %d frames that change something: %q", len(lost), strings.Join(lost, ", "))
+	held := "All files, locks and uploads"
+	if e.config.Folder != "" {
+		held = "The uploads"
+	}
+	e.config.Log.Printf("davd ended (%s). %s that it held in memory are lost.", how, held)
+	e.reportCalls("davd had not answered %d frames that change something: %q", lost)
+}
+
+// reportCalls logs how many calls there are, and what they are, if there are any.
+func (e *Engine) reportCalls(format string, calls []string) {
+	if len(calls) > 0 {
+		e.config.Log.Printf(format, len(calls), strings.Join(calls, ", "))
 	}
 }
 
@@ -137,9 +157,12 @@ func (e *Engine) restart(pause *time.Duration) *process {
 		if !e.sleep(*pause) {
 			return nil
 		}
-		p, err := start(e.config)
-		if err == nil {
+		p, err := open(e.config, e.closed, e.later())
+		switch {
+		case err == nil:
 			return e.attach(p)
+		case e.isClosing():
+			return nil
 		}
 		e.config.Log.Print(err)
 		*pause = e.config.pauses.longer(*pause)
@@ -172,18 +195,30 @@ func (e *Engine) sleepOpen(pause time.Duration) bool {
 // attach puts a new davd into service, or ends it if the engine was closed meanwhile.
 func (e *Engine) attach(p *process) *process {
 	e.mu.Lock()
-	defer e.mu.Unlock()
 	if e.closing {
+		e.mu.Unlock()
 		p.kill()
 		p.wait()
 		return nil
 	}
 	e.process, e.pausing = p, false
 	e.started++
+	kept, undone := e.settle(p.number)
 	if b := e.next(); b != nil {
 		go e.write(b)
 	}
+	e.mu.Unlock()
+	e.reportCalls("davd has kept %d frames that it had not answered: %q", kept)
+	e.reportCalls("davd has not done %d frames that it had not answered: %q", undone)
 	return p
+}
+
+// later returns the time, which never goes back.
+func (e *Engine) later() uint64 {
+	e.mu.Lock()
+	defer e.mu.Unlock()
+	e.now = later(e.now, time.Now())
+	return e.now
 }
 
 func (e *Engine) isClosing() bool {

@@ -118,7 +118,7 @@ func TestCloseFailsWhatWaits(t *testing.T) {
 func TestMemoryIsLimited(t *testing.T) {
 	t.Setenv(behavior, "")
 	said := &logged{}
-	engine, err := Start(Config{
+	engine, err := Start(context.Background(), Config{
 		Program: "/bin/sh", Args: []string{"-c", "ulimit -v >&2; cat >/dev/null"}, Memory: 64<<20 + 1, Log: said.logger(),
 	})
 	if err != nil {

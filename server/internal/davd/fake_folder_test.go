@@ -1,0 +1,110 @@
+package davd
+
+import (
+	"context"
+	"os"
+	"path/filepath"
+	"strconv"
+	"strings"
+	"testing"
+	"time"
+)
+
+// A fakeFolder is what fake davds keep: numbers in files. The file last has the number of the last batch that was kept,
+// and starts how many davds were started.
+type fakeFolder string
+
+func (f fakeFolder) get(name string) uint64 {
+	text, err := os.ReadFile(filepath.Join(string(f), name))
+	if err != nil {
+		return 0
+	}
+	n, err := strconv.ParseUint(string(text), 10, 64)
+	if err != nil {
+		panic(err)
+	}
+	return n
+}
+
+func (f fakeFolder) set(name string, n uint64) {
+	if err := os.WriteFile(filepath.Join(string(f), name), []byte(strconv.FormatUint(n, 10)), 0o600); err != nil {
+		panic(err)
+	}
+}
+
+// fakeOver is a davd over a folder. Each start does the next of these acts, and further ones the last. "sound" keeps each
+// batch and then answers it. The others do that too, except for what they say.
+func fakeOver(folder fakeFolder, acts []string) {
+	starts := int(folder.get("starts"))
+	folder.set("starts", uint64(starts+1))
+	if starts >= len(acts) {
+		starts = len(acts) - 1
+	}
+	act, status, _ := strings.Cut(acts[starts], " with ")
+	exit, _ := strconv.Atoi(status)
+	switch act {
+	case "ends at the start":
+		os.Exit(exit)
+	case "forgets a batch":
+		folder.set("last", folder.get("last")-1)
+	}
+	number, _ := readBatch()
+	greetHost(act, number, folder.get("last"))
+	for {
+		number, frames := readBatch()
+		switch {
+		case number != folder.get("last")+1:
+			writeReplies(folder.get("last"), 409, nil)
+			continue
+		case act == "ends" && frames[0][0] != 1: // not at the beginning of a body
+			os.Exit(exit)
+		}
+		folder.set("last", number)
+		if act == "keeps and ends" && frames[0][0] == 0 { // at a request
+			os.Exit(3)
+		}
+		writeReplies(number, 200, replies(frames))
+	}
+}
+
+// greetHost answers the batch that asks for the number of the last one.
+func greetHost(act string, number, last uint64) {
+	switch {
+	case act == "is mute":
+		for {
+			readBatch()
+		}
+	case act == "writes garbage":
+		os.Stdout.WriteString("this is not a batch of replies")
+	case act == "greets as if it had served", number != 0:
+		writeReplies(last, 200, nil)
+	case act == "greets and replies":
+		writeReplies(last, 409, [][]byte{{2}})
+	default:
+		writeReplies(last, 409, nil)
+	}
+}
+
+var quickOver = pauses{
+	first: time.Millisecond, greatest: 10 * time.Millisecond, load: 5 * time.Second, patience: 5 * time.Second,
+}
+
+// overFolder returns the configuration of fake davds over a new folder.
+func overFolder(t *testing.T, acts string, p pauses) (Config, fakeFolder, *logged) {
+	t.Helper()
+	t.Setenv(behavior, "folder: "+acts)
+	folder, said := t.TempDir(), &logged{}
+	return Config{Program: os.Args[0], Folder: folder, Log: said.logger(), pauses: p}, fakeFolder(folder), said
+}
+
+// startOver starts an engine over fake davds and a new folder.
+func startOver(t *testing.T, acts string, p pauses) (*Engine, fakeFolder, *logged) {
+	t.Helper()
+	config, folder, said := overFolder(t, acts, p)
+	engine, err := Start(context.Background(), config)
+	if err != nil {
+		t.Fatal(err)
+	}
+	t.Cleanup(func() { closeSoon(t, engine) })
+	return engine, folder, said
+}

@@ -1,0 +1,143 @@
+package davd
+
+import (
+	"errors"
+	"fmt"
+	"io"
+	"time"
+
+	"davserve/internal/frame"
+)
+
+// errStopped says that nobody waits for the start any more.
+var errStopped = errors.New("it was stopped")
+
+// open starts davd. Over a folder it waits until davd has named the last batch that it kept. It gives up when stop is
+// closed.
+func open(config Config, stop <-chan struct{}, now uint64) (*process, error) {
+	p, err := start(config)
+	if err != nil || config.Folder == "" {
+		return p, err
+	}
+	if err := p.greet(stop, config.pauses.load, now); err != nil {
+		p.kill()
+		return nil, fmt.Errorf("davd cannot serve the folder %s: %w", config.Folder, whyNot(err, p.wait()))
+	}
+	return p, nil
+}
+
+// greet has davd name the last batch that it kept. If that takes longer than the limit, or if stop is closed before,
+// davd is killed.
+func (p *process) greet(stop <-chan struct{}, limit time.Duration, now uint64) error {
+	answered := make(chan error, 1)
+	go func() { answered <- p.ask(now) }()
+	timer := time.NewTimer(limit)
+	defer timer.Stop()
+	var err error
+	select {
+	case err := <-answered:
+		return err
+	case <-timer.C:
+		err = fmt.Errorf("it has not answered within %v", limit)
+	case <-stop:
+		err = errStopped
+	}
+	p.kill()
+	<-answered // The output has ended.
+	return err
+}
+
+// ask sends a batch with the number 0, which is never the next one. The number in the answer is that of the last batch.
+func (p *process) ask(now uint64) error {
+	var head [frame.HeaderLen]byte
+	p.writer.Write(frame.AppendBatchHeader(head[:0], frame.BatchHeader{Number: 0, Time: now}))
+	if err := p.writer.Flush(); err != nil {
+		return err
+	}
+	header, err := frame.ReadReplyHeader(p.reader)
+	if err == io.EOF {
+		return errors.New("it has not answered")
+	}
+	if err != nil {
+		return err
+	}
+	if header.Status != statusNotNext || header.Count != 0 {
+		return fmt.Errorf("batch 0 has the status %d and %d replies", header.Status, header.Count)
+	}
+	p.number = header.Number
+	return nil
+}
+
+// An outage is the time from the end of a davd over a folder until the next is in service.
+type outage struct {
+	calls []*call     // those that were sent and not answered
+	timer *time.Timer // ends their wait
+}
+
+// beginOutage keeps calls until the next davd shows which of them were done. It is called with e.mu held.
+func (e *Engine) beginOutage(calls []*call) {
+	o := &outage{calls: calls}
+	o.timer = time.AfterFunc(e.config.pauses.patience, func() { e.giveUp(o) })
+	e.outage = o
+	if e.closing {
+		e.failOutage()
+	}
+}
+
+// giveUp fails all calls that wait for the next davd, if it is not in service yet.
+func (e *Engine) giveUp(o *outage) {
+	e.mu.Lock()
+	if e.outage != o {
+		e.mu.Unlock()
+		return
+	}
+	unknown := e.failOutage()
+	e.pausing = true
+	e.failWaiting(ErrDown)
+	e.mu.Unlock()
+	e.reportCalls("davd is not back, and nobody knows whether it has done %d frames: %q", unknown)
+}
+
+// failOutage fails the calls that were sent before an outage, because nobody knows whether they were done. It returns
+// what they are. It is called with e.mu held.
+func (e *Engine) failOutage() (unknown []string) {
+	for _, c := range e.endOutage() {
+		unknown = append(unknown, c.what)
+		c.finish(nil, ErrUnknown)
+	}
+	return unknown
+}
+
+// endOutage ends an outage, if there is one. It returns the calls that were sent before it. It is called with e.mu held.
+func (e *Engine) endOutage() []*call {
+	o := e.outage
+	if o == nil {
+		return nil
+	}
+	e.outage = nil
+	o.timer.Stop()
+	return o.calls
+}
+
+// settle finishes the calls that the last davd had not answered, by the number of the last batch that the next one has
+// kept. Those that only read are queued once more. It is called with e.mu held.
+func (e *Engine) settle(last uint64) (kept, undone []string) {
+	var again []*call
+	for _, c := range e.endOutage() {
+		switch {
+		case c.number <= last:
+			kept = append(kept, c.what)
+			c.finish(nil, ErrKept)
+		case c.reads && !c.again:
+			c.again, c.sentTo = true, nil
+			again = append(again, c)
+		case c.reads:
+			c.finish(nil, ErrLost)
+		default:
+			undone = append(undone, c.what)
+			c.finish(nil, c.sentTo.lost)
+		}
+	}
+	e.waiting = append(again, e.waiting...)
+	return kept, undone
+}

@@ -1,0 +1,351 @@
+package davd
+
+import (
+	"context"
+	"errors"
+	"reflect"
+	"strings"
+	"testing"
+	"time"
+
+	"davserve/internal/frame"
+)
+
+// doChange sends a change that succeeds.
+func doChange(t *testing.T, engine *Engine) {
+	t.Helper()
+	if reply, err := engine.Do(soon(t), change); err != nil || reply.(frame.Response).Status != 201 {
+		t.Fatalf("a change: %v, %v", reply, err)
+	}
+}
+
+func TestTheFolderIsTheLastArgument(t *testing.T) {
+	args := make([]string, 2, 10)
+	copy(args, []string{"-quota", "7"})
+	if got := (Config{Args: args, Folder: "/f"}).arguments(); !reflect.DeepEqual(got, []string{"-quota", "7", "/f"}) {
+		t.Errorf("with a folder: %q", got)
+	}
+	if got := (Config{Args: args}).arguments(); !reflect.DeepEqual(got, []string{"-quota", "7"}) {
+		t.Errorf("without a folder: %q", got)
+	}
+}
+
+func TestNumbersGoOnFromTheOneThatDavdNames(t *testing.T) {
+	config, folder, _ := overFolder(t, "sound", quickOver)
+	folder.set("last", 41)
+	engine, err := Start(soon(t), config)
+	if err != nil {
+		t.Fatal(err)
+	}
+	defer closeSoon(t, engine)
+	doChange(t, engine)
+	doChange(t, engine)
+	if last := folder.get("last"); last != 43 {
+		t.Errorf("the last batch has the number %d, want 43", last)
+	}
+}
+
+func TestNumbersGoOnAfterARestart(t *testing.T) {
+	tests := []struct {
+		acts string
+		want uint64 // the number of the third batch
+	}{
+		{"sound", 3},
+		{"sound, forgets a batch", 2}, // It had changed nothing.
+	}
+	for _, test := range tests {
+		t.Run(test.acts, func(t *testing.T) {
+			engine, folder, _ := startOver(t, test.acts, quickOver)
+			doChange(t, engine)
+			doChange(t, engine)
+			kill(t, engine)
+			doChange(t, engine)
+			if last := folder.get("last"); last != test.want {
+				t.Errorf("the last batch has the number %d, want %d", last, test.want)
+			}
+		})
+	}
+}
+
+// kill kills davd, and waits until the next one is in service.
+func kill(t *testing.T, engine *Engine) {
+	t.Helper()
+	started := engine.Started()
+	engine.mu.Lock()
+	engine.process.kill()
+	engine.mu.Unlock()
+	for end := time.Now().Add(5 * time.Second); engine.Started() == started; time.Sleep(time.Millisecond) {
+		if time.Now().After(end) {
+			t.Fatal("davd is not started again")
+		}
+	}
+}
+
+func TestWhatWasKeptAndNotAnsweredHasNoReply(t *testing.T) {
+	engine, _, said := startOver(t, "keeps and ends, sound", quickOver)
+	calls, release := hold(t, engine, change, frame.Held{})
+	release()
+	for _, c := range calls {
+		if <-c.done; !errors.Is(c.err, ErrKept) {
+			t.Errorf("%s: %v", c.what, c.err)
+		}
+	}
+	doChange(t, engine)
+	awaitLog(t, said, "has kept 2 frames")
+}
+
+func TestWhatWasNotKeptWasNotDone(t *testing.T) {
+	tests := []struct {
+		acts string
+		want error
+		says string
+	}{
+		{"ends with 3, sound", ErrLost, "exit status 3"},
+		{"ends with 7, sound", ErrFull, "the disk of the folder is full"},
+		{"ends with 8, sound", ErrLost, "could not be kept"},
+		{"ends with 7, ends at the start with 6, writes garbage, sound", ErrFull, "cannot be read or written"},
+	}
+	for _, test := range tests {
+		t.Run(test.acts, func(t *testing.T) {
+			engine, folder, said := startOver(t, test.acts, quickOver)
+			if _, err := engine.Do(soon(t), change); !errors.Is(err, test.want) {
+				t.Errorf("a change: %v, want %v", err, test.want)
+			}
+			if last := folder.get("last"); last != 0 {
+				t.Errorf("batch %d was kept", last)
+			}
+			doChange(t, engine)
+			awaitLog(t, said, test.says)
+			awaitLog(t, said, `has not done 1 frames that it had not answered: "MKCOL /d/"`)
+		})
+	}
+}
+
+func TestAReadOverAFolderIsSentAgain(t *testing.T) {
+	engine, folder, _ := startOver(t, "ends with 7, sound", quickOver)
+	processOf(t, engine)
+	if starts := folder.get("starts"); starts != 2 {
+		t.Errorf("%d davds were started", starts)
+	}
+}
+
+func TestAReadOverAFolderIsSentTwiceAtMost(t *testing.T) {
+	engine, folder, _ := startOver(t, "ends with 7", quickOver)
+	if _, err := engine.Do(soon(t), frame.Held{}); !errors.Is(err, ErrLost) && !errors.Is(err, ErrDown) {
+		t.Errorf("a read that no davd answers: %v", err)
+	}
+	if starts := folder.get("starts"); starts > 3 {
+		t.Errorf("%d davds were started", starts)
+	}
+}
+
+func TestAnUploadIsLostWithItsDavd(t *testing.T) {
+	tests := []struct {
+		acts string
+		want error
+	}{
+		{"ends with 3, sound", ErrLost},
+		{"ends with 7, sound", ErrFull},
+	}
+	for _, test := range tests {
+		t.Run(test.acts, func(t *testing.T) {
+			engine, _, _ := startOver(t, test.acts, quickOver)
+			body, err := engine.StartBody(soon(t))
+			if err != nil {
+				t.Fatal(err)
+			}
+			if err := body.Add(soon(t), []byte("piece")); !errors.Is(err, test.want) {
+				t.Errorf("the piece that was sent: %v", err)
+			}
+			if err := body.Add(soon(t), []byte("piece")); !errors.Is(err, test.want) {
+				t.Errorf("the next piece: %v", err)
+			}
+			if _, err := body.Do(soon(t), &frame.Request{Method: "PUT", Path: "/a"}); !errors.Is(err, test.want) {
+				t.Errorf("the request: %v", err)
+			}
+			body.Drop()
+		})
+	}
+}
+
+func TestAnUploadThatWasKeptHasNoReply(t *testing.T) {
+	engine, _, _ := startOver(t, "keeps and ends, sound", quickOver)
+	body, err := engine.StartBody(soon(t))
+	if err != nil {
+		t.Fatal(err)
+	}
+	defer body.Drop()
+	if err := body.Add(soon(t), []byte("piece")); err != nil {
+		t.Fatal(err)
+	}
+	if _, err := body.Do(soon(t), &frame.Request{Method: "PUT", Path: "/a"}); !errors.Is(err, ErrKept) {
+		t.Errorf("the request: %v", err)
+	}
+}
+
+func TestNobodyKnowsWhileDavdIsNotBack(t *testing.T) {
+	short := quickOver
+	short.patience = 100 * time.Millisecond
+	for _, away := range []string{"ends at the start with 6", "greets as if it had served", "is mute"} {
+		t.Run(away, func(t *testing.T) {
+			engine, _, said := startOver(t, "ends with 3, "+away, short)
+			if _, err := engine.Do(soon(t), change); !errors.Is(err, ErrUnknown) {
+				t.Errorf("the change that was sent: %v", err)
+			}
+			if _, err := engine.Do(soon(t), change); !errors.Is(err, ErrDown) {
+				t.Errorf("a later change: %v", err)
+			}
+			awaitLog(t, said, `nobody knows whether it has done 1 frames: "MKCOL /d/"`)
+		})
+	}
+}
+
+func TestCallsThatAreNotSentWaitAsLong(t *testing.T) {
+	short := quickOver
+	short.patience = 100 * time.Millisecond
+	engine, _, _ := startOver(t, "ends with 3, is mute", short)
+	sent, release := hold(t, engine, change)
+	release()
+	waitUntil(t, func() bool { return engine.outage != nil }, engine)
+	if _, err := engine.Do(soon(t), frame.Held{}); !errors.Is(err, ErrDown) {
+		t.Errorf("a read while davd loads the folder: %v", err)
+	}
+	if <-sent[0].done; !errors.Is(sent[0].err, ErrUnknown) {
+		t.Errorf("the change that was sent: %v", sent[0].err)
+	}
+}
+
+// waitUntil waits until a condition on an engine holds.
+func waitUntil(t *testing.T, holds func() bool, engine *Engine) {
+	t.Helper()
+	for end := time.Now().Add(5 * time.Second); ; time.Sleep(time.Millisecond) {
+		engine.mu.Lock()
+		done := holds()
+		engine.mu.Unlock()
+		if done {
+			return
+		}
+		if time.Now().After(end) {
+			t.Fatal("it is not as expected within 5 s")
+		}
+	}
+}
+
+func TestItGoesOnWhenDavdIsBack(t *testing.T) {
+	short := quickOver
+	short.patience, short.load = 30*time.Millisecond, 300*time.Millisecond
+	engine, _, said := startOver(t, "ends with 3, is mute, sound", short)
+	if _, err := engine.Do(soon(t), change); !errors.Is(err, ErrUnknown) {
+		t.Errorf("the change that was sent: %v", err)
+	}
+	waitUntil(t, func() bool { return engine.process != nil }, engine)
+	doChange(t, engine)
+	awaitLog(t, said, "has not answered within 300ms")
+}
+
+func TestStartSaysWhyAFolderIsNotServed(t *testing.T) {
+	quick := quickOver
+	quick.load = time.Second
+	tests := []struct {
+		act  string
+		is   error
+		says string
+	}{
+		{"ends at the start with 2", nil, "its arguments are wrong"},
+		{"ends at the start with 3", nil, "exit status 3"},
+		{"ends at the start with 4", ErrNoStore, "exit status 4"},
+		{"ends at the start with 5", ErrInUse, "the folder is in use by another process (exit status 5)"},
+		{"ends at the start with 6", ErrNoAccess, "exit status 6"},
+		{"greets as if it had served", nil, "batch 0 has the status 200 and 0 replies"},
+		{"greets and replies", nil, "batch 0 has the status 409 and 1 replies"},
+		{"writes garbage", nil, "expected an HTTP status"},
+		{"is mute", nil, "has not answered within 1s"},
+	}
+	for _, test := range tests {
+		t.Run(test.act, func(t *testing.T) {
+			config, folder, _ := overFolder(t, test.act, quick)
+			_, err := Start(soon(t), config)
+			if err == nil || test.is != nil && !errors.Is(err, test.is) {
+				t.Fatalf("Start: %v, want %v", err, test.is)
+			}
+			for _, want := range []string{test.says, string(folder)} {
+				if !strings.Contains(err.Error(), want) {
+					t.Errorf("Start: %v, without %q", err, want)
+				}
+			}
+			if starts := folder.get("starts"); starts != 1 {
+				t.Errorf("%d davds were started", starts)
+			}
+		})
+	}
+}
+
+func TestStartEndsWithItsContext(t *testing.T) {
+	config, _, _ := overFolder(t, "is mute", quickOver)
+	ctx, cancel := context.WithTimeout(context.Background(), 50*time.Millisecond)
+	defer cancel()
+	if _, err := Start(ctx, config); !errors.Is(err, context.DeadlineExceeded) {
+		t.Errorf("Start: %v", err)
+	}
+}
+
+func TestAContextOfAStartDoesNotEndDavd(t *testing.T) {
+	config, _, _ := overFolder(t, "sound", quickOver)
+	ctx, cancel := context.WithCancel(context.Background())
+	engine, err := Start(ctx, config)
+	if err != nil {
+		t.Fatal(err)
+	}
+	defer closeSoon(t, engine)
+	cancel()
+	doChange(t, engine)
+	if engine.Started() != 0 {
+		t.Error("davd was started again")
+	}
+}
+
+func TestCloseEndsADavdThatLoads(t *testing.T) {
+	engine, _, _ := startOver(t, "ends with 3, is mute", quickOver)
+	sent, release := hold(t, engine, change)
+	release()
+	waitUntil(t, func() bool { return engine.outage != nil }, engine)
+	time.Sleep(20 * time.Millisecond)
+	closeSoon(t, engine)
+	if <-sent[0].done; !errors.Is(sent[0].err, ErrUnknown) {
+		t.Errorf("the change that was sent: %v", sent[0].err)
+	}
+}
+
+func TestCloseKillsADavdThatDoesNotAnswer(t *testing.T) {
+	config, _, _ := overFolder(t, "sound", quickOver)
+	engine, err := Start(soon(t), config)
+	if err != nil {
+		t.Fatal(err)
+	}
+	calls, _ := hold(t, engine, change) // It is never written.
+	ctx, cancel := context.WithTimeout(context.Background(), 50*time.Millisecond)
+	defer cancel()
+	if err := engine.Close(ctx); !errors.Is(err, context.DeadlineExceeded) {
+		t.Errorf("Close: %v", err)
+	}
+	if <-calls[0].done; !errors.Is(calls[0].err, ErrUnknown) {
+		t.Errorf("the change: %v", calls[0].err)
+	}
+}
+
+func TestADavdThatCannotKeepIsNotStartedAllTheTime(t *testing.T) {
+	slow := quickOver
+	slow.first, slow.greatest, slow.long = 50*time.Millisecond, time.Hour, time.Hour
+	engine, folder, _ := startOver(t, "ends with 7", slow)
+	for end := time.Now().Add(500 * time.Millisecond); time.Now().Before(end); time.Sleep(time.Millisecond) {
+		ctx, cancel := context.WithTimeout(context.Background(), time.Second)
+		_, err := engine.Do(ctx, change)
+		cancel()
+		if !errors.Is(err, ErrFull) && !errors.Is(err, ErrDown) {
+			t.Fatalf("a change: %v", err)
+		}
+	}
+	if starts := folder.get("starts"); starts > 5 {
+		t.Errorf("%d davds were started within half a second", starts)
+	}
+}
