@@ -87,12 +87,22 @@ func parse(arguments []string, output io.Writer) (config, error) {
 func (c *config) addServing(flags *flag.FlagSet) {
 	flags.StringVar(&c.listen, "listen", "127.0.0.1:8080", "`address` to listen on")
 	flags.StringVar(&c.options.Davd, "davd", "", "the `program` davd (default: beside this program, or in PATH)")
+	flags.Func("folder", "the `folder` that davd keeps (default: files and locks are kept in memory)", c.setFolder)
 	flags.StringVar(&c.options.Prefix, "prefix", "", "what the path of each URL begins with, such as /dav")
 	flags.StringVar(&c.options.PublicURL, "public-url", "", "the `URL` by which clients reach a server behind a proxy")
 	flags.StringVar(&c.cert, "cert", "", "`file` with the certificates for TLS, in PEM")
 	flags.StringVar(&c.key, "key", "", "`file` with the key for TLS, in PEM")
 	flags.Var(&c.corsOrigins, "cors-origin", "`origin` whose pages may use the server (repeatable)")
 	flags.BoolVar(&c.version, "version", false, "print the version and end")
+}
+
+// setFolder sets the folder. An empty one would be none: a script with an empty variable would lose all files.
+func (c *config) setFolder(name string) error {
+	if name == "" {
+		return errors.New("the name is empty")
+	}
+	c.options.Folder = name
+	return nil
 }
 
 func (c *config) addUsers(flags *flag.FlagSet) {

@@ -30,6 +30,7 @@ func TestParseRefuses(t *testing.T) {
 		{"-listen dav.example:8080", "can be reached by others"},
 		{"-listen :8080 -users u", "passwords need"},
 		{"-listen :8080 -users u -anonymous", "passwords need"},
+		{"-folder=", "the name is empty"},
 		{"extra", "unknown argument"},
 		{"-unknown", "not defined"},
 	}
@@ -54,6 +55,7 @@ func TestParseAccepts(t *testing.T) {
 		"-listen :443 -users u -cert c -key k",
 		"-listen :8080 -users u -plain-passwords",
 		"-listen :8080 -user-header X-User -trusted-proxy 10.0.0.0/8 -trusted-proxy ::1/128",
+		"-folder data",
 		"-cors-origin https://a.example -cors-origin https://b.example",
 	} {
 		if _, err := parse(strings.Fields(arguments), io.Discard); err != nil {

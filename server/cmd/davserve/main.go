@@ -1,4 +1,4 @@
-// Davserve serves WebDAV over HTTP. It keeps files and locks in memory: they are lost when it ends.
+// Davserve serves WebDAV over HTTP. Without -folder it keeps files and locks in memory: they are lost when it ends.
 //
 // Exit statuses: 0 after SIGTERM, SIGINT, -help and -version, 1 if the server cannot start or fails, 2 for a wrong
 // command line.
