@@ -20,11 +20,21 @@ def read(count: int) -> bytes:
     return found
 
 
+def header() -> tuple[int, int]:
+    """Reads the header of a batch, and returns its number and the length of its content."""
+    found = read(frames.HEADER_BYTES)
+    return int.from_bytes(found[:8], "big"), int.from_bytes(found[16:], "big")
+
+
+def batch_of(length: int) -> list[frames.Frame]:
+    """Reads the content of a batch, and returns its frames."""
+    return [frames.decode_frame(it) for it in frames.decode_content(read(length))] if length else []
+
+
 def batch() -> tuple[int, list[frames.Frame]]:
     """Reads a batch, and returns its number and its frames."""
-    header = read(frames.HEADER_BYTES)
-    number, length = (int.from_bytes(header[place : place + 8], "big") for place in (0, 16))
-    return number, [frames.decode_frame(it) for it in frames.decode_content(read(length))]
+    number, length = header()
+    return number, batch_of(length)
 
 
 def write(data: bytes):
@@ -45,7 +55,7 @@ ODD_ELEMENT = frames.Element("a b<", "x y", "urn:\0", (("q:", "\1"),), ("\2",))
 BEHAVIOURS = {
     "garbage": lambda number, asked: b"HTTP/1.1 400 Bad Request\r\n\r\n" * 10,
     "another number": lambda number, asked: replies(number + 7, [good(it) for it in asked]),
-    "status 409": lambda number, asked: replies(number, [], 409),
+    "status 409": lambda number, asked: replies(number - 1, [], 409),
     "status 400": lambda number, asked: replies(number, [], 400),
     "status 507": lambda number, asked: replies(number, [], 507),
     "an unknown status": lambda number, asked: replies(number, [], 999),

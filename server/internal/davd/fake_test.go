@@ -38,7 +38,7 @@ func fake(how string) {
 		case how == "wrong number":
 			writeReplies(number+1, 200, nil)
 		case how == "lost count":
-			writeReplies(number, 409, nil)
+			writeReplies(number-1, 409, nil)
 		case how == "no memory for a drop" && frames[0][0] == 3 && count < 5:
 			writeReplies(number, 507, nil)
 		case how == "no memory for a drop" && frames[0][0] == 3:
