@@ -9,9 +9,10 @@ import pathlib
 import sys
 
 from fake_davd import batch_of, good, header, replies, write
-from frames import AddToBody, BodyStarted, Done, DropBody, Read, Request, Response, StartBody
+from frames import AddToBody, BodyStarted, Done, DropBody, Held, Holdings, Read, Request, Response, StartBody
 
 IN_USE = 5
+USED = 900  # bytes of all files
 
 
 def reply(frame):
@@ -22,6 +23,8 @@ def reply(frame):
             return BodyStarted(1)
         case AddToBody() | DropBody():
             return Done()
+        case Held():
+            return Holdings(0, (USED, 1000))
     return good(frame)
 
 

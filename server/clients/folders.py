@@ -17,12 +17,12 @@ GROUP = Group("a folder", is_shared=False)
 GROUPS = [GROUP]
 
 
-def start(starter: Starter, how: str, **options) -> Server:
+def start(starter: Starter, how: str, *flags, **options) -> Server:
     """Starts a host over the folder `kept` of the check, with a davd that behaves so."""
     file = starter.write("davd", f"#!/bin/sh\nexec '{sys.executable}' '{FAKE}' '{how}' \"$@\"\n")
     file.chmod(0o755)
     (starter.folder / "kept").mkdir(exist_ok=True)
-    return starter.start("-memory", "0", "-folder", "{folder}/kept", davd=file, **options)
+    return starter.start("-memory", "0", "-folder", "{folder}/kept", *flags, davd=file, **options)
 
 
 def last(starter: Starter) -> int:
@@ -88,6 +88,14 @@ def again(starter: Starter):
     server = start(starter, "7 read")
     server.ask("GET", "/a", status=404)  # by the next davd
     expect("how often davd ended", server.log().count("davd ended"), 1)
+    server.stop()
+
+
+@GROUP.check("what a folder has at the start counts for the quota")
+def quota(starter: Starter):
+    server = start(starter, "sound", "-quota", "1000")
+    server.ask("PUT", "/a", b"x" * 101, status=507)
+    server.ask("PUT", "/a", b"x" * 100, status=201)
     server.stop()
 
 

@@ -82,7 +82,7 @@ type Engine struct {
 
 	mu      sync.Mutex
 	process *process // nil: not running
-	outage  *outage  // nil: davd runs, or has no folder
+	outage  *outage  // nil: no call waits for the next davd over a folder
 	pausing bool     // davd does not run, and calls fail until it does
 	closing bool
 	writing bool // somebody writes a batch

@@ -60,20 +60,34 @@ func fakeOver(folder fakeFolder, acts []string) {
 			os.Exit(exit)
 		}
 		folder.set("last", number)
-		if act == "keeps and ends" && frames[0][0] == 0 { // at a request
-			os.Exit(3)
+		if frames[0][0] == 0 { // a request
+			endKept(act, number, frames)
 		}
 		writeReplies(number, 200, replies(frames))
 	}
 }
 
-// greetHost answers the batch that asks for the number of the last one.
+// endKept ends davd after it has kept a batch, if it acts so.
+func endKept(act string, number uint64, frames [][]byte) {
+	switch act {
+	case "keeps and ends":
+	case "keeps and waits": // so that the next batch is sent meanwhile
+		time.Sleep(100 * time.Millisecond)
+	case "keeps and answers one frame":
+		writeReplies(number, 200, replies(frames), 1)
+	case "keeps and writes garbage":
+		os.Stdout.WriteString("this is not a batch of replies")
+		time.Sleep(time.Second) // It is killed.
+	default:
+		return
+	}
+	os.Exit(3)
+}
+
+// greetHost answers the batch that asks for the number of the last one. After a wrong answer it has to be killed.
 func greetHost(act string, number, last uint64) {
 	switch {
 	case act == "is mute":
-		for {
-			readBatch()
-		}
 	case act == "writes garbage":
 		os.Stdout.WriteString("this is not a batch of replies")
 	case act == "greets as if it had served", number != 0:
@@ -82,11 +96,13 @@ func greetHost(act string, number, last uint64) {
 		writeReplies(last, 409, [][]byte{{2}})
 	default:
 		writeReplies(last, 409, nil)
+		return
 	}
+	time.Sleep(5 * time.Minute)
 }
 
 var quickOver = pauses{
-	first: time.Millisecond, greatest: 10 * time.Millisecond, load: 5 * time.Second, patience: 5 * time.Second,
+	first: time.Millisecond, greatest: 10 * time.Millisecond, load: time.Minute, patience: time.Minute,
 }
 
 // overFolder returns the configuration of fake davds over a new folder.

@@ -43,6 +43,7 @@ func (p *process) greet(stop <-chan struct{}, limit time.Duration, now uint64) e
 		err = errStopped
 	}
 	p.kill()
+	p.input.Close()
 	<-answered // The output has ended.
 	return err
 }

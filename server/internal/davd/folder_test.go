@@ -94,6 +94,45 @@ func TestWhatWasKeptAndNotAnsweredHasNoReply(t *testing.T) {
 	awaitLog(t, said, "has kept 2 frames")
 }
 
+func TestWhatWasAnsweredWronglyHasNoReply(t *testing.T) {
+	engine, _, _ := startOver(t, "keeps and writes garbage, sound", quickOver)
+	if _, err := engine.Do(soon(t), change); !errors.Is(err, ErrKept) {
+		t.Errorf("a change: %v", err)
+	}
+}
+
+func TestWhatWasAnsweredHasItsReply(t *testing.T) {
+	engine, _, _ := startOver(t, "keeps and answers one frame, sound", quickOver)
+	calls, release := hold(t, engine, change, change)
+	release()
+	if <-calls[0].done; calls[0].err != nil {
+		t.Errorf("the change that was answered: %v", calls[0].err)
+	}
+	if <-calls[1].done; !errors.Is(calls[1].err, ErrKept) {
+		t.Errorf("the change that was not: %v", calls[1].err)
+	}
+}
+
+func TestTheBatchesAfterTheOneThatWasKeptWereNotDone(t *testing.T) {
+	engine, folder, _ := startOver(t, "keeps and waits, sound", quickOver)
+	kept, release := hold(t, engine, change)
+	release()
+	later, release := hold(t, engine, change, frame.Held{})
+	release()
+	if <-kept[0].done; !errors.Is(kept[0].err, ErrKept) {
+		t.Errorf("the change that was kept: %v", kept[0].err)
+	}
+	if <-later[0].done; !errors.Is(later[0].err, ErrLost) {
+		t.Errorf("the change in the next batch: %v", later[0].err)
+	}
+	if <-later[1].done; later[1].err != nil {
+		t.Errorf("the read in the next batch: %v", later[1].err)
+	}
+	if last := folder.get("last"); last != 2 {
+		t.Errorf("the last batch has the number %d, want that of the read, 2", last)
+	}
+}
+
 func TestWhatWasNotKeptWasNotDone(t *testing.T) {
 	tests := []struct {
 		acts string
@@ -168,6 +207,41 @@ func TestAnUploadIsLostWithItsDavd(t *testing.T) {
 	}
 }
 
+func TestARequestThatWasNotSentIsLostWithItsBody(t *testing.T) {
+	engine, _, _ := startOver(t, "sound", quickOver)
+	doChange(t, engine)
+	body, err := engine.StartBody(soon(t))
+	if err != nil {
+		t.Fatal(err)
+	}
+	defer body.Drop()
+	_, release := hold(t, engine, change) // So that the next call waits.
+	defer release()
+	result := make(chan error)
+	go func() {
+		_, err := body.Do(soon(t), &frame.Request{Method: "PUT", Path: "/a"})
+		result <- err
+	}()
+	waitUntil(t, func() bool { return len(engine.waiting) == 1 }, engine)
+	body.process.kill()
+	if err := <-result; !errors.Is(err, ErrLost) {
+		t.Errorf("the request: %v", err)
+	}
+}
+
+func TestAPieceInABatchThatWasKeptIsLost(t *testing.T) {
+	engine, _, said := startOver(t, "keeps and ends, sound", quickOver)
+	calls, release := hold(t, engine, change, frame.StartBody{})
+	release()
+	if <-calls[0].done; !errors.Is(calls[0].err, ErrKept) {
+		t.Errorf("the change: %v", calls[0].err)
+	}
+	if <-calls[1].done; !errors.Is(calls[1].err, ErrLost) {
+		t.Errorf("the beginning of a body: %v", calls[1].err)
+	}
+	awaitLog(t, said, `had not answered 1 frames that change something: "upload"`)
+}
+
 func TestAnUploadThatWasKeptHasNoReply(t *testing.T) {
 	engine, _, _ := startOver(t, "keeps and ends, sound", quickOver)
 	body, err := engine.StartBody(soon(t))
@@ -233,14 +307,14 @@ func waitUntil(t *testing.T, holds func() bool, engine *Engine) {
 
 func TestItGoesOnWhenDavdIsBack(t *testing.T) {
 	short := quickOver
-	short.patience, short.load = 30*time.Millisecond, 300*time.Millisecond
+	short.patience, short.load = 100*time.Millisecond, 500*time.Millisecond
 	engine, _, said := startOver(t, "ends with 3, is mute, sound", short)
 	if _, err := engine.Do(soon(t), change); !errors.Is(err, ErrUnknown) {
 		t.Errorf("the change that was sent: %v", err)
 	}
 	waitUntil(t, func() bool { return engine.process != nil }, engine)
 	doChange(t, engine)
-	awaitLog(t, said, "has not answered within 300ms")
+	awaitLog(t, said, "has not answered within 500ms")
 }
 
 func TestStartSaysWhyAFolderIsNotServed(t *testing.T) {
