@@ -27,7 +27,7 @@ func TestAFolderThatIsNotServedEndsTheServer(t *testing.T) {
 		status int
 		says   string
 	}{
-		{2, "its arguments are wrong (exit status 2)"},
+		{2, "davd rejects its arguments (exit status 2)"},
 		{4, "the folder is no store of davd, or it is damaged (exit status 4)"},
 		{5, "the folder is in use by another process (exit status 5)"},
 		{6, "the folder cannot be read or written (exit status 6)"},

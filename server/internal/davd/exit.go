@@ -8,7 +8,7 @@ import (
 
 // exitReasons are why davd ended, by its exit status. Those from 4 on are of a davd over a folder.
 var exitReasons = map[int]error{
-	2: errors.New("its arguments are wrong"),
+	2: errors.New("davd rejects its arguments"),
 	4: ErrNoStore,
 	5: ErrInUse,
 	6: ErrNoAccess,

@@ -325,7 +325,7 @@ func TestStartSaysWhyAFolderIsNotServed(t *testing.T) {
 		is   error
 		says string
 	}{
-		{"ends at the start with 2", nil, "its arguments are wrong"},
+		{"ends at the start with 2", nil, "davd rejects its arguments"},
 		{"ends at the start with 3", nil, "exit status 3"},
 		{"ends at the start with 4", ErrNoStore, "exit status 4"},
 		{"ends at the start with 5", ErrInUse, "the folder is in use by another process (exit status 5)"},
