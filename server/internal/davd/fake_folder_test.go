@@ -40,6 +40,9 @@ func fakeOver(folder fakeFolder, acts []string) {
 	if starts >= len(acts) {
 		starts = len(acts) - 1
 	}
+	if acts[starts] == "crashes" {
+		fakeCrashing(folder)
+	}
 	act, status, _ := strings.Cut(acts[starts], " with ")
 	exit, _ := strconv.Atoi(status)
 	switch act {
