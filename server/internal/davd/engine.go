@@ -146,9 +146,9 @@ func (e *Engine) Close(ctx context.Context) error {
 
 // Do sends a frame and returns the reply to it. A frame that failed is a *StatusError.
 //
-// If davd ends meanwhile, a frame that only reads is sent once more, to the next davd. Over a folder that is done if its
-// batch was not kept, and the other frames of the batch are ErrLost or ErrFull. Those of a batch that was kept are
-// ErrKept. If the next davd is not in service in time, they are ErrUnknown.
+// If davd ends meanwhile, a frame that only reads is sent once more, to the next davd. Over a folder any other frame is
+// ErrKept if its batch was kept, and otherwise ErrLost or ErrFull. If the next davd is not in service in time, it is
+// ErrUnknown.
 //
 // When ctx is done, Do returns its error, but it waits for the reply to a frame that was sent and changes something.
 func (e *Engine) Do(ctx context.Context, f frame.Frame) (frame.Reply, error) {

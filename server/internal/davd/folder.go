@@ -126,14 +126,14 @@ func (e *Engine) settle(last uint64) (kept, undone []string) {
 	var again []*call
 	for _, c := range e.endOutage() {
 		switch {
-		case c.number <= last:
-			kept = append(kept, c.what)
-			c.finish(nil, ErrKept)
 		case c.reads && !c.again:
 			c.again, c.sentTo = true, nil
 			again = append(again, c)
 		case c.reads:
 			c.finish(nil, ErrLost)
+		case c.number <= last:
+			kept = append(kept, c.what)
+			c.finish(nil, ErrKept)
 		default:
 			undone = append(undone, c.what)
 			c.finish(nil, c.sentTo.lost)

@@ -83,12 +83,15 @@ func kill(t *testing.T, engine *Engine) {
 
 func TestWhatWasKeptAndNotAnsweredHasNoReply(t *testing.T) {
 	engine, _, said := startOver(t, "keeps and ends, sound", quickOver)
-	calls, release := hold(t, engine, change, frame.Held{})
+	calls, release := hold(t, engine, change, frame.Held{}, change)
 	release()
-	for _, c := range calls {
-		if <-c.done; !errors.Is(c.err, ErrKept) {
-			t.Errorf("%s: %v", c.what, c.err)
+	for _, i := range []int{0, 2} {
+		if <-calls[i].done; !errors.Is(calls[i].err, ErrKept) {
+			t.Errorf("change %d: %v", i, calls[i].err)
 		}
+	}
+	if <-calls[1].done; calls[1].err != nil {
+		t.Errorf("a read in a batch that was kept: %v", calls[1].err)
 	}
 	doChange(t, engine)
 	awaitLog(t, said, "has kept 2 frames")
