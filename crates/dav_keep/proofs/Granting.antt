@@ -1,5 +1,5 @@
 -- Locks of one system are granted one after the other.
-use Rattle.std.proofs.Common.{◌≡◌, ◌∙◌, ℕ, Bool, true, false, cond, not, ◌&&◌, ◌||◌, List, [], ◌∷◌, ◌++◌, map, filter, refl, sym, ap, ap₂, subst}
+use Rattle.std.proofs.Common.{◌≡◌, ◌∙◌, ◌⊎◌, inl, inr, ℕ, Bool, true, false, cond, not, ◌&&◌, ◌||◌, List, [], ◌∷◌, ◌++◌, map, filter, refl, sym, ap, ap₂, subst}
 use Rattle.std.proofs.lemmas.Bool.{and_parts, and_from}
 use Rattle.std.proofs.lemmas.List.Folds.{list_all-append}
 use Rattle.std.proofs.lemmas.Slice.Eq.{bytes_eq-Decides}
@@ -7,9 +7,11 @@ use Rattle.std.specs.List.{AllByRecursion, IsDistinct, list_all, list_any}
 use Rattle.std.specs.Prelude.{bytes_eq}
 use Rattle.dav_cells.specs.Locks.{kept_lock}
 use Rattle.dav_key.specs.Key.{Key}
-use Rattle.dav_store.specs.LockCalls.{HasDistinctTokens}
-use Rattle.dav_store.specs.Locks.{covers, covering, at_or_below, is_at_or_below, conflicts, has_token, grants, stand_together, are_compatible, AreCompatible}
+use Rattle.dav_store.specs.LockCalls.{HasDistinctTokens, RefusesLock}
+use Rattle.dav_store.specs.Locks.{Locks, covers, covering, at_or_below, is_at_or_below, conflicts, has_token, grants, stand_together, are_compatible, AreCompatible}
 use Rattle.dav_store.specs.declared.lock.DavLock.{DavLock}
+use Rattle.dav_store.specs.declared.lock.LockError.TheVariants.{Memory}
+use Rattle.dav_store.specs.declared.lock.LockError.{LockError}
 
 abbrev token : DavLock → List ℕ
 token lock = lock.token
@@ -71,8 +73,8 @@ none_kept : (kept : DavLock → Bool) (lock other : DavLock) (done : List DavLoc
 none_kept kept lock other done first rest = by (kept other) first
   where
     by : (k : Bool) → (k && conflicts lock other) ≡ false → list_any (conflicts lock) (cond k (other ∷ filter kept done) (filter kept done)) ≡ false
-    by true no = ap₂ (λ a b. a || b) no rest
-    by false no = rest
+    by true apart_is = ap₂ (λ a b. a || b) apart_is rest
+    by false apart_is = rest
 
 above : (lock : DavLock) (done : List DavLock) → list_all (λ other. stand_together other lock) done ≡ true → list_any (conflicts lock) (covering done lock.path.key) ≡ false
 above lock [] h = refl
@@ -87,23 +89,33 @@ below lock done h = by lock.deep (λ other together. (apart lock other together)
     all : (done : List DavLock) → list_all (λ other. stand_together other lock) done ≡ true
         → ((other : DavLock) → stand_together other lock ≡ true → (is_at_or_below other.path.key lock.path.key && conflicts lock other) ≡ false)
         → list_any (conflicts lock) (at_or_below done lock.path.key) ≡ false
-    all [] h no = refl
-    all (other ∷ done) h no =
+    all [] h each = refl
+    all (other ∷ done) h each =
         let both = and_parts (stand_together other lock) _ h in
-        none_kept (λ o. is_at_or_below o.path.key lock.path.key) lock other done (no other both.0) (all done both.1 no)
+        none_kept (λ o. is_at_or_below o.path.key lock.path.key) lock other done (each other both.0) (all done both.1 each)
+
     by : (deep : Bool) → ((other : DavLock) → stand_together other lock ≡ true → ((deep && is_at_or_below other.path.key lock.path.key) && conflicts lock other) ≡ false)
         → (deep && list_any (conflicts lock) (at_or_below done lock.path.key)) ≡ false
-    by true no = all done h no
-    by false no = refl
+    by true each = all done h each
+    by false each = refl
 
 granting : (a b c : Bool) → a ≡ false → b ≡ false → c ≡ false → (not a && not b && not c) ≡ true
-granting a b c p q r = ap₂ (λ x y. not x && y) p (ap₂ (λ x y. not x && not y) q r)
+granting a b c p q r = ap₂ (λ x y. x && not y) (ap₂ (λ x y. not x && not y) p q) r
 
 -- the locks before a lock of the system grant it
 pub grants_next : (done : List DavLock) (lock : DavLock) (rest : List DavLock) → HasDistinctTokens (done ++ lock ∷ rest) → AreCompatible (done ++ lock ∷ rest) → grants done lock ≡ true
 grants_next done lock rest distinct compatible =
     let each = stands done lock rest compatible in
     granting _ _ _ (unused done lock rest distinct) (above lock done each) (below lock done each)
+
+-- a lock of the system is refused only if memory runs out
+pub refused : (done : Locks) (lock : DavLock) (left more all : List DavLock) (e : LockError) → done.list ++ left ≡ all → left ≡ lock ∷ more → RefusesLock done lock e
+    → HasDistinctTokens all → AreCompatible all → e ≡ Memory
+refused done lock left more all e parts is (inl memory) distinct compatible = memory
+refused done lock left more all e parts is (inr conflict) distinct compatible =
+    let split : done.list ++ lock ∷ more ≡ all = ap (λ ls. done.list ++ ls) (sym is) ∙ parts in
+    let granted = grants_next done.list lock more (subst HasDistinctTokens (sym split) distinct) (subst AreCompatible (sym split) compatible) in
+    absurd (let clash : true ≡ false = sym granted ∙ conflict.1 in cc)
 
 -- ---- the same of locks that were kept
 

@@ -5,3 +5,5 @@ pub mod Granting
 pub mod NewStore
 pub mod SoundTrees
 pub mod Outcomes
+pub mod Reaches
+pub mod LoadedImages

@@ -59,29 +59,38 @@ impl<S: Alter + Drop> Keeping<S> {
             → (HasCleanDisk (state S.Store conn) → IsAt (state S.Store conn) tables) → IfOk result (λ r. IsKnown r.0 image) }
         ensures err { (image : Image) (tables : Contents) → AreRowsOfImage rows image tables → IfErr result IsMemory }
     {
-        let values = load_resources(alloc, &rows)?;
+        let loaded = loaded_of(alloc, &rows)?;
         let counts = SavedCounts::from_rows(alloc, &rows)?;
-        let locks = locks_of(alloc, &rows.locks)?;
-        let numbers = numbers_of(&rows.states)?;
-        let Some(end) = end_of(&values) else {
-            return Err(LoadError::Damaged);
-        };
         let keeping = Keeping {
             alloc,
             conn,
             counts,
             locks: SavedLocks::from_rows(rows.locks),
-            version: numbers.counter,
-            key: numbers.key,
-        };
-        let loaded = Loaded {
-            values,
-            locks,
-            numbers,
-            end,
+            version: loaded.numbers.counter,
+            key: loaded.numbers.key,
         };
         Ok((keeping, loaded))
     }
+}
+
+/// Returns what the rows say. Errors are as for `load`.
+fn loaded_of(alloc: Global, rows: &Rows) -> Result<Loaded, LoadError>
+    ensures end { IfOk result (λ loaded. IsEnd (AreBelow loaded.values.items) loaded.end) }
+    ensures loaded { (image : Image) (tables : Contents) → AreRowsOfImage rows.now image tables → IfOk result (IsLoaded image) }
+    ensures err { (image : Image) (tables : Contents) → AreRowsOfImage rows.now image tables → IfErr result IsMemory }
+{
+    let numbers = numbers_of(&rows.states)?;
+    let locks = locks_of(alloc, &rows.locks)?;
+    let values = load_resources(alloc, rows)?;
+    let Some(end) = end_of(&values) else {
+        return Err(LoadError::Damaged);
+    };
+    Ok(Loaded {
+        values,
+        locks,
+        numbers,
+        end,
+    })
 }
 
 /// Returns a lock system with the locks of these rows.
@@ -107,11 +116,19 @@ fn add_all(system: &mut MemLs, locks: Vec<DavLock>) -> Result<(), LoadError>
     ensures err { HasDistinctTokens locks.items → AreCompatible locks.items → IfErr result IsMemory }
 {
     'locks: for lock in locks {
-        match system.add(lock) {
-            Ok(()) => {}
-            Err(LockError::Memory) => return Err(LoadError::Memory),
-            Err(_) => return Err(LoadError::Damaged),
+        if let Err(error) = system.add(lock) {
+            return Err(cause_of(error));
         }
     }
     Ok(())
+}
+
+/// Returns why locks are not loaded if one of them is not added for this error.
+fn cause_of(error: LockError) -> LoadError
+    ensures { error ≡ LockError.Memory → result ≡ LoadError.Memory }
+{
+    match error {
+        LockError::Memory => LoadError::Memory,
+        _ => LoadError::Damaged,
+    }
 }
