@@ -1,32 +1,28 @@
 -- What the tables stand for after a commit, and what a crash leaves.
-use Rattle.std.proofs.Common.{◌≡◌, ◌∙◌, ◌⊎◌, inl, inr, ℕ, pos, List, [], ◌∷◌, ◌++◌, refl, sym, ap, subst, arith}
+use Rattle.std.proofs.Common.{◌≡◌, ◌∙◌, ◌⊎◌, inl, inr, pos, List, [], ◌∷◌, ◌++◌, refl, sym, ap, subst, arith}
 use Rattle.std.specs.Coded.{Coded}
 use Rattle.std.specs.FinMap.{entries, insert}
 use Rattle.std.specs.Prelude.{◌≤◌}
 use base.Stored.{Gv}
 use Rattle.sqlite.specs.Held.{state}
 use Rattle.sqlite.specs.State.{State, HasCleanDisk}
-use Rattle.sqlite.specs.Tree.{Trees}
 use Rattle.sqlite_trees.specs.View.{doubt}
 use Rattle.sqlite_trees.specs.declared.store.Store as store
-use Rattle.dav_nodes.specs.Tree.{Tree}
 use Rattle.dav_pieces.specs.declared.piece.Piece.{Piece}
 use Rattle.dav_rows.proofs.SavingLemmas.{after-append}
 use Rattle.dav_rows.specs.Changes.{after, state_entry}
 use Rattle.dav_rows.specs.Contents.{Contents, Holds}
-use Rattle.dav_rows.specs.Saving.{IsAt, Moves, LeavesEither as LeavesTables}
+use Rattle.dav_rows.specs.Saving.{IsAt}
 use Rattle.dav_rows.specs.declared.change.Change.TheVariants.{PutState}
 use Rattle.dav_rows.specs.declared.change.Change.{Change}
 use Rattle.dav_rows.specs.declared.state.StateRow.{StateRow}
 use Rattle.dav_store.specs.declared.lock.DavLock.{DavLock}
 use Rattle.dav_store_rows.proofs.SameTables.{same_saved}
-use Rattle.dav_store_rows.specs.Resources.{Kept}
 use Rattle.dav_store_rows.specs.Stands.{KeepsTreeTables}
 use Rattle.dav_store_rows.specs.Updates.{IsSavedIn}
-use Rattle.dav_tree.specs.Before.{entries_code, IsTreeIn}
 use Rattle.dav_keep.specs.Images.{Image, values_of, StandForImage, HoldsImage}
-use Rattle.dav_keep.specs.Keeping.{IsKnown, IsKept, Leaves, LeavesEither}
-use Rattle.dav_keep.specs.Steps.{AreSavedIn, OnlyRowsDiffer, OnlyDatabaseDiffers, IsPrepared, saved_with}
+use Rattle.dav_keep.specs.Keeping.{database, IsKnown, IsKept, Leaves, LeavesEither}
+use Rattle.dav_keep.specs.Steps.{AreSavedIn, OnlyRowsDiffer, OnlyDatabaseDiffers, IsPrepared, saved_with, Commits, MayCommit}
 use Rattle.dav_keep.specs.declared.keeping.Keeping.{Keeping}
 use Rattle.dav_keep.specs.declared.numbers.Numbers.{Numbers}
 use Rattle.dav_keep.proofs.Images.{Settles, state_put, left_at}
@@ -42,10 +38,6 @@ cleaner : (old new : State) → doubt old.is_clean ≤ doubt new.is_clean → Ha
 cleaner old new less clean = omega (arith, less, clean)
 
 module _ {S : Type 0} {rows : store.Ghosts S} where
-  -- the same database
-  abbrev pub database : Keeping S rows → State
-  database keeping = state rows keeping.conn
-
   -- a crash leaves the image that is known
   pub leaves_known : Settles rows → (keeping next : Keeping S rows) (image : Image) → next.conn ≡ keeping.conn → IsKnown keeping image → Leaves (database next) image
   leaves_known settles keeping next image same known =
@@ -91,7 +83,7 @@ module _ {S : Type 0} {rows : store.Ghosts S} where
 
     -- after the commit the keeper knows the next image
     pub next_known : doubt (database prepared_keeper).is_clean ≤ doubt (database new).is_clean
-        → (HasCleanDisk (database new) → Moves (database prepared_keeper) (database new) (saved_with changes numbers))
+        → Commits prepared_keeper new changes numbers
         → new.version ≡ numbers.counter → numbers.key ≡ prepared_keeper.key → IsKnown new next_image
     next_known less moves counted keyed = record {
       tables = next_tables;
@@ -105,7 +97,7 @@ module _ {S : Type 0} {rows : store.Ghosts S} where
 
     -- a crash leaves the image before, or the next one
     pub next_left : doubt (database prepared_keeper).is_clean ≤ doubt (database new).is_clean
-        → (HasCleanDisk (database new) → LeavesTables (database prepared_keeper) (database new) (saved_with changes numbers))
+        → MayCommit prepared_keeper new changes numbers
         → LeavesEither (database new) image next_image
     next_left less crash clean db may = either (crash clean was (was_at (was_clean less clean)) db may)
       where

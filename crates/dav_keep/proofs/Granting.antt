@@ -1,12 +1,11 @@
 -- Locks of one system are granted one after the other.
-use Rattle.std.proofs.Common.{◌≡◌, ◌∙◌, ◌⊎◌, inl, inr, ℕ, Bool, true, false, cond, not, ◌&&◌, ◌||◌, List, [], ◌∷◌, ◌++◌, map, filter, refl, sym, ap, ap₂, subst}
+use Rattle.std.proofs.Common.{◌≡◌, ◌∙◌, inl, inr, ℕ, Bool, true, false, cond, not, ◌&&◌, ◌||◌, List, [], ◌∷◌, ◌++◌, map, filter, refl, sym, ap, ap₂, subst}
 use Rattle.std.proofs.lemmas.Bool.{and_parts, and_from}
 use Rattle.std.proofs.lemmas.List.Folds.{list_all-append}
 use Rattle.std.proofs.lemmas.Slice.Eq.{bytes_eq-Decides}
 use Rattle.std.specs.List.{AllByRecursion, IsDistinct, list_all, list_any}
 use Rattle.std.specs.Prelude.{bytes_eq}
 use Rattle.dav_cells.specs.Locks.{kept_lock}
-use Rattle.dav_key.specs.Key.{Key}
 use Rattle.dav_store.specs.LockCalls.{HasDistinctTokens, RefusesLock}
 use Rattle.dav_store.specs.Locks.{Locks, covers, covering, at_or_below, is_at_or_below, conflicts, has_token, grants, stand_together, are_compatible, AreCompatible}
 use Rattle.dav_store.specs.declared.lock.DavLock.{DavLock}

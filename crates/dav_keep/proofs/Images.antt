@@ -1,5 +1,5 @@
 -- Tables that stand for an image, and databases that a crash leaves.
-use Rattle.std.proofs.Common.{◌≡◌, ◌∙◌, ℤ, pos, List, [], ◌∷◌, map, IsTrue, refl, sym, ap, ap₂, subst}
+use Rattle.std.proofs.Common.{◌≡◌, ◌∙◌, pos, List, [], ◌∷◌, map, IsTrue, refl, sym, ap, ap₂, subst}
 use Rattle.std.specs.List.{AllByRecursion}
 use Rattle.std.specs.FinMap.{entries, insert, entries-insert}
 use Rattle.std.specs.FinMap.Entries.{put}

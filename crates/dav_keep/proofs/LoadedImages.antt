@@ -1,12 +1,10 @@
 -- Rows of an image, and what is loaded from them.
-use Rattle.std.proofs.Common.{◌≡◌, ◌∙◌, ◌<◌, ◌+◌, ◌^◌, ℕ, pos, true, List, [], ◌∷◌, map, length, get_or, Some, refl, sym, ap, subst, arith}
+use Rattle.std.proofs.Common.{◌≡◌, ◌∙◌, ◌+◌, ◌^◌, ℕ, pos, true, List, [], ◌∷◌, map, get_or, refl, arith}
 use Rattle.std.proofs.lemmas.Bool.{and_parts}
 use Rattle.std.proofs.lemmas.List.{length-map, get_or-map}
-use Rattle.std.specs.FinMap.{get}
 use Rattle.std.specs.Prelude.{ltb, nat_le}
 use Rattle.dav_data.specs.Data.{is_below}
 use Rattle.dav_data.specs.Runs.{run_passes}
-use Rattle.dav_key.specs.Key.{Key}
 use Rattle.dav_nodes.specs.Rows.{HasRow}
 use Rattle.dav_nodes.specs.TreeRows.{row_with, numbered_row, AreRowsOf}
 use Rattle.dav_nodes.specs.declared.nodes.loading.NumberedValue.{NumberedValue}
@@ -60,6 +58,6 @@ module _ (rows : Rows) (image : Image) (tables : Contents) (are : AreRowsOfImage
   values_below values listed k d low =
       let value = get_or values k d in
       let has : HasRow image.tree value.number (row_with value) =
-          (listed.listed value.number (row_with value)).0
-          (k, omega (arith, low, length-map values numbered_row), get_or-map numbered_row values k d (numbered_row value) low) in
+      (listed.listed value.number (row_with value)).0
+      (k, omega (arith, low, length-map values numbered_row), get_or-map numbered_row values k d (numbered_row value) low) in
       are.whole.below has.0 value.value (row_parts image.tree has.0 (row_with value) has.2).0

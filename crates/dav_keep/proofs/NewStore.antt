@@ -1,5 +1,5 @@
 -- The tables of a new store.
-use Rattle.std.proofs.Common.{◌≡◌, ◌≢◌, ◌∙◌, ◌⊎◌, inl, inr, ◌++◌, ℕ, ℤ, pos, List, [], ◌∷◌, map, length, Option, Some, None, is_some, refl, sym, ap, ap₂, subst, arith}
+use Rattle.std.proofs.Common.{◌≡◌, ◌∙◌, ◌++◌, ℕ, ℤ, pos, List, [], ◌∷◌, map, length, Option, Some, None, is_some, refl, sym, ap, ap₂, subst, arith}
 use Rattle.std.proofs.lemmas.Cmp.{int_cmp_total}
 use Rattle.std.proofs.lemmas.Option.{same_Some}
 use Rattle.std.specs.Coded.{Coded, coded_list}
@@ -8,7 +8,7 @@ use Rattle.std.specs.FinMap.Entries.{put}
 use Rattle.std.specs.Ordering.{int_cmp}
 use Rattle.std.specs.Option.{option_map}
 use Rattle.dav_key.specs.Key.{Key, key_cmp, key_cmp_total}
-use Rattle.dav_nodes.specs.Rows.{Row, HasRow, AreDistinct, AreJoined, AreNumbered}
+use Rattle.dav_nodes.specs.Rows.{Row, HasRow, AreJoined, AreNumbered}
 use Rattle.dav_nodes.specs.Tree.{Tree}
 use Rattle.dav_pieces.specs.Pieces.{piece_code}
 use Rattle.dav_pieces.specs.declared.piece.Piece.{Piece}
@@ -87,9 +87,11 @@ first_sound = record {
     joined : AreJoined tree
     joined [] more none = clash _ 0 none (here 0)
     joined (name ∷ key) more none = nowhere 0 name (key ++ more)
+
     numbered : AreNumbered tree
     numbered [] = ap is_some (here 0) ∙ sym (ap is_some (here root))
     numbered (name ∷ key) = ap is_some (nowhere 0 name key) ∙ sym (ap is_some (nowhere root name key))
+
     none_named : AreNamed empty
     none_named name element is = clash _ element (get-empty _ name) is
 
@@ -113,6 +115,7 @@ module _ (counts : List Counts) (of_root : List Change) (saves : Saves 0 (Some r
     where
       none : IsSavedIn nothing no_tree []
       none = saved_none nothing refl refl refl
+
       no_number : (key : Key) (number : ℕ) → get no_tree.numbers key ≡ Some number → ⊥
       no_number key number is = let no = get-empty {X = ℕ} key_cmp key in cc
 
@@ -142,9 +145,11 @@ module _ (counts : List Counts) (of_root : List Change) (saves : Saves 0 (Some r
     where
       with_state : Contents
       with_state = after_one (PutState row) made
+
       in_order : first changes ≡ with_state
       in_order =
           ap (λ cs. after cs nothing) (pushed ∙ ap (λ cs. cs ++ PutState row ∷ []) freshens.is) ∙ after-append freshens.more (PutState row ∷ []) nothing
+
       rows : entries {R = int_cmp} with_state.states ≡ (pos 0, values_of (first_image key).numbers) ∷ []
       rows =
           ap (λ (t : Numbered StateValues). entries (insert t (state_entry row).0 (state_entry row).1)) (freshens.tables nothing).states

@@ -1,7 +1,6 @@
 -- What a call of the keeper comes to.
-use Rattle.std.proofs.Common.{◌≡◌, ◌≢◌, ◌∙◌, ◌⊎◌, inl, inr, ℕ, List, Option, Some, None, true, false, refl, sym, ap, subst}
-use Rattle.std.specs.Prelude.{◌≤◌, Vec}
-use Rattle.std.specs.declared.alloc.Global.{Global}
+use Rattle.std.proofs.Common.{◌≡◌, ◌∙◌, inl, inr, ℕ, List, Option, Some, None, true, false, refl, sym, ap, subst}
+use Rattle.std.specs.Prelude.{◌≤◌}
 use base.Stored.{Gv}
 use Rattle.sqlite.specs.Held.{state}
 use Rattle.sqlite.specs.State.{HasCleanDisk}
@@ -11,7 +10,7 @@ use Rattle.dav_memls.specs.MemLs.{list_of}
 use Rattle.dav_memls.specs.declared.memory_locks.MemLs.{MemLs}
 use Rattle.dav_nodes.specs.Tree.{Tree}
 use Rattle.dav_pieces.specs.declared.piece.Piece.{Piece}
-use Rattle.dav_rows.specs.Saving.{IsAt, Moves, LeavesEither as LeavesTables}
+use Rattle.dav_rows.specs.Saving.{IsAt}
 use Rattle.dav_rows.specs.declared.change.Change.{Change}
 use Rattle.dav_store_rows.specs.Resources.{Kept}
 use Rattle.dav_store_rows.specs.Saves.{Fits}
@@ -21,12 +20,12 @@ use Rattle.dav_tree.specs.TreeFs.{memory_of, before_of, older_of, entries_of}
 use Rattle.dav_tree.specs.declared.medium.Medium.{Ghosts}
 use Rattle.dav_tree.specs.declared.tree_fs.TreeFs.{TreeFs}
 use Rattle.dav_keep.specs.Images.{Image, IsSoundTree, IsSound, IsImageOf}
-use Rattle.dav_keep.specs.Keeping.{IsKnown, IsKept, IsDated, KeepsNow, Stops}
-use Rattle.dav_keep.specs.Steps.{OnlyRowsDiffer, OnlyDatabaseDiffers, IsPrepared, IsUnchanged, IsAskedOrNot, saved_with}
+use Rattle.dav_keep.specs.Keeping.{database, IsKept, KeepsNow, Stops}
+use Rattle.dav_keep.specs.Steps.{OnlyRowsDiffer, OnlyDatabaseDiffers, IsPrepared, IsUnchanged, IsAskedOrNot, Commits, MayCommit}
 use Rattle.dav_keep.specs.declared.keeping.Keeping.{Keeping}
 use Rattle.dav_keep.specs.declared.numbers.Numbers.{Numbers}
 use Rattle.dav_keep.proofs.Images.{Settles, same_locks}
-use Rattle.dav_keep.proofs.Committing.{database, leaves_known, next_image, next_known, next_left}
+use Rattle.dav_keep.proofs.Committing.{leaves_known, next_known, next_left}
 
 same_tree : (a b : Gv) (q r : Resources) → saved_code a q ≡ saved_code b r → a ≡ b
 same_tree a b q r same = cc
@@ -52,17 +51,6 @@ module _ {M : Type 0} {g : Ghosts M (List Piece)} (store : TreeFs M (List Piece)
 
 pub not_none : {A : Type 0} (o : Option A) (x : A) → o ≡ Some x → o ≡ None → ⊥
 not_none o x some none = let e = sym some ∙ none in cc
-
-module _ {S : Type 0} {rows : store.Ghosts S} (between new : Keeping S rows) (changes : List Change) (counter now batch : ℕ) where
-  abbrev numbers_with : Numbers
-  numbers_with = record { counter = counter; time = now; batch = batch; key = between.key }
-
-  -- what a commit of changes and of these numbers does, and what a crash leaves of it
-  abbrev pub CommitMoves : Type 0
-  CommitMoves = HasCleanDisk (database new) → Moves (database between) (database new) (saved_with changes numbers_with)
-
-  abbrev pub CrashLeaves : Type 0
-  CrashLeaves = HasCleanDisk (database new) → LeavesTables (database between) (database new) (saved_with changes numbers_with)
 
 module _ {S M : Type 0} {rows : store.Ghosts S} {g : Ghosts M (List Piece)} (settles : Settles rows) (old between new : Keeping S rows) (first last : TreeFs M (List Piece) g)
     (locks : MemLs) (now batch : ℕ) (image : Image) (kept : IsKept g.body_code old (before_of first) image) (same : OnlyRowsDiffer old between) where
@@ -117,7 +105,7 @@ module _ {S M : Type 0} {rows : store.Ghosts S} {g : Ghosts M (List Piece)} (set
     keyed = same.key ∙ kept.known.key
 
     -- the changes are committed
-    pub keeps_next : (HasCleanDisk (database new) → Moves (database between) (database new) (saved_with changes numbers)) → new.version ≡ numbers.counter
+    pub keeps_next : Commits between new changes numbers → new.version ≡ numbers.counter
         → KeepsNow true image new last locks now batch
     keeps_next moves counted = record {
       image = image_now last locks now batch between.key prepared.tree;
@@ -131,7 +119,7 @@ module _ {S M : Type 0} {rows : store.Ghosts S} {g : Ghosts M (List Piece)} (set
     }
 
     -- the changes cannot be committed
-    pub stops_late : (HasCleanDisk (database new) → LeavesTables (database between) (database new) (saved_with changes numbers)) → older_of last ≡ before_of first
+    pub stops_late : MayCommit between new changes numbers → older_of last ≡ before_of first
         → Stops image new first last locks now batch
     stops_late crash older = inr (record {
       image = image_now last locks now batch between.key prepared.tree;

@@ -1,5 +1,5 @@
 -- Changes that bring the tables up to date.
-use Rattle.std.proofs.Common.{◌≡◌, ◌∙◌, ℤ, List, [], ◌++◌, refl, sym, ap, subst}
+use Rattle.std.proofs.Common.{◌≡◌, ◌∙◌, List, [], sym, ap, subst}
 use Rattle.std.specs.Coded.{Coded}
 use Rattle.std.specs.FinMap.{entries}
 use base.Stored.{Gv}

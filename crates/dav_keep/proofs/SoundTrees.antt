@@ -1,15 +1,11 @@
 -- The tree of a sound store is sound.
-use Rattle.std.proofs.Common.{◌≡◌, ◌∙◌, List, [], Some, Result, Ok, Err, OnErr, is_some, sym, ap}
+use Rattle.std.proofs.Common.{◌∙◌, List, Result, Ok, Err, OnErr, sym, ap}
 use Rattle.std.specs.FinMap.{get}
 use Rattle.std.specs.Option.{option_map}
-use Rattle.dav_key.specs.Key.{Key}
-use Rattle.dav_nodes.specs.Tree.{Tree}
 use Rattle.dav_pieces.specs.declared.piece.Piece.{Piece}
-use Rattle.dav_store_rows.specs.Resources.{Kept}
 use Rattle.dav_tree.proofs.Keeping.{get-resources}
 use Rattle.dav_tree.specs.Before.{HasTree}
 use Rattle.dav_tree.specs.Entry.{stored_by}
-use Rattle.dav_tree.specs.Memory.{IsSound}
 use Rattle.dav_tree.specs.TreeFs.{memory_of, entries_of}
 use Rattle.dav_tree.specs.declared.medium.Medium.{Ghosts}
 use Rattle.dav_tree.specs.declared.tree_fs.TreeFs.{TreeFs}

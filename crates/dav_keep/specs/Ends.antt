@@ -1,5 +1,5 @@
 -- Where the blocks of files end in the data file.
-use Rattle.std.specs.Prelude.{◌≡◌, ◌≤◌, ◌<◌, ◌+◌, ◌^◌, ℕ, true, nat_le, All, List, Option, Some, None, Result, Ok, Err}
+use Rattle.std.specs.Prelude.{◌≡◌, ◌≤◌, ◌<◌, ◌+◌, ◌^◌, ℕ, true, nat_le, All, List, Option, Some, None}
 use Rattle.dav_data.specs.Data.{is_below}
 use Rattle.dav_data.specs.Runs.{piece_passes, blocks_pass}
 use Rattle.dav_nodes.specs.declared.nodes.loading.NumberedValue.{NumberedValue}

@@ -1,5 +1,5 @@
 -- What it is to keep a store: this project's own choice.
-use Rattle.std.specs.Prelude.{◌≡◌, ◌⊎◌, ℕ, ℤ, Bool, true, false, List}
+use Rattle.std.specs.Prelude.{◌≡◌, ◌⊎◌, ℕ, Bool, true, false, List}
 use Rattle.std.specs.Coded.{Coded}
 use Rattle.std.specs.FinMap.{entries}
 use base.Stored.{Gv}
@@ -22,6 +22,10 @@ use Rattle.dav_keep.specs.declared.keeping.Keeping.{Keeping}
 -- ---- what is kept
 
 module _ {S : Type 0} {rows : store.Ghosts S} where
+  -- what the keeper's connection shows
+  abbrev pub database : Keeping S rows → State
+  database keeping = state rows keeping.conn
+
   -- The keeper knows tables that stand for an image: how many rows each resource has, the rows of the locks, the number of changes, and the key. If the
   -- disk is clean, they are the tables of its database.
   pub record IsKnown (keeping : Keeping S rows) (image : Image) : Type 0 where
@@ -31,7 +35,7 @@ module _ {S : Type 0} {rows : store.Ghosts S} where
     pub locks : entries tables.locks ≡ keeping.locks
     pub version : keeping.version ≡ image.numbers.counter
     pub key : keeping.key ≡ image.numbers.key
-    pub at : HasCleanDisk (state rows keeping.conn) → IsAt (state rows keeping.conn) tables
+    pub at : HasCleanDisk (database keeping) → IsAt (database keeping) tables
 
   -- the same, and the tree of the image is the one that is saved of a store
   pub record IsKept (body : Coded (List Piece)) (keeping : Keeping S rows) (saved : Gv) (image : Image) : Type 0 where
@@ -62,7 +66,8 @@ LeavesEither s one other = HasCleanDisk s → (db : Trees) → s.may_leave db �
 
 module _ {S M : Type 0} {rows : store.Ghosts S} {g : Ghosts M (List Piece)} where
   -- an image of what is in the store and the lock system now is kept
-  pub record KeepsNow (changed : Bool) (before : Image) (keeping : Keeping S rows) (store : TreeFs M (List Piece) g) (locks : MemLs) (now batch : ℕ) : Type 0 where
+  pub record KeepsNow (changed : Bool) (before : Image) (keeping : Keeping S rows) (store : TreeFs M (List Piece) g) (locks : MemLs)
+      (now batch : ℕ) : Type 0 where
     pub image : Image
     pub kept : IsKept g.body_code keeping (before_of store) image
     pub is : IsImageOf store locks image
@@ -72,17 +77,18 @@ module _ {S M : Type 0} {rows : store.Ghosts S} {g : Ghosts M (List Piece)} wher
   pub record StopsBefore (before : Image) (keeping : Keeping S rows) (old new : TreeFs M (List Piece) g) : Type 0 where
     pub saved : before_of new ≡ before_of old
     pub older : older_of new ≡ older_of old
-    pub left : Leaves (state rows keeping.conn) before
+    pub left : Leaves (database keeping) before
 
   -- a crash leaves the image before, whose tree is still safe, or an image of what is in the store and the lock system now
-  pub record StopsBetween (before : Image) (keeping : Keeping S rows) (old new : TreeFs M (List Piece) g) (locks : MemLs) (now batch : ℕ) : Type 0 where
+  pub record StopsBetween (before : Image) (keeping : Keeping S rows) (old new : TreeFs M (List Piece) g) (locks : MemLs)
+      (now batch : ℕ) : Type 0 where
     pub image : Image
     pub is : IsImageOf new locks image
     pub dated : IsDated now batch before image
     pub sound : IsSound image
     pub saved : IsTreeIn (before_of new) (entries_code g.body_code image.tree)
     pub older : older_of new ≡ before_of old
-    pub left : LeavesEither (state rows keeping.conn) before image
+    pub left : LeavesEither (database keeping) before image
 
   abbrev pub Stops : Image → Keeping S rows → TreeFs M (List Piece) g → TreeFs M (List Piece) g → MemLs → ℕ → ℕ → Type 0
   Stops before keeping old new locks now batch = StopsBefore before keeping old new ⊎ StopsBetween before keeping old new locks now batch

@@ -1,5 +1,5 @@
 -- What is loaded of a store that was kept: this project's own choice.
-use Rattle.std.specs.Prelude.{◌≡◌, ◌<◌, ◌^◌, ℕ, true, List, [], map, Some}
+use Rattle.std.specs.Prelude.{◌≡◌, ◌<◌, ◌^◌, ℕ, true, [], map, Some}
 use Rattle.std.specs.FinMap.{get, empty}
 use Rattle.dav_cells.specs.Locks.{kept_lock}
 use Rattle.dav_data.specs.Data.{is_below}

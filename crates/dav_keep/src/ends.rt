@@ -55,7 +55,11 @@ fn end_of_piece(piece: Piece) -> Option<usize>
                 return None;
             }
             let end = block.at.checked_add(block.size as usize)?;
-            if (end as u64) < LIMIT { Some(end) } else { None }
+            if (end as u64) < LIMIT {
+                Some(end)
+            } else {
+                None
+            }
         }
         Piece::Zeros(_) => Some(0),
     }

@@ -1,8 +1,8 @@
 //! A keeper of a store over pieces of a data file.
 ghost use Rattle.std.specs.Prelude.{◌≡◌, false};
 
-use crate::numbers::{Numbers, row_of};
 use crate::KeepError;
+use crate::numbers::{Numbers, row_of};
 use dav_memls::MemLs;
 use dav_pieces::Body;
 use dav_rows::{Change, save};
@@ -30,16 +30,12 @@ pub struct Keeping<S: Alter> {
 impl<S: Alter> Keeping<S> {
     ghost use Rattle.std.specs.Prelude.{◌≡◌, ◌≢◌, ◌≤◌, None, IfOk, OnOk, OnErr};
     ghost use Rattle.sqlite_trees.specs.View.{doubt};
-    ghost use Rattle.sqlite.specs.Held.{state};
-    ghost use Rattle.sqlite.specs.State.{HasCleanDisk};
-    ghost use Rattle.dav_memls.specs.MemLs.{list_of};
-    ghost use Rattle.dav_rows.specs.Saving.{Moves, LeavesEither};
     ghost use Rattle.dav_tree.specs.Before.{IsSaved};
     ghost use Rattle.dav_tree.specs.Memory.{asked, with_held};
     ghost use Rattle.dav_tree.specs.TreeFs.{memory_of, records_of, before_of, older_of, entries_of};
     ghost use Rattle.dav_keep.specs.Images.{Image};
-    ghost use Rattle.dav_keep.specs.Keeping.{IsKept, KeepsNow, Stops};
-    ghost use Rattle.dav_keep.specs.Steps.{Prepares, OnlyRowsDiffer, OnlyDatabaseDiffers, IsAskedOrNot, saved_with};
+    ghost use Rattle.dav_keep.specs.Keeping.{database, IsKept, KeepsNow, Stops};
+    ghost use Rattle.dav_keep.specs.Steps.{Prepares, OnlyRowsDiffer, OnlyDatabaseDiffers, IsAskedOrNot, Commits, MayCommit};
 
     /// Makes safe what files contain, and saves what has changed since the last call, with this time and the number of
     /// this batch. Returns whether anything has changed. If nothing has, it neither syncs nor commits, and the time and the
@@ -89,7 +85,7 @@ impl<S: Alter> Keeping<S> {
         locks: &MemLs,
     ) -> Result<Option<Vec<Change>>, KeepError>
         ensures same { OnlyRowsDiffer self.old self.new }
-        ensures prepared { IfOk result (λ changes. Prepares M.body_code self.old self.new (before_of store.old) (entries_of store.new) (list_of locks.now) changes (memory_of store.new).version) }
+        ensures prepared { IfOk result (λ changes. Prepares self.old self.new store.old store.new locks.now changes) }
         ensures older { IfOk result (λ changes. changes ≡ None → before_of store.new ≡ before_of store.old) }
         ensures took { IfOk result (λ changes. changes ≢ None → older_of store.new ≡ before_of store.old) }
         ensures stopped { OnErr result (IsAskedOrNot store.old store.new) }
@@ -113,16 +109,12 @@ impl<S: Alter> Keeping<S> {
     ///
     /// - `Rows`: a number does not fit in 63 bits, or memory runs out.
     /// - `Database`: the database fails.
-    fn commit(
-        &mut self,
-        mut changes: Vec<Change>,
-        numbers: Numbers,
-    ) -> Result<(), KeepError>
+    fn commit(&mut self, mut changes: Vec<Change>, numbers: Numbers) -> Result<(), KeepError>
         ensures same { OnlyDatabaseDiffers self.old self.new }
         ensures version { OnOk result (self.new.version ≡ numbers.counter) }
-        ensures ok { OnOk result (HasCleanDisk (state S.Store self.new.conn) → Moves (state S.Store self.old.conn) (state S.Store self.new.conn) (saved_with changes.items numbers)) }
-        ensures crash { HasCleanDisk (state S.Store self.new.conn) → LeavesEither (state S.Store self.old.conn) (state S.Store self.new.conn) (saved_with changes.items numbers) }
-        ensures clean { doubt (state S.Store self.old.conn).is_clean ≤ doubt (state S.Store self.new.conn).is_clean }
+        ensures ok { OnOk result (Commits self.old self.new changes.items numbers) }
+        ensures crash { MayCommit self.old self.new changes.items numbers }
+        ensures clean { doubt (database self.old).is_clean ≤ doubt (database self.new).is_clean }
     {
         changes.push(Change::PutState(row_of(numbers)?))?;
         save(&mut self.conn, &changes)?;

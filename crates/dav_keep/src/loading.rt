@@ -16,9 +16,9 @@ ghost use Rattle.dav_keep.specs.Keeping.{IsKnown};
 ghost use Rattle.dav_keep.specs.Ends.{IsEnd, AreBelow};
 ghost use Rattle.dav_keep.specs.Loading.{AreRowsOfImage, IsLoaded};
 
+use crate::Keeping;
 use crate::ends::end_of;
 use crate::numbers::{Numbers, numbers_of};
-use crate::Keeping;
 use dav_memls::MemLs;
 use dav_nodes::NumberedValue;
 use dav_pieces::Body;

@@ -7,7 +7,7 @@ use Rattle.dav_keep.proofs.ends.end_of.Goals as goal
 pub returns-in_err-end_of_body : goal.returns-in_err-end_of_body
 returns-in_err-end_of_body c =
     let none =
-        subst (λ value. (e : ℕ) → e < 2 ^ 63 → value_below e value ≡ true → ⊥) c.value-item.is (file_none c.value-item.result c.in-File.body c.in-File.is c.in_err-end_of_body.ensures) in
+    subst (λ value. (e : ℕ) → e < 2 ^ 63 → value_below e value ≡ true → ⊥) c.value-item.is (file_none c.value-item.result c.in-File.body c.in-File.is c.in_err-end_of_body.ensures) in
     subst (FindsEnd (AreBelow c.args.values.now)) (sym c.from_residual.ensures)
     (values_none c.args.values.now (end_none value_below value_higher c.args.values.now c.values.value-index c.value-item.result c.values-test.true none))
 

@@ -1,5 +1,4 @@
-use Rattle.std.proofs.Common.{◌≡◌, ◌∙◌, ◌<◌, ◌^◌, Option, Some, None, sym, subst, arith}
-use Rattle.dav_data.specs.Data.{is_below}
+use Rattle.std.proofs.Common.{subst, arith}
 use Rattle.dav_keep.proofs.Reaches.{body_found}
 use Rattle.dav_keep.specs.Ends.{ArePiecesBelow, FindsEnd}
 use Rattle.dav_keep.proofs.ends.end_of_body.Goals as goal

@@ -13,11 +13,11 @@ unfolding row_with
 returns c =
     let made = c.new-root.ensures in
     let is : c.new-root.result ≡ root =
-        λ i. record { content = made.content i; version = made.version i; created = made.created i; modified = made.modified i; properties = made.properties i } in
+    λ i. record { content = made.content i; version = made.version i; created = made.created i; modified = made.modified i; properties = made.properties i } in
     let counts = c.save_resource.new.self in
     let changes = c.save_resource.new.changes.items in
     let saves =
-        subst (λ value. Saves 0 (Some (row_with value)) [] [] counts changes) is
-        (subst (λ before. Saves 0 (Some (row_with c.new-root.result)) [] before counts changes) c.new-changes.ensures.items
-        (subst (λ old. Saves 0 (Some (row_with c.new-root.result)) old c.new-changes.result.items counts changes) c.new.ensures.none c.in_ok-save_resource.ensures.ok)) in
+    subst (λ value. Saves 0 (Some (row_with value)) [] [] counts changes) is
+    (subst (λ before. Saves 0 (Some (row_with c.new-root.result)) [] before counts changes) c.new-changes.ensures.items
+    (subst (λ old. Saves 0 (Some (row_with c.new-root.result)) old c.new-changes.result.items counts changes) c.new.ensures.none c.in_ok-save_resource.ensures.ok)) in
     first_stands counts changes saves c.args.key c.in_ok-row_of.field-0 c.push.new.self.items c.in_ok-row_of.ensures c.in_ok-push.ensures.items

@@ -29,9 +29,9 @@ pub returns-clause-loaded : goal.returns-clause-loaded
 returns-clause-loaded c = λ image tables are.
     let rows = c.args.rows.now in
     let numbers : c.in_ok-numbers.numbers ≡ image.numbers =
-        same-Ok c.in_ok-numbers.numbers image.numbers
-        (c.in_ok-numbers.ensures image.numbers
-        (subst (λ states. map state_entry states ≡ (pos 0, values_of image.numbers) ∷ []) (sym c.deref.ensures.value) (state_rows rows image tables are))) in
+    same-Ok c.in_ok-numbers.numbers image.numbers
+    (c.in_ok-numbers.ensures image.numbers
+    (subst (λ states. map state_entry states ≡ (pos 0, values_of image.numbers) ∷ []) (sym c.deref.ensures.value) (state_rows rows image tables are))) in
     record {
       values = c.in_ok-values.ensures.ok image.tree (rows_for rows image tables are);
       locks = c.in_ok-locks.ensures.ok image.locks (subst (λ locks. AreLockRows locks image.locks) (sym c.deref-2.ensures.value) (lock_rows rows image tables are));

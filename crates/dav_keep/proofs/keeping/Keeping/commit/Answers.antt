@@ -1,9 +1,8 @@
-use Rattle.std.proofs.Common.{◌≡◌, ◌∙◌, ◌⊎◌, sym, subst}
-use Rattle.dav_rows.specs.Contents.{Contents, Holds}
+use Rattle.std.proofs.Common.{◌∙◌, ◌⊎◌, subst}
+use Rattle.dav_rows.specs.Contents.{Holds}
 use Rattle.dav_rows.specs.Saving.{IsAt}
 use Rattle.sqlite.specs.Held.{state}
 use Rattle.dav_keep.proofs.Committing.{saved_is}
-use Rattle.dav_keep.specs.Steps.{saved_with}
 use Rattle.dav_keep.proofs.keeping.Keeping.commit.Goals as goal
 
 pub returns-in_err-save-clause-crash : goal.returns-in_err-save-clause-crash

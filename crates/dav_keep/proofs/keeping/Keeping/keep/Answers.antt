@@ -1,9 +1,7 @@
 use Rattle.std.proofs.Common.{◌∙◌, subst}
-use Rattle.dav_memls.specs.MemLs.{list_of}
-use Rattle.dav_tree.specs.TreeFs.{memory_of, before_of, entries_of}
-use Rattle.dav_keep.proofs.Outcomes.{CrashLeaves, CommitMoves, not_none, stops_early, stops_late, keeps_same, keeps_next}
+use Rattle.dav_keep.proofs.Outcomes.{not_none, stops_early, stops_late, keeps_same, keeps_next}
 use Rattle.dav_keep.proofs.SoundTrees.{on_err}
-use Rattle.dav_keep.specs.Steps.{Prepares}
+use Rattle.dav_keep.specs.Steps.{Prepares, Commits, MayCommit}
 use Rattle.dav_keep.proofs.keeping.Keeping.keep.Goals as goal
 
 pub returns-in_err-changes-clause-stopped : goal.returns-in_err-changes-clause-stopped
@@ -15,10 +13,10 @@ returns-in_err-changes-clause-stopped g c = λ image kept.
 pub returns-in_err-commit-in-Some-clause-stopped : goal.returns-in_err-commit-in-Some-clause-stopped
 returns-in_err-commit-in-Some-clause-stopped g c = λ image kept.
     let prepared =
-        subst (λ changes. Prepares g.M.Medium.body_code c.args.self.now c.prepare.new.self (before_of c.args.store.now) (entries_of c.prepare.new.store) (list_of c.args.locks.now) changes (memory_of c.prepare.new.store).version)
-        c.in-Some.is c.in_ok-changes.ensures.prepared in
+    subst (λ changes. Prepares c.args.self.now c.prepare.new.self c.args.store.now c.prepare.new.store c.args.locks.now changes)
+    c.in-Some.is c.in_ok-changes.ensures.prepared in
     let crash =
-        subst (λ counter. CrashLeaves c.prepare.new.self c.commit.new.self c.in-Some.changes.items counter c.args.now c.args.batch) c.version.ensures c.in_err-commit-in-Some.ensures.crash in
+    subst (λ counter. MayCommit c.prepare.new.self c.commit.new.self c.in-Some.changes.items (record { counter = counter; time = c.args.now; batch = c.args.batch; key = c.prepare.new.self.key })) c.version.ensures c.in_err-commit-in-Some.ensures.crash in
     on_err c.from_residual-in_err-commit-in-Some.result
     (stops_late g.met.S.Store.settled c.args.self.now c.prepare.new.self c.commit.new.self c.args.store.now c.prepare.new.store c.args.locks.now c.args.now c.args.batch image kept
     c.in_ok-changes.ensures.same c.in-Some.changes.items prepared c.in_err-commit-in-Some.ensures.same c.in_ok-changes.ensures.saved c.in_err-commit-in-Some.ensures.clean crash
@@ -27,10 +25,10 @@ returns-in_err-commit-in-Some-clause-stopped g c = λ image kept.
 pub returns-in_ok-commit-in-Some-clause-kept : goal.returns-in_ok-commit-in-Some-clause-kept
 returns-in_ok-commit-in-Some-clause-kept g c = λ image kept.
     let prepared =
-        subst (λ changes. Prepares g.M.Medium.body_code c.args.self.now c.prepare.new.self (before_of c.args.store.now) (entries_of c.prepare.new.store) (list_of c.args.locks.now) changes (memory_of c.prepare.new.store).version)
-        c.in-Some.is c.in_ok-changes.ensures.prepared in
+    subst (λ changes. Prepares c.args.self.now c.prepare.new.self c.args.store.now c.prepare.new.store c.args.locks.now changes)
+    c.in-Some.is c.in_ok-changes.ensures.prepared in
     let moves =
-        subst (λ counter. CommitMoves c.prepare.new.self c.commit.new.self c.in-Some.changes.items counter c.args.now c.args.batch) c.version.ensures c.in_ok-commit-in-Some.ensures.ok in
+    subst (λ counter. Commits c.prepare.new.self c.commit.new.self c.in-Some.changes.items (record { counter = counter; time = c.args.now; batch = c.args.batch; key = c.prepare.new.self.key })) c.version.ensures c.in_ok-commit-in-Some.ensures.ok in
     keeps_next g.met.S.Store.settled c.args.self.now c.prepare.new.self c.commit.new.self c.args.store.now c.prepare.new.store c.args.locks.now c.args.now c.args.batch image kept
     c.in_ok-changes.ensures.same c.in-Some.changes.items prepared c.in_ok-commit-in-Some.ensures.same c.in_ok-changes.ensures.saved c.in_ok-commit-in-Some.ensures.clean moves
     (c.in_ok-commit-in-Some.ensures.version ∙ c.version.ensures)
@@ -38,7 +36,7 @@ returns-in_ok-commit-in-Some-clause-kept g c = λ image kept.
 pub returns-in-None-clause-kept : goal.returns-in-None-clause-kept
 returns-in-None-clause-kept g c = λ image kept.
     let unchanged =
-        subst (λ changes. Prepares g.M.Medium.body_code c.args.self.now c.prepare.new.self (before_of c.args.store.now) (entries_of c.prepare.new.store) (list_of c.args.locks.now) changes (memory_of c.prepare.new.store).version)
-        c.in-None.is c.in_ok-changes.ensures.prepared in
+    subst (λ changes. Prepares c.args.self.now c.prepare.new.self c.args.store.now c.prepare.new.store c.args.locks.now changes)
+    c.in-None.is c.in_ok-changes.ensures.prepared in
     keeps_same g.met.S.Store.settled c.args.self.now c.prepare.new.self c.prepare.new.self c.args.store.now c.prepare.new.store c.args.locks.now c.args.now c.args.batch image kept
     c.in_ok-changes.ensures.same unchanged (c.in_ok-changes.ensures.older c.in-None.is) c.in_ok-changes.ensures.saved

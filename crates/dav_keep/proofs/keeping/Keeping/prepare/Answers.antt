@@ -1,4 +1,4 @@
-use Rattle.std.proofs.Common.{◌≡◌, inr, sym, subst}
+use Rattle.std.proofs.Common.{inr, sym, subst}
 use Rattle.dav_memls.specs.MemLs.{list_of}
 use Rattle.dav_store_rows.specs.LockRows.{SavesLocks}
 use Rattle.dav_tree.specs.Before.{IsNotedBetween}
@@ -20,9 +20,9 @@ returns-in_err-save_changes-clause-stopped g c =
 pub returns-clause-prepared : goal.returns-clause-prepared
 returns-clause-prepared g c =
     let saves =
-        subst (λ before. SavesLocks (list_of c.args.locks.now) c.args.self.now.locks before c.save.new.self c.save.new.changes.items) c.new-changes.ensures.items
-        (subst (λ locks. SavesLocks locks c.args.self.now.locks c.new-changes.result.items c.save.new.self c.save.new.changes.items) c.locks.ensures.value
-        c.in_ok-save.ensures.ok) in
+    subst (λ before. SavesLocks (list_of c.args.locks.now) c.args.self.now.locks before c.save.new.self c.save.new.changes.items) c.new-changes.ensures.items
+    (subst (λ locks. SavesLocks locks c.args.self.now.locks c.new-changes.result.items c.save.new.self c.save.new.changes.items) c.locks.ensures.value
+    c.in_ok-save.ensures.ok) in
     prepared g.M.Medium.body_code _ _ (before_of c.args.store.now) (entries_of c.take_changes.new.self) (list_of c.args.locks.now) c.in_ok-noted.noted
     c.save.new.changes.items c.save_changes.new.changes.items saves c.in_ok-save_changes.ensures c.show_entries.ensures.tree
     (subst (λ now. IsNotedBetween g.M.Medium.body_code c.in_ok-noted.noted (before_of c.args.store.now) now) (sym c.take_changes.ensures.entries) c.in_ok-noted.ensures.noted)
