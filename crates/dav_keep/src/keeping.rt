@@ -28,7 +28,7 @@ pub struct Keeping<S: Alter> {
 }
 
 impl<S: Alter> Keeping<S> {
-    ghost use Rattle.std.specs.Prelude.{◌≡◌, ◌≢◌, ◌≤◌, None, IfOk, OnOk, OnErr};
+    ghost use Rattle.std.specs.Prelude.{◌≡◌, ◌≢◌, ◌≤◌, false, None, IfOk, OnOk, OnErr};
     ghost use Rattle.sqlite_trees.specs.View.{doubt};
     ghost use Rattle.dav_tree.specs.Before.{IsSaved};
     ghost use Rattle.dav_tree.specs.Memory.{asked, with_held};
@@ -58,6 +58,7 @@ impl<S: Alter> Keeping<S> {
         ensures stopped { (image : Image) → IsKept M.body_code self.old (before_of store.old) image
             → OnErr result (Stops image self.new store.old store.new locks.now now batch) }
         ensures saved { OnOk result (IsSaved store.new.entries) }
+        ensures unchanged { IfOk result (λ changed. changed ≡ false → before_of store.new ≡ before_of store.old) }
         ensures memory { memory_of store.new ≡ with_held (asked (before_of store.new)) (memory_of store.old) }
         ensures entries { entries_of store.new ≡ entries_of store.old }
         ensures records { records_of store.new ≡ records_of store.old }
