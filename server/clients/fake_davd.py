@@ -45,7 +45,7 @@ ODD_ELEMENT = frames.Element("a b<", "x y", "urn:\0", (("q:", "\1"),), ("\2",))
 BEHAVIOURS = {
     "garbage": lambda number, asked: b"HTTP/1.1 400 Bad Request\r\n\r\n" * 10,
     "another number": lambda number, asked: replies(number + 7, [good(it) for it in asked]),
-    "status 409": lambda number, asked: replies(number, [], 409),
+    "status 409": lambda number, asked: replies(number - 1, [], 409),
     "status 400": lambda number, asked: replies(number, [], 400),
     "status 507": lambda number, asked: replies(number, [], 507),
     "an unknown status": lambda number, asked: replies(number, [], 999),

@@ -93,11 +93,11 @@ module _ {F L K : Type 0} (see_store : F → Store) (lasts : K → Gv → Snapsh
 module _ {F L K : Type 0} (see_store : F → Store) (see_locks : L → Locks) (is_honest : F → Bool) (rules : Rules)
     (lasts : K → Gv → Snapshot F L → Type 0) (lasts_either : K → Gv → Snapshot F L → Snapshot F L → Type 0) where
   -- a batch is answered, in the server between
-  abbrev Answered : ℕ → BatchAnswer → Server F L → Server F L → Option (List ℕ) → Option (List ℕ) → Type 0
-  Answered number answer old next input input' =
-      ReadsAndAnswers see_store is_honest rules number answer (state_of see_store see_locks old) (state_of see_store see_locks next) input input'
+  abbrev Answered : BatchAnswer → Server F L → Server F L → Option (List ℕ) → Option (List ℕ) → Type 0
+  Answered answer old next input input' =
+      ReadsAndAnswers see_store is_honest rules answer (state_of see_store see_locks old) (state_of see_store see_locks next) input input'
 
-  module _ (number : ℕ) (answer : BatchAnswer) (old next : Server F L) (input input' : Option (List ℕ)) (h : Answered number answer old next input input') where
+  module _ (answer : BatchAnswer) (old next : Server F L) (input input' : Option (List ℕ)) (h : Answered answer old next input input') where
     same_lasting : lasting (state_of see_store see_locks next) ≡ lasting (state_of see_store see_locks old)
     same_lasting = batch_lasts see_store is_honest rules h.exchange.header h.exchange.content h.exchange.answer _ _ h.answered.answers
 
@@ -114,14 +114,14 @@ module _ {F L K : Type 0} (see_store : F → Store) (see_locks : L → Locks) (i
       answered_and_saved : IsAnsweredAndSaved see_store is_honest rules h.exchange (state_of see_store see_locks old) (state_of see_store see_locks new)
       answered_and_saved = record { served = state_of see_store see_locks next; answered = h.answered; saved = saved }
 
-      pub exchanged_and_saved : (output output' : Option (List ℕ)) → Appends output output' (answer_bytes number answer)
+      pub exchanged_and_saved : (output output' : Option (List ℕ)) → Appends output output' (answer_bytes answer)
           → ExchangesAndSaves see_store is_honest rules (state_of see_store see_locks old) (state_of see_store see_locks new) input input' output output'
       exchanged_and_saved output output' written =
           record {
             exchange = h.exchange;
             answered = answered_and_saved;
             read = h.read;
-            written = answer_written see_store is_honest rules number answer _ _ input input' output output' h written;
+            written = answer_written see_store is_honest rules answer _ _ input input' output output' h written;
           }
 
       -- the keeper fails, and nothing is written

@@ -68,11 +68,11 @@ impl<'a, F: TimedStore, L: ExpiringLocks> Server<'a, F, L> {
         ensures stopped { OnErr result (StopsInsideKept F.seen L.seen K.lasts K.lasts_either F.is_honest (rules_of self.old)
             keeper.old keeper.new self.old self.new (W.contents output.old) (W.contents output.new)) }
     {
-        let Some(served) = self.answer_next(input)? else {
+        let Some(answer) = self.answer_next(input)? else {
             return Ok(false);
         };
         self.keep(keeper)?;
-        write_answer(output, served.number, &served.answer)?;
+        write_answer(output, &answer)?;
         Ok(true)
     }
 
