@@ -210,6 +210,7 @@ class Model:
         self.may_locks_be_astray = False
         self.bodies: dict[int, bytes] = {}
         self.started = 0
+        self.last = 0
         self.now = 0
 
     # ---- frames
@@ -517,12 +518,13 @@ def try_run(seed: str, count: int, program):
 
 def check_batch(model: Model, planned: Planned, got: frames.ReplyBatch):
     sent = planned.sent
+    if planned.status != 409:
+        model.last, model.now = sent.number, max(model.now, sent.now)
     if planned.status != 200:
-        if (got.number, got.status, got.replies) != (sent.number, planned.status, ()):
-            raise Wrong(f"batch {sent.number} is answered with {got}, and not with status {planned.status}")
-        model.now = model.now if planned.status == 409 else max(model.now, sent.now)
+        wanted = frames.ReplyBatch(model.last, planned.status, ())
+        if got != wanted:
+            raise Wrong(f"batch {sent.number} is answered with {got}, and not with {wanted}")
         return
-    model.now = max(model.now, sent.now)
     replies = davd.replies_of(got, sent.number, len(planned.items))
     for place, (item, reply) in enumerate(zip(planned.items, replies)):
         try:

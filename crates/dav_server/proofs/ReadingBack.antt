@@ -235,8 +235,8 @@ module _ {F : Type 0} (see_store : F → Store) (is_honest : F → Bool) (rules 
   pub actions_of : (exchange : Exchange) (old new : ServerState) → IsAnswered see_store is_honest rules exchange old new → HasActions exchange old new
   actions_of exchange old new h = by_answer h.answers
     where
-      none : (status : ℕ) → exchange.answer ≡ bare_answer status → status ≢ 200 → new.seen.store ≡ old.seen.store → HasActions exchange old new
-      none status recorded other same =
+      none : (number status : ℕ) → exchange.answer ≡ bare_answer number status → status ≢ 200 → new.seen.store ≡ old.seen.store → HasActions exchange old new
+      none number status recorded other same =
           record {
             actions = [];
             of = inr (record { status = λ h. other (sym (ap (λ (a : BatchAnswer). a.status) recorded) ∙ h); none = refl });
@@ -244,7 +244,7 @@ module _ {F : Type 0} (see_store : F → Store) (is_honest : F → Bool) (rules 
           }
 
       skipped : (status : ℕ) → SkipsBatch status exchange.header exchange.answer old new → status ≢ 200 → HasActions exchange old new
-      skipped status skips other = none status skips.answered other (ap (λ (s : ServerState). s.seen.store) skips.same)
+      skipped status skips other = none exchange.header.number status skips.answered other (ap (λ (s : ServerState). s.seen.store) skips.same)
 
       by_answer : AnswersBatch see_store is_honest rules exchange.header exchange.content exchange.answer old new → HasActions exchange old new
       by_answer (inl serves) =
@@ -255,7 +255,7 @@ module _ {F : Type 0} (see_store : F → Store) (is_honest : F → Bool) (rules 
           }
       by_answer (inr (inl (unread, skips))) = skipped 400 skips (λ h. omega arith)
       by_answer (inr (inr (inl skips))) = skipped 507 skips (λ h. omega arith)
-      by_answer (inr (inr (inr refuses))) = none 409 refuses.answered (λ h. omega arith) (ap (λ (s : ServerState). s.seen.store) refuses.same)
+      by_answer (inr (inr (inr refuses))) = none old.last 409 refuses.answered (λ h. omega arith) (ap (λ (s : ServerState). s.seen.store) refuses.same)
 
   -- the same, where the store stays after the batch
   pub actions_before : (exchange : Exchange) (old mid new : ServerState) → HasActions exchange old mid → Stays mid.seen.store new.seen.store → HasActions exchange old new

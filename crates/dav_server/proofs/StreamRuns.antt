@@ -1,5 +1,5 @@
 -- An exchange from its parts, and runs of exchanges.
-use Rattle.std.proofs.Common.{◌≡◌, ◌∙◌, inr, ℕ, Bool, List, [], ◌∷◌, ◌++◌, length, flat_map, refl, sym, ap, subst, Option, Some, None, IfSome, MatchOption, Result, Ok, Err, OnErr, Vec, append-nil}
+use Rattle.std.proofs.Common.{◌≡◌, inr, ℕ, Bool, List, [], ◌∷◌, ◌++◌, length, flat_map, refl, sym, subst, Option, Some, None, IfSome, MatchOption, Result, Ok, Err, OnErr, Vec, append-nil}
 use Rattle.std.specs.Prelude.{⊤}
 use Rattle.std.specs.Io.KnownBytes.{Appends, Consumes}
 use Rattle.std.specs.declared.alloc.Global.{Global}
@@ -20,15 +20,14 @@ module _ {F : Type 0} (see_store : F → Store) (is_honest : F → Bool) (rules 
       → IfSome content (λ v. Consumes middle input' v.items) → IfSome content (λ v. length v.items ≡ header.length)
       → MatchOption content (Skips middle input' header.length) (λ _. ⊤)
       → ((bytes : List ℕ) → IfSome content (λ v. bytes ≡ v.items) → AnswersBatch see_store is_honest rules header bytes answer old new)
-      → ReadsAndAnswers see_store is_honest rules header.number answer old new input input'
+      → ReadsAndAnswers see_store is_honest rules answer old new input input'
   read_and_answered header answer old new input middle input' content first read all skipped answers = by_content content read all skipped answers
     where
       of_bytes : (bytes : List ℕ) → Consumes middle input' bytes → length bytes ≡ header.length → AnswersBatch see_store is_honest rules header bytes answer old new
-          → ReadsAndAnswers see_store is_honest rules header.number answer old new input input'
+          → ReadsAndAnswers see_store is_honest rules answer old new input input'
       of_bytes bytes others all answers =
           record {
             exchange = record { header = header; content = bytes; answer = answer };
-            numbered = refl;
             with_answer = refl;
             answered = record { length = all; answers = answers };
             read = Consumes-trans input middle input' (batch_header.encode header) bytes first others;
@@ -37,64 +36,64 @@ module _ {F : Type 0} (see_store : F → Store) (is_honest : F → Bool) (rules 
       by_content : (content : Option (Vec ℕ Global)) → IfSome content (λ v. Consumes middle input' v.items) → IfSome content (λ v. length v.items ≡ header.length)
           → MatchOption content (Skips middle input' header.length) (λ _. ⊤)
           → ((bytes : List ℕ) → IfSome content (λ v. bytes ≡ v.items) → AnswersBatch see_store is_honest rules header bytes answer old new)
-          → ReadsAndAnswers see_store is_honest rules header.number answer old new input input'
+          → ReadsAndAnswers see_store is_honest rules answer old new input input'
       by_content None read all skipped answers = of_bytes skipped.bytes skipped.read skipped.all (answers skipped.bytes tt)
       by_content (Some v) read all skipped answers = of_bytes v.items read all (answers v.items refl)
 
   -- the bytes of an answer are those of its exchange
   pub answer_written :
-      (number : ℕ) (answer : BatchAnswer) (old new : ServerState) (input input' output output' : Option (List ℕ))
-      (h : ReadsAndAnswers see_store is_honest rules number answer old new input input') → Appends output output' (answer_bytes number answer)
+      (answer : BatchAnswer) (old new : ServerState) (input input' output output' : Option (List ℕ))
+      (h : ReadsAndAnswers see_store is_honest rules answer old new input input') → Appends output output' (answer_bytes answer)
       → Appends output output' (bytes_out h.exchange)
-  answer_written number answer old new input input' output output' h written =
-      let same : answer_bytes number answer ≡ bytes_out h.exchange =
-      sym (ap (λ n. answer_bytes n h.exchange.answer) h.numbered ∙ ap (answer_bytes number) h.with_answer) in
-      subst (Appends output output') same written
+  answer_written answer old new input input' output output' h written =
+      subst (λ a. Appends output output' (answer_bytes a)) (sym h.with_answer) written
 
   -- the whole exchange
   pub exchanged :
-      (number : ℕ) (answer : BatchAnswer) (old new : ServerState) (input input' output output' : Option (List ℕ))
-      → ReadsAndAnswers see_store is_honest rules number answer old new input input' → Appends output output' (answer_bytes number answer)
+      (answer : BatchAnswer) (old new : ServerState) (input input' output output' : Option (List ℕ))
+      → ReadsAndAnswers see_store is_honest rules answer old new input input' → Appends output output' (answer_bytes answer)
       → Exchanges see_store is_honest rules old new input input' output output'
-  exchanged number answer old new input input' output output' h written =
-      record { exchange = h.exchange; answered = h.answered; read = h.read; written = answer_written number answer old new input input' output output' h written }
+  exchanged answer old new input input' output output' h written =
+      record { exchange = h.exchange; answered = h.answered; read = h.read; written = answer_written answer old new input input' output output' h written }
 
   -- the batch was answered, and then the output failed
   pub stopped :
-      {T E : Type 0} (r : Result T E) (number : ℕ) (answer : BatchAnswer) (old new : ServerState) (input input' : Option (List ℕ))
-      → ReadsAndAnswers see_store is_honest rules number answer old new input input' → OnErr r (StopsInside see_store is_honest rules old new)
-  stopped (Ok x) number answer old new input input' h = tt
-  stopped (Err e) number answer old new input input' h = inr (h.exchange, h.answered)
+      {T E : Type 0} (r : Result T E) (answer : BatchAnswer) (old new : ServerState) (input input' : Option (List ℕ))
+      → ReadsAndAnswers see_store is_honest rules answer old new input input' → OnErr r (StopsInside see_store is_honest rules old new)
+  stopped (Ok x) answer old new input input' h = tt
+  stopped (Err e) answer old new input input' h = inr (h.exchange, h.answered)
 
 -- ---- runs
 
-none_read : (a : Option (List ℕ)) → Consumes a a []
+pub none_read : (a : Option (List ℕ)) → Consumes a a []
 none_read None = tt
 none_read (Some bytes) = refl
 
-none_written : (a : Option (List ℕ)) → Appends a a []
+pub none_written : (a : Option (List ℕ)) → Appends a a []
 none_written None = tt
 none_written (Some bytes) = sym (append-nil bytes)
+
+module _ (Does : Exchange → ServerState → ServerState → Type 0) where
+  -- exchanges, and then others
+  pub InOrder-append :
+      (xs ys : List Exchange) (old mid new : ServerState) → InOrder Does xs old mid → InOrder Does ys mid new → InOrder Does (xs ++ ys) old new
+  InOrder-append [] ys old mid new same others = subst (λ (s : ServerState). InOrder Does ys s new) same others
+  InOrder-append (x ∷ xs) ys old mid new (next, first, rest) others = (next, first, InOrder-append xs ys next mid new rest others)
 
 module _ (Does : Exchange → ServerState → ServerState → Type 0) (Law : List Exchange → ServerState → ServerState → Type 0)
     (lawful : (exchanges : List Exchange) (old new : ServerState) → InOrder Does exchanges old new → Law exchanges old new) where
   -- no exchange yet
-  pub runs_none : (state : ServerState) (a u : Option (List ℕ)) → RunsBy Does Law state state a a u u
+  unfoldable pub runs_none : (state : ServerState) (a u : Option (List ℕ)) → RunsBy Does Law state state a a u u
   runs_none state a u =
       record { exchanges = []; answered = refl; read = none_read a; written = none_written u; law = lawful [] state state refl }
 
   -- one more exchange
-  answered_more :
-      (xs : List Exchange) (x : Exchange) (old mid new : ServerState) → InOrder Does xs old mid → Does x mid new → InOrder Does (xs ++ x ∷ []) old new
-  answered_more [] x old mid new e h = (new, subst (λ (s : ServerState). Does x s new) e h, refl)
-  answered_more (y ∷ ys) x old mid new (next, first, others) h = (next, first, answered_more ys x next mid new others h)
-
-  pub runs_more :
+  unfoldable pub runs_more :
       (old mid new : ServerState) (a b c u v w : Option (List ℕ)) → RunsBy Does Law old mid a b u v
       → ExchangesBy Does mid new b c v w → RunsBy Does Law old new a c u w
   runs_more old mid new a b c u v w run more =
       let x = more.exchange in
-      let all = answered_more run.exchanges x old mid new run.answered more.answered in
+      let all = InOrder-append Does run.exchanges (x ∷ []) old mid new run.answered (new, more.answered, refl) in
       record {
         exchanges = run.exchanges ++ x ∷ [];
         answered = all;
@@ -108,7 +107,7 @@ module _ (Does : Exchange → ServerState → ServerState → Type 0) (Law : Lis
       }
 
   -- the input ends after a run
-  pub runs_end :
+  unfoldable pub runs_end :
       (old mid new : ServerState) (a b c u v w : Option (List ℕ)) → RunsBy Does Law old mid a b u v
       → Ends mid new b c v w → RunsBy Does Law old new a c u w
   runs_end old mid new a b c u v w run end =

@@ -79,7 +79,7 @@ header_sent a b h bytes status count is same_status same_count written =
 -- the header and all replies
 pub answer_is :
     (n status : ℕ) (replies : List (Option (Vec ℕ Global)))
-    → answer_bytes n (record { status = status; replies = map sent_bytes replies }) ≡ part_of_answer n status (length replies) replies
+    → answer_bytes (record { number = n; status = status; replies = map sent_bytes replies }) ≡ part_of_answer n status (length replies) replies
 unfolding batch
 answer_is n status replies =
     let count = number.encode (length replies) in

@@ -14,4 +14,4 @@ sent_bytes (Some bytes) = bytes.items
 sent_bytes None = not_encoded
 
 abbrev pub answer_of : BatchReply → BatchAnswer
-answer_of reply = record { status = reply.status; replies = map sent_bytes reply.replies.items }
+answer_of reply = record { number = reply.number; status = reply.status; replies = map sent_bytes reply.replies.items }

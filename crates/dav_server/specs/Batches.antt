@@ -7,8 +7,9 @@ use Rattle.dav_wire.specs.declared.batch.BatchHeader.{BatchHeader}
 use Rattle.dav_server.specs.Frames.{ServesFrames}
 use Rattle.dav_server.specs.State.{Rules, ServerState}
 
--- the answer to a batch: its status, and the replies to its frames in order
+-- the answer to a batch: the number of a batch, a status, and the replies to the frames in order
 pub record BatchAnswer : Type 0 where
+  pub number : ℕ
   pub status : ℕ
   pub replies : List (List ℕ)
 
@@ -19,8 +20,8 @@ pub record Exchange : Type 0 where
   pub answer : BatchAnswer
 
 -- an answer without replies
-abbrev pub bare_answer : ℕ → BatchAnswer
-bare_answer status = record { status = status; replies = [] }
+abbrev pub bare_answer : ℕ → ℕ → BatchAnswer
+bare_answer number status = record { number = number; status = status; replies = [] }
 
 -- the state in which the frames of a batch are served: with its number and its time, which never goes back
 abbrev pub begun : BatchHeader → ServerState → ServerState
@@ -33,19 +34,20 @@ IsNext header state = header.number ≡ state.last + 1
 -- the batch is not served, with this status, but its number and its time count
 pub record SkipsBatch (status : ℕ) (header : BatchHeader) (answer : BatchAnswer) (old new : ServerState) : Type 0 where
   pub next : IsNext header old
-  pub answered : answer ≡ bare_answer status
+  pub answered : answer ≡ bare_answer header.number status
   pub same : new ≡ begun header old
 
--- the batch is not the next one: 409, and nothing changes
+-- the batch is not the next one: 409 with the number of the last batch, and nothing changes
 pub record RefusesBatch (header : BatchHeader) (answer : BatchAnswer) (old new : ServerState) : Type 0 where
   pub other : ¬ (IsNext header old)
-  pub answered : answer ≡ bare_answer 409
+  pub answered : answer ≡ bare_answer old.last 409
   pub same : new ≡ old
 
 module _ {F : Type 0} (see_store : F → Store) (is_honest : F → Bool) where
   -- each frame of the batch is served
   pub record ServesBatch (rules : Rules) (header : BatchHeader) (content : List ℕ) (answer : BatchAnswer) (old new : ServerState) : Type 0 where
     pub next : IsNext header old
+    pub number : answer.number ≡ header.number
     pub status : answer.status ≡ 200
     pub frames : List (List ℕ)
     pub read : decode batch content ≡ Some frames

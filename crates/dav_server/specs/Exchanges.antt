@@ -10,13 +10,13 @@ use Rattle.dav_server.specs.Batches.{BatchAnswer, Exchange, AnswersBatch}
 use Rattle.dav_server.specs.Guarantees.{IsSameStore, AreOneRun}
 use Rattle.dav_server.specs.State.{Rules, ServerState}
 
--- a batch of replies: the number of the batch, its status, and the replies
+-- a batch of replies: the number of a batch, a status, and the replies
 abbrev pub reply_batch : Codec (ℕ × (ℕ × List (List ℕ)))
 reply_batch = pair number (pair number batch)
 
--- the bytes of the answer to the batch of this number
-abbrev pub answer_bytes : ℕ → BatchAnswer → List ℕ
-answer_bytes n answer = reply_batch.encode (n, (answer.status, answer.replies))
+-- the bytes of an answer
+abbrev pub answer_bytes : BatchAnswer → List ℕ
+answer_bytes answer = reply_batch.encode (answer.number, (answer.status, answer.replies))
 
 -- ---- reads of parts of a batch
 
@@ -48,7 +48,7 @@ abbrev pub bytes_in : Exchange → List ℕ
 bytes_in exchange = batch_header.encode exchange.header ++ exchange.content
 
 abbrev pub bytes_out : Exchange → List ℕ
-bytes_out exchange = answer_bytes exchange.header.number exchange.answer
+bytes_out exchange = answer_bytes exchange.answer
 
 -- the content has the length that the header says
 abbrev pub HasLength : Exchange → Type 0
@@ -93,10 +93,9 @@ module _ {F : Type 0} (see_store : F → Store) (is_honest : F → Bool) where
     pub length : HasLength exchange
     pub answers : AnswersBatch see_store is_honest rules exchange.header exchange.content exchange.answer old new
 
-  -- a batch of this number is read and answered, and nothing is written yet
-  pub record ReadsAndAnswers (rules : Rules) (number : ℕ) (answer : BatchAnswer) (old new : ServerState) (input input' : Option (List ℕ)) : Type 0 where
+  -- a batch is read and gets this answer, which is not written yet
+  pub record ReadsAndAnswers (rules : Rules) (answer : BatchAnswer) (old new : ServerState) (input input' : Option (List ℕ)) : Type 0 where
     pub exchange : Exchange
-    pub numbered : exchange.header.number ≡ number
     pub with_answer : exchange.answer ≡ answer
     pub answered : IsAnswered rules exchange old new
     pub read : Consumes input input' (bytes_in exchange)

@@ -1,5 +1,5 @@
 -- Runs of a server with a keeper, which keeps each batch before its answer is written.
-use Rattle.std.specs.Prelude.{◌≡◌, ◌⊎◌, ℕ, Bool, List, flat_map, Option, Some, option_map}
+use Rattle.std.specs.Prelude.{◌≡◌, ◌⊎◌, ℕ, Bool, List, [], ◌∷◌, ◌++◌, flat_map, Option, Some, option_map}
 use Rattle.std.specs.Io.KnownBytes.{Appends, Keeps}
 use base.Stored.{Gv}
 use Rattle.dav_store.specs.Locks.{Locks}
@@ -54,31 +54,83 @@ module _ {F L K : Type 0} (see_store : F → Store) (lasts_either : K → Gv →
     pub is : snapshot_of server ≡ Some snapshot
     pub kept : lasts_either keeper (saved_of (see_store snapshot.store)) earlier snapshot
 
--- `lasts` and `lasts_either` are those of the keeper
-module _ {F L K : Type 0} (see_store : F → Store) (see_locks : L → Locks)
-    (lasts : K → Gv → Snapshot F L → Type 0) (lasts_either : K → Gv → Snapshot F L → Snapshot F L → Type 0) where
-  -- a crash leaves what was in the server in this earlier state, or what is in it now
-  pub record IsKeptOrWas (keeper : K) (before : ServerState) (server : Server F L) : Type 0 where
-    pub earlier : Snapshot F L
-    pub was : state_at see_store see_locks earlier ≡ before
-    pub either : LastsEither see_store lasts_either keeper earlier server
+module _ {F L K : Type 0} (see_store : F → Store) (lasts : K → Gv → Snapshot F L → Type 0) (same : Snapshot F L → Snapshot F L → Type 0) where
+  -- a crash leaves what is in this snapshot, with its time and its number; of what is kept, the server has the same now
+  pub record IsKeptSince (keeper : K) (earlier : Snapshot F L) (server : Server F L) : Type 0 where
+    pub snapshot : Snapshot F L
+    pub is : snapshot_of server ≡ Some snapshot
+    pub kept : lasts keeper (saved_of (see_store snapshot.store)) earlier
+    pub unchanged : same earlier snapshot
 
-  module _ (is_honest : F → Bool) (rules : Rules) where
-    -- An error stops an exchange. Nothing changed, or a batch was served (`stopped`). A crash leaves what was in the server before, or what is in it
-    -- now (`kept`). Nothing was written, or a crash leaves what is in the server now (`in_order`).
-    pub record StopsInsideKept (keeper keeper' : K) (old new : Server F L) (output output' : Option (List ℕ)) : Type 0 where
-      pub stopped : StopsBy (IsAnsweredAndSaved see_store is_honest rules) (state_of see_store see_locks old) (state_of see_store see_locks new)
-      pub kept : IsKept see_store lasts keeper old → IsKeptOrWas keeper' (state_of see_store see_locks old) new
-      pub in_order : Keeps output output' ⊎ (IsKept see_store lasts keeper old → IsKept see_store lasts keeper' new)
+  -- so it is still; or a crash leaves what is in the server now
+  abbrev pub StaysKept : K → Snapshot F L → Server F L → Type 0
+  StaysKept keeper earlier server = IsKeptSince keeper earlier server ⊎ IsKept see_store lasts keeper server
 
-    -- An error stops a run, after these exchanges and in this state. Nothing changed since, or one more batch was served (`stopped`). A crash leaves what
-    -- was in the server after the exchanges, or what is in it now (`kept`). Nothing but the answers of the exchanges was written, or a crash leaves what is
-    -- in the server now (`in_order`).
-    pub record StopsAfterKept (keeper keeper' : K) (old new : Server F L) (output output' : Option (List ℕ)) : Type 0 where
-      pub exchanges : List Exchange
-      pub mid : ServerState
-      pub answered : InOrder (IsAnsweredAndSaved see_store is_honest rules) exchanges (state_of see_store see_locks old) mid
-      pub law : AreSavedRun see_store is_honest rules exchanges (state_of see_store see_locks old) mid
-      pub stopped : StopsBy (IsAnsweredAndSaved see_store is_honest rules) mid (state_of see_store see_locks new)
-      pub kept : IsKept see_store lasts keeper old → IsKeptOrWas keeper' mid new
-      pub in_order : Appends output output' (flat_map bytes_out exchanges) ⊎ (IsKept see_store lasts keeper old → IsKept see_store lasts keeper' new)
+-- ---- runs
+
+module _ {F L : Type 0} (see_store : F → Store) (see_locks : L → Locks) (is_honest : F → Bool) (rules : Rules) where
+  -- these exchanges lead from one state to the other: the first ones to this snapshot, and the rest on from there
+  pub record LeadThrough (exchanges : List Exchange) (old : ServerState) (passed : Snapshot F L) (new : ServerState) : Type 0 where
+    pub first : List Exchange
+    pub rest : List Exchange
+    pub all : exchanges ≡ first ++ rest
+    pub before : InOrder (IsAnsweredAndSaved see_store is_honest rules) first old (state_at see_store see_locks passed)
+    pub after : InOrder (IsAnsweredAndSaved see_store is_honest rules) rest (state_at see_store see_locks passed) new
+
+-- `lasts`, `lasts_either` and `same` are those of the keeper
+module _ {F L K : Type 0} (see_store : F → Store) (see_locks : L → Locks) (lasts : K → Gv → Snapshot F L → Type 0)
+    (same : Snapshot F L → Snapshot F L → Type 0) (is_honest : F → Bool) (rules : Rules) where
+  -- a crash leaves what was in the server after the first ones of these exchanges, with the time and the number of then; of what is kept, it has the same now
+  pub record IsKeptAfter (keeper : K) (exchanges : List Exchange) (old : ServerState) (server : Server F L) : Type 0 where
+    pub snapshot : Snapshot F L
+    pub passed : LeadThrough see_store see_locks is_honest rules exchanges old snapshot (state_of see_store see_locks server)
+    pub since : IsKeptSince see_store lasts same keeper snapshot server
+
+  -- the exchanges of a run; if a crash left what was in the server before, it now leaves what the first ones of them led to
+  pub record RunsAndKeeps (keeper keeper' : K) (old new : Server F L) (input input' output output' : Option (List ℕ)) : Type 0 where
+    pub run : RunsAndSaves see_store is_honest rules (state_of see_store see_locks old) (state_of see_store see_locks new) input input' output output'
+    pub kept : IsKept see_store lasts keeper old → IsKeptAfter keeper' run.exchanges (state_of see_store see_locks old) new
+
+  -- a batch is served and kept
+  pub record KeepsBatch (keeper keeper' : K) (old new : Server F L) : Type 0 where
+    pub exchange : Exchange
+    pub answered : IsAnsweredAndSaved see_store is_honest rules exchange (state_of see_store see_locks old) (state_of see_store see_locks new)
+    pub kept : (earlier : Snapshot F L) → IsKeptSince see_store lasts same keeper earlier old → StaysKept see_store lasts same keeper' earlier new
+
+  -- one more batch is served and kept after these exchanges
+  pub record KeepsLast (keeper keeper' : K) (exchanges : List Exchange) (old : Server F L) (mid : ServerState) (new : Server F L) : Type 0 where
+    pub exchange : Exchange
+    pub answered : IsAnsweredAndSaved see_store is_honest rules exchange mid (state_of see_store see_locks new)
+    pub kept : IsKept see_store lasts keeper old → IsKeptAfter keeper' (exchanges ++ exchange ∷ []) (state_of see_store see_locks old) new
+
+-- ---- errors
+
+module _ {F L K : Type 0} (see_store : F → Store) (see_locks : L → Locks) (lasts : K → Gv → Snapshot F L → Type 0)
+    (lasts_either : K → Gv → Snapshot F L → Snapshot F L → Type 0) (same : Snapshot F L → Snapshot F L → Type 0) (is_honest : F → Bool) (rules : Rules) where
+  -- An error stops an exchange. Nothing changed, or a batch was served (`stopped`). A crash leaves what it left before, or what is in the server now
+  -- (`kept`). Nothing was written, or the batch was kept (`in_order`).
+  pub record StopsInsideKept (keeper keeper' : K) (old new : Server F L) (output output' : Option (List ℕ)) : Type 0 where
+    pub stopped : StopsBy (IsAnsweredAndSaved see_store is_honest rules) (state_of see_store see_locks old) (state_of see_store see_locks new)
+    pub kept : (earlier : Snapshot F L) → IsKeptSince see_store lasts same keeper earlier old → LastsEither see_store lasts_either keeper' earlier new
+    pub in_order : Keeps output output' ⊎ KeepsBatch see_store see_locks lasts same is_honest rules keeper keeper' old new
+
+  -- a crash leaves what is in the server now, or what was in it after the first ones of these exchanges; of what is kept, it had the same after all of them
+  pub record IsKeptOrNow (keeper : K) (exchanges : List Exchange) (old mid : ServerState) (server : Server F L) : Type 0 where
+    pub snapshot : Snapshot F L
+    pub passed : LeadThrough see_store see_locks is_honest rules exchanges old snapshot mid
+    pub last : Snapshot F L
+    pub was : state_at see_store see_locks last ≡ mid
+    pub unchanged : same snapshot last
+    pub either : LastsEither see_store lasts_either keeper snapshot server
+
+  -- An error stops a run, after these exchanges and in this state. Nothing changed since, or one more batch was served (`stopped`). A crash leaves what
+  -- was kept of the exchanges, or what is in the server now (`kept`). Nothing but the answers of the exchanges was written, or the last batch was kept as
+  -- well (`in_order`).
+  pub record StopsAfterKept (keeper keeper' : K) (old new : Server F L) (output output' : Option (List ℕ)) : Type 0 where
+    pub exchanges : List Exchange
+    pub mid : ServerState
+    pub answered : InOrder (IsAnsweredAndSaved see_store is_honest rules) exchanges (state_of see_store see_locks old) mid
+    pub law : AreSavedRun see_store is_honest rules exchanges (state_of see_store see_locks old) mid
+    pub stopped : StopsBy (IsAnsweredAndSaved see_store is_honest rules) mid (state_of see_store see_locks new)
+    pub kept : IsKept see_store lasts keeper old → IsKeptOrNow keeper' exchanges (state_of see_store see_locks old) mid new
+    pub in_order : Appends output output' (flat_map bytes_out exchanges) ⊎ KeepsLast see_store see_locks lasts same is_honest rules keeper keeper' exchanges old mid new

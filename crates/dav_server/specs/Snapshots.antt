@@ -1,5 +1,5 @@
 -- What a keeper keeps of a server, and what it may change of the store.
-use Rattle.std.specs.Prelude.{◌≡◌, ℕ}
+use Rattle.std.specs.Prelude.{◌≡◌, ◌⊎◌, ℕ}
 use base.Stored.{Gv}
 use Rattle.dav_store.specs.Locks.{Locks}
 use Rattle.dav_store.specs.Store.{Store}
@@ -39,3 +39,9 @@ module _ {F L : Type 0} where
   -- the state of a server with this store and these locks, at this time and after this batch
   abbrev pub state_at : (F → Store) → (L → Locks) → Snapshot F L → ServerState
   state_at see_store see_locks snapshot = resumed_state (see_store snapshot.store) (see_locks snapshot.locks) snapshot.now snapshot.last
+
+-- `lasts` and `same` are those of a keeper
+module _ {F L K : Type 0} (lasts : K → Gv → Snapshot F L → Type 0) (same : Snapshot F L → Snapshot F L → Type 0) where
+  -- a crash leaves what is in the snapshot of now; or what is in an earlier one, and of what is kept the one of now has the same
+  abbrev pub KeepsOne : K → Gv → Snapshot F L → Snapshot F L → Type 0
+  KeepsOne keeper saved before now = lasts keeper saved now ⊎ (lasts keeper saved before × same before now)

@@ -11,6 +11,8 @@ use std::alloc::Global;
 /// The answer to a batch.
 #[derive(Drop, Debug)]
 pub struct BatchReply {
+    /// The number of the batch. With 409 the number of the last batch of the server.
+    pub number: u64,
     /// 200 if the batch was served.
     pub status: StatusCode,
     /// The encoded replies to the frames, in order. `None` is a reply that could not be encoded, in whose place 507
@@ -22,10 +24,11 @@ impl BatchReply {
     ghost use Rattle.dav_server.specs.Answers.{answer_of};
 
     /// Returns an answer without replies.
-    fn bare(alloc: Global, status: StatusCode) -> BatchReply
-        ensures { answer_of result ≡ bare_answer status }
+    fn bare(alloc: Global, number: u64, status: StatusCode) -> BatchReply
+        ensures { answer_of result ≡ bare_answer number status }
     {
         BatchReply {
+            number,
             status,
             replies: Vec::new(alloc),
         }
@@ -41,29 +44,35 @@ impl<'a, F: TimedStore, L: ExpiringLocks> Server<'a, F, L> {
     ///
     /// Statuses: 200 if each frame is served, 400 if the content is not a list of frames, 507 if memory runs out
     /// before the first frame. In these cases the number and the time of the batch count. 409 if the batch is not the
-    /// next one, and then nothing changes.
+    /// next one: then nothing changes, and the answer has the number of the last batch.
     pub fn serve_batch(&mut self, header: &BatchHeader, content: &[u8]) -> BatchReply
         ensures rules { rules_of self.new ≡ rules_of self.old }
         ensures answers { AnswersBatch F.seen F.is_honest (rules_of self.old) header.entry.now content.now (answer_of result) (state_of F.seen L.seen self.old) (state_of F.seen L.seen self.new) }
     {
-        let alloc = self.alloc;
+        let (alloc, number) = (self.alloc, header.number);
         if !self.begin(header) {
-            return BatchReply::bare(alloc, StatusCode::CONFLICT);
+            return BatchReply::bare(alloc, self.last, StatusCode::CONFLICT);
         }
         let frames = match read_batch(alloc, content) {
             Ok(frames) => frames,
-            Err(WireError::Malformed) => return BatchReply::bare(alloc, StatusCode::BAD_REQUEST),
+            Err(WireError::Malformed) => return BatchReply::bare(
+                alloc,
+                number,
+                StatusCode::BAD_REQUEST,
+            ),
             Err(WireError::Memory) => return BatchReply::bare(
                 alloc,
+                number,
                 StatusCode::INSUFFICIENT_STORAGE,
             ),
         };
         match self.serve_frames(&frames) {
             Some(replies) => BatchReply {
+                number,
                 status: StatusCode::OK,
                 replies,
             },
-            None => BatchReply::bare(alloc, StatusCode::INSUFFICIENT_STORAGE),
+            None => BatchReply::bare(alloc, number, StatusCode::INSUFFICIENT_STORAGE),
         }
     }
 
@@ -84,16 +93,16 @@ impl<'a, F: TimedStore, L: ExpiringLocks> Server<'a, F, L> {
     }
 
     /// Answers 507 to a batch that is too large for memory, whose number and time count. Answers 409 if it is not the
-    /// next one, and then nothing changes.
+    /// next one: then nothing changes, and the answer has the number of the last batch.
     pub fn skip_batch(&mut self, header: &BatchHeader) -> BatchReply
         ensures rules { rules_of self.new ≡ rules_of self.old }
         ensures answers { (content : List ℕ) → AnswersBatch F.seen F.is_honest (rules_of self.old) header.entry.now content (answer_of result) (state_of F.seen L.seen self.old) (state_of F.seen L.seen self.new) }
     {
         let alloc = self.alloc;
         if self.begin(header) {
-            BatchReply::bare(alloc, StatusCode::INSUFFICIENT_STORAGE)
+            BatchReply::bare(alloc, header.number, StatusCode::INSUFFICIENT_STORAGE)
         } else {
-            BatchReply::bare(alloc, StatusCode::CONFLICT)
+            BatchReply::bare(alloc, self.last, StatusCode::CONFLICT)
         }
     }
 

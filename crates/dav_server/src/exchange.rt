@@ -26,15 +26,6 @@ const SKIPPED: usize = 4096;
 /// The reply that is sent in the place of one that cannot be encoded: a failure with status 507.
 const NOT_ENCODED: [u8; 9] = [7, 0, 0, 0, 0, 0, 0, 1, 251];
 
-/// A batch that is answered.
-#[derive(Drop)]
-pub(crate) struct Answered {
-    /// The number of the batch.
-    pub(crate) number: u64,
-    /// The answer, which is not written yet.
-    pub(crate) answer: BatchReply,
-}
-
 impl<'a, F: TimedStore, L: ExpiringLocks> Server<'a, F, L> {
     ghost use Rattle.dav_server.specs.State.{state_of, rules_of};
     ghost use Rattle.dav_server.specs.Batches.{AnswersBatch};
@@ -76,19 +67,19 @@ impl<'a, F: TimedStore, L: ExpiringLocks> Server<'a, F, L> {
         ensures stopped { OnErr result (StopsInside F.seen F.is_honest (rules_of self.old)
             (state_of F.seen L.seen self.old) (state_of F.seen L.seen self.new)) }
     {
-        let Some(next) = self.answer_next(input)? else {
+        let Some(answer) = self.answer_next(input)? else {
             return Ok(false);
         };
-        write_answer(output, next.number, &next.answer)?;
+        write_answer(output, &answer)?;
         Ok(true)
     }
 
     /// Reads a batch and serves it, and writes nothing. Returns `None` if the input has ended before it.
     ///
     /// Fails if the input fails, or if it ends inside the batch. Then nothing has changed.
-    pub(crate) fn answer_next<R: Read>(&mut self, input: &mut R) -> io::Result<Option<Answered>>
+    pub(crate) fn answer_next<R: Read>(&mut self, input: &mut R) -> io::Result<Option<BatchReply>>
         ensures rules { rules_of self.new ≡ rules_of self.old }
-        ensures answered { IfRead result (λ next. ReadsAndAnswers F.seen F.is_honest (rules_of self.old) next.number (answer_of next.answer)
+        ensures answered { IfRead result (λ answer. ReadsAndAnswers F.seen F.is_honest (rules_of self.old) (answer_of answer)
             (state_of F.seen L.seen self.old) (state_of F.seen L.seen self.new) (R.remaining input.old) (R.remaining input.new)) }
         ensures ended { OnNone result (IsAtEnd (R.remaining input.new)) }
         ensures unread { OnNone result (Keeps (R.remaining input.old) (R.remaining input.new)) }
@@ -99,11 +90,7 @@ impl<'a, F: TimedStore, L: ExpiringLocks> Server<'a, F, L> {
             return Ok(None);
         };
         let content = read_content(self.alloc, input, header.length, self.max_batch)?;
-        let answer = self.answer_batch(&header, content);
-        Ok(Some(Answered {
-            number: header.number,
-            answer,
-        }))
+        Ok(Some(self.answer_batch(&header, content)))
     }
 
     /// Serves a batch with this content. `None` is content that was skipped: the batch is then answered 507, or 409.
@@ -217,16 +204,12 @@ fn skip<R: Read>(input: &mut R, count: u64) -> io::Result<()>
     Ok(())
 }
 
-/// Writes the answer to the batch of this number.
-pub(crate) fn write_answer<W: Write>(
-    output: &mut W,
-    number: u64,
-    answer: &BatchReply,
-) -> io::Result<()>
-    ensures { OnOk result (Appends (W.contents output.old) (W.contents output.new) (answer_bytes number (answer_of answer.entry.now))) }
+/// Writes an answer.
+pub(crate) fn write_answer<W: Write>(output: &mut W, answer: &BatchReply) -> io::Result<()>
+    ensures { OnOk result (Appends (W.contents output.old) (W.contents output.new) (answer_bytes (answer_of answer.entry.now))) }
 {
     let header = ReplyHeader {
-        number,
+        number: answer.number,
         status: answer.status.as_u16(),
         count: answer.replies.len() as u64,
     };

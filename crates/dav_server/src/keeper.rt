@@ -1,28 +1,33 @@
 //! What a server needs of a keeper.
 ghost use Rattle.std.specs.Prelude.{OnOk, OnErr};
 ghost use base.Stored.{Gv};
-ghost use Rattle.dav_server.specs.Snapshots.{Snapshot, snapshot_at, saved_of, OnlySavedDiffers};
+ghost use Rattle.dav_server.specs.Snapshots.{Snapshot, snapshot_at, saved_of, OnlySavedDiffers, KeepsOne};
 
 use crate::{ExpiringLocks, TimedStore};
 use std::io;
 
 /// Keeps what a server has answered in a place that survives a crash, so that a later start finds it.
 pub trait Keeper<F: TimedStore, L: ExpiringLocks> {
-    /// A crash leaves what is in this snapshot, while this is saved of the store (`saved_of`).
+    /// A crash leaves what is in this snapshot, with its time and its number, while this is saved of the store
+    /// (`saved_of`).
     ghost lasts: { Self → Gv → Snapshot F L → Type 0 };
 
     /// A crash leaves what is in one of these two snapshots, while this is saved of the store.
     ghost lasts_either: { Self → Gv → Snapshot F L → Snapshot F L → Type 0 };
 
+    /// The second snapshot has the same as the first of what is kept, except the time and the number.
+    ghost same: { Snapshot F L → Snapshot F L → Type 0 };
+
     /// Keeps what has changed since the last call. A server calls it after each batch, before it writes the answer.
     /// `now` is the time of the server, in whole seconds since 1970, and `last` the number of the last batch.
     ///
-    /// Of the store, only what is saved of it changes. After an error a crash leaves what was kept before, or what was
+    /// Of the store, only what is saved of it changes. If nothing has changed of what is kept, a crash may leave what was
+    /// kept before, with the time and the number of then. After an error a crash leaves what was kept before, or what was
     /// to be kept, and no further call may follow.
     fn keep(&mut self, store: &mut F, locks: &L, now: u64, last: u64) -> io::Result<()>
         ensures seen { OnlySavedDiffers (F.seen store.old) (F.seen store.new) }
         ensures ok { OnOk result ((before : Snapshot F L) → lasts self.old (saved_of (F.seen store.old)) before
-            → lasts self.new (saved_of (F.seen store.new)) (snapshot_at store.new locks.now now last)) }
+            → KeepsOne lasts same self.new (saved_of (F.seen store.new)) before (snapshot_at store.new locks.now now last)) }
         ensures err { OnErr result ((before : Snapshot F L) → lasts self.old (saved_of (F.seen store.old)) before
             → lasts_either self.new (saved_of (F.seen store.new)) before (snapshot_at store.new locks.now now last)) };
 
@@ -30,4 +35,7 @@ pub trait Keeper<F: TimedStore, L: ExpiringLocks> {
     ghost as_first: { (keeper : Self) (saved : Gv) (one other : Snapshot F L) → lasts keeper saved one → lasts_either keeper saved one other };
 
     ghost as_second: { (keeper : Self) (saved : Gv) (one other : Snapshot F L) → lasts keeper saved other → lasts_either keeper saved one other };
+
+    /// A snapshot has the same as itself.
+    ghost same_as: { (snapshot : Snapshot F L) → same snapshot snapshot };
 }

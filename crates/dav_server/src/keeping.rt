@@ -3,7 +3,7 @@ ghost use Rattle.std.specs.Prelude.{◌≡◌, true, false, IfOk, OnOk, OnErr, S
 ghost use Rattle.std.specs.Io.KnownBytes.{IsAtEnd};
 ghost use Rattle.dav_engine.specs.DavInner.{lent, lent_locks, has_locks, made_with};
 ghost use Rattle.dav_server.specs.Exchanges.{Ends};
-ghost use Rattle.dav_server.specs.Snapshots.{Snapshot, snapshot_at, saved_of, OnlySavedDiffers, IsResaved};
+ghost use Rattle.dav_server.specs.Snapshots.{Snapshot, snapshot_at, saved_of, OnlySavedDiffers, IsResaved, KeepsOne};
 
 use crate::exchange::write_answer;
 use crate::server::Server;
@@ -13,14 +13,17 @@ use std::io::{self, ErrorKind, Read, Write};
 
 impl<'a, F: TimedStore, L: ExpiringLocks> Server<'a, F, L> {
     ghost use Rattle.dav_server.specs.State.{state_of, rules_of};
-    ghost use Rattle.dav_server.specs.Keeping.{ExchangesAndSaves, RunsAndSaves, IsKept, LastsEither, StopsInsideKept, StopsAfterKept};
+    ghost use Rattle.dav_server.specs.Keeping.{ExchangesAndSaves, RunsAndKeeps, IsKeptSince, StaysKept, LastsEither, StopsInsideKept, StopsAfterKept};
 
     /// Serves batches until the input ends, as `serve` does, and has the keeper keep each batch before its answer is
     /// written.
     ///
     /// Fails if the input or the output fails, if the input ends inside a batch, or with an error of the keeper. A batch
-    /// that is not kept is not answered. If at first a crash leaves what is in the server, then it does so at the end.
-    /// After an error it leaves what was in the server after the last batch that was answered, or what is in it now.
+    /// that is not kept is not answered.
+    ///
+    /// If at first a crash leaves what is in the server, then at the end it leaves what was in the server after some of
+    /// the batches, with the time and the number of then, and the later ones have changed nothing of what is kept. After
+    /// an error it leaves this of the batches that were answered, or what is in the server now.
     pub fn serve_kept<K: Keeper<F, L>, R: Read, W: Write>(
         &mut self,
         keeper: &mut K,
@@ -29,11 +32,9 @@ impl<'a, F: TimedStore, L: ExpiringLocks> Server<'a, F, L> {
     ) -> io::Result<()>
         ensures rules { rules_of self.new ≡ rules_of self.old }
         ensures end { OnOk result (IsAtEnd (R.remaining input.new)) }
-        ensures ran { OnOk result (RunsAndSaves F.seen F.is_honest (rules_of self.old)
-            (state_of F.seen L.seen self.old) (state_of F.seen L.seen self.new)
-            (R.remaining input.old) (R.remaining input.new) (W.contents output.old) (W.contents output.new)) }
-        ensures kept { OnOk result (IsKept F.seen K.lasts keeper.old self.old → IsKept F.seen K.lasts keeper.new self.new) }
-        ensures stopped { OnErr result (StopsAfterKept F.seen L.seen K.lasts K.lasts_either F.is_honest (rules_of self.old)
+        ensures ran { OnOk result (RunsAndKeeps F.seen L.seen K.lasts K.same F.is_honest (rules_of self.old) keeper.old keeper.new
+            self.old self.new (R.remaining input.old) (R.remaining input.new) (W.contents output.old) (W.contents output.new)) }
+        ensures stopped { OnErr result (StopsAfterKept F.seen L.seen K.lasts K.lasts_either K.same F.is_honest (rules_of self.old)
             keeper.old keeper.new self.old self.new (W.contents output.old) (W.contents output.new)) }
     {
         // A loop is proved to end, so this one counts the batches.
@@ -51,6 +52,9 @@ impl<'a, F: TimedStore, L: ExpiringLocks> Server<'a, F, L> {
     /// A batch of more bytes than the server reads, or than memory holds, is skipped and answered 507. Fails if the input
     /// or the output fails, if the input ends inside the batch, or with an error of the keeper. If the output fails, the
     /// batch was served and kept. After other errors nothing was written.
+    ///
+    /// If a crash leaves an earlier snapshot, of which the server has the same of what is kept, then it does so still, or
+    /// it leaves what is in the server now.
     pub fn exchange_kept<K: Keeper<F, L>, R: Read, W: Write>(
         &mut self,
         keeper: &mut K,
@@ -64,15 +68,16 @@ impl<'a, F: TimedStore, L: ExpiringLocks> Server<'a, F, L> {
         ensures ended { IfOk result (λ more. more ≡ false →
             Ends (state_of F.seen L.seen self.old) (state_of F.seen L.seen self.new)
             (R.remaining input.old) (R.remaining input.new) (W.contents output.old) (W.contents output.new)) }
-        ensures kept { OnOk result (IsKept F.seen K.lasts keeper.old self.old → IsKept F.seen K.lasts keeper.new self.new) }
-        ensures stopped { OnErr result (StopsInsideKept F.seen L.seen K.lasts K.lasts_either F.is_honest (rules_of self.old)
+        ensures kept { OnOk result ((earlier : Snapshot F L) → IsKeptSince F.seen K.lasts K.same keeper.old earlier self.old
+            → StaysKept F.seen K.lasts K.same keeper.new earlier self.new) }
+        ensures stopped { OnErr result (StopsInsideKept F.seen L.seen K.lasts K.lasts_either K.same F.is_honest (rules_of self.old)
             keeper.old keeper.new self.old self.new (W.contents output.old) (W.contents output.new)) }
     {
-        let Some(served) = self.answer_next(input)? else {
+        let Some(answer) = self.answer_next(input)? else {
             return Ok(false);
         };
         self.keep(keeper)?;
-        write_answer(output, served.number, &served.answer)?;
+        write_answer(output, &answer)?;
         Ok(true)
     }
 
@@ -81,7 +86,7 @@ impl<'a, F: TimedStore, L: ExpiringLocks> Server<'a, F, L> {
         ensures rules { rules_of self.new ≡ rules_of self.old }
         ensures saved { IsResaved (state_of F.seen L.seen self.old) (state_of F.seen L.seen self.new) }
         ensures kept { OnOk result ((before : Snapshot F L) → K.lasts keeper.old (saved_of (F.seen (lent self.old.engine))) before
-            → IsKept F.seen K.lasts keeper.new self.new) }
+            → StaysKept F.seen K.lasts K.same keeper.new before self.new) }
         ensures either { OnErr result ((before : Snapshot F L) → K.lasts keeper.old (saved_of (F.seen (lent self.old.engine))) before
             → has_locks self.old.engine ≡ true → LastsEither F.seen K.lasts_either keeper.new before self.new) }
     {
@@ -103,7 +108,7 @@ fn keep_lent<F: TimedStore, L: ExpiringLocks, K: Keeper<F, L>>(
     ensures there { OnOk result (has_locks engine.old ≡ true) }
     ensures ok { OnOk result ((before : Snapshot F L) (locks : L) → K.lasts keeper.old (saved_of (F.seen (lent engine.old))) before
         → lent_locks engine.old ≡ Some locks
-        → K.lasts keeper.new (saved_of (F.seen (lent engine.new))) (snapshot_at (lent engine.new) locks now last)) }
+        → KeepsOne K.lasts K.same keeper.new (saved_of (F.seen (lent engine.new))) before (snapshot_at (lent engine.new) locks now last)) }
     ensures err { OnErr result ((before : Snapshot F L) (locks : L) → K.lasts keeper.old (saved_of (F.seen (lent engine.old))) before
         → lent_locks engine.old ≡ Some locks
         → K.lasts_either keeper.new (saved_of (F.seen (lent engine.new))) before (snapshot_at (lent engine.new) locks now last)) }

@@ -28,4 +28,6 @@ pub use served::{ExpiringLocks, TimedStore};
 pub use server::{Options, Server};
 
 #[cfg(test)]
+mod keeping_tests;
+#[cfg(test)]
 mod tests;

@@ -1,12 +1,12 @@
-//! The store and the lock system in memory, as a server needs them.
+//! The stores over a medium and the lock system in memory, as a server needs them.
 use crate::{ExpiringLocks, TimedStore};
 use dav_memls::MemLs;
 use dav_store::DavLock;
-use dav_tree::MemFs;
+use dav_tree::{Medium, TreeFs};
 
-impl TimedStore for MemFs {
+impl<M: Medium> TimedStore for TreeFs<M> {
     fn set_now(&mut self, now: u64) {
-        MemFs::set_now(self, now);
+        TreeFs::set_now(self, now);
     }
 }
 

@@ -10,7 +10,7 @@ use std::process::Abort;
 use std::test::Fail;
 
 /// The frames that ask when the next lock expires and how much is held.
-const QUESTIONS: [&[u8]; 2] = [&[5], &[6]];
+pub(crate) const QUESTIONS: [&[u8]; 2] = [&[5], &[6]];
 
 /// The answer to batch 1 of these frames, when nothing is held: status 200 and two replies.
 const NOTHING_HELD: [u8; 52] = [
@@ -19,7 +19,7 @@ const NOTHING_HELD: [u8; 52] = [
 ];
 
 /// Writes a batch at time 5.
-fn batch(alloc: Global, number: u64, frames: &[&[u8]]) -> Result<Vec<u8>, WireError> {
+pub(crate) fn batch(alloc: Global, number: u64, frames: &[&[u8]]) -> Result<Vec<u8>, WireError> {
     let mut writer = Writer::new(alloc);
     writer.write_number(frames.len() as u64)?;
     for frame in frames {
@@ -122,6 +122,30 @@ fn a_batch_that_is_too_large_is_skipped(rt: HostRuntime) -> Result<(), Fail> {
         0, 0, 0, 0, 0, 0, 0, 1, 0, 0, 0, 0, 0, 0, 1, 251, 0, 0, 0, 0, 0, 0, 0, 0, 0, 0, 0, 0, 0, 0,
         0, 2, 0, 0, 0, 0, 0, 0, 0, 200, 0, 0, 0, 0, 0, 0, 0, 0,
     ];
+    assert!(rt; output.as_slice() == wanted.as_slice());
+    Ok(())
+}
+
+#[test]
+fn a_batch_that_is_not_the_next_one_is_answered_with_the_last_number(
+    rt: HostRuntime,
+) -> Result<(), Fail> {
+    let alloc = rt.alloc();
+    let mut input = batch(alloc, 0, &QUESTIONS)?;
+    for number in [1, 0, 7] {
+        let next = batch(alloc, number, &[])?;
+        input.extend_from_slice(next.as_slice())?;
+    }
+    let mut output = Vec::new(alloc);
+    serve(&rt, alloc, input.as_slice(), 1000, &mut output)?;
+    let mut wanted = Vec::new(alloc);
+    for (number, low) in [(0, 153), (1, 200), (1, 153), (1, 153)] {
+        let high = if low == 153 { 1 } else { 0 };
+        let header = [
+            0, 0, 0, 0, 0, 0, 0, number, 0, 0, 0, 0, 0, 0, high, low, 0, 0, 0, 0, 0, 0, 0, 0,
+        ];
+        wanted.extend_from_slice(&header)?;
+    }
     assert!(rt; output.as_slice() == wanted.as_slice());
     Ok(())
 }

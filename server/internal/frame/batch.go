@@ -48,7 +48,7 @@ func AppendContent(b []byte, frames [][]byte) []byte {
 
 // A ReplyHeader is the header of a batch of replies. Count replies follow.
 type ReplyHeader struct {
-	Number uint64 // of the batch of frames
+	Number uint64 // of the batch of frames; if the status is 409, of the last batch that davd counted
 	Status int    // of the batch as a whole: 100 to 999
 	Count  uint64
 }

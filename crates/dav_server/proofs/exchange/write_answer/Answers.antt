@@ -13,5 +13,5 @@ returns g c =
     let all = c.args.answer.now.replies.items in
     let end : take c.loop-reply.reply-index all ≡ all =
     take_all c.loop-reply.reply-index all (omega (arith, ap length c.deref-reply-items.ensures.value)) in
-    writes_kept _ _ _ _ (part_of_answer c.args.number c.args.answer.now.status (length all) all) _ (rw end at c.loop-reply.invariant)
-    c.flush.ensures.bytes (answer_is c.args.number c.args.answer.now.status all)
+    writes_kept _ _ _ _ (part_of_answer c.args.answer.now.number c.args.answer.now.status (length all) all) _ (rw end at c.loop-reply.invariant)
+    c.flush.ensures.bytes (answer_is c.args.answer.now.number c.args.answer.now.status all)

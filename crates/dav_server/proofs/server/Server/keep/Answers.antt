@@ -4,7 +4,7 @@ use Rattle.dav_server.proofs.server.Server.keep.Goals as goal
 pub returns-clause-kept : goal.returns-clause-kept
 returns-clause-kept g c =
     let e = c.keep_lent.ensures in
-    keeps_now g.F.GuardedFileSystem.seen g.K.Keeper.lasts c.keep_lent.result c.args.keeper.now c.keep_lent.new.keeper c.args.self.now
+    keeps_now g.F.GuardedFileSystem.seen g.K.Keeper.lasts g.K.Keeper.same c.keep_lent.result c.args.keeper.now c.keep_lent.new.keeper c.args.self.now
     (record c.args.self.now { engine = c.keep_lent.new.engine }) e.locks e.there e.ok
 
 pub returns-clause-either : goal.returns-clause-either

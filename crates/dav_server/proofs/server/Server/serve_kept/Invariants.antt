@@ -1,14 +1,13 @@
 use Rattle.std.proofs.Common.{◌≡◌}
-use Rattle.dav_server.specs.Keeping.{RunsAndSaves, IsKept}
-use Rattle.dav_server.specs.State.{rules_of, state_of}
+use Rattle.dav_server.specs.Keeping.{RunsAndKeeps}
+use Rattle.dav_server.specs.State.{rules_of}
 use Rattle.dav_server.proofs.server.Server.serve_kept.Given as goal
 
 abbrev pub invariant-loop : goal.invariant-loop
 invariant-loop g l =
     record {
       same : rules_of l.self ≡ rules_of l.fn.self;
-      run : RunsAndSaves g.F.GuardedFileSystem.seen g.F.GuardedFileSystem.is_honest (rules_of l.fn.self)
-          (state_of g.F.GuardedFileSystem.seen g.L.DavLockSystem.seen l.fn.self) (state_of g.F.GuardedFileSystem.seen g.L.DavLockSystem.seen l.self)
+      run : RunsAndKeeps g.F.GuardedFileSystem.seen g.L.DavLockSystem.seen g.K.Keeper.lasts g.K.Keeper.same g.F.GuardedFileSystem.is_honest (rules_of l.fn.self)
+          l.fn.keeper l.keeper l.fn.self l.self
           (g.R.Read.remaining l.fn.input) (g.R.Read.remaining l.input) (g.W.Write.contents l.fn.output) (g.W.Write.contents l.output);
-      kept : IsKept g.F.GuardedFileSystem.seen g.K.Keeper.lasts l.fn.keeper l.fn.self → IsKept g.F.GuardedFileSystem.seen g.K.Keeper.lasts l.keeper l.self;
     }
