@@ -62,7 +62,7 @@ module _ {S M : Type 0} {rows : store.Ghosts S} {g : Ghosts M (List Piece)} (set
     is = is_now last locks now batch image.numbers.key asked.tree asked.is asked.sound;
     dated = record { time = refl; batch_is = refl; key = refl };
     sound = sound_now last locks now batch image.numbers.key asked.tree asked.is asked.sound;
-    saved = tree_now last locks now batch image.numbers.key asked.tree asked.is asked.sound asked.saved;
+    saved = asked.saved;
     older = asked.older;
     left = λ clean db may. inl (leaves_known settles old between image same.conn kept.known clean db may);
   })
@@ -126,7 +126,7 @@ module _ {S M : Type 0} {rows : store.Ghosts S} {g : Ghosts M (List Piece)} (set
       is = is_now last locks now batch between.key prepared.tree prepared.is prepared.sound;
       dated = record { time = refl; batch_is = refl; key = keyed };
       sound = sound_now last locks now batch between.key prepared.tree prepared.is prepared.sound;
-      saved = tree_now last locks now batch between.key prepared.tree prepared.is prepared.sound saved;
+      saved = saved;
       older = older;
       left = next_left g.body_code old between new (before_of first) (entries_of last) (list_of locks) changes numbers image kept same other prepared clean crash;
     })

@@ -12,7 +12,7 @@ use Rattle.dav_pieces.specs.declared.piece.Piece.{Piece}
 use Rattle.dav_rows.specs.Contents.{Contents}
 use Rattle.dav_rows.specs.Saving.{IsAt}
 use Rattle.dav_store_rows.specs.Saves.{Fits}
-use Rattle.dav_tree.specs.Before.{entries_code, IsTreeIn}
+use Rattle.dav_tree.specs.Before.{entries_code, IsSaved, IsTreeIn}
 use Rattle.dav_tree.specs.TreeFs.{before_of, older_of}
 use Rattle.dav_tree.specs.declared.medium.Medium.{Ghosts}
 use Rattle.dav_tree.specs.declared.tree_fs.TreeFs.{TreeFs}
@@ -86,7 +86,7 @@ module _ {S M : Type 0} {rows : store.Ghosts S} {g : Ghosts M (List Piece)} wher
     pub is : IsImageOf new locks image
     pub dated : IsDated now batch before image
     pub sound : IsSound image
-    pub saved : IsTreeIn (before_of new) (entries_code g.body_code image.tree)
+    pub saved : IsSaved new.entries
     pub older : older_of new ≡ before_of old
     pub left : LeavesEither (database keeping) before image
 
