@@ -1,2 +1,3 @@
 pub mod Folders
 pub mod Lasting
+pub mod Opening

@@ -2,5 +2,7 @@
 #![tactic(auto)]
 
 mod folder;
+mod opening;
 
 pub use folder::Folder;
+pub use opening::{OpenError, Opened, open_store};

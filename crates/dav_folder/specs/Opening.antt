@@ -1,0 +1,20 @@
+-- What is opened of a folder.
+use Rattle.std.specs.Prelude.{◌≡◌, List}
+use Rattle.dav_keep.specs.Images.{Image}
+use Rattle.dav_pieces.specs.declared.piece.Piece.{Piece}
+use Rattle.dav_server.specs.Snapshots.{snapshot_at}
+use Rattle.dav_tree.specs.TreeFs.{before_of}
+use Rattle.dav_tree.specs.declared.medium.Medium.{Ghosts}
+use Rattle.sqlite_trees.specs.declared.store.Store as store
+use Rattle.dav_folder.specs.Lasting.{At, Lasts}
+use Rattle.dav_folder.specs.declared.opening.Opened.{Opened}
+
+module _ {S M : Type 0} {rows : store.Ghosts S} {g : Ghosts M (List Piece)} where
+  -- the store and the locks, the time and the number from which a server goes on
+  abbrev pub opened_at : Opened S M (List Piece) rows g → At g
+  opened_at opened = snapshot_at opened.store opened.locks opened.now opened.last
+
+  -- an image is opened: it is that of the store and the locks, and it is kept
+  pub record Opens (image : Image) (opened : Opened S M (List Piece) rows g) : Type 0 where
+    pub lasts : Lasts opened.folder (before_of opened.store) (opened_at opened)
+    pub is : lasts.image ≡ image
