@@ -1,5 +1,5 @@
 -- What a call of the keeper comes to for a server.
-use Rattle.std.proofs.Common.{◌≡◌, ◌∙◌, ◌⊎◌, inl, inr, ℕ, true, false, List, map, refl, sym, ap, ap₂, subst}
+use Rattle.std.proofs.Common.{◌≡◌, ◌∙◌, inl, inr, ℕ, true, false, List, map, refl, sym, ap, ap₂, subst}
 use base.Stored.{Gv}
 use Rattle.sqlite_trees.specs.declared.store.Store as store
 use Rattle.dav_cells.specs.Locks.{kept_lock}

@@ -1,8 +1,7 @@
-use Rattle.std.proofs.Common.{◌≡◌, ◌∙◌, refl, sym, ap, subst}
+use Rattle.std.proofs.Common.{◌∙◌, refl, sym, ap, subst}
 use Rattle.dav_keep.specs.Keeping.{IsKnown}
 use Rattle.dav_keep.specs.declared.numbers.Numbers.{Numbers}
 use Rattle.dav_tree.specs.Memory.{Memory}
-use Rattle.dav_folder.specs.Folders.{keeping_of}
 use Rattle.dav_folder.proofs.Opens.{lasts}
 use Rattle.dav_folder.proofs.opening.open_store.Goals as goal
 
