@@ -5,7 +5,7 @@ use Rattle.std.proofs.lemmas.List.{take_rest}
 use Rattle.std.proofs.lemmas.Slice.Eq.{bytes_eq-Decides}
 use Rattle.dav_resource.specs.Texts.{texts}
 use Rattle.davd.specs.declared.program.Stopped.{Stopped}
-use Rattle.davd.specs.Options.{OptionsValue, IsFault, is_unlocks, unlocking, with_value, with_arguments}
+use Rattle.davd.specs.Options.{OptionsValue, IsFault, is_unlocks, unlocking, with_value, with_folder, with_arguments}
 
 -- all but the first
 abbrev pub tail : List (String Global) → List (String Global)
@@ -30,9 +30,9 @@ pub after-flag : (ss : List (String Global)) (s d : String Global) (name : List 
 after-flag ss s d name options some is named flag =
     rw (first-tail ss s d some is) (with-flag (string_bytes s) (texts (tail ss)) options ((bytes_eq-Decides (string_bytes s) (codes "-anyone-unlocks")).1 (sym named ∙ flag)))
 
-pub after-last : (ss : List (String Global)) (s d : String Global) (name : List ℕ) (options : OptionsValue) → 1 ≤ length ss → s ≡ get_or ss 0 d → name ≡ string_bytes s → name ≢ codes "-anyone-unlocks" → length (tail ss) < 1 → with_arguments (texts ss) options ≡ None
+pub after-last : (ss : List (String Global)) (s d : String Global) (name : List ℕ) (options : OptionsValue) → 1 ≤ length ss → s ≡ get_or ss 0 d → name ≡ string_bytes s → name ≢ codes "-anyone-unlocks" → length (tail ss) < 1 → with_arguments (texts ss) options ≡ with_folder name options
 after-last ss s d name options some is named apart last = rw (first-tail ss s d some is) (by_tail (tail ss) last) where
-  by_tail : (rest : List (String Global)) → length rest < 1 → with_arguments (string_bytes s ∷ texts rest) options ≡ None
+  by_tail : (rest : List (String Global)) → length rest < 1 → with_arguments (string_bytes s ∷ texts rest) options ≡ with_folder name options
   by_tail [] h = rw (sym named, other name apart)
   by_tail (t ∷ rest) h = absurd (omega arith)
 

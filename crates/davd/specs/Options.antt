@@ -1,5 +1,5 @@
 -- What the arguments of the program mean: this project's own choice.
-use Rattle.std.specs.Prelude.{◌≡◌, ◌⊎◌, ℕ, ◌^◌, Bool, true, false, List, [], ◌∷◌, codes, bytes_eq, if◌then◌else◌, is_ok, string_bytes, Option, Some, None}
+use Rattle.std.specs.Prelude.{◌≡◌, ◌⊎◌, ℕ, ◌^◌, Bool, true, false, List, [], ◌∷◌, codes, bytes_eq, ◌==◌, not, if◌then◌else◌, is_ok, string_bytes, Option, Some, None}
 use Rattle.std.specs.Option.{option_map, option_and_then}
 use Rattle.dav_resource.specs.PathText.{read_prefix}
 use Rattle.dav_headers.specs.Number.{number_in}
@@ -7,16 +7,18 @@ use Rattle.davd.specs.declared.options.ProgramOptions.{ProgramOptions}
 use Rattle.davd.specs.declared.program.Stopped.{Stopped}
 use Rattle.davd.specs.declared.program.Stopped.TheVariants.{Memory, Usage}
 
--- the options of a run: the path prefix, whether anyone may remove and refresh a lock, how many bytes the content of a batch may have, and the quota
+-- the options of a run: the path prefix, whether anyone may remove and refresh a lock, how many bytes the content of a batch may have, the quota, and the
+-- folder in which everything is kept
 pub record OptionsValue : Type 0 where
   pub prefix : List ℕ
   pub anyone_unlocks : Bool
   pub max_batch : ℕ
   pub quota : Option ℕ
+  pub folder : Option (List ℕ)
 
 -- the options without arguments
 abbrev pub first_options : OptionsValue
-first_options = record { prefix = []; anyone_unlocks = false; max_batch = 2 ^ 30; quota = None }
+first_options = record { prefix = []; anyone_unlocks = false; max_batch = 2 ^ 30; quota = None; folder = None }
 
 abbrev pub is_unlocks : List ℕ → Bool
 is_unlocks name = bytes_eq name (codes "-anyone-unlocks")
@@ -32,10 +34,20 @@ with_value name value options =
     else (if bytes_eq name (codes "-max-batch") then option_map (λ bytes. record options { max_batch = bytes }) (number_in value)
     else (if bytes_eq name (codes "-quota") then option_map (λ bytes. record options { quota = Some bytes }) (number_in value) else None))
 
--- the options after all these arguments, from left to right, unless one of them is wrong: of an option that is given twice the last one counts
+-- the name of a folder is not empty, and does not begin with `-`
+abbrev pub is_folder : List ℕ → Bool
+is_folder [] = false
+is_folder (byte ∷ bytes) = not (byte == 45)
+
+-- the options with a folder
+abbrev pub with_folder : List ℕ → OptionsValue → Option OptionsValue
+with_folder name options = if is_folder name then Some (record options { folder = Some name }) else None
+
+-- the options after all these arguments, from left to right, unless one of them is wrong: of an option that is given twice the last one counts, and the
+-- last argument may be a folder
 abbrev pub with_arguments : List (List ℕ) → OptionsValue → Option OptionsValue
 with_arguments [] options = Some options
-with_arguments (name ∷ []) options = if is_unlocks name then Some (unlocking options) else None
+with_arguments (name ∷ []) options = if is_unlocks name then Some (unlocking options) else with_folder name options
 with_arguments (name ∷ value ∷ rest) options =
     if is_unlocks name then with_arguments (value ∷ rest) (unlocking options)
     else option_and_then (with_arguments rest) (with_value name value options)
@@ -47,7 +59,7 @@ options_of arguments = with_arguments arguments first_options
 -- the options that the program has read
 abbrev pub value_of : ProgramOptions → OptionsValue
 value_of options =
-    record { prefix = string_bytes options.server.prefix; anyone_unlocks = options.server.anyone_unlocks; max_batch = options.server.max_batch; quota = options.quota }
+    record { prefix = string_bytes options.server.prefix; anyone_unlocks = options.server.anyone_unlocks; max_batch = options.server.max_batch; quota = options.quota; folder = option_map string_bytes options.folder }
 
 -- why arguments are not read: memory runs out, or they are wrong as `Wrong` says
 abbrev pub IsFault : Type 0 → Stopped → Type 0

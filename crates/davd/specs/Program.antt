@@ -1,5 +1,5 @@
 -- What the program does.
-use Rattle.std.specs.Prelude.{◌≡◌, ℕ, Bool, true, List, [], Option, Some, Result, Ok, Err}
+use Rattle.std.specs.Prelude.{◌≡◌, ℕ, Bool, true, List, [], Option, Some, None, Result, Ok, Err}
 use Rattle.std.specs.Option.{option_map}
 use Rattle.dav_tree.specs.TreeFs.{memory_of, store_of, honest_of}
 use Rattle.dav_tree.specs.Memory.{first_memory}
@@ -11,12 +11,10 @@ use Rattle.dav_server.specs.Exchanges.{Runs}
 use Rattle.dav_server.specs.State.{ServerState, first_rules, first_state}
 use Rattle.davd.specs.Options.{OptionsValue, options_of}
 use Rattle.davd.specs.declared.program.Stopped.{Stopped}
-use Rattle.davd.specs.declared.program.Stopped.TheVariants.{Usage}
+use Rattle.davd.specs.declared.program.Stopped.TheVariants.{Usage, Stream, Memory, NotAStore, InUse, Disk, Full, NotKept}
 
--- a run with the options that the arguments say, which begins with a store that has only its root, without locks, at time 0 and before batch 1
-pub record ServesAll {M B : Type 0} (medium : Ghosts M B) (arguments : List (List ℕ)) (input input' output output' : Option (List ℕ)) : Type 0 where
-  pub options : OptionsValue
-  pub read : options_of arguments ≡ Some options
+-- a run with these options, which begins with a store that has only its root, without locks, at time 0 and before batch 1
+pub record ServesWith {M B : Type 0} (medium : Ghosts M B) (options : OptionsValue) (input input' output output' : Option (List ℕ)) : Type 0 where
   pub store : TreeFs M B medium
   pub locks : MemLs
   pub empty : memory_of store ≡ first_memory 0 (option_map Some options.quota)
@@ -24,8 +22,29 @@ pub record ServesAll {M B : Type 0} (medium : Ghosts M B) (arguments : List (Lis
   pub final : ServerState
   pub runs : Runs (store_of {g = medium}) honest_of (first_rules options.prefix options.anyone_unlocks) (first_state (store_of store) (locks_of locks)) final input input' output output'
 
--- the exit status: 0 at the end of the input, 2 for wrong arguments, 3 if a stream failed or memory ran out
+-- such a run with the options that the arguments say
+pub record ServesAll {M B : Type 0} (medium : Ghosts M B) (arguments : List (List ℕ)) (input input' output output' : Option (List ℕ)) : Type 0 where
+  pub options : OptionsValue
+  pub read : options_of arguments ≡ Some options
+  pub serves : ServesWith medium options input input' output output'
+
+-- the arguments do not say a folder
+abbrev pub HaveNoFolder : List (List ℕ) → Type 0
+HaveNoFolder arguments = (options : OptionsValue) → options_of arguments ≡ Some options → options.folder ≡ None
+
+-- another reason than wrong arguments
+abbrev pub IsNotUsage : Stopped → Type 0
+IsNotUsage stopped = stopped ≡ Usage → ⊥
+
+-- the exit status: 0 at the end of the input, 2 for wrong arguments, 3 if a stream failed or memory ran out; over a folder 4 if it is not one of a store,
+-- 5 if it is in use, 6 if its disk fails, 7 if the disk is full, and 8 if a batch is not kept for another reason
 abbrev pub status_of : Result (Unit {0}) Stopped → ℕ
 status_of (Ok done) = 0
 status_of (Err Usage) = 2
-status_of (Err stopped) = 3
+status_of (Err (Stream error)) = 3
+status_of (Err Memory) = 3
+status_of (Err NotAStore) = 4
+status_of (Err InUse) = 5
+status_of (Err (Disk error)) = 6
+status_of (Err Full) = 7
+status_of (Err NotKept) = 8

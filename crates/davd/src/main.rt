@@ -1,5 +1,5 @@
-//! `davd [-prefix PREFIX] [-anyone-unlocks] [-max-batch BYTES] [-quota BYTES]`: serves WebDAV requests over a store and
-//! a lock system in memory. The requests come as frames on standard input, and the replies go to standard output.
+//! `davd [-prefix PREFIX] [-anyone-unlocks] [-max-batch BYTES] [-quota BYTES] [FOLDER]`: serves WebDAV requests. The
+//! requests come as frames on standard input, and the replies go to standard output.
 //!
 //! - `-prefix` is the path prefix of the server's URLs. Without it the prefix is empty.
 //! - With `-anyone-unlocks` any principal may remove and refresh the locks of others.
@@ -7,13 +7,26 @@
 //! - `-quota` is the number of bytes that all files may have together. It is reported and not enforced. Without it
 //!   there is no quota.
 //!
+//! - With `FOLDER` the store and its locks are kept in this folder: each batch is kept before it is answered. The folder
+//!   is made if it is not there. Its name does not begin with `-`. Without a folder everything is in memory, and lost at
+//!   the end.
+//!
 //! A number of bytes is one or more decimal digits, and fits in 64 bits. It may begin with zeros. If an option is given
 //! twice, the last one counts.
 //!
-//! Exit statuses: 0 at the end of the input, 2 for wrong arguments, 3 if a stream fails, if the input ends inside a
-//! batch, or if memory runs out at the start. One line on standard error says why.
+//! Exit statuses, of which one line on standard error says why:
+//!
+//! - 0 at the end of the input.
+//! - 2 for wrong arguments.
+//! - 3 if a stream fails, if the input ends inside a batch, or if memory runs out at the start.
+//! - 4 if the folder is not one of a store, or is damaged. It is left as it was.
+//! - 5 if another process has the folder open.
+//! - 6 if the folder cannot be read or written at the start.
+//! - 7 if a batch cannot be kept because the disk is full, and 8 if it cannot be kept for another reason. The batch is
+//!   not answered.
 #![tactic(auto)]
 
+mod folder;
 mod options;
 mod program;
 
@@ -36,7 +49,7 @@ fn run(rt: &HostRuntime) -> Result<(), Stopped> {
     let arguments = arguments_of(rt)?;
     let mut input = BufReader::with_capacity(alloc, BUFFERED, rt.stdin())?;
     let mut output = BufWriter::with_capacity(alloc, BUFFERED, rt.stdout())?;
-    run_program(alloc, &arguments, &mut input, &mut output)
+    run_program(rt, &arguments, &mut input, &mut output)
 }
 
 /// Returns the arguments without the program's name. One that is not UTF-8 is wrong.

@@ -2,7 +2,7 @@
 ghost use Rattle.std.specs.Prelude.{◌≡◌, Some, None, IfOk, IfErr, OnOk, IsOk, IsErr};
 ghost use Rattle.dav_resource.specs.PathText.{read_prefix};
 ghost use Rattle.dav_resource.specs.Texts.{texts};
-ghost use Rattle.davd.specs.Options.{IsFault, first_options, options_of, value_of, with_value};
+ghost use Rattle.davd.specs.Options.{IsFault, first_options, options_of, value_of, with_value, with_folder, is_folder};
 
 use crate::program::Stopped;
 use dav_headers::read_number;
@@ -21,6 +21,8 @@ pub struct ProgramOptions {
     /// How many bytes all files may have together: a quota that the store reports and does not enforce. `None` is no
     /// quota.
     pub quota: Option<u64>,
+    /// The folder in which everything is kept. `None` keeps everything in memory alone.
+    pub folder: Option<String>,
 }
 
 impl ProgramOptions {
@@ -35,6 +37,7 @@ impl ProgramOptions {
                 max_batch: MAX_BATCH,
             },
             quota: None,
+            folder: None,
         }
     }
 
@@ -57,6 +60,28 @@ impl ProgramOptions {
         }
         Ok(())
     }
+
+    /// Sets the folder. Errors: `Usage` if the name is empty or begins with `-`; `Memory`.
+    fn set_folder(&mut self, alloc: Global, name: &str) -> Result<(), Stopped>
+        ensures ok { OnOk result (with_folder name.now (value_of self.old) ≡ Some (value_of self.new)) }
+        ensures err { IfErr result (IsFault (with_folder name.now (value_of self.old) ≡ None)) }
+    {
+        if !is_folder(name) {
+            return Err(Stopped::Usage);
+        }
+        self.folder = Some(String::from_str(alloc, name)?);
+        Ok(())
+    }
+}
+
+/// Whether this may be the name of a folder: it is not empty and does not begin with `-`.
+fn is_folder(name: &str) -> bool
+    ensures { result ≡ is_folder name.now }
+{
+    match name.as_bytes().first() {
+        Some(byte) => *byte != b'-',
+        None => false,
+    }
 }
 
 /// Reads the options from the arguments. Errors: `Usage` if they are wrong, and `Memory`.
@@ -76,7 +101,10 @@ pub fn read_options(alloc: Global, arguments: &[String]) -> Result<ProgramOption
                 options.set(alloc, name, value.as_str())?;
                 others
             }
-            (_, []) => return Err(Stopped::Usage),
+            (folder, []) => {
+                options.set_folder(alloc, folder)?;
+                others
+            }
         };
     }
     Ok(options)

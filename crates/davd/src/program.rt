@@ -1,14 +1,15 @@
 //! The program: options, the store and the lock system, and the streams.
-ghost use Rattle.std.specs.Prelude.{◌≡◌, ◌⊎◌, Err, IfOk, OnOk, None, Some};
+ghost use Rattle.std.specs.Prelude.{◌≡◌, ◌⊎◌, Err, IfOk, IfErr, OnOk, None, Some};
 ghost use Rattle.std.specs.Option.{option_map};
 ghost use Rattle.std.specs.Io.KnownBytes.{IsAtEnd};
 ghost use Rattle.dav_resource.specs.Texts.{texts};
 ghost use Rattle.dav_tree.specs.TreeFs.{memory_of};
 ghost use Rattle.dav_tree.specs.Memory.{first_memory};
-ghost use Rattle.davd.specs.Options.{options_of};
-ghost use Rattle.davd.specs.Program.{ServesAll, status_of};
+ghost use Rattle.davd.specs.Options.{options_of, value_of};
+ghost use Rattle.davd.specs.Program.{HaveNoFolder, ServesAll, ServesWith, IsNotUsage, status_of};
 
-use crate::options::read_options;
+use crate::folder::{open_folder, serve_opened};
+use crate::options::{ProgramOptions, read_options};
 use dav_memls::MemLs;
 use dav_resource::{FsError, FsResult};
 use dav_server::Server;
@@ -25,9 +26,23 @@ pub enum Stopped {
     Stream(io::Error),
     /// Memory ran out.
     Memory,
+    /// The folder is not one of a store, or it is damaged.
+    NotAStore,
+    /// Another process has the folder open.
+    InUse,
+    /// The folder cannot be read or written at the start.
+    Disk(io::Error),
+    /// A batch cannot be kept because the disk is full.
+    Full,
+    /// A batch cannot be kept for another reason.
+    NotKept,
 }
 
 impl From<io::Error> for Stopped {
+    ghost use Rattle.davd.specs.Program.{IsNotUsage};
+
+    ghost from_gives = { λ _ e. IsNotUsage e };
+
     fn from(error: io::Error) -> Stopped {
         Stopped::Stream(error)
     }
@@ -67,21 +82,46 @@ impl From<FsError> for Stopped {
 /// Serves the batches of the input, with the options that the arguments say, until the input ends.
 ///
 /// Errors: `Usage` if the arguments are wrong; `Memory` if memory runs out before the first batch; `Stream` if a stream
-/// fails, or if the input ends inside a batch. With wrong arguments nothing is read or written.
+/// fails, or if the input ends inside a batch; over a folder those of `open_folder` and `serve_opened`. With wrong
+/// arguments nothing is read or written.
 pub fn run_program<I: Read, O: Write>(
-    alloc: Global,
+    rt: &HostRuntime,
     arguments: &[String],
     input: &mut I,
     output: &mut O,
 ) -> Result<(), Stopped>
-    ensures served { OnOk result (ServesAll ⟦<InMemory as Medium>⟧ (texts arguments.now) (I.remaining input.old) (I.remaining input.new) (O.contents output.old) (O.contents output.new)) }
+    ensures served { HaveNoFolder (texts arguments.now) → OnOk result (ServesAll ⟦<InMemory as Medium>⟧ (texts arguments.now) (I.remaining input.old) (I.remaining input.new) (O.contents output.old) (O.contents output.new)) }
     ensures end { OnOk result (IsAtEnd (I.remaining input.new)) }
     ensures usage { result ≡ Err Stopped.Usage → options_of (texts arguments.now) ≡ None }
     ensures wrong { options_of (texts arguments.now) ≡ None → (result ≡ Err Stopped.Usage) ⊎ (result ≡ Err Stopped.Memory) }
     ensures unread { options_of (texts arguments.now) ≡ None → input.new ≡ input.old }
     ensures unwritten { options_of (texts arguments.now) ≡ None → output.new ≡ output.old }
 {
+    let alloc = rt.alloc();
     let options = read_options(alloc, arguments)?;
+    match &options.folder {
+        Some(folder) => {
+            let mut opened = open_folder(rt, folder.as_str(), options.quota)?;
+            serve_opened(alloc, &mut opened, options.server, input, output)
+        }
+        None => serve_in_memory(alloc, options, input, output),
+    }
+}
+
+/// Serves the batches of the input over a store and a lock system in memory, until the input ends.
+///
+/// Errors: `Memory` if memory runs out before the first batch; `Stream` if a stream fails, or if the input ends inside a
+/// batch.
+fn serve_in_memory<I: Read, O: Write>(
+    alloc: Global,
+    options: ProgramOptions,
+    input: &mut I,
+    output: &mut O,
+) -> Result<(), Stopped>
+    ensures served { OnOk result (ServesWith ⟦<InMemory as Medium>⟧ (value_of options) (I.remaining input.old) (I.remaining input.new) (O.contents output.old) (O.contents output.new)) }
+    ensures end { OnOk result (IsAtEnd (I.remaining input.new)) }
+    ensures err { IfErr result IsNotUsage }
+{
     let mut store = new_store(alloc, options.quota)?;
     let mut locks = MemLs::new(alloc);
     let mut server = Server::new(alloc, &mut store, &mut locks, options.server);
@@ -107,21 +147,39 @@ pub fn report<E: Write>(errors: &mut E, ended: Result<(), Stopped>) -> u8
 {
     match ended {
         Ok(()) => 0,
-        Err(Stopped::Usage) => {
-            say(
-                errors,
-                "usage: davd [-prefix PREFIX] [-anyone-unlocks] [-max-batch BYTES] [-quota BYTES]",
-            );
-            2
+        Err(stopped) => {
+            say(errors, line_of(&stopped));
+            exit_status(&stopped)
         }
-        Err(Stopped::Stream(error)) => {
-            say(errors, cause_of(&error));
-            3
-        }
-        Err(Stopped::Memory) => {
-            say(errors, "davd: out of memory");
-            3
-        }
+    }
+}
+
+/// Returns the exit status of a program that ends for this reason.
+fn exit_status(stopped: &Stopped) -> u8
+    ensures { result ≡ status_of (Err stopped.now) }
+{
+    match stopped {
+        Stopped::Usage => 2,
+        Stopped::Stream(_) | Stopped::Memory => 3,
+        Stopped::NotAStore => 4,
+        Stopped::InUse => 5,
+        Stopped::Disk(_) => 6,
+        Stopped::Full => 7,
+        Stopped::NotKept => 8,
+    }
+}
+
+/// Returns what is said when the program ends for this reason.
+fn line_of(stopped: &Stopped) -> &'static str {
+    match stopped {
+        Stopped::Usage => "usage: davd [-prefix PREFIX] [-anyone-unlocks] [-max-batch BYTES] [-quota BYTES] [FOLDER]",
+        Stopped::Stream(error) => cause_of(error),
+        Stopped::Memory => "davd: out of memory",
+        Stopped::NotAStore => "davd: the folder is not one of davd, or it is damaged",
+        Stopped::InUse => "davd: the folder is in use",
+        Stopped::Disk(_) => "davd: the folder cannot be read or written",
+        Stopped::Full => "davd: a batch is not kept, because the disk is full",
+        Stopped::NotKept => "davd: a batch is not kept",
     }
 }
 

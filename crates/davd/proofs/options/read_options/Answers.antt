@@ -3,10 +3,12 @@ use Rattle.std.specs.Option.{option_and_then}
 use Rattle.davd.proofs.Arguments.{after-flag, after-last, after-value, fault-by}
 use Rattle.davd.proofs.options.read_options.Goals as goal
 
-pub returns-in_default-empty-clause-err : goal.returns-in_default-empty-clause-err
-returns-in_default-empty-clause-err c =
+pub returns-in_err-set_folder-in_default-empty-clause-err :
+    goal.returns-in_err-set_folder-in_default-empty-clause-err
+returns-in_err-set_folder-in_default-empty-clause-err c =
     let last = after-last c.loop-rest.rest.now c.name-item.result _ c.as_str.result.now _ c.in-len1-up.len_at_least c.name-item.is c.as_str.ensures.value c.in_default-empty.not-text-0 c.in_default-empty.len_below in
-    inr (refl, sym c.loop-rest.invariant ∙ last)
+    let fault = fault-by (λ none. sym c.loop-rest.invariant ∙ last ∙ none) c.in_err-set_folder-in_default-empty.ensures.err in
+    search rules
 
 pub returns-in_err-set-in_default-len1-up-clause-err :
     goal.returns-in_err-set-in_default-len1-up-clause-err

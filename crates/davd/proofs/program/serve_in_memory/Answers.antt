@@ -1,10 +1,8 @@
-use Rattle.davd.proofs.program.run_program.Goals as goal
+use Rattle.davd.proofs.program.serve_in_memory.Goals as goal
 
 pub returns-in-Ok-clause-served : goal.returns-in-Ok-clause-served
 returns-in-Ok-clause-served g c =
     record {
-      options = _;
-      read = c.in_ok-options.ensures.ok;
       store = c.in_ok-store.store;
       locks = c.new-locks.result;
       empty = c.in_ok-store.ensures;

@@ -1,0 +1,11 @@
+use Rattle.std.proofs.Common.{◌≡◌, ap}
+use Rattle.davd.proofs.folder.serve_opened.Goals as goal
+
+pub returns-in-Ok-clause-served : goal.returns-in-Ok-clause-served
+returns-in-Ok-clause-served g c =
+    record {
+      first = c.resume-server.result;
+      last = _;
+      begins = c.resume-server.ensures.snapshot;
+      runs = rw c.resume-server.ensures.rules at c.in-Ok.ensures.ran;
+    }

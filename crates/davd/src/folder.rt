@@ -1,0 +1,182 @@
+//! A store in a folder.
+ghost use Rattle.std.specs.Prelude.{OnOk, IfErr, string_bytes};
+ghost use Rattle.std.specs.Io.KnownBytes.{IsAtEnd};
+ghost use Rattle.dav_server.specs.State.{first_rules};
+ghost use Rattle.davd.specs.Folder.{ServesOpened};
+ghost use Rattle.davd.specs.Program.{IsNotUsage};
+
+use crate::program::Stopped;
+use dav_data::DataFile;
+use dav_folder::{Folder, OpenError, Opened, open_store};
+use dav_keep::{KeepError, first_changes};
+use dav_resource::FsError;
+use dav_rows::StartError;
+use dav_rows_files::start;
+use dav_server::{Options, Server};
+use dav_store_rows::SaveError;
+use sqlite::{Alter, Error, ErrorCode, FileFrom, FileStore, Unknown};
+use sqlite_disk::Disk;
+use std::alloc::Global;
+use std::fs;
+use std::hash::{BuildHasher, RandomState};
+use std::io::{self, ErrorKind, Read, Write};
+
+/// A store in two files of the system.
+pub type OpenedFiles = Opened<FileStore<FileFrom<Unknown>>, DataFile<FileFrom<Unknown>>>;
+
+/// Opens the store of a folder, or makes a new one if the folder is not there or is empty. Its database is `meta.db`, and
+/// its data file is `data`.
+///
+/// Errors: `NotAStore` if it has another database, or rows that are not those of a store; `InUse` if another process has it
+/// open; `Disk` if it cannot be read or written; `Memory`.
+pub fn open_folder(
+    rt: &HostRuntime,
+    folder: &str,
+    quota: Option<u64>,
+) -> Result<OpenedFiles, Stopped>
+    ensures { IfErr result IsNotUsage }
+{
+    let alloc = rt.alloc();
+    make_folder(rt, folder)?;
+    let key = RandomState::new(rt)?.hash_one(&0u8) >> 1;
+    let changes = first_changes(alloc, key)?;
+    let database = format!(in alloc; "{folder}/meta.db")?;
+    let (conn, rows) = start(rt, database.as_str(), Unknown, &changes)?;
+    let data = format!(in alloc; "{folder}/data")?;
+    let files = sqlite_std_file::open(rt, data.as_str(), Unknown)?;
+    Ok(open_store(alloc, conn, rows, files.db, quota.map(Some))?)
+}
+
+/// Makes a folder, unless there is something of this name.
+fn make_folder(rt: &HostRuntime, folder: &str) -> Result<(), Stopped>
+    ensures { IfErr result IsNotUsage }
+{
+    match fs::create_dir(rt, folder) {
+        Err(error) if error.kind() != ErrorKind::AlreadyExists => Err(Stopped::Disk(error)),
+        _ => Ok(()),
+    }
+}
+
+/// Serves the batches of the input over a store in a folder, and keeps each before its answer is written, until the input
+/// ends.
+///
+/// Errors: `Full` or `NotKept` if a batch cannot be kept; `Stream` if a stream fails, or if the input ends inside a batch.
+pub fn serve_opened<S: Alter, D: Disk + Drop, I: Read, O: Write>(
+    alloc: Global,
+    opened: &mut Opened<S, DataFile<D>>,
+    options: Options,
+    input: &mut I,
+    output: &mut O,
+) -> Result<(), Stopped>
+    ensures served { OnOk result (ServesOpened (first_rules (string_bytes options.prefix) options.anyone_unlocks) opened.old opened.new.folder
+        (I.remaining input.old) (I.remaining input.new) (O.contents output.old) (O.contents output.new)) }
+    ensures end { OnOk result (IsAtEnd (I.remaining input.new)) }
+    ensures err { IfErr result IsNotUsage }
+{
+    let (now, last) = (opened.now, opened.last);
+    let mut server = Server::resume(
+        alloc,
+        &mut opened.store,
+        &mut opened.locks,
+        options,
+        now,
+        last,
+    );
+    match server.serve_kept(&mut opened.folder, input, output) {
+        Ok(()) => Ok(()),
+        Err(error) => Err(stopped_by(&opened.folder, error)),
+    }
+}
+
+/// Returns why serving ended with this error: the keeper says so, or else a stream failed.
+fn stopped_by<S: Alter>(folder: &Folder<S>, error: io::Error) -> Stopped
+    ensures { IsNotUsage result }
+{
+    match folder.failure() {
+        Some(failure) if is_full(failure) => Stopped::Full,
+        Some(_) => Stopped::NotKept,
+        None => Stopped::Stream(error),
+    }
+}
+
+/// Whether a batch could not be kept because the disk is full.
+fn is_full(failure: &KeepError) -> bool {
+    match failure {
+        KeepError::Data(error) => matches!(error, FsError::InsufficientStorage),
+        KeepError::Database(error) => is_disk_full(error),
+        KeepError::Rows(_) => false,
+    }
+}
+
+fn is_disk_full(error: &Error) -> bool {
+    matches!(error, Error::SqliteFailure(ErrorCode::DiskFull))
+}
+
+impl From<StartError> for Stopped {
+    ghost use Rattle.davd.specs.Program.{IsNotUsage};
+
+    ghost from_gives = { λ _ e. IsNotUsage e };
+
+    fn from(error: StartError) -> Stopped {
+        match error {
+            StartError::Foreign => Stopped::NotAStore,
+            StartError::Sqlite(error) => by_sqlite(error),
+        }
+    }
+}
+
+/// Returns why the database is not opened.
+fn by_sqlite(error: Error) -> Stopped
+    ensures { IsNotUsage result }
+{
+    match error {
+        Error::SqliteFailure(ErrorCode::DatabaseBusy) => Stopped::InUse,
+        Error::SqliteFailure(ErrorCode::OutOfMemory) => Stopped::Memory,
+        Error::SqliteFailure(
+            ErrorCode::CannotOpen | ErrorCode::SystemIoFailure | ErrorCode::DiskFull
+            | ErrorCode::Closed,
+        ) => Stopped::Disk(io::Error::from(ErrorKind::Other)),
+        _ => Stopped::NotAStore,
+    }
+}
+
+impl From<sqlite_std_file::OpenError> for Stopped {
+    ghost use Rattle.davd.specs.Program.{IsNotUsage};
+
+    ghost from_gives = { λ _ e. IsNotUsage e };
+
+    fn from(error: sqlite_std_file::OpenError) -> Stopped {
+        match error {
+            sqlite_std_file::OpenError::Io(error) => Stopped::Disk(error),
+            sqlite_std_file::OpenError::OutOfMemory => Stopped::Memory,
+            sqlite_std_file::OpenError::Busy => Stopped::InUse,
+            sqlite_std_file::OpenError::HotJournal => Stopped::NotAStore,
+        }
+    }
+}
+
+impl From<OpenError> for Stopped {
+    ghost use Rattle.davd.specs.Program.{IsNotUsage};
+
+    ghost from_gives = { λ _ e. IsNotUsage e };
+
+    fn from(error: OpenError) -> Stopped {
+        match error {
+            OpenError::Damaged => Stopped::NotAStore,
+            OpenError::Data(error) if error.kind() == ErrorKind::UnexpectedEof => Stopped::NotAStore,
+            OpenError::Data(error) => Stopped::Disk(error),
+            OpenError::Memory => Stopped::Memory,
+        }
+    }
+}
+
+/// The first rows of a store fit, so only memory can have run out.
+impl From<SaveError> for Stopped {
+    ghost use Rattle.davd.specs.Program.{IsNotUsage};
+
+    ghost from_gives = { λ _ e. IsNotUsage e };
+
+    fn from(_: SaveError) -> Stopped {
+        Stopped::Memory
+    }
+}
