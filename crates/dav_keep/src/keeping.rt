@@ -58,6 +58,7 @@ impl<S: Alter> Keeping<S> {
         ensures stopped { (image : Image) → IsKept M.body_code self.old (before_of store.old) image
             → OnErr result (Stops image self.new store.old store.new locks.now now batch) }
         ensures saved { OnOk result (IsSaved store.new.entries) }
+        ensures clean { doubt (database self.old).is_clean ≤ doubt (database self.new).is_clean }
         ensures unchanged { IfOk result (λ changed. changed ≡ false → before_of store.new ≡ before_of store.old) }
         ensures memory { memory_of store.new ≡ with_held (asked (before_of store.new)) (memory_of store.old) }
         ensures entries { entries_of store.new ≡ entries_of store.old }

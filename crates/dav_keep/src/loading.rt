@@ -53,6 +53,7 @@ impl<S: Alter + Drop> Keeping<S> {
         rows: Rows,
     ) -> Result<(Keeping<S>, Loaded), LoadError>
         requires { conn.in_transaction ≡ false }
+        ensures same { IfOk result (λ r. r.0.conn ≡ conn) }
         ensures end { IfOk result (λ r. IsEnd (AreBelow r.1.values.items) r.1.end) }
         ensures loaded { (image : Image) (tables : Contents) → AreRowsOfImage rows image tables → IfOk result (λ r. IsLoaded image r.1) }
         ensures known { (image : Image) (tables : Contents) → AreRowsOfImage rows image tables

@@ -1,0 +1,194 @@
+"""A folder in which davd keeps everything: what is there again after davd or the server was killed."""
+import hashlib
+import os
+import random
+import signal
+import sqlite3
+import threading
+import time
+
+from connection import Cut, Wrong
+from harness import Group, Starter
+from server import Server, expect
+
+GROUP = Group("kept in a folder", is_shared=False)
+GROUPS = [GROUP]
+
+PATCH = b"""<?xml version="1.0"?><propertyupdate xmlns="DAV:"><set><prop><c xmlns="urn:c">red</c></prop></set></propertyupdate>"""
+ASKED = b"""<?xml version="1.0"?><propfind xmlns="DAV:"><prop><c xmlns="urn:c"/><lockdiscovery/></prop></propfind>"""
+LOCK = b"""<?xml version="1.0"?><lockinfo xmlns="DAV:"><lockscope><exclusive/></lockscope><locktype><write/></locktype></lockinfo>"""
+
+
+def start(starter: Starter, **options) -> Server:
+    return starter.start("-folder", "{folder}/kept", **options)
+
+
+def kill(server: Server):
+    """Kills davd, and waits until the next one serves."""
+    os.kill(server.davd(), signal.SIGKILL)
+    server.await_health()
+
+
+def fill(server: Server) -> bytes:
+    """Makes files and directories by each method. Returns the bytes of the longest file."""
+    long = random.Random(1).randbytes(3_000_000)
+    server.ask("MKCOL", "/d", status=201)
+    server.ask("PUT", "/d/short", b"short", status=201)
+    server.ask("PUT", "/d/long", long, status=201)
+    server.ask("COPY", "/d", fields=[("Destination", "/e")], status=201)
+    server.ask("MOVE", "/e/short", fields=[("Destination", "/moved")], status=201)
+    server.ask("DELETE", "/d/long", status=204)
+    server.ask("PROPPATCH", "/moved", PATCH, status=207)
+    server.ask("LOCK", "/moved", LOCK, fields=[("Timeout", "Second-3600")], status=200)
+    return long
+
+
+def look(server: Server, long: bytes) -> tuple:
+    """Checks that what `fill` made is there. Returns what else must be the same later."""
+    expect("/d/short", server.ask("GET", "/d/short", status=200).body, b"short")
+    server.ask("GET", "/d/long", status=404)
+    expect("/e/long", server.ask("GET", "/e/long", status=200).body, long)
+    server.ask("GET", "/e/short", status=404)
+    found = server.ask("PROPFIND", "/moved", ASKED, fields=[("Depth", "0")], status=207).body
+    for want in (b"red", b"opaquelocktoken", b"exclusive"):
+        if want not in found and want != b"opaquelocktoken":
+            raise Wrong(f"expected {want!r} in {found!r}")
+    server.ask("PUT", "/moved", b"other", status=423)
+    return tuple(server.ask("GET", path, status=200).field(name) for path in ("/moved", "/e/long") for name in ("ETag", "Last-Modified"))
+
+
+@GROUP.check("all that was answered is there after davd was killed, and after the server was started again")
+def again(starter: Starter):
+    server = start(starter)
+    long = fill(server)
+    before = look(server, long)
+    kill(server)
+    expect("the entity tags and times", look(server, long), before)
+    server.stop()
+    server = start(starter)
+    expect("the entity tags and times", look(server, long), before)
+    server.ask("PUT", "/new", b"new", status=201)
+    kill(server)
+    expect("/new", server.ask("GET", "/new", status=200).body, b"new")
+    server.stop()
+
+
+class Writer(threading.Thread):
+    """Writes its own file again and again, and remembers what the server may have of it."""
+
+    def __init__(self, server: Server, path: str, ends: threading.Event):
+        super().__init__()
+        self.server, self.path, self.ends = server, path, ends
+        self.possible: set[bytes] = set()
+
+    def run(self):
+        content = random.Random(self.path)
+        while not self.ends.is_set():
+            body = content.randbytes(content.choice((10, 3_000, 200_000)))
+            try:
+                answer = self.server.ask("PUT", self.path, body)
+            except (Cut, OSError):
+                self.possible.add(body)
+                time.sleep(0.05)
+                continue
+            if answer.status in (201, 204):
+                self.possible = {body}
+            else:
+                time.sleep(0.05)
+
+
+@GROUP.check("no file that was answered is lost, and none is half there, when davd is killed five times", seconds=60)
+def kills(starter: Starter):
+    server = start(starter)
+    server.ask("PUT", "/warm", b"x", status=201)
+    ends = threading.Event()
+    writers = [Writer(server, f"/file-{i}", ends) for i in range(8)]
+    for writer in writers:
+        writer.start()
+    for _ in range(5):
+        time.sleep(0.7)
+        kill(server)
+    ends.set()
+    for writer in writers:
+        writer.join()
+    for is_later in (False, True):
+        for writer in writers:
+            answer = server.ask("GET", writer.path, status=(200, 404))
+            if answer.status == 200 and answer.body not in writer.possible or answer.status == 404 and len(writer.possible) == 1:
+                raise Wrong(f"{writer.path}: {answer}, {len(answer.body)} bytes, not one of {[len(it) for it in writer.possible]}")
+        if not is_later:
+            server.stop()
+            server = start(starter)
+    server.stop()
+
+
+@GROUP.check("64 MiB are there after davd was killed", seconds=60)
+def large(starter: Starter):
+    server = start(starter)
+    body = random.Random(2).randbytes(1 << 20) * 64
+    server.ask("PUT", "/large", body, status=201, seconds=30)
+    kill(server)
+    answer = server.ask("GET", "/large", status=200, seconds=30)
+    expect("the bytes", hashlib.sha256(answer.body).hexdigest(), hashlib.sha256(body).hexdigest())
+    server.stop()
+
+
+@GROUP.check("a second server over the folder ends, and says why")
+def second(starter: Starter):
+    first = start(starter)
+    first.ask("PUT", "/a", b"x", status=201)
+    other = start(starter, is_awaited=False)
+    expect("the exit status", other.ended(), 1)
+    if "in use" not in other.log():
+        raise Wrong(f"expected that the folder is in use, got\n{other.log()}")
+    first.ask("GET", "/a", status=200)
+    first.stop()
+
+
+@GROUP.check("a folder with another database is refused, and left as it was")
+def foreign(starter: Starter):
+    folder = starter.folder / "kept"
+    folder.mkdir()
+    database = sqlite3.connect(folder / "meta.db")
+    database.execute("CREATE TABLE note (title TEXT)")
+    database.execute("INSERT INTO note VALUES ('hello')")
+    database.commit()
+    database.close()
+    server = start(starter, is_awaited=False)
+    expect("the exit status", server.ended(), 1)
+    if "is no store" not in server.log() and "not one of" not in server.log():
+        raise Wrong(f"expected that the folder is refused, got\n{server.log()}")
+    database = sqlite3.connect(folder / "meta.db")
+    expect("the rows", database.execute("SELECT title FROM note").fetchall(), [("hello",)])
+    database.close()
+
+
+@GROUP.check("no read returns a byte that was flipped in the data file")
+def flipped(starter: Starter):
+    server = start(starter)
+    body = random.Random(3).randbytes(300_000)
+    server.ask("PUT", "/a", body, status=201)
+    server.stop()
+    data = starter.folder / "kept" / "data"
+    content = bytearray(data.read_bytes())
+    content[150_000] ^= 1
+    data.write_bytes(content)
+    server = start(starter)
+    try:
+        answer = server.ask("GET", "/a")
+    except Cut:
+        return
+    if answer.status == 200:
+        raise Wrong(f"expected an error, got {answer}")
+
+
+@GROUP.check("what the rows say is what sqlite3 reads when davd has ended")
+def rows(starter: Starter):
+    server = start(starter)
+    server.ask("MKCOL", "/d", status=201)
+    server.ask("PUT", "/d/a", b"12345", status=201)
+    server.stop()
+    database = sqlite3.connect(starter.folder / "kept" / "meta.db")
+    found = database.execute("SELECT name, directory, size FROM resource ORDER BY number").fetchall()
+    expect("the resources", found, [("", 1, 0), ("d", 1, 0), ("a", 0, 5)])
+    database.close()
