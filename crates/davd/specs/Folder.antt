@@ -20,7 +20,7 @@ module _ {S M : Type 0} {rows : store.Ghosts S} {g : Ghosts M (List Piece)} wher
   -- the later ones have changed nothing that is kept
   pub record ServesOpened (rules : Rules) (opened : Opened S M (List Piece) rows g) (folder : Folder S rows) (input input' output output' : Option (List ℕ)) : Type 0
     where
-    pub first : Server (TreeFs M (List Piece) g) MemLs
-    pub last : Server (TreeFs M (List Piece) g) MemLs
-    pub begins : snapshot_of first ≡ Some (opened_at opened)
-    pub runs : RunsAndKeeps (store_of {g = g}) locks_of Lasts IsSameKept honest_of rules opened.folder folder first last input input' output output'
+      pub first : Server (TreeFs M (List Piece) g) MemLs
+      pub last : Server (TreeFs M (List Piece) g) MemLs
+      pub begins : snapshot_of first ≡ Some (opened_at opened)
+      pub runs : RunsAndKeeps (store_of {g = g}) locks_of Lasts IsSameKept honest_of rules opened.folder folder first last input input' output output'

@@ -133,7 +133,9 @@ fn by_sqlite(error: Error) -> Stopped
         Error::SqliteFailure(ErrorCode::DatabaseBusy) => Stopped::InUse,
         Error::SqliteFailure(ErrorCode::OutOfMemory) => Stopped::Memory,
         Error::SqliteFailure(
-            ErrorCode::CannotOpen | ErrorCode::SystemIoFailure | ErrorCode::DiskFull
+            ErrorCode::CannotOpen
+            | ErrorCode::SystemIoFailure
+            | ErrorCode::DiskFull
             | ErrorCode::Closed,
         ) => Stopped::Disk(io::Error::from(ErrorKind::Other)),
         _ => Stopped::NotAStore,
@@ -163,7 +165,8 @@ impl From<OpenError> for Stopped {
     fn from(error: OpenError) -> Stopped {
         match error {
             OpenError::Damaged => Stopped::NotAStore,
-            OpenError::Data(error) if error.kind() == ErrorKind::UnexpectedEof => Stopped::NotAStore,
+            OpenError::Data(error) if error.kind() == ErrorKind::UnexpectedEof =>
+                Stopped::NotAStore,
             OpenError::Data(error) => Stopped::Disk(error),
             OpenError::Memory => Stopped::Memory,
         }

@@ -172,7 +172,8 @@ fn exit_status(stopped: &Stopped) -> u8
 /// Returns what is said when the program ends for this reason.
 fn line_of(stopped: &Stopped) -> &'static str {
     match stopped {
-        Stopped::Usage => "usage: davd [-prefix PREFIX] [-anyone-unlocks] [-max-batch BYTES] [-quota BYTES] [FOLDER]",
+        Stopped::Usage =>
+            "usage: davd [-prefix PREFIX] [-anyone-unlocks] [-max-batch BYTES] [-quota BYTES] [FOLDER]",
         Stopped::Stream(error) => cause_of(error),
         Stopped::Memory => "davd: out of memory",
         Stopped::NotAStore => "davd: the folder is not one of davd, or it is damaged",
