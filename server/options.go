@@ -15,8 +15,7 @@ import (
 type Options struct {
 	// Davd is the path of the program davd, or its name, which is then looked up in PATH.
 	Davd string
-	// Folder is passed to davd as its last argument, for a davd that keeps a folder. Empty: davd holds everything in
-	// memory.
+	// Folder is where davd keeps everything. Empty: davd holds everything in memory.
 	Folder string
 	// Prefix is what the path of each URL begins with, such as "/dav". The handler gets requests with the prefix.
 	Prefix string

@@ -87,7 +87,7 @@ func parse(arguments []string, output io.Writer) (config, error) {
 func (c *config) addServing(flags *flag.FlagSet) {
 	flags.StringVar(&c.listen, "listen", "127.0.0.1:8080", "`address` to listen on")
 	flags.StringVar(&c.options.Davd, "davd", "", "the `program` davd (default: beside this program, or in PATH)")
-	flags.Func("folder", "`folder` for a davd that keeps one (default: none, and everything is in memory)", c.setFolder)
+	flags.Func("folder", "`folder` in which everything is kept (default: none, and everything is in memory)", c.setFolder)
 	flags.StringVar(&c.options.Prefix, "prefix", "", "what the path of each URL begins with, such as /dav")
 	flags.StringVar(&c.options.PublicURL, "public-url", "", "the `URL` by which clients reach a server behind a proxy")
 	flags.StringVar(&c.cert, "cert", "", "`file` with the certificates for TLS, in PEM")
