@@ -151,6 +151,11 @@ impl<M: Medium> TreeFs<M> {
         self.entries.show();
     }
 
+    /// The resources are those of a store. It does nothing: callers learn this of the resources.
+    pub fn show_sound(&self)
+        ensures { IsSound (memory_of self.now).resources }
+    {}
+
     /// Returns the number of changes so far.
     pub fn version(&self) -> u64
         ensures { result ≡ (memory_of self.now).version }

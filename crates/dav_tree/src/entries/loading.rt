@@ -25,7 +25,8 @@ impl<M: Medium> Entries<M> {
     ) -> Result<Entries<M>, AllocError>
         requires safe { AreHeld (M.safe medium) nodes }
         requires keys { HasFlatKeys nodes.values }
-        ensures { IfOk result (IsLoaded M.body_code (M.bytes medium) nodes) }
+        ensures loaded { IfOk result (IsLoaded M.body_code (M.bytes medium) nodes) }
+        ensures honest { IfOk result (λ entries. entries.honest ≡ M.is_honest medium) }
     {
         let used = used_in(alloc, &medium, &nodes)?;
         Ok(Entries {

@@ -7,7 +7,7 @@ ghost use Rattle.dav_tree.specs.Entry.{is_held};
 ghost use Rattle.dav_tree.specs.Kept.{resources_by};
 ghost use Rattle.dav_tree.specs.Loading.{loaded_memory};
 ghost use Rattle.dav_tree.specs.Memory.{IsSound};
-ghost use Rattle.dav_tree.specs.TreeFs.{memory_of, store_of, records_of, entries_of, older_of};
+ghost use Rattle.dav_tree.specs.TreeFs.{memory_of, store_of, records_of, entries_of, older_of, honest_of};
 ghost use Rattle.dav_tree.specs.declared.entry.Entry.{Entry};
 ghost use base.Stored.{gnil};
 
@@ -43,6 +43,7 @@ impl<M: Medium> TreeFs<M> {
         ensures older { IfOk result (λ store. older_of store ≡ gnil) }
         ensures log { IfOk result (λ store. (store_of store).log ≡ []) }
         ensures records { IfOk result (λ store. records_of store ≡ []) }
+        ensures honest { IfOk result (λ store. honest_of store ≡ M.is_honest medium) }
         ensures err { (tree : Tree (Entry M.Body)) → AreRowsOf rows.items tree → IsSound (resources_by (M.bytes medium) tree) → IfErr result (λ e. e ≡ RowsError.Memory) }
     {
         let nodes = Nodes::from_rows(alloc, rows, || Entry::new(alloc, Content::Directory, 0, 0))?;

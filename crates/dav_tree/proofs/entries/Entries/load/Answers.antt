@@ -19,7 +19,7 @@ invariant_of-result g c =
       saved-none (m.safe c.args.medium) None refl,
     )
 
-pub returns : goal.returns
-returns g c =
+pub returns-clause-loaded : goal.returns-clause-loaded
+returns-clause-loaded g c =
     let m = g.M.Medium in
     is-loaded (m.bytes c.args.medium) c.args.nodes (tree_of c.saved.result) c.saved.ensures.tree c.new.result c.new.ensures.empty m.body_code (m.is_honest c.args.medium) (before_of c.saved.result) c.saved.ensures.before

@@ -1,4 +1,4 @@
-use Rattle.std.proofs.Common.{◌≡◌, ◌∙◌, true, false, refl, sym, ap, subst}
+use Rattle.std.proofs.Common.{◌≡◌, ◌∙◌, ◌||◌, Bool, true, false, refl, sym, ap, subst}
 use Rattle.dav_tree.specs.Before.{entries_code, saved_code}
 use Rattle.dav_tree.specs.Entry.{is_held}
 use Rattle.dav_tree.specs.Kept.{resources_by}
@@ -6,6 +6,11 @@ use Rattle.dav_tree.specs.Loading.{loaded_held}
 use Rattle.dav_tree.specs.Memory.{Held, IsSound}
 use Rattle.dav_tree.proofs.Dumps.{flat-keys}
 use Rattle.dav_tree.proofs.tree_fs.TreeFs.load.Goals as goal
+
+-- what is trusted is honest
+trusted_or : (trusted honest : Bool) → (trusted ≡ true → honest ≡ true) → (trusted || honest) ≡ honest
+trusted_or true honest law = sym (law refl)
+trusted_or false honest law = refl
 
 pub load-requires-clause-safe : goal.load-requires-clause-safe
 load-requires-clause-safe g c = c.in_ok-nodes.ensures.values (λ e. is_held (g.M.Medium.safe c.args.medium) e.content) c.requires
@@ -17,7 +22,7 @@ load-requires-clause-keys g c =
 
 pub invariant_of-result : goal.invariant_of-result
 invariant_of-result g c =
-    record { sound = subst IsSound (sym c.in_ok-load.ensures.resources) (c.if-not-are_sound.ensures.sound refl (g.M.Medium.bytes c.args.medium)) }
+    record { sound = subst IsSound (sym c.in_ok-load.ensures.loaded.resources) (c.if-not-are_sound.ensures.sound refl (g.M.Medium.bytes c.args.medium)) }
 
 pub returns-then-not-are_sound-clause-err : goal.returns-then-not-are_sound-clause-err
 returns-then-not-are_sound-clause-err g c = λ tree are sound.
@@ -28,7 +33,7 @@ pub returns-clause-memory : goal.returns-clause-memory
 returns-clause-memory g c = λ tree are.
     let m = g.M.Medium in
     let b = m.bytes c.args.medium in
-    let loaded = c.in_ok-load.ensures in
+    let loaded = c.in_ok-load.ensures.loaded in
     let same = c.in_ok-nodes.ensures.ok tree are in
     λ i. record {
       resources = (loaded.resources ∙ ap (resources_by b) same) i;
@@ -39,12 +44,18 @@ returns-clause-memory g c = λ tree are.
     }
 
 pub returns-clause-entries : goal.returns-clause-entries
-returns-clause-entries g c = λ tree are. c.in_ok-load.ensures.entries ∙ ap (entries_code g.M.Medium.body_code) (c.in_ok-nodes.ensures.ok tree are)
+returns-clause-entries g c = λ tree are. c.in_ok-load.ensures.loaded.entries ∙ ap (entries_code g.M.Medium.body_code) (c.in_ok-nodes.ensures.ok tree are)
 
 pub returns-clause-saved : goal.returns-clause-saved
 returns-clause-saved g c =
-    let loaded = c.in_ok-load.ensures in
+    let loaded = c.in_ok-load.ensures.loaded in
     (λ i. saved_code (loaded.entries i) (loaded.resources i)) ∙ sym (ap (λ (h : Held). h.before) loaded.held)
 
 pub returns-clause-older : goal.returns-clause-older
-returns-clause-older g c = c.in_ok-load.ensures.older
+returns-clause-older g c = c.in_ok-load.ensures.loaded.older
+
+pub returns-clause-honest : goal.returns-clause-honest
+returns-clause-honest g c =
+    let m = g.M.Medium in
+    ap (λ honest. m.is_trusted || honest) c.in_ok-load.ensures.honest
+    ∙ trusted_or m.is_trusted (m.is_honest c.args.medium) (g.met.M.Medium.trusted c.args.medium)
