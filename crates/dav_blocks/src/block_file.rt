@@ -241,6 +241,13 @@ impl<D: Disk> BlockFile<D> {
         self.synced
     }
 
+    /// Returns the disk.
+    pub fn disk(&self) -> &D
+        ensures { result.now ≡ disk_of self.now }
+    {
+        &self.disk
+    }
+
     /// Returns how many bytes are in use: those before the last unused range that are in no other one.
     pub fn used(&self) -> usize
         ensures { result ≡ used_bytes self.now }

@@ -44,6 +44,9 @@ abbrev pub FailsToJoin : ℕ → ℕ → FsError → Type 0
 FailsToJoin place count e = IsTooLong place count e ⊎ (e ≡ errors.Memory)
 
 module _ {D : Type 0} {g : Ghosts D} where
+  abbrev pub disk_of : DataFile D g → D
+  disk_of it = blocks.disk_of it.file
+
   -- the contents of the data file
   abbrev pub data_of : DataFile D g → List ℕ
   data_of it = blocks.data_of it.file

@@ -40,7 +40,7 @@ pub struct DataFile<D: Disk> {
 }
 
 impl<D: Disk> DataFile<D> {
-    ghost use Rattle.dav_data.specs.Data.{is_below, nothing_at, is_honest, is_usable, may_leave, key_of, swept_bytes, body_bytes, is_held, is_synced};
+    ghost use Rattle.dav_data.specs.Data.{disk_of, is_below, nothing_at, is_honest, is_usable, may_leave, key_of, swept_bytes, body_bytes, is_held, is_synced};
     ghost use Rattle.dav_data.specs.Data.{HasFailed, KeepsSweep, IsIdle, LeavesBytes, LeavesDigests, LeavesEnds, FindsDigests};
 
     /// Opens the data file of which all bytes up to a place are in use. What is after them is cut off. It is an
@@ -67,6 +67,13 @@ impl<D: Disk> DataFile<D> {
             keeps_all: true,
             swept: 0,
         })
+    }
+
+    /// Returns the disk.
+    pub fn disk(&self) -> &D
+        ensures { result.now ≡ disk_of self.now }
+    {
+        self.file.disk()
     }
 
     /// Brings all that was written to the disk. After an error every later call fails.
