@@ -44,6 +44,11 @@ BeginsNew image s m rows = HasCleanDisk s → IsVacant image → IsAt s m × Are
 -- ---- what the files keep after a run
 
 module _ {D : Type 0} {g : Ghosts D} where
+  -- whatever files a crash leaves hold a database that a crash of the connection may leave
+  abbrev pub LeavesDatabases : State → FileStore D g → Type 0
+  LeavesDatabases s last =
+      IsClean (store.view last) → (left : Image) → (store.state last).may_leave left → ∥ ((db : Trees) × HoldsDatabase left db × s.may_leave db) ∥₁
+
   -- whatever a crash leaves keeps the old maps, or what `f` makes of them
   abbrev pub NextKeepsEither : State → FileStore D g → (Contents → Contents) → Type 0
   NextKeepsEither s last f = IsClean (store.view last) → (m : Contents) → IsAt s m → (left : Image) → (store.state last).may_leave left → ∥ KeepsEither left m (f m) ∥₁

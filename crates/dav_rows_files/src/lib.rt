@@ -5,7 +5,7 @@ mod starting;
 mod stopping;
 
 pub use starting::start;
-pub use stopping::save_to_the_end;
+pub use stopping::{into_files, save_to_the_end};
 
 #[cfg(test)]
 mod tests;

@@ -1,12 +1,23 @@
-//! Saves the last changes, and gives up the files.
+//! Gives up the files, and says what a crash leaves there.
 ghost use Rattle.std.specs.Prelude.{◌≡◌, false, OnOk};
 ghost use Rattle.sqlite.specs.Files.{file_state};
+ghost use Rattle.sqlite.specs.State.{HasCleanDisk};
+ghost use Rattle.sqlite_store.specs.FileStore.{view};
+ghost use Rattle.sqlite_trees.specs.View.{IsClean};
 ghost use Rattle.dav_rows.specs.Changes.{after};
-ghost use Rattle.dav_rows_files.specs.Starting.{NextKeeps, NextKeepsEither};
+ghost use Rattle.dav_rows_files.specs.Starting.{LeavesDatabases, NextKeeps, NextKeepsEither};
 
 use dav_rows::{Change, save};
 use sqlite::{Connection, Error, FileStore};
 use sqlite_disk::Disk;
+
+/// Gives up the connection, so that what the files hold can be said of the store.
+pub fn into_files<D: Disk + Drop>(conn: Connection<FileStore<D>>) -> FileStore<D>
+    ensures clean { IsClean (view result) → HasCleanDisk (file_state conn) }
+    ensures left { LeavesDatabases (file_state conn) result }
+{
+    conn.into_store()
+}
 
 /// Saves the changes and gives up the connection, so that what the files hold can be said of the store.
 /// Whatever moment a crash comes, the next start finds the old maps or the new ones, and after `Ok` the new ones.
