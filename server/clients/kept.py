@@ -1,6 +1,7 @@
 """A folder in which davd keeps everything: what is there again after davd or the server was killed."""
 import hashlib
 import os
+import pathlib
 import random
 import signal
 import sqlite3
@@ -182,13 +183,23 @@ def flipped(starter: Starter):
         raise Wrong(f"expected an error, got {answer}")
 
 
-@GROUP.check("what the rows say is what sqlite3 reads when davd has ended")
+@GROUP.check("the views show what is in a folder when davd has ended")
 def rows(starter: Starter):
     server = start(starter)
     server.ask("MKCOL", "/d", status=201)
-    server.ask("PUT", "/d/a", b"12345", status=201)
+    server.ask("PUT", "/d/a%20b", b"12345", status=201)
+    server.ask("PROPPATCH", "/d/", PATCH, status=207)
+    server.ask("LOCK", "/d/a%20b", LOCK, fields=[("Timeout", "Second-3600")], status=200)
     server.stop()
     database = sqlite3.connect(starter.folder / "kept" / "meta.db")
-    found = database.execute("SELECT name, directory, size FROM resource ORDER BY number").fetchall()
-    expect("the resources", found, [("", 1, 0), ("d", 1, 0), ("a", 0, 5)])
+    database.executescript((pathlib.Path(__file__).parents[1] / "views.sql").read_text())
+    for query, want in (
+        ("SELECT path FROM paths ORDER BY number", [("/",), ("/d/",), ("/d/a b",)]),
+        ("SELECT path, size FROM files WHERE created <= modified", [("/d/a b", 5)]),
+        ("SELECT path, members FROM directories", [("/", 1), ("/d/", 1)]),
+        ("SELECT path, namespace, name FROM properties", [("/d/", "urn:c", "c")]),
+        ("SELECT path FROM locks", [("/d/a b",)]),
+        ("SELECT directories, files, bytes FROM summary", [(2, 1, 5)]),
+    ):
+        expect(query, database.execute(query).fetchall(), want)
     database.close()
