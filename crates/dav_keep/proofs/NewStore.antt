@@ -1,13 +1,15 @@
 -- The tables of a new store.
-use Rattle.std.proofs.Common.{◌≡◌, ◌∙◌, ◌++◌, ℕ, ℤ, pos, List, [], ◌∷◌, map, length, Option, Some, None, is_some, refl, sym, ap, ap₂, subst, arith}
+use Rattle.std.proofs.Common.{◌≡◌, ◌∙◌, ◌++◌, ℕ, ℤ, pos, List, [], ◌∷◌, map, length, Option, Some, None, is_some, true, bytes_eq, refl, sym, ap, ap₂, subst, arith}
 use Rattle.std.proofs.lemmas.Cmp.{int_cmp_total}
 use Rattle.std.proofs.lemmas.Option.{same_Some}
 use Rattle.std.specs.Coded.{Coded, coded_list}
-use Rattle.std.specs.FinMap.{get, empty, entries, insert, get-empty, get-insert, entries-insert, len-empty, len-entries}
+use Rattle.std.specs.FinMap.{get, empty, entries, insert, get-empty, get-insert, entries-insert, len-empty, len-entries, same_map}
 use Rattle.std.specs.FinMap.Entries.{put}
+use Rattle.std.specs.List.{IsDistinct}
 use Rattle.std.specs.Ordering.{int_cmp}
 use Rattle.std.specs.Option.{option_map}
-use Rattle.dav_key.specs.Key.{Key, key_cmp, key_cmp_total}
+use Rattle.dav_data.specs.Data.{is_below}
+use Rattle.dav_key.specs.Key.{Key, key_cmp, key_cmp_total, key_cmp_exact}
 use Rattle.dav_nodes.specs.Rows.{Row, HasRow, AreJoined, AreNumbered}
 use Rattle.dav_nodes.specs.Tree.{Tree}
 use Rattle.dav_pieces.specs.Pieces.{piece_code}
@@ -20,6 +22,7 @@ use Rattle.dav_rows.specs.Creating.{first, nothing}
 use Rattle.dav_rows.specs.declared.change.Change.TheVariants.{PutState}
 use Rattle.dav_rows.specs.declared.change.Change.{Change}
 use Rattle.dav_rows.specs.declared.state.StateRow.{StateRow}
+use Rattle.dav_store.specs.Store as store
 use Rattle.dav_store.specs.Store.{AreNamed}
 use Rattle.dav_store_rows.proofs.Empty.{no_tree, saved_none}
 use Rattle.dav_store_rows.proofs.SameTables.{same_saved, state_keeps}
@@ -29,11 +32,16 @@ use Rattle.dav_store_rows.specs.Resources.{Kept}
 use Rattle.dav_store_rows.specs.Saves.{Saves}
 use Rattle.dav_store_rows.specs.Updates.{IsSavedIn, StandsBut, Freshens}
 use Rattle.dav_store_rows.specs.declared.saving.Counts.{Counts}
+use Rattle.dav_tree.proofs.Editing.{resources-insert}
 use Rattle.dav_tree.proofs.PastTrees.{same-entries}
 use Rattle.dav_tree.specs.Before.{entries_code}
+use Rattle.dav_tree.specs.EachLaws.{get-each-some}
+use Rattle.dav_tree.specs.Entry.{stored_by, is_held}
+use Rattle.dav_tree.specs.Kept.{resources_by}
+use Rattle.dav_tree.specs.Memory.{Stored, fresh}
 use Rattle.dav_tree.specs.declared.entry.Content.TheVariants.{Directory}
 use Rattle.dav_keep.specs.Images.{values_of, StandForImage, IsSoundTree}
-use Rattle.dav_keep.specs.Loading.{first_image}
+use Rattle.dav_keep.specs.Loading.{first_image, IsWholeImage}
 
 -- ---- maps with a value for the root alone
 
@@ -94,6 +102,32 @@ first_sound = record {
 
     none_named : AreNamed empty
     none_named name element is = clash _ element (get-empty _ name) is
+
+-- ---- its image
+
+none_distinct : IsDistinct bytes_eq []
+unfolding IsDistinct
+none_distinct = tt
+
+pub first_whole : (key : ℕ) → IsWholeImage (first_image key)
+first_whole key = record {
+  sound = record { tree = first_sound; tokens = none_distinct; compatible = refl };
+  end = 0;
+  small = omega arith;
+  below = λ name e is. subst (λ (v : Kept). is_held (is_below 0) v.content ≡ true) (sym (only_here root e name is).1) refl;
+}
+
+-- a new store has the root, whatever a data file contains
+pub first_resources : (bytes : List Piece → List ℕ) (key : ℕ) → resources_by bytes (first_image key).tree ≡ insert empty [] (fresh store.Directory 0 0)
+first_resources bytes key =
+    resources-insert bytes [] none (first_image key).tree root refl
+    ∙ ap (λ m. insert m [] (fresh store.Directory 0 0)) (same_map key_cmp_total key_cmp_exact _ _ no_value)
+  where
+    none : Tree Kept
+    none = record { values = empty; numbers = empty }
+
+    no_value : (name : Key) → get (resources_by bytes none) name ≡ get (empty {X = Stored} {R = key_cmp}) name
+    no_value name = get-each-some (stored_by bytes) (empty {X = Kept} {R = key_cmp}) name ∙ ap (option_map (stored_by bytes)) (get-empty key_cmp name) ∙ sym (get-empty key_cmp name)
 
 -- ---- its tables
 

@@ -3,7 +3,7 @@ use Rattle.std.specs.Prelude.{◌≡◌, ◌⊎◌, ℕ, Bool, true, false, List
 use Rattle.std.specs.Coded.{Coded}
 use Rattle.std.specs.FinMap.{entries}
 use base.Stored.{Gv}
-use Rattle.sqlite.specs.Held.{state}
+use Rattle.sqlite.specs.Held.{Held, state}
 use Rattle.sqlite.specs.State.{State, HasCleanDisk}
 use Rattle.sqlite.specs.Tree.{Trees}
 use Rattle.sqlite_trees.specs.declared.store.Store as store
@@ -22,9 +22,12 @@ use Rattle.dav_keep.specs.declared.keeping.Keeping.{Keeping}
 -- ---- what is kept
 
 module _ {S : Type 0} {rows : store.Ghosts S} where
+  abbrev pub connection_of : Keeping S rows → Held S
+  connection_of keeping = keeping.conn
+
   -- what the keeper's connection shows
   abbrev pub database : Keeping S rows → State
-  database keeping = state rows keeping.conn
+  database keeping = state rows (connection_of keeping)
 
   -- The keeper knows tables that stand for an image: how many rows each resource has, the rows of the locks, the number of changes, and the key. If the
   -- disk is clean, they are the tables of its database.

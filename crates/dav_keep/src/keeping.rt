@@ -34,7 +34,7 @@ impl<S: Alter> Keeping<S> {
     ghost use Rattle.dav_tree.specs.Memory.{asked, with_held};
     ghost use Rattle.dav_tree.specs.TreeFs.{memory_of, records_of, before_of, older_of, entries_of};
     ghost use Rattle.dav_keep.specs.Images.{Image};
-    ghost use Rattle.dav_keep.specs.Keeping.{database, IsKept, KeepsNow, Stops};
+    ghost use Rattle.dav_keep.specs.Keeping.{connection_of, database, IsKept, KeepsNow, Stops};
     ghost use Rattle.dav_keep.specs.Steps.{Prepares, OnlyRowsDiffer, OnlyDatabaseDiffers, IsAskedOrNot, Commits, MayCommit};
 
     /// Makes safe what files contain, and saves what has changed since the last call, with this time and the number of
@@ -77,6 +77,13 @@ impl<S: Alter> Keeping<S> {
             }
             None => Ok(false),
         }
+    }
+
+    /// Returns the connection to the database.
+    pub fn into_connection(self) -> Connection<S>
+        ensures { result ≡ connection_of self }
+    {
+        self.conn
     }
 
     /// Makes safe what files contain, and returns the changes after which the tables of resources and of locks are those of
