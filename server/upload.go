@@ -31,6 +31,9 @@ func (h *Handler) upload(w http.ResponseWriter, r *http.Request) error {
 	body := h.bodyOf(r)
 	first, err := readFirst(body, r.ContentLength)
 	switch {
+	case err == io.EOF && len(first) > 0 && h.keeps() && r.Method == http.MethodPut:
+		// A file is replaced when its new content is stored. If the disk has no room for that, it stays as it was.
+		return h.store(w, r, request, first, body)
 	case err == io.EOF:
 		request.Body = frame.Bytes(first)
 		return h.finish(w, r, request, int64(len(first)), h.engine.Do)
@@ -39,6 +42,9 @@ func (h *Handler) upload(w http.ResponseWriter, r *http.Request) error {
 	}
 	return h.store(w, r, request, first, body)
 }
+
+// keeps reports whether davd keeps everything in a folder.
+func (h *Handler) keeps() bool { return h.options.Folder != "" }
 
 // beginsTooFar reports whether a partial update names a place that no body could reach. The store would fill the gap
 // before it.

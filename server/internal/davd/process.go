@@ -2,6 +2,7 @@ package davd
 
 import (
 	"bufio"
+	"bytes"
 	"encoding/binary"
 	"fmt"
 	"io"
@@ -129,13 +130,24 @@ func (p *process) read(b *batch) error {
 	return nil
 }
 
-// A lineWriter logs what davd writes to its standard error.
+// longestLine is how many bytes of a line are logged together.
+const longestLine = 4096
+
+// A lineWriter logs each line that davd writes to its standard error.
 type lineWriter struct {
-	log *log.Logger
+	log  *log.Logger
+	rest []byte
 }
 
 // Write implements io.Writer.
 func (w *lineWriter) Write(p []byte) (int, error) {
-	w.log.Printf("davd says: %q", p)
-	return len(p), nil
+	w.rest = append(w.rest, p...)
+	for {
+		line, rest, found := bytes.Cut(w.rest, []byte("\n"))
+		if !found && len(w.rest) < longestLine {
+			return len(p), nil
+		}
+		w.log.Printf("davd says: %q", line)
+		w.rest = rest
+	}
 }
