@@ -12,7 +12,7 @@ use Rattle.dav_pieces.specs.declared.piece.Piece.{Piece}
 use Rattle.dav_server.specs.Snapshots.{snapshot_at, KeepsOne}
 use Rattle.dav_tree.specs.Before.{saved_code, IsSaved}
 use Rattle.dav_tree.specs.Codes.{resources_code}
-use Rattle.dav_tree.specs.Memory.{Memory, Resources}
+use Rattle.dav_tree.specs.Memory.{Memory, Resources, IsSound}
 use Rattle.dav_tree.specs.TreeFs.{memory_of, before_of, entries_of}
 use Rattle.dav_tree.specs.declared.medium.Medium.{Ghosts}
 use Rattle.dav_tree.specs.declared.tree_fs.TreeFs.{TreeFs}
@@ -30,13 +30,13 @@ module _ {S M : Type 0} {rows : store.Ghosts S} {g : Ghosts M (List Piece)} (old
     (locks : MemLs) (now batch : ℕ) (before : At g) (lasts : Lasts old (before_of first) before) where
   -- the image is saved under another value, which is the same
   abbrev resaved : (saved : Gv) → saved ≡ before_of first → IsImageAt saved before lasts.image
-  resaved saved same = record { is = lasts.at.is; time = lasts.at.time; batch = lasts.at.batch; sound = lasts.at.sound; saved_is = lasts.at.saved_is ∙ sym same }
+  resaved saved same = record { is = lasts.at.is; time = lasts.at.time; batch = lasts.at.batch; sound = lasts.at.sound; resources = lasts.at.resources; saved_is = lasts.at.saved_is ∙ sym same }
 
   module _ (settles : Settles rows) (saved : IsSaved mid.entries) where
     -- something has changed, and then the medium may have been swept
-    pub keeps_next : (last : TreeFs M (List Piece) g) → KeepsNow true lasts.image (keeping_of new) mid locks now batch → memory_of last ≡ memory_of mid → entries_of last ≡ entries_of mid
+    pub keeps_next : IsSound (memory_of mid).resources → (last : TreeFs M (List Piece) g) → KeepsNow true lasts.image (keeping_of new) mid locks now batch → memory_of last ≡ memory_of mid → entries_of last ≡ entries_of mid
         → KeepsOne Lasts IsSameKept new (before_of last) before (snapshot_at last locks now batch)
-    keeps_next last keeps memory entries =
+    keeps_next resources last keeps memory entries =
         let same : before_of last ≡ before_of mid = ap (λ (m : Memory). m.held.before) memory in
         inl (record {
           image = keeps.image;
@@ -45,6 +45,7 @@ module _ {S M : Type 0} {rows : store.Ghosts S} {g : Ghosts M (List Piece)} (old
             time = keeps.since.time;
             batch = keeps.since.batch_is;
             sound = keeps.kept.sound;
+            resources = subst (λ (m : Memory). IsSound m.resources) (sym memory) resources;
             saved_is = ap₂ saved_code entries (ap (λ (m : Memory). m.resources) memory) ∙ saved ∙ sym same;
           };
           kept = subst (λ b. IsKept g.body_code (keeping_of new) b keeps.image) (sym same) keeps.kept;
@@ -66,12 +67,12 @@ module _ {S M : Type 0} {rows : store.Ghosts S} {g : Ghosts M (List Piece)} (old
         )
 
   -- the call failed
-  pub stops : Stops lasts.image (keeping_of new) first mid locks now batch → LastsEither new (before_of mid) before (snapshot_at mid locks now batch)
-  stops (inl early) = inl (record { image = lasts.image; at = resaved (before_of mid) early.saved; left = early.left })
-  stops (inr between) = inr (inr (record {
+  pub stops : IsSound (memory_of mid).resources → Stops lasts.image (keeping_of new) first mid locks now batch → LastsEither new (before_of mid) before (snapshot_at mid locks now batch)
+  stops resources (inl early) = inl (record { image = lasts.image; at = resaved (before_of mid) early.saved; left = early.left })
+  stops resources (inr between) = inr (inr (record {
     first = lasts.image;
     second = between.image;
     at_first = resaved _ between.older;
-    at_second = record { is = between.is; time = between.dated.time; batch = between.dated.batch_is; sound = between.sound; saved_is = between.saved };
+    at_second = record { is = between.is; time = between.dated.time; batch = between.dated.batch_is; sound = between.sound; resources = resources; saved_is = between.saved };
     left = between.left;
   }))

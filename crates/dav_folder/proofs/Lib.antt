@@ -1,2 +1,4 @@
 pub mod Keeps
 pub mod Opens
+pub mod Leaving
+pub mod LoadedBytes

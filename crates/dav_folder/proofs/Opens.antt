@@ -13,6 +13,7 @@ use Rattle.dav_pieces.specs.declared.piece.Piece.{Piece}
 use Rattle.dav_server.specs.Snapshots.{snapshot_at}
 use Rattle.dav_store.specs.declared.lock.DavLock.{DavLock}
 use Rattle.dav_tree.specs.Before.{entries_code, saved_code, IsSaved}
+use Rattle.dav_tree.specs.Memory as memory
 use Rattle.dav_tree.specs.TreeFs.{memory_of, before_of, entries_of}
 use Rattle.dav_tree.specs.declared.medium.Medium.{Ghosts}
 use Rattle.dav_tree.specs.declared.tree_fs.TreeFs.{TreeFs}
@@ -38,15 +39,16 @@ same_kept locks loaded is = sym (kept_again locks) ∙ sym (ap (map kept_lock) i
 
 module _ {S M : Type 0} {rows : store.Ghosts S} {g : Ghosts M (List Piece)} (settles : Settles rows) (folder : Folder S rows) (store : TreeFs M (List Piece) g) (locks : MemLs)
     (now last : ℕ) (image : Image) where
-  abbrev pub lasts : IsKnown (keeping_of folder) image → IsSound image → entries_of store ≡ entries_code g.body_code image.tree → IsSaved store.entries → list_of locks ≡ map kept_lock image.locks
+  abbrev pub lasts : IsKnown (keeping_of folder) image → IsSound image → memory.IsSound (memory_of store).resources → entries_of store ≡ entries_code g.body_code image.tree → IsSaved store.entries → list_of locks ≡ map kept_lock image.locks
       → (memory_of store).version ≡ image.numbers.counter → now ≡ image.numbers.time → last ≡ image.numbers.batch → Lasts folder (before_of store) (snapshot_at store locks now last)
-  lasts known sound entries saved locks_are counter time batch = record {
+  lasts known sound resources entries saved locks_are counter time batch = record {
     image = image;
     at = record {
       is = record { tree = sym entries; locks_are = same_kept image.locks (list_of locks) locks_are; counter = sym counter };
       time = sym time;
       batch = sym batch;
       sound = sound;
+      resources = resources;
       saved_is = saved;
     };
     kept = record { tree = (store.entries.resources, ap (λ t. saved_code t store.entries.resources) (sym entries) ∙ saved); sound = sound; known = known };

@@ -10,6 +10,7 @@ use Rattle.dav_memls.specs.declared.memory_locks.MemLs.{MemLs}
 use Rattle.dav_pieces.specs.declared.piece.Piece.{Piece}
 use Rattle.dav_server.specs.Snapshots.{Snapshot}
 use Rattle.dav_tree.specs.Before.{saved_code}
+use Rattle.dav_tree.specs.Memory as memory
 use Rattle.dav_tree.specs.TreeFs.{memory_of, entries_of, older_of}
 use Rattle.dav_tree.specs.declared.medium.Medium.{Ghosts}
 use Rattle.dav_tree.specs.declared.tree_fs.TreeFs.{TreeFs}
@@ -31,6 +32,7 @@ module _ {M : Type 0} {g : Ghosts M (List Piece)} where
     pub time : image.numbers.time ≡ snapshot.now
     pub batch : image.numbers.batch ≡ snapshot.last
     pub sound : IsSound image
+    pub resources : memory.IsSound (memory_of snapshot.store).resources
     pub saved_is : all_of snapshot.store ≡ saved
 
   -- the snapshots have the same files with their bytes and properties, the same number of changes, and the same locks

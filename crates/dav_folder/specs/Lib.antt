@@ -1,3 +1,4 @@
 pub mod Folders
 pub mod Lasting
+pub mod Files
 pub mod Opening

@@ -1,9 +1,11 @@
 -- What is opened of a folder.
-use Rattle.std.specs.Prelude.{◌≡◌, List}
+use Rattle.std.specs.Prelude.{◌≡◌, ℕ, true, List}
 use Rattle.dav_keep.specs.Images.{Image}
 use Rattle.dav_pieces.specs.declared.piece.Piece.{Piece}
 use Rattle.dav_server.specs.Snapshots.{snapshot_at}
-use Rattle.dav_tree.specs.TreeFs.{before_of}
+use Rattle.dav_pieces.specs.Pieces.{bytes_of}
+use Rattle.dav_tree.specs.Kept.{resources_by}
+use Rattle.dav_tree.specs.TreeFs.{memory_of, before_of, honest_of}
 use Rattle.dav_tree.specs.declared.medium.Medium.{Ghosts}
 use Rattle.sqlite_trees.specs.declared.store.Store as store
 use Rattle.dav_folder.specs.Lasting.{At, Lasts}
@@ -18,3 +20,7 @@ module _ {S M : Type 0} {rows : store.Ghosts S} {g : Ghosts M (List Piece)} wher
   pub record Opens (image : Image) (opened : Opened S M (List Piece) rows g) : Type 0 where
     pub lasts : Lasts opened.folder (before_of opened.store) (opened_at opened)
     pub is : lasts.image ≡ image
+
+  -- if the data file is honest, the store has the resources of an image with the bytes in these contents of the data file
+  abbrev pub HasBytes : List ℕ → Image → Opened S M (List Piece) rows g → Type 0
+  HasBytes file image opened = honest_of opened.store ≡ true → (memory_of opened.store).resources ≡ resources_by (bytes_of file) image.tree

@@ -3,11 +3,13 @@ ghost use Rattle.std.specs.Prelude.{◌≡◌, true, false, [], IfOk};
 ghost use Rattle.sqlite.specs.Held.{state};
 ghost use Rattle.sqlite.specs.State.{HasCleanDisk};
 ghost use Rattle.dav_keep.specs.Images.{Image};
+ghost use Rattle.dav_keep.specs.Keeping.{connection_of};
 ghost use Rattle.dav_keep.specs.Loading.{AreRowsOfImage};
 ghost use Rattle.dav_rows.specs.Contents.{Contents};
 ghost use Rattle.dav_rows.specs.Saving.{IsAt};
 ghost use Rattle.dav_tree.specs.TreeFs.{memory_of, store_of};
-ghost use Rattle.dav_folder.specs.Opening.{Opens};
+ghost use Rattle.dav_folder.specs.Folders.{keeping_of};
+ghost use Rattle.dav_folder.specs.Opening.{Opens, HasBytes};
 
 use crate::Folder;
 use dav_data::DataFile;
@@ -90,8 +92,10 @@ pub fn open_store<S: Alter + Drop, D: Disk + Drop>(
 ) -> Result<Opened<S, DataFile<D>>, OpenError>
     requires idle { conn.in_transaction ≡ false }
     requires usable { D.Disk.is_usable disk ≡ true }
+    ensures same { IfOk result (λ opened. connection_of (keeping_of opened.folder) ≡ conn) }
     ensures opened { (image : Image) (tables : Contents) → AreRowsOfImage rows image tables
         → (HasCleanDisk (state S.Store conn) → IsAt (state S.Store conn) tables) → IfOk result (Opens image) }
+    ensures bytes { (image : Image) (tables : Contents) → AreRowsOfImage rows image tables → IfOk result (HasBytes (D.Disk.seen disk) image) }
     ensures limit { (image : Image) (tables : Contents) → AreRowsOfImage rows image tables → IfOk result (λ opened. (memory_of opened.store).limit ≡ limit) }
     ensures log { IfOk result (λ opened. (store_of opened.store).log ≡ []) }
 {
@@ -99,6 +103,7 @@ pub fn open_store<S: Alter + Drop, D: Disk + Drop>(
     let numbers = loaded.numbers;
     let medium = DataFile::open(alloc, disk, numbers.key, loaded.end)?;
     let store = TreeFs::load(alloc, medium, loaded.values, numbers.counter, limit)?;
+    store.show_sound();
     Ok(Opened {
         folder: Folder::new(keeping),
         store,

@@ -9,23 +9,27 @@ use crate::program::Stopped;
 use dav_data::DataFile;
 use dav_folder::{Folder, OpenError, Opened, open_store};
 use dav_keep::{KeepError, first_changes};
+use dav_reserve::{ROOM, Reserved, Roomy};
 use dav_resource::FsError;
 use dav_rows::StartError;
 use dav_rows_files::start;
 use dav_server::{Options, Server};
 use dav_store_rows::SaveError;
 use sqlite::{Alter, Error, ErrorCode, FileFrom, FileStore, Unknown};
-use sqlite_disk::Disk;
 use std::alloc::Global;
 use std::fs;
 use std::hash::{BuildHasher, RandomState};
 use std::io::{self, ErrorKind, Read, Write};
 
 /// A store in two files of the system.
-pub type OpenedFiles = Opened<FileStore<FileFrom<Unknown>>, DataFile<FileFrom<Unknown>>>;
+pub type OpenedFiles = Opened<
+    FileStore<FileFrom<Unknown>>,
+    DataFile<Reserved<FileFrom<Unknown>, FileFrom<Unknown>>>,
+>;
 
 /// Opens the store of a folder, or makes a new one if the folder is not there or is empty. Its database is `meta.db`, and
-/// its data file is `data`.
+/// its data file is `data`. Beside that, `data-wal` keeps room back: when the disk is full, it is emptied, and the database
+/// has its room.
 ///
 /// Errors: `NotAStore` if it has another database, or rows that are not those of a store; `InUse` if another process has it
 /// open; `Disk` if it cannot be read or written; `Memory`.
@@ -44,7 +48,8 @@ pub fn open_folder(
     let (conn, rows) = start(rt, database.as_str(), Unknown, &changes)?;
     let data = format!(in alloc; "{folder}/data")?;
     let files = sqlite_std_file::open(rt, data.as_str(), Unknown)?;
-    Ok(open_store(alloc, conn, rows, files.db, quota.map(Some))?)
+    let disk = Reserved::new(files.db, files.log, ROOM);
+    Ok(open_store(alloc, conn, rows, disk, quota.map(Some))?)
 }
 
 /// Makes a folder, unless there is something of this name.
@@ -61,7 +66,7 @@ fn make_folder(rt: &HostRuntime, folder: &str) -> Result<(), Stopped>
 /// ends.
 ///
 /// Errors: `Full` or `NotKept` if a batch cannot be kept; `Stream` if a stream fails, or if the input ends inside a batch.
-pub fn serve_opened<S: Alter, D: Disk + Drop, I: Read, O: Write>(
+pub fn serve_opened<S: Alter, D: Roomy + Drop, I: Read, O: Write>(
     alloc: Global,
     opened: &mut Opened<S, DataFile<D>>,
     options: Options,
@@ -165,8 +170,7 @@ impl From<OpenError> for Stopped {
     fn from(error: OpenError) -> Stopped {
         match error {
             OpenError::Damaged => Stopped::NotAStore,
-            OpenError::Data(error) if error.kind() == ErrorKind::UnexpectedEof =>
-                Stopped::NotAStore,
+            OpenError::Data(error) if error.kind() == ErrorKind::InvalidData => Stopped::NotAStore,
             OpenError::Data(error) => Stopped::Disk(error),
             OpenError::Memory => Stopped::Memory,
         }

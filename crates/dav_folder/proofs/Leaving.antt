@@ -1,0 +1,107 @@
+-- What a crash leaves of the files of a folder, from what it leaves of its database.
+use Rattle.std.proofs.Common.{◌≡◌, ◌∙◌, ◌⊎◌, ◌<◌, ◌≤◌, ◌^◌, ℕ, Bool, true, inl, inr, List, length, refl, sym, ap, subst}
+use Rattle.std.proofs.Math.Logic.{∥∥₁_map}
+use Rattle.std.specs.Coded.{Coded}
+use base.Stored.{Gv}
+use Rattle.sqlite.specs.Files.{HoldsDatabase}
+use Rattle.sqlite.specs.Recovery as database
+use Rattle.sqlite.specs.State.{State, HasCleanDisk}
+use Rattle.sqlite_disk.specs.declared.Disk as disk
+use Rattle.sqlite_store.specs.FileStore.{view, state}
+use Rattle.sqlite_store.specs.declared.store.FileStore.{FileStore}
+use Rattle.sqlite_trees.specs.Tree.{Trees}
+use Rattle.sqlite_trees.specs.View.{IsClean}
+use Rattle.dav_data.specs.Data.{is_below, is_synced, body_bytes, may_leave, LeavesBytes}
+use Rattle.dav_data.specs.declared.data_file.DataFile.{DataFile}
+use Rattle.dav_keep.specs.Images.{Image, HoldsImage, StandForImage}
+use Rattle.dav_keep.specs.Keeping.{Leaves, LeavesEither}
+use Rattle.dav_pieces.specs.Pieces.{bytes_of}
+use Rattle.dav_pieces.specs.declared.piece.Piece.{Piece}
+use Rattle.dav_rows.specs.Contents.{Contents}
+use Rattle.dav_rows_files.specs.Starting.{Keeps, LeavesDatabases}
+use Rattle.dav_tree.proofs.Keeping.{same-resources}
+use Rattle.dav_tree.specs.Before.{entries_code, saved_code, IsSafe, HasSaved}
+use Rattle.dav_tree.specs.Entry.{is_held}
+use Rattle.dav_tree.specs.TreeFs.{memory_of}
+use Rattle.dav_tree.specs.declared.entry.Content.TheVariants.{File, Directory}
+use Rattle.dav_tree.specs.declared.entry.Content.{Content}
+use Rattle.dav_tree.specs.declared.medium.Medium.{Ghosts}
+use Rattle.dav_folder.specs.Files.{KeptStore, Hold, Leave, LeaveEither, kept_at}
+use Rattle.dav_folder.specs.Lasting.{At, IsImageAt}
+
+-- ---- the database
+
+-- the files of a database have tables that stand for an image
+record KeepsImage (left : database.Image) (image : Image) : Type 0 where
+  tables : Contents
+  keeps : Keeps left tables
+  stand : StandForImage tables image
+
+keeps_image : (left : database.Image) (image : Image) (db : Trees) → HoldsDatabase left db → HoldsImage db image → KeepsImage left image
+keeps_image left image db found holds =
+    record { tables = holds.contents; keeps = record { db = db; database = found; holds = holds.holds }; stand = holds.stand }
+
+-- ---- the data file
+
+held_more : (one other : List Piece → Bool) → ((body : List Piece) → one body ≡ true → other body ≡ true) → (content : Content (List Piece)) → is_held one content ≡ true
+    → is_held other content ≡ true
+held_more one other more (File body) is = more body is
+held_more one other more Directory is = refl
+
+-- a data file, the place up to which a crash leaves it, and what it leaves
+module _ {E : Type 0} {h : disk.Ghosts E} (medium : DataFile E h) (end : ℕ) (below : (body : List Piece) → is_synced medium body ≡ true → is_below end body ≡ true)
+    (small : end < 2 ^ 63) where
+  -- it has the bytes of an image whose tree is safe
+  holds : {M : Type 0} {g : Ghosts M (List Piece)} (saved : Gv) (snapshot : At g) (image : Image) (file : List ℕ) (left : database.Image)
+      → HasSaved g.body_code (body_bytes medium) (is_synced medium) saved → IsImageAt saved snapshot image → LeavesBytes medium file → end ≤ length file → KeepsImage left image
+      → Hold left file (kept_at snapshot)
+  holds {g = g} saved snapshot image file left has at bytes long keeps =
+      let resources = (memory_of snapshot.store).resources in
+      let safe : IsSafe (body_bytes medium) (is_synced medium) image.tree resources = has image.tree resources (ap (λ tree. saved_code tree resources) at.is.tree ∙ at.saved_is) in
+      record {
+        tables = keeps.tables;
+        keeps = keeps.keeps;
+        image = image;
+        stand = keeps.stand;
+        whole = record { sound = at.sound; end = end; small = small; below = λ key e here. held_more (is_synced medium) (is_below end) below e.content (safe.held key e here) };
+        within = long;
+        bytes = same-resources (body_bytes medium) (bytes_of file) (is_synced medium) (is_synced medium) (λ body is. is) bytes image.tree safe.held ∙ safe.bytes_are;
+        sound = at.resources;
+        counter = at.is.counter;
+        locks_are = at.is.locks_are;
+        time = at.time;
+        batch_is = at.batch;
+      }
+
+  -- ---- both
+
+  module _ {D : Type 0} {d : disk.Ghosts D} (files : FileStore D d) (s : State) (clean : IsClean (view files) → HasCleanDisk s) (leaves : LeavesDatabases s files)
+      (bytes : (file : List ℕ) → may_leave medium file → LeavesBytes medium file) (long : (file : List ℕ) → may_leave medium file → end ≤ length file)
+      {M : Type 0} {g : Ghosts M (List Piece)} where
+    pub leave : (saved : Gv) (snapshot : At g) (image : Image) → HasSaved g.body_code (body_bytes medium) (is_synced medium) saved → IsImageAt saved snapshot image → Leaves s image
+        → Leave (files, medium) (kept_at snapshot)
+    leave saved snapshot image has at left_image = λ is_clean left file may also.
+        ∥∥₁_map (leaves is_clean left may)
+        (λ found. holds saved snapshot image file left has at (bytes file also) (long file also) (keeps_image left image found.0 found.1 (left_image (clean is_clean) found.0 found.2)))
+
+    pub leave_either : (earlier saved : Gv) (one other : At g) (first second : Image) → HasSaved g.body_code (body_bytes medium) (is_synced medium) earlier
+        → HasSaved g.body_code (body_bytes medium) (is_synced medium) saved → IsImageAt earlier one first → IsImageAt saved other second → LeavesEither s first second
+        → LeaveEither (files, medium) (kept_at one) (kept_at other)
+    leave_either earlier saved one other first second has has_too at at_too left_images = λ is_clean left file may also.
+        ∥∥₁_map (leaves is_clean left may) (λ found. either left file (bytes file also) (long file also) found.0 found.1 (left_images (clean is_clean) found.0 found.2))
+      where
+        either : (left : database.Image) (file : List ℕ) → LeavesBytes medium file → end ≤ length file → (db : Trees) → HoldsDatabase left db → HoldsImage db first ⊎ HoldsImage db second
+            → Hold left file (kept_at one) ⊎ Hold left file (kept_at other)
+        either left file kept within db found (inl is) = inl (holds earlier one first file left has at kept within (keeps_image left first db found is))
+        either left file kept within db found (inr is) = inr (holds saved other second file left has_too at_too kept within (keeps_image left second db found is))
+
+-- ---- one of two stores
+
+module _ {D E : Type 0} {d : disk.Ghosts D} {h : disk.Ghosts E} (files : FileStore D d) (medium : DataFile E h) (one other : KeptStore) where
+  pub leave_first : Leave (files, medium) one → LeaveEither (files, medium) one other
+  leave_first leaves = λ clean left file may also.
+      ∥∥₁_map (leaves clean left file may also) (λ hold. let either : Hold left file one ⊎ Hold left file other = inl hold in either)
+
+  pub leave_second : Leave (files, medium) other → LeaveEither (files, medium) one other
+  leave_second leaves = λ clean left file may also.
+      ∥∥₁_map (leaves clean left file may also) (λ hold. let either : Hold left file one ⊎ Hold left file other = inr hold in either)

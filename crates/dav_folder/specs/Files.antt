@@ -1,0 +1,72 @@
+-- What the files of a folder hold, and what a crash leaves there: this project's own choice.
+use Rattle.std.specs.Prelude.{◌≡◌, ◌⊎◌, ◌≤◌, ℕ, List, length, map}
+use Rattle.sqlite.specs.Recovery as database
+use Rattle.sqlite_disk.specs.declared.Disk as disk
+use Rattle.sqlite_store.specs.FileStore.{view, state}
+use Rattle.sqlite_store.specs.declared.store.FileStore.{FileStore}
+use Rattle.sqlite_trees.specs.View.{IsClean}
+use Rattle.dav_cells.specs.Locks.{kept_lock}
+use Rattle.dav_data.specs.Data.{may_leave}
+use Rattle.dav_data.specs.declared.data_file.DataFile.{DataFile}
+use Rattle.dav_keep.specs.Images.{Image, StandForImage}
+use Rattle.dav_keep.specs.Loading.{IsWholeImage}
+use Rattle.dav_memls.specs.MemLs.{list_of}
+use Rattle.dav_pieces.specs.Pieces.{bytes_of}
+use Rattle.dav_pieces.specs.declared.piece.Piece.{Piece}
+use Rattle.dav_rows.specs.Contents.{Contents}
+use Rattle.dav_rows_files.specs.Starting.{Keeps}
+use Rattle.dav_store.specs.declared.lock.DavLock.{DavLock}
+use Rattle.dav_tree.specs.Kept.{resources_by}
+use Rattle.dav_tree.specs.Memory.{Resources, IsSound}
+use Rattle.dav_tree.specs.TreeFs.{memory_of}
+use Rattle.dav_tree.specs.declared.medium.Medium.{Ghosts}
+use Rattle.dav_folder.specs.Lasting.{At}
+
+-- What is kept of a store and its locks: the resources with their bytes and properties, how many changes there were, the locks (the oldest first, and the
+-- path of the root with its trailing slash), and the time and the number of the last batch that changed something.
+pub record KeptStore : Type 0 where
+  pub resources : Resources
+  pub counter : ℕ
+  pub locks : List DavLock
+  pub time : ℕ
+  pub batch : ℕ
+
+-- what is kept of a snapshot
+abbrev pub kept_at : {M : Type 0} {g : Ghosts M (List Piece)} → At g → KeptStore
+kept_at snapshot = record {
+  resources = (memory_of snapshot.store).resources;
+  counter = (memory_of snapshot.store).version;
+  locks = map kept_lock (list_of snapshot.locks);
+  time = snapshot.now;
+  batch = snapshot.last;
+}
+
+-- the files of a database and a data file hold a store: the tables are those of an image of it, and the bytes of its files are in the data file
+pub record Hold (left : database.Image) (file : List ℕ) (kept : KeptStore) : Type 0 where
+  pub tables : Contents
+  pub keeps : Keeps left tables
+  pub image : Image
+  pub stand : StandForImage tables image
+  pub whole : IsWholeImage image
+  pub within : whole.end ≤ length file
+  pub bytes : resources_by (bytes_of file) image.tree ≡ kept.resources
+  pub sound : IsSound kept.resources
+  pub counter : image.numbers.counter ≡ kept.counter
+  pub locks_are : map kept_lock image.locks ≡ kept.locks
+  pub time : image.numbers.time ≡ kept.time
+  pub batch_is : image.numbers.batch ≡ kept.batch
+
+-- ---- what a crash leaves
+
+module _ {D E : Type 0} {g : disk.Ghosts D} {h : disk.Ghosts E} (files : FileStore D g × DataFile E h) where
+  -- if the database's disk is clean, this holds of whatever a crash leaves of its files and of the data file
+  abbrev LeaveSuch : (database.Image → List ℕ → Type 0) → Type 0
+  LeaveSuch Such = IsClean (view files.0) → (left : database.Image) (file : List ℕ) → (state files.0).may_leave left → may_leave files.1 file → ∥ Such left file ∥₁
+
+  -- whatever a crash leaves holds this store
+  abbrev pub Leave : KeptStore → Type 0
+  Leave kept = LeaveSuch (λ left file. Hold left file kept)
+
+  -- whatever a crash leaves holds one of these stores
+  abbrev pub LeaveEither : KeptStore → KeptStore → Type 0
+  LeaveEither one other = LeaveSuch (λ left file. Hold left file one ⊎ Hold left file other)
