@@ -36,7 +36,7 @@ SELECT path, namespace, name, element
 FROM paths JOIN property ON property.resource = paths.number
 ORDER BY path, namespace, name;
 
--- The locks: the token, and the path of the resource.
+-- The locks: the token, and the path of the resource as it is in a URL.
 CREATE TEMP VIEW locks AS
 SELECT token, path FROM lock ORDER BY number;
 

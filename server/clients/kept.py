@@ -198,7 +198,7 @@ def rows(starter: Starter):
         ("SELECT path, size FROM files WHERE created <= modified", [("/d/a b", 5)]),
         ("SELECT path, members FROM directories", [("/", 1), ("/d/", 1)]),
         ("SELECT path, namespace, name FROM properties", [("/d/", "urn:c", "c")]),
-        ("SELECT path FROM locks", [("/d/a b",)]),
+        ("SELECT path FROM locks", [("/d/a%20b",)]),
         ("SELECT directories, files, bytes FROM summary", [(2, 1, 5)]),
     ):
         expect(query, database.execute(query).fetchall(), want)
