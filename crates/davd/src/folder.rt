@@ -1,5 +1,5 @@
 //! A store in a folder.
-ghost use Rattle.std.specs.Prelude.{OnOk, IfErr, string_bytes};
+ghost use Rattle.std.specs.Prelude.{◌≡◌, true, false, IfOk, OnOk, IfErr, string_bytes};
 ghost use Rattle.std.specs.Io.KnownBytes.{IsAtEnd};
 ghost use Rattle.dav_server.specs.State.{first_rules};
 ghost use Rattle.davd.specs.Folder.{ServesOpened};
@@ -11,21 +11,22 @@ use dav_folder::{Folder, OpenError, Opened, open_store};
 use dav_keep::{KeepError, first_changes};
 use dav_reserve::{ROOM, Reserved, Roomy};
 use dav_resource::FsError;
-use dav_rows::StartError;
+use dav_rows::{Rows, StartError};
 use dav_rows_files::start;
 use dav_server::{Options, Server};
 use dav_store_rows::SaveError;
-use sqlite::{Alter, Error, ErrorCode, FileFrom, FileStore, Unknown};
+use sqlite::{Alter, Connection, Error, ErrorCode, FileFrom, FileStore, Unknown};
+use sqlite_disk::{Disk, Files};
 use std::alloc::Global;
 use std::fs;
 use std::hash::{BuildHasher, RandomState};
 use std::io::{self, ErrorKind, Read, Write};
 
-/// A store in two files of the system.
-pub type OpenedFiles = Opened<
-    FileStore<FileFrom<Unknown>>,
-    DataFile<Reserved<FileFrom<Unknown>, FileFrom<Unknown>>>,
->;
+/// A store in two files of the system. Beside the data file, a third one keeps room back.
+pub type OpenedFiles = OpenedOver<FileStore<FileFrom<Unknown>>, FileFrom<Unknown>>;
+
+/// A store in a database and a data file, beside which room is kept back on such a disk.
+type OpenedOver<S, D> = Opened<S, DataFile<Reserved<D, D>>>;
 
 /// Opens the store of a folder, or makes a new one if the folder is not there or is empty. Its database is `meta.db`, and
 /// its data file is `data`. Beside that, `data-wal` keeps room back: when the disk is full, it is emptied, and the database
@@ -40,14 +41,42 @@ pub fn open_folder(
 ) -> Result<OpenedFiles, Stopped>
     ensures { IfErr result IsNotUsage }
 {
-    let alloc = rt.alloc();
     make_folder(rt, folder)?;
+    let (conn, rows) = open_rows(rt, folder)?;
+    let path = format!(in rt.alloc(); "{folder}/data")?;
+    let files = sqlite_std_file::open(rt, path.as_str(), Unknown)?;
+    open_over(rt.alloc(), conn, rows, files, quota)
+}
+
+/// Opens the database of a folder, or makes that of a new store. Errors are as for `open_folder`.
+fn open_rows(
+    rt: &HostRuntime,
+    folder: &str,
+) -> Result<(Connection<FileStore<FileFrom<Unknown>>>, Rows), Stopped>
+    ensures idle { IfOk result (λ opened. opened.0.in_transaction ≡ false) }
+    ensures err { IfErr result IsNotUsage }
+{
+    let alloc = rt.alloc();
     let key = RandomState::new(rt)?.hash_one(&0u8) >> 1;
     let changes = first_changes(alloc, key)?;
-    let database = format!(in alloc; "{folder}/meta.db")?;
-    let (conn, rows) = start(rt, database.as_str(), Unknown, &changes)?;
-    let data = format!(in alloc; "{folder}/data")?;
-    let files = sqlite_std_file::open(rt, data.as_str(), Unknown)?;
+    let path = format!(in alloc; "{folder}/meta.db")?;
+    Ok(start(rt, path.as_str(), Unknown, &changes)?)
+}
+
+/// Opens the store of these rows and of a data file. The file that comes with it keeps room back. Errors are as for
+/// `open_store`.
+fn open_over<S: Alter + Drop, D: Disk + Drop>(
+    alloc: Global,
+    conn: Connection<S>,
+    rows: Rows,
+    files: Files<D>,
+    quota: Option<u64>,
+) -> Result<OpenedOver<S, D>, Stopped>
+    requires idle { conn.in_transaction ≡ false }
+    requires usable { D.Disk.is_usable files.db ≡ true }
+    requires reserve { D.Disk.is_usable files.log ≡ true }
+    ensures { IfErr result IsNotUsage }
+{
     let disk = Reserved::new(files.db, files.log, ROOM);
     Ok(open_store(alloc, conn, rows, disk, quota.map(Some))?)
 }
