@@ -168,9 +168,9 @@ then_reads {X} {Y} {a} {b} {c} {x} {r} {P} {Q} first next =
 pub read_as : {X Y : Type 0} {old new : State} {x : X} {y : Y} {P : X → Contents → Type 0} {Q : Y → Contents → Type 0} → ((m : Contents) → P x m → Q y m) → Reads old new (Ok x) P → Reads old new (Ok y) Q
 read_as is reads = record { clean = reads.clean; ok = λ clean m at. let both = reads.ok clean m at in (both.0, is m both.1); at = reads.at; crash = reads.crash }
 
-pub given : {E : Type 0} (r : Result Rows E) (At : Contents → Type 0) (m : Contents) → IfOk r (λ rows. (n : Contents) → At n → AreAll rows n) → At m → IfOk r (λ rows. AreAll rows m)
-given (Ok rows) At m h at = h m at
-given (Err e) At m h at = tt
+pub given : {E : Type 0} (r : Result Rows E) (At Still : Contents → Type 0) (m : Contents) → IfOk r (λ rows. (n : Contents) → At n → Still n × AreAll rows n) → At m → IfOk r (λ rows. AreAll rows m)
+given (Ok rows) At Still m h at = (h m at).1
+given (Err e) At Still m h at = tt
 
 -- what is read where the old state has the maps
 pub read_where : (b c : State) (r : Result Rows Error) (Old : Type 0) (m : Contents) → IfOk r (λ rows. (n : Contents) → IsAt b n → IsAt c n × AreAll rows n) → (Old → IsAt b m) → IfOk r (λ rows. Old → IsAt c m × AreAll rows m)

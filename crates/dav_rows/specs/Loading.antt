@@ -47,9 +47,9 @@ pub record AreAll (rows : Rows) (m : Contents) : Type 0 where
   pub locks : map lock_entry rows.locks.items ≡ entries m.locks
   pub states : map state_entry rows.states.items ≡ entries m.states
 
--- the rows are those that the state stands for
-abbrev pub AreHeld : State → Rows → Type 0
-AreHeld s rows = (m : Contents) → IsAt s m → AreAll rows m
+-- the rows are those that the state stands for, and still does
+abbrev pub AreHeld : State → State → Rows → Type 0
+AreHeld old new rows = (m : Contents) → IsAt old m → IsAt new m × AreAll rows m
 
 -- It answers what is so of the maps, and leaves the tables, and what a crash finds, as they are.
 pub record Reads {X : Type 0} (old new : State) (result : Result X Error) (Is : X → Contents → Type 0) : Type 0 where

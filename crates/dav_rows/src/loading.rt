@@ -28,7 +28,7 @@ pub struct Rows {
 pub fn load<S: Alter>(conn: &mut Connection<S>, alloc: Global) -> Result<Rows, Error>
     requires { conn.old.in_transaction ≡ false }
     ensures idle { conn.new.in_transaction ≡ false }
-    ensures ok { HasCleanDisk (state S.Store conn.new) → IfOk result (AreHeld (state S.Store conn.old)) }
+    ensures ok { HasCleanDisk (state S.Store conn.new) → IfOk result (AreHeld (state S.Store conn.old) (state S.Store conn.new)) }
     ensures at { HasCleanDisk (state S.Store conn.new) → Stays (state S.Store conn.old) (state S.Store conn.new) }
     ensures crash { HasCleanDisk (state S.Store conn.new) → LeavesNoOther (state S.Store conn.old) (state S.Store conn.new) }
     ensures clean { doubt (state S.Store conn.old).is_clean ≤ doubt (state S.Store conn.new).is_clean }

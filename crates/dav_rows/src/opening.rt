@@ -53,7 +53,7 @@ pub fn load_or_create<S: Alter>(
 ) -> Result<Rows, StartError>
     requires { conn.old.in_transaction ≡ false }
     ensures idle { conn.new.in_transaction ≡ false }
-    ensures ours { HasCleanDisk (state S.Store conn.new) → IfOk result (AreHeld (state S.Store conn.old)) }
+    ensures ours { HasCleanDisk (state S.Store conn.new) → IfOk result (AreHeld (state S.Store conn.old) (state S.Store conn.new)) }
     ensures blank { HasCleanDisk (state S.Store conn.new) → IfOk result (AreNew (state S.Store conn.old) (state S.Store conn.new) (first changes.now)) }
     ensures at { HasCleanDisk (state S.Store conn.new) → Stays (state S.Store conn.old) (state S.Store conn.new) }
     ensures crash { HasCleanDisk (state S.Store conn.new) → LeavesNoOther (state S.Store conn.old) (state S.Store conn.new) }

@@ -1,5 +1,5 @@
 -- What the files hold.
-use Rattle.std.specs.Prelude.{◌≡◌, ◌⊎◌, [], IsTrue}
+use Rattle.std.specs.Prelude.{◌≡◌, ◌⊎◌, []}
 use Rattle.sqlite_disk.specs.declared.Disk.{Ghosts}
 use Rattle.sqlite_store.specs.declared.store.FileStore.{FileStore}
 use Rattle.sqlite_store.specs.FileStore as store
@@ -35,7 +35,7 @@ Finds image s rows = HasCleanDisk s → (m : Contents) → Keeps image m → Are
 
 -- the connection begins at the maps that the files keep
 abbrev pub BeginsAt : Image → State → Type 0
-BeginsAt image s = HasCleanDisk s → IsTrue s.is_open → (m : Contents) → Keeps image m → IsAt s m
+BeginsAt image s = HasCleanDisk s → (m : Contents) → Keeps image m → IsAt s m
 
 -- where the files had no table, it begins at these maps
 abbrev pub BeginsNew : Image → State → Contents → Rows → Type 0

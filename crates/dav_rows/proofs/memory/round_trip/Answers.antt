@@ -13,4 +13,4 @@ returns c =
     let empty_one = c.in_ok-conn.ensures.empty in
     let made = c.in_ok-create.ensures.ok (memory_is_clean c.create.new.conn) (record { is_open = empty_one.0.is_open; schema = empty_one.2; settled = empty_one.0.clean; sound = whole (state over_memory c.in_ok-conn.conn).now (empty_one.1 empty_one.0.is_open).0 }) in
     let saved = c.in_ok-save.ensures.ok (memory_is_clean c.save.new.conn) (first c.args.initial.now) made in
-    given c.load.result (IsAt (state over_memory c.save.new.conn)) (after c.args.changes.now (first c.args.initial.now)) (c.load.ensures.ok (memory_is_clean c.load.new.conn)) saved
+    given c.load.result (IsAt (state over_memory c.save.new.conn)) (IsAt (state over_memory c.load.new.conn)) (after c.args.changes.now (first c.args.initial.now)) (c.load.ensures.ok (memory_is_clean c.load.new.conn)) saved

@@ -9,13 +9,13 @@ pub returns-clause-found : goal.returns-clause-found
 returns-clause-found g c clean m keeps =
     let early : HasCleanDisk (file_state c.in-Ok.conn) = omega (arith, c.load_or_create.ensures.clean) in
     let opened = c.in-Ok.ensures.opened early in
-    c.in_ok-rows.ensures.ours clean m (at_start (file_state c.in-Ok.conn) (image_at g.S.Start) m opened.0 opened.1 (c.in-Ok.ensures.found early) keeps)
+    (c.in_ok-rows.ensures.ours clean m (at_start (file_state c.in-Ok.conn) (image_at g.S.Start) m opened.0 opened.1 (c.in-Ok.ensures.found early) keeps)).1
 
 pub returns-clause-at : goal.returns-clause-at
-returns-clause-at g c clean is_open m keeps =
+returns-clause-at g c clean m keeps =
     let early : HasCleanDisk (file_state c.in-Ok.conn) = omega (arith, c.load_or_create.ensures.clean) in
     let opened = c.in-Ok.ensures.opened early in
-    c.in_ok-rows.ensures.at clean is_open m (at_start (file_state c.in-Ok.conn) (image_at g.S.Start) m opened.0 opened.1 (c.in-Ok.ensures.found early) keeps)
+    (c.in_ok-rows.ensures.ours clean m (at_start (file_state c.in-Ok.conn) (image_at g.S.Start) m opened.0 opened.1 (c.in-Ok.ensures.found early) keeps)).0
 
 pub returns-clause-blank : goal.returns-clause-blank
 returns-clause-blank g c clean vacant =
