@@ -18,7 +18,7 @@ use Rattle.dav_engine.specs.State.{state_of}
 use Rattle.dav_wire.specs.Frames.{RequestValue, ReadValue}
 use Rattle.dav_wire.specs.Replies.{PartValue, ReplyValue, Part, Collection, Failed}
 use Rattle.dav_server.specs.Batches.{BatchAnswer, Exchange, bare_answer, AnswersBatch, SkipsBatch, begun}
-use Rattle.dav_server.specs.Events.{Action, Malformed, OutOfMemory, BodyStarted, BodyExtended, BodyDropped, FileRead, ExpiryReturned, HeldReturned, Rejected, Served, Acts, Happen, events_of, ServesRequest}
+use Rattle.dav_server.specs.Events.{Action, Malformed, OutOfMemory, BodyStarted, BodyExtended, BodyDropped, FileRead, ExpiryReturned, HeldReturned, BackupBegun, BackupEnded, Rejected, Served, Acts, Happen, events_of, ServesRequest}
 use Rattle.dav_server.specs.Exchanges.{InOrder, IsAnswered}
 use Rattle.dav_server.specs.Keeping.{IsAnsweredAndSaved}
 use Rattle.dav_server.specs.Snapshots.{saved_of, resaved, OnlySavedDiffers}
@@ -88,6 +88,8 @@ module _ {F : Type 0} (see_store : F → Store) (is_honest : F → Bool) (rules 
   keeps (FileRead asked reply) first old new key bytes acts apart file = ap (λ (s : ServerState). node_at s key) acts.0 ∙ file
   keeps (ExpiryReturned time) first old new key bytes acts apart file = ap (λ (s : ServerState). node_at s key) acts.0 ∙ file
   keeps (HeldReturned reply) first old new key bytes acts apart file = ap (λ (s : ServerState). node_at s key) acts.0 ∙ file
+  keeps BackupBegun first old new key bytes acts apart file = ap (λ (s : ServerState). node_at s key) acts ∙ file
+  keeps BackupEnded first old new key bytes acts apart file = ap (λ (s : ServerState). node_at s key) acts ∙ file
   keeps (Rejected frame e) first old new key bytes acts apart file = ap (λ (s : ServerState). node_at s key) acts.0 ∙ file
   keeps (Served frame request answer) first old new key bytes acts apart file = request_keeps rules frame request answer first old new key bytes acts apart file
 
@@ -103,6 +105,8 @@ module _ {F : Type 0} (see_store : F → Store) (is_honest : F → Bool) (rules 
   holds (FileRead asked reply) old new acts = ap held_in acts.0
   holds (ExpiryReturned time) old new acts = ap held_in acts.0
   holds (HeldReturned reply) old new acts = ap held_in acts.0
+  holds BackupBegun old new acts = ap held_in acts
+  holds BackupEnded old new acts = ap held_in acts
   holds (Rejected frame e) old new acts = ap held_in acts.0
   holds (Served frame request answer) old new acts = request_holds rules frame request answer old new acts
 

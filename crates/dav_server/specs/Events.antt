@@ -38,6 +38,9 @@ pub data Action : Type 0 where
   -- the time of the next expiry is returned, and how much is held
   ExpiryReturned : Option ℕ → Action
   HeldReturned : ReplyValue → Action
+  -- a backup begins, or ends
+  BackupBegun : Action
+  BackupEnded : Action
   -- a request is rejected before the engine, or served by the engine
   Rejected : RequestValue → DavError → Action
   Served : RequestValue → DavRequest → Answer → Action
@@ -59,6 +62,8 @@ frame_of (BodyDropped number) = Some (frames.DropBody number)
 frame_of (FileRead asked reply) = Some (frames.Read asked)
 frame_of (ExpiryReturned time) = Some frames.NextExpiry
 frame_of (HeldReturned reply) = Some frames.Held
+frame_of BackupBegun = Some frames.BeginBackup
+frame_of BackupEnded = Some frames.EndBackup
 frame_of (Rejected frame e) = Some (frames.Request frame)
 frame_of (Served frame request answer) = Some (frames.Request frame)
 
@@ -81,6 +86,8 @@ reply_of (BodyDropped number) = replies.Done
 reply_of (FileRead asked reply) = reply
 reply_of (ExpiryReturned time) = replies.NextExpiry time
 reply_of (HeldReturned reply) = reply
+reply_of BackupBegun = replies.Done
+reply_of BackupEnded = replies.Done
 reply_of (Rejected frame e) = replies.Response (response_of (Err e))
 reply_of (Served frame request answer) = replies.Response (response_of answer)
 
@@ -135,6 +142,8 @@ module _ {F : Type 0} (see_store : F → Store) (is_honest : F → Bool) where
   Acts rules (FileRead asked reply) old new = (new ≡ old) × ReadsFile see_store is_honest rules old asked reply
   Acts rules (ExpiryReturned time) old new = (new ≡ old) × (time ≡ option_map_or earliest_expiry (locks_at old) None)
   Acts rules (HeldReturned reply) old new = (new ≡ old) × IsHeld old reply
+  Acts rules BackupBegun old new = new ≡ old
+  Acts rules BackupEnded old new = new ≡ old
   Acts rules (Rejected frame e) old new = (new ≡ old) × IsRejected rules old frame e
   Acts rules (Served frame request answer) old new = ServesRequest rules frame request answer old new
 

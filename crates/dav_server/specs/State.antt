@@ -1,11 +1,12 @@
 -- What contracts see of a server between two frames.
 use Rattle.std.specs.Prelude.{◌≡◌, ℕ, Bool, [], List, Option, Some, None, option_map, string_bytes}
+use Rattle.std.specs.Borrow.{GName}
 use Rattle.dav_resource.specs.declared.method.DavMethodSet.{DavMethodSet}
 use Rattle.dav_store.specs.Store.{Store}
 use Rattle.dav_store.specs.Locks.{Locks}
 use Rattle.dav_store.specs.declared.lock.DavLock.{DavLock}
 use Rattle.dav_memls.specs.Expiry.{unexpired}
-use Rattle.dav_engine.specs.DavInner.{lent, seen_by}
+use Rattle.dav_engine.specs.DavInner.{lent, loans, seen_by}
 use Rattle.dav_engine.specs.Settings.{Settings}
 use Rattle.dav_engine.specs.State.{Seen}
 use Rattle.dav_server.specs.declared.server.Server.{Server}
@@ -44,6 +45,10 @@ module _ {F L : Type 0} where
   abbrev pub rules_of : Server F L → Rules
   rules_of server =
       record { prefix = string_bytes server.engine.prefix; allow = server.engine.allow; anyone_unlocks = server.anyone_unlocks }
+
+  -- which borrows of a store and of a lock system it has
+  abbrev pub loans_of : Server F L → GName × Option GName
+  loans_of server = loans server.engine
 
 -- a server over this store and these locks, at this time and after the batch of this number
 abbrev pub resumed_state : Store → Locks → ℕ → ℕ → ServerState

@@ -38,7 +38,7 @@ impl BatchReply {
 impl<'a, F: TimedStore, L: ExpiringLocks> Server<'a, F, L> {
     ghost use Rattle.dav_server.specs.Answers.{answer_of, sent_bytes};
     ghost use Rattle.dav_server.specs.Frames.{ServesFrames};
-    ghost use Rattle.dav_server.specs.State.{state_of, rules_of};
+    ghost use Rattle.dav_server.specs.State.{state_of, rules_of, loans_of};
 
     /// Serves the frames of a batch in order, at its time, or at that of the last batch if that is later.
     ///
@@ -47,6 +47,7 @@ impl<'a, F: TimedStore, L: ExpiringLocks> Server<'a, F, L> {
     /// next one: then nothing changes, and the answer has the number of the last batch.
     pub fn serve_batch(&mut self, header: &BatchHeader, content: &[u8]) -> BatchReply
         ensures rules { rules_of self.new ≡ rules_of self.old }
+        ensures loans { loans_of self.new ≡ loans_of self.old }
         ensures answers { AnswersBatch F.seen F.is_honest (rules_of self.old) header.entry.now content.now (answer_of result) (state_of F.seen L.seen self.old) (state_of F.seen L.seen self.new) }
     {
         let (alloc, number) = (self.alloc, header.number);
@@ -80,6 +81,7 @@ impl<'a, F: TimedStore, L: ExpiringLocks> Server<'a, F, L> {
     /// memory runs out, no frame is served and it returns `None`.
     fn serve_frames(&mut self, frames: &[&[u8]]) -> Option<Vec<Option<Vec<u8>>>>
         ensures rules { rules_of self.new ≡ rules_of self.old }
+        ensures loans { loans_of self.new ≡ loans_of self.old }
         ensures served { IfSome result (λ replies. ServesFrames F.seen F.is_honest (rules_of self.old) (state_of F.seen L.seen self.old) (map (λ f. f.now) frames.now) (map sent_bytes replies.items) (state_of F.seen L.seen self.new)) }
         ensures unserved { result ≡ None → state_of F.seen L.seen self.new ≡ state_of F.seen L.seen self.old }
     {
@@ -96,6 +98,7 @@ impl<'a, F: TimedStore, L: ExpiringLocks> Server<'a, F, L> {
     /// next one: then nothing changes, and the answer has the number of the last batch.
     pub fn skip_batch(&mut self, header: &BatchHeader) -> BatchReply
         ensures rules { rules_of self.new ≡ rules_of self.old }
+        ensures loans { loans_of self.new ≡ loans_of self.old }
         ensures answers { (content : List ℕ) → AnswersBatch F.seen F.is_honest (rules_of self.old) header.entry.now content (answer_of result) (state_of F.seen L.seen self.old) (state_of F.seen L.seen self.new) }
     {
         let alloc = self.alloc;
@@ -109,6 +112,7 @@ impl<'a, F: TimedStore, L: ExpiringLocks> Server<'a, F, L> {
     /// Begins a batch if it is the next one: its number and its time count from now on. Returns whether it is.
     fn begin(&mut self, header: &BatchHeader) -> bool
         ensures rules { rules_of self.new ≡ rules_of self.old }
+        ensures loans { loans_of self.new ≡ loans_of self.old }
         ensures next { result ≡ true → IsNext header.entry.now (state_of F.seen L.seen self.old) }
         ensures begun { result ≡ true → state_of F.seen L.seen self.new ≡ begun header.entry.now (state_of F.seen L.seen self.old) }
         ensures other { result ≡ false → ¬ (IsNext header.entry.now (state_of F.seen L.seen self.old)) }

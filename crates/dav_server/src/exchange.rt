@@ -27,7 +27,7 @@ const SKIPPED: usize = 4096;
 const NOT_ENCODED: [u8; 9] = [7, 0, 0, 0, 0, 0, 0, 1, 251];
 
 impl<'a, F: TimedStore, L: ExpiringLocks> Server<'a, F, L> {
-    ghost use Rattle.dav_server.specs.State.{state_of, rules_of};
+    ghost use Rattle.dav_server.specs.State.{state_of, rules_of, loans_of};
     ghost use Rattle.dav_server.specs.Batches.{AnswersBatch};
     ghost use Rattle.dav_server.specs.Exchanges.{ReadsAndAnswers, Exchanges, Ends, StopsInside, Runs, StopsAfter};
 
@@ -36,6 +36,7 @@ impl<'a, F: TimedStore, L: ExpiringLocks> Server<'a, F, L> {
     /// Fails if the input or the output fails, or if the input ends inside a batch. All batches before were served.
     pub fn serve<R: Read, W: Write>(&mut self, input: &mut R, output: &mut W) -> io::Result<()>
         ensures rules { rules_of self.new ≡ rules_of self.old }
+        ensures loans { loans_of self.new ≡ loans_of self.old }
         ensures end { OnOk result (IsAtEnd (R.remaining input.new)) }
         ensures ran { OnOk result (Runs F.seen F.is_honest (rules_of self.old)
             (state_of F.seen L.seen self.old) (state_of F.seen L.seen self.new)
@@ -58,6 +59,7 @@ impl<'a, F: TimedStore, L: ExpiringLocks> Server<'a, F, L> {
     /// input or the output fails, or if the input ends inside the batch. If the output fails, the batch was served.
     pub fn exchange<R: Read, W: Write>(&mut self, input: &mut R, output: &mut W) -> io::Result<bool>
         ensures rules { rules_of self.new ≡ rules_of self.old }
+        ensures loans { loans_of self.new ≡ loans_of self.old }
         ensures served { IfOk result (λ more. more ≡ true → Exchanges F.seen F.is_honest (rules_of self.old)
             (state_of F.seen L.seen self.old) (state_of F.seen L.seen self.new)
             (R.remaining input.old) (R.remaining input.new) (W.contents output.old) (W.contents output.new)) }
@@ -79,6 +81,7 @@ impl<'a, F: TimedStore, L: ExpiringLocks> Server<'a, F, L> {
     /// Fails if the input fails, or if it ends inside the batch. Then nothing has changed.
     pub(crate) fn answer_next<R: Read>(&mut self, input: &mut R) -> io::Result<Option<BatchReply>>
         ensures rules { rules_of self.new ≡ rules_of self.old }
+        ensures loans { loans_of self.new ≡ loans_of self.old }
         ensures answered { IfRead result (λ answer. ReadsAndAnswers F.seen F.is_honest (rules_of self.old) (answer_of answer)
             (state_of F.seen L.seen self.old) (state_of F.seen L.seen self.new) (R.remaining input.old) (R.remaining input.new)) }
         ensures ended { OnNone result (IsAtEnd (R.remaining input.new)) }
@@ -96,6 +99,7 @@ impl<'a, F: TimedStore, L: ExpiringLocks> Server<'a, F, L> {
     /// Serves a batch with this content. `None` is content that was skipped: the batch is then answered 507, or 409.
     fn answer_batch(&mut self, header: &BatchHeader, content: Option<Vec<u8>>) -> BatchReply
         ensures rules { rules_of self.new ≡ rules_of self.old }
+        ensures loans { loans_of self.new ≡ loans_of self.old }
         ensures answers { (bytes : List ℕ) → IfSome content (λ v. bytes ≡ v.items) → AnswersBatch F.seen F.is_honest
             (rules_of self.old) header.entry.now bytes (answer_of result)
             (state_of F.seen L.seen self.old) (state_of F.seen L.seen self.new) }

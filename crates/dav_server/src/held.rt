@@ -13,7 +13,7 @@ use dav_resource::{FsError, FsResult};
 use dav_wire::{HeldFrame, Reply};
 
 impl<'a, F: TimedStore, L: ExpiringLocks> Server<'a, F, L> {
-    ghost use Rattle.dav_server.specs.State.{HasEmptyLog, state_of, rules_of, locks_at};
+    ghost use Rattle.dav_server.specs.State.{HasEmptyLog, state_of, rules_of, loans_of, locks_at};
     ghost use Rattle.dav_server.specs.Frames.{Reacts};
 
     /// Returns the encoded reply with the time at which the next lock expires.
@@ -46,6 +46,7 @@ impl<'a, F: TimedStore, L: ExpiringLocks> Server<'a, F, L> {
     /// Returns the encoded reply with the number of locks and with the store's quota, if it has one.
     pub(crate) fn held(&mut self) -> Option<Vec<u8>>
         ensures rules { rules_of self.new ≡ rules_of self.old }
+        ensures loans { loans_of self.new ≡ loans_of self.old }
         ensures reacts { Reacts F.seen F.is_honest (rules_of self.old) (Some frames.Held) (state_of F.seen L.seen self.old) (option_map (λ v. v.items) result) (state_of F.seen L.seen self.new) }
         ensures log { HasEmptyLog F.seen self.old → HasEmptyLog F.seen self.new }
     {

@@ -18,14 +18,26 @@ pub trait Keeper<F: TimedStore, L: ExpiringLocks> {
     /// The second snapshot has the same as the first of what is kept, except the time and the number.
     ghost same: { Snapshot F L → Snapshot F L → Type 0 };
 
+    /// The place where things are kept has done what its calls promise, all the time until now.
+    ghost is_clean: { Self → Type 0 };
+
     /// Keeps what has changed since the last call. A server calls it after each batch, before it writes the answer.
-    /// `now` is the time of the server, in whole seconds since 1970, and `last` the number of the last batch.
+    /// `now` is the time of the server, in whole seconds since 1970, and `last` the number of the last batch. While
+    /// `in_backup`, somebody copies what is kept: so nothing of it that was kept at the begin of the backup is overwritten.
     ///
     /// Of the store, only what is saved of it changes. If nothing has changed of what is kept, a crash may leave what was
     /// kept before, with the time and the number of then. After an error a crash leaves what was kept before, or what was
     /// to be kept, and no further call may follow.
-    fn keep(&mut self, store: &mut F, locks: &L, now: u64, last: u64) -> io::Result<()>
+    fn keep(
+        &mut self,
+        store: &mut F,
+        locks: &L,
+        now: u64,
+        last: u64,
+        in_backup: bool,
+    ) -> io::Result<()>
         ensures seen { OnlySavedDiffers (F.seen store.old) (F.seen store.new) }
+        ensures clean { is_clean self.new → is_clean self.old }
         ensures ok { OnOk result ((before : Snapshot F L) → lasts self.old (saved_of (F.seen store.old)) before
             → KeepsOne lasts same self.new (saved_of (F.seen store.new)) before (snapshot_at store.new locks.now now last)) }
         ensures err { OnErr result ((before : Snapshot F L) → lasts self.old (saved_of (F.seen store.old)) before

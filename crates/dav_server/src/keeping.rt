@@ -1,7 +1,7 @@
 //! Batches that are kept before they are answered.
 ghost use Rattle.std.specs.Prelude.{◌≡◌, true, false, IfOk, OnOk, OnErr, Some};
 ghost use Rattle.std.specs.Io.KnownBytes.{IsAtEnd};
-ghost use Rattle.dav_engine.specs.DavInner.{lent, lent_locks, has_locks, made_with};
+ghost use Rattle.dav_engine.specs.DavInner.{lent, lent_locks, has_locks, loans, made_with};
 ghost use Rattle.dav_server.specs.Exchanges.{Ends};
 ghost use Rattle.dav_server.specs.Snapshots.{Snapshot, snapshot_at, saved_of, OnlySavedDiffers, IsResaved, KeepsOne};
 
@@ -12,7 +12,7 @@ use dav_engine::DavInner;
 use std::io::{self, ErrorKind, Read, Write};
 
 impl<'a, F: TimedStore, L: ExpiringLocks> Server<'a, F, L> {
-    ghost use Rattle.dav_server.specs.State.{state_of, rules_of};
+    ghost use Rattle.dav_server.specs.State.{state_of, rules_of, loans_of};
     ghost use Rattle.dav_server.specs.Keeping.{ExchangesAndSaves, RunsAndKeeps, IsKeptSince, StaysKept, LastsEither, StopsInsideKept, StopsAfterKept};
 
     /// Serves batches until the input ends, as `serve` does, and has the keeper keep each batch before its answer is
@@ -31,7 +31,9 @@ impl<'a, F: TimedStore, L: ExpiringLocks> Server<'a, F, L> {
         output: &mut W,
     ) -> io::Result<()>
         ensures rules { rules_of self.new ≡ rules_of self.old }
+        ensures loans { loans_of self.new ≡ loans_of self.old }
         ensures end { OnOk result (IsAtEnd (R.remaining input.new)) }
+        ensures clean { K.is_clean keeper.new → K.is_clean keeper.old }
         ensures ran { OnOk result (RunsAndKeeps F.seen L.seen K.lasts K.same F.is_honest (rules_of self.old) keeper.old keeper.new
             self.old self.new (R.remaining input.old) (R.remaining input.new) (W.contents output.old) (W.contents output.new)) }
         ensures stopped { OnErr result (StopsAfterKept F.seen L.seen K.lasts K.lasts_either K.same F.is_honest (rules_of self.old)
@@ -62,6 +64,8 @@ impl<'a, F: TimedStore, L: ExpiringLocks> Server<'a, F, L> {
         output: &mut W,
     ) -> io::Result<bool>
         ensures rules { rules_of self.new ≡ rules_of self.old }
+        ensures loans { loans_of self.new ≡ loans_of self.old }
+        ensures clean { K.is_clean keeper.new → K.is_clean keeper.old }
         ensures served { IfOk result (λ more. more ≡ true → ExchangesAndSaves F.seen F.is_honest (rules_of self.old)
             (state_of F.seen L.seen self.old) (state_of F.seen L.seen self.new)
             (R.remaining input.old) (R.remaining input.new) (W.contents output.old) (W.contents output.new)) }
@@ -84,14 +88,16 @@ impl<'a, F: TimedStore, L: ExpiringLocks> Server<'a, F, L> {
     /// Has the keeper keep the store and the locks. Fails with its error, or if there is no lock system.
     fn keep<K: Keeper<F, L>>(&mut self, keeper: &mut K) -> io::Result<()>
         ensures rules { rules_of self.new ≡ rules_of self.old }
+        ensures loans { loans_of self.new ≡ loans_of self.old }
         ensures saved { IsResaved (state_of F.seen L.seen self.old) (state_of F.seen L.seen self.new) }
+        ensures clean { K.is_clean keeper.new → K.is_clean keeper.old }
         ensures kept { OnOk result ((before : Snapshot F L) → K.lasts keeper.old (saved_of (F.seen (lent self.old.engine))) before
             → StaysKept F.seen K.lasts K.same keeper.new before self.new) }
         ensures either { OnErr result ((before : Snapshot F L) → K.lasts keeper.old (saved_of (F.seen (lent self.old.engine))) before
             → has_locks self.old.engine ≡ true → LastsEither F.seen K.lasts_either keeper.new before self.new) }
     {
         let (now, last) = (self.now, self.last);
-        keep_lent(keeper, &mut self.engine, now, last)
+        keep_lent(keeper, &mut self.engine, now, last, self.in_backup)
     }
 }
 
@@ -101,10 +107,13 @@ fn keep_lent<F: TimedStore, L: ExpiringLocks, K: Keeper<F, L>>(
     engine: &mut DavInner<'_, (), F, L>,
     now: u64,
     last: u64,
+    in_backup: bool,
 ) -> io::Result<()>
     ensures seen { OnlySavedDiffers (F.seen (lent engine.old)) (F.seen (lent engine.new)) }
     ensures locks { lent_locks engine.new ≡ lent_locks engine.old }
+    ensures loans { loans engine.new ≡ loans engine.old }
     ensures made { made_with engine.new ≡ made_with engine.old }
+    ensures clean { K.is_clean keeper.new → K.is_clean keeper.old }
     ensures there { OnOk result (has_locks engine.old ≡ true) }
     ensures ok { OnOk result ((before : Snapshot F L) (locks : L) → K.lasts keeper.old (saved_of (F.seen (lent engine.old))) before
         → lent_locks engine.old ≡ Some locks
@@ -114,7 +123,7 @@ fn keep_lent<F: TimedStore, L: ExpiringLocks, K: Keeper<F, L>>(
         → K.lasts_either keeper.new (saved_of (F.seen (lent engine.new))) before (snapshot_at (lent engine.new) locks now last)) }
 {
     match engine.ls.as_deref() {
-        Some(locks) => keeper.keep(engine.fs, locks, now, last),
+        Some(locks) => keeper.keep(engine.fs, locks, now, last, in_backup),
         None => Err(io::Error::from(ErrorKind::Unsupported)),
     }
 }

@@ -1,5 +1,5 @@
 //! Tests of a server with a keeper.
-ghost use Rattle.std.specs.Prelude.{◌≡◌, ◌⊎◌, length, refl};
+ghost use Rattle.std.specs.Prelude.{◌≡◌, ◌⊎◌, ⊤, length, refl};
 ghost use Rattle.std.proofs.Common.{inl, inr};
 
 use crate::tests::{QUESTIONS, batch};
@@ -31,7 +31,16 @@ impl<F: TimedStore, L: ExpiringLocks> Keeper<F, L> for LockCount {
 
     ghost same = { λ one other. length (L.seen one.locks).list ≡ length (L.seen other.locks).list };
 
-    fn keep(&mut self, store: &mut F, locks: &L, now: u64, last: u64) -> io::Result<()> {
+    ghost is_clean = { λ keeper. ⊤ };
+
+    fn keep(
+        &mut self,
+        store: &mut F,
+        locks: &L,
+        now: u64,
+        last: u64,
+        in_backup: bool,
+    ) -> io::Result<()> {
         if self.fails {
             return Err(io::Error::from(ErrorKind::Other));
         }

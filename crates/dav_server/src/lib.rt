@@ -8,6 +8,7 @@
 //! With a `Keeper` a server keeps each batch in a place that survives a crash, before it writes the replies.
 #![tactic(auto)]
 
+mod backup;
 mod batch;
 mod bodies;
 mod exchange;

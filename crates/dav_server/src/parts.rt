@@ -28,7 +28,7 @@ impl<'a, F: TimedStore, L: ExpiringLocks> Server<'a, F, L> {
     ghost use Rattle.dav_engine.specs.DavInner.{lent};
     ghost use Rattle.dav_server.specs.Finding.{Finds};
     ghost use Rattle.dav_server.specs.Parts.{IsMissing, IsRead, IsUnread};
-    ghost use Rattle.dav_server.specs.State.{HasEmptyLog, state_of, rules_of};
+    ghost use Rattle.dav_server.specs.State.{HasEmptyLog, state_of, rules_of, loans_of};
     ghost use Rattle.dav_server.specs.Frames.{Reacts};
 
     /// Reads a part of a file, and returns the encoded reply.
@@ -37,6 +37,7 @@ impl<'a, F: TimedStore, L: ExpiringLocks> Server<'a, F, L> {
     /// if the file has another version than the frame says (412), or if a call of the store fails.
     pub(crate) fn read_part(&mut self, asked: ReadFrame<'_>) -> Option<Vec<u8>>
         ensures rules { rules_of self.new ≡ rules_of self.old }
+        ensures loans { loans_of self.new ≡ loans_of self.old }
         ensures reacts { Reacts F.seen F.is_honest (rules_of self.old) (Some (frames.Read (read_frame_of asked.entry))) (state_of F.seen L.seen self.old) (option_map (λ v. v.items) result) (state_of F.seen L.seen self.new) }
         ensures log { HasEmptyLog F.seen self.old → HasEmptyLog F.seen self.new }
     {
@@ -54,6 +55,7 @@ impl<'a, F: TimedStore, L: ExpiringLocks> Server<'a, F, L> {
     /// the log. Error: the status of the reply.
     fn find_part(&mut self, path: &DavPath, asked: &ReadFrame<'_>) -> Result<Found, StatusCode>
         ensures rules { rules_of self.new ≡ rules_of self.old }
+        ensures loans { loans_of self.new ≡ loans_of self.old }
         ensures same { state_of F.seen L.seen self.new ≡ state_of F.seen L.seen self.old }
         ensures found { IfOk result (λ found. Finds (F.is_honest (lent self.new.engine)) (F.seen (lent self.old.engine)).contents path.now.key (read_frame_of asked.entry.now) found) }
         ensures failed { IfErr result (λ status. IsUnread (F.seen (lent self.old.engine)).contents path.now.key (read_frame_of asked.entry.now) status) }
@@ -72,6 +74,7 @@ impl<'a, F: TimedStore, L: ExpiringLocks> Server<'a, F, L> {
     /// Looks the path up. Error: the status of the store's error.
     fn look(&mut self, path: &DavPath) -> Result<Meta, StatusCode>
         ensures rules { rules_of self.new ≡ rules_of self.old }
+        ensures loans { loans_of self.new ≡ loans_of self.old }
         ensures same { state_of F.seen L.seen self.new ≡ state_of F.seen L.seen self.old }
         ensures found { IfOk result (λ meta. (F.seen (lent self.old.engine)).contents.metas path.now.key ≡ Some meta) }
         ensures failed { IfErr result (IsMissing (F.seen (lent self.old.engine)).contents path.now.key) }
@@ -86,6 +89,7 @@ impl<'a, F: TimedStore, L: ExpiringLocks> Server<'a, F, L> {
     /// error.
     fn read(&mut self, path: &DavPath, place: u64, length: u64) -> Result<Vec<u8>, StatusCode>
         ensures rules { rules_of self.new ≡ rules_of self.old }
+        ensures loans { loans_of self.new ≡ loans_of self.old }
         ensures same { state_of F.seen L.seen self.new ≡ state_of F.seen L.seen self.old }
         ensures found { IfOk result (λ bytes. IsRead (F.is_honest (lent self.new.engine)) (F.seen (lent self.old.engine)).contents path.now.key place length bytes.items) }
         ensures failed { IfErr result (IsMissing (F.seen (lent self.old.engine)).contents path.now.key) }

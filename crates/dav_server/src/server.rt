@@ -39,10 +39,12 @@ pub struct Server<'a, F, L> {
     pub(crate) anyone_unlocks: bool,
     /// How many bytes the content of a batch may have.
     pub(crate) max_batch: u64,
+    /// Whether a backup has begun and has not ended.
+    pub(crate) in_backup: bool,
 }
 
 impl<'a, F: TimedStore, L: ExpiringLocks> Server<'a, F, L> {
-    ghost use Rattle.dav_server.specs.State.{HasEmptyLog, state_of, rules_of, resumed_state, first_state, first_rules, after_expiry};
+    ghost use Rattle.dav_server.specs.State.{HasEmptyLog, state_of, rules_of, loans_of, resumed_state, first_state, first_rules, after_expiry};
     ghost use Rattle.dav_server.specs.Snapshots.{snapshot_at};
     ghost use Rattle.dav_server.specs.Keeping.{snapshot_of};
     ghost use Rattle.dav_server.specs.Frames.{Reacts, ServesFrame};
@@ -58,6 +60,7 @@ impl<'a, F: TimedStore, L: ExpiringLocks> Server<'a, F, L> {
     ) -> Server<'a, F, L>
         ensures state { state_of F.seen L.seen result ≡ first_state (F.seen store.old) (L.seen locks.old) }
         ensures rules { rules_of result ≡ first_rules (string_bytes options.prefix) options.anyone_unlocks }
+        ensures loans { loans_of result ≡ (store.entry.ghost_name, Some locks.entry.ghost_name) }
         ensures snapshot { snapshot_of result ≡ Some (snapshot_at store.old locks.old 0 0) }
     {
         Server::resume(alloc, store, locks, options, 0, 0)
@@ -75,6 +78,7 @@ impl<'a, F: TimedStore, L: ExpiringLocks> Server<'a, F, L> {
     ) -> Server<'a, F, L>
         ensures state { state_of F.seen L.seen result ≡ resumed_state (F.seen store.old) (L.seen locks.old) now last }
         ensures rules { rules_of result ≡ first_rules (string_bytes options.prefix) options.anyone_unlocks }
+        ensures loans { loans_of result ≡ (store.entry.ghost_name, Some locks.entry.ghost_name) }
         ensures snapshot { snapshot_of result ≡ Some (snapshot_at store.old locks.old now last) }
     {
         Server {
@@ -84,6 +88,7 @@ impl<'a, F: TimedStore, L: ExpiringLocks> Server<'a, F, L> {
             last,
             anyone_unlocks: options.anyone_unlocks,
             max_batch: options.max_batch,
+            in_backup: false,
         }
     }
 
@@ -94,6 +99,7 @@ impl<'a, F: TimedStore, L: ExpiringLocks> Server<'a, F, L> {
     /// the frame asks for may then be done.
     pub fn serve_frame(&mut self, bytes: &[u8]) -> Option<Vec<u8>>
         ensures rules { rules_of self.new ≡ rules_of self.old }
+        ensures loans { loans_of self.new ≡ loans_of self.old }
         ensures served { ServesFrame F.seen F.is_honest (rules_of self.old) bytes.now (state_of F.seen L.seen self.old) (option_map (λ v. v.items) result) (state_of F.seen L.seen self.new) }
         ensures log { HasEmptyLog F.seen self.old → HasEmptyLog F.seen self.new }
     {
@@ -108,6 +114,7 @@ impl<'a, F: TimedStore, L: ExpiringLocks> Server<'a, F, L> {
     /// Removes the locks that have expired.
     fn remove_expired(&mut self)
         ensures rules { rules_of self.new ≡ rules_of self.old }
+        ensures loans { loans_of self.new ≡ loans_of self.old }
         ensures expired { state_of F.seen L.seen self.new ≡ after_expiry (state_of F.seen L.seen self.old) }
         ensures log { HasEmptyLog F.seen self.old → HasEmptyLog F.seen self.new }
     {
@@ -119,6 +126,7 @@ impl<'a, F: TimedStore, L: ExpiringLocks> Server<'a, F, L> {
     /// Does what a frame asks for, and returns the encoded reply, or `None` as `serve_frame` does.
     fn react(&mut self, frame: Frame<'_>) -> Option<Vec<u8>>
         ensures rules { rules_of self.new ≡ rules_of self.old }
+        ensures loans { loans_of self.new ≡ loans_of self.old }
         ensures reacts { Reacts F.seen F.is_honest (rules_of self.old) (Some (frame_value frame.entry)) (state_of F.seen L.seen self.old) (option_map (λ v. v.items) result) (state_of F.seen L.seen self.new) }
         ensures log { HasEmptyLog F.seen self.old → HasEmptyLog F.seen self.new }
     {
@@ -130,6 +138,8 @@ impl<'a, F: TimedStore, L: ExpiringLocks> Server<'a, F, L> {
             Frame::Read(asked) => self.read_part(asked),
             Frame::NextExpiry => self.next_expiry(),
             Frame::Held => self.held(),
+            Frame::BeginBackup => self.begin_backup(),
+            Frame::EndBackup => self.end_backup(),
         }
     }
 
@@ -137,6 +147,7 @@ impl<'a, F: TimedStore, L: ExpiringLocks> Server<'a, F, L> {
     /// 403 if it would remove or refresh a lock of another principal.
     fn serve_request(&mut self, frame: RequestFrame<'_>) -> Option<Vec<u8>>
         ensures rules { rules_of self.new ≡ rules_of self.old }
+        ensures loans { loans_of self.new ≡ loans_of self.old }
         ensures reacts { Reacts F.seen F.is_honest (rules_of self.old) (Some (frames.Request (request_frame_of frame.entry))) (state_of F.seen L.seen self.old) (option_map (λ v. v.items) result) (state_of F.seen L.seen self.new) }
         ensures log { HasEmptyLog F.seen self.old → HasEmptyLog F.seen self.new }
     {
@@ -147,6 +158,7 @@ impl<'a, F: TimedStore, L: ExpiringLocks> Server<'a, F, L> {
     /// Returns the result of a request, of which `serve_request` sends the encoding.
     fn answer(&mut self, frame: RequestFrame<'_>) -> DavResult<Response<Body>>
         ensures rules { rules_of self.new ≡ rules_of self.old }
+        ensures loans { loans_of self.new ≡ loans_of self.old }
         ensures answers { AnswersRequest (rules_of self.old) (request_frame_of frame.entry) (state_of F.seen L.seen self.old) (answer_of result) (state_of F.seen L.seen self.new) }
         ensures log { HasEmptyLog F.seen self.old → HasEmptyLog F.seen self.new }
     {
@@ -164,6 +176,7 @@ impl<'a, F: TimedStore, L: ExpiringLocks> Server<'a, F, L> {
     /// Has the engine serve the request, and empties the log.
     fn execute(&mut self, request: &DavRequest) -> DavResult<Response<Body>>
         ensures rules { rules_of self.new ≡ rules_of self.old }
+        ensures loans { loans_of self.new ≡ loans_of self.old }
         ensures executes { Executes (rules_of self.old) request.entry.now (answer_of result) (state_of F.seen L.seen self.old) (state_of F.seen L.seen self.new) }
         ensures log { HasEmptyLog F.seen self.new }
     {

@@ -90,8 +90,12 @@ add_7 : decode frame (2 ∷ small 9 ++ small 1 ++ 7 ∷ []) ≡ Some (frames.Add
 unfolding frame add text number
 add_7 = refl
 
+end_8 : decode frame (8 ∷ []) ≡ Some frames.EndBackup
+unfolding frame
+end_8 = refl
+
 -- a byte of no variant, and a byte after a frame
-unknown : decode frame (7 ∷ []) ≡ None
+unknown : decode frame (9 ∷ []) ≡ None
 unfolding frame
 unknown = refl
 

@@ -40,6 +40,10 @@ pub data FrameValue : Type 0 where
   NextExpiry : FrameValue
   -- how much is held
   Held : FrameValue
+  -- begin a backup: until it ends, what files contain stays where it is
+  BeginBackup : FrameValue
+  -- end the backup
+  EndBackup : FrameValue
 
 -- ---- requests
 
@@ -92,6 +96,8 @@ frame_position (DropBody n) = 3
 frame_position (Read r) = 4
 frame_position NextExpiry = 5
 frame_position Held = 6
+frame_position BeginBackup = 7
+frame_position EndBackup = 8
 
 abbrev pub from_request : FrameValue → Option RequestValue
 from_request (Request r) = Some r
@@ -120,6 +126,14 @@ from_expiry x = None
 abbrev pub from_held : FrameValue → Option (Unit {0})
 from_held Held = Some tt
 from_held x = None
+
+abbrev pub from_begin : FrameValue → Option (Unit {0})
+from_begin BeginBackup = Some tt
+from_begin x = None
+
+abbrev pub from_end : FrameValue → Option (Unit {0})
+from_end EndBackup = Some tt
+from_end x = None
 
 abbrev pub add_of : ℕ × List ℕ → FrameValue
 add_of p = AddToBody p.0 p.1
@@ -152,6 +166,14 @@ pub held_exact : (x : FrameValue) (u : Unit {0}) → from_held x ≡ Some u → 
 held_exact Held u e = refl
 held_exact x u e = cc
 
+pub begin_exact : (x : FrameValue) (u : Unit {0}) → from_begin x ≡ Some u → BeginBackup ≡ x
+begin_exact BeginBackup u e = refl
+begin_exact x u e = cc
+
+pub end_exact : (x : FrameValue) (u : Unit {0}) → from_end x ≡ Some u → EndBackup ≡ x
+end_exact EndBackup u e = refl
+end_exact x u e = cc
+
 abbrev pub request_frame : Codec FrameValue
 request_frame = variant request Request from_request (λ r. refl) (λ x r e. request_exact x r e)
 
@@ -173,10 +195,16 @@ expiry_frame = variant nothing (λ u. NextExpiry) from_expiry (λ u. refl) (λ x
 abbrev pub held_frame : Codec FrameValue
 held_frame = variant nothing (λ u. Held) from_held (λ u. refl) (λ x u e. held_exact x u e)
 
+abbrev pub begin_frame : Codec FrameValue
+begin_frame = variant nothing (λ u. BeginBackup) from_begin (λ u. refl) (λ x u e. begin_exact x u e)
+
+abbrev pub end_frame : Codec FrameValue
+end_frame = variant nothing (λ u. EndBackup) from_end (λ u. refl) (λ x u e. end_exact x u e)
+
 -- ---- frames
 
 abbrev pub frame_variants : List (Codec FrameValue)
-frame_variants = request_frame ∷ start_frame ∷ add_frame ∷ drop_frame ∷ part_frame ∷ expiry_frame ∷ held_frame ∷ []
+frame_variants = request_frame ∷ start_frame ∷ add_frame ∷ drop_frame ∷ part_frame ∷ expiry_frame ∷ held_frame ∷ begin_frame ∷ end_frame ∷ []
 
 -- the byte of the variant, then its content
 unfoldable pub frame : Codec FrameValue

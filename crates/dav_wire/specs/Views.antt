@@ -56,6 +56,8 @@ frame_of (given.DropBody n) = frames.DropBody n
 frame_of (given.Read r) = frames.Read (read_frame_of r)
 frame_of given.NextExpiry = frames.NextExpiry
 frame_of given.Held = frames.Held
+frame_of given.BeginBackup = frames.BeginBackup
+frame_of given.EndBackup = frames.EndBackup
 
 abbrev pub response_frame_of : ResponseFrame → ResponseValue
 response_frame_of r =

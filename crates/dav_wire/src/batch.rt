@@ -44,7 +44,7 @@ impl BatchHeader {
 /// The header of a batch of replies. Each reply follows as a byte string.
 #[derive(Clone, Copy, Debug, PartialEq, Eq)]
 pub struct ReplyHeader {
-    /// The number of the batch of frames.
+    /// The number of the batch of frames. With the status 409 the number of the last batch.
     pub number: u64,
     /// The HTTP status of the batch as a whole.
     pub status: u16,

@@ -29,6 +29,10 @@ pub enum Frame<'a> {
     NextExpiry,
     /// How much is held.
     Held,
+    /// Begin a backup: until it ends, what files contain stays where it is.
+    BeginBackup,
+    /// End the backup.
+    EndBackup,
 }
 
 impl<'a> Frame<'a> {

@@ -27,6 +27,8 @@ impl<'a> Reader<'a> {
             4 => Ok(Frame::Read(self.read_part()?)),
             5 => Ok(Frame::NextExpiry),
             6 => Ok(Frame::Held),
+            7 => Ok(Frame::BeginBackup),
+            8 => Ok(Frame::EndBackup),
             _ => Err(WireError::Malformed),
         }
     }

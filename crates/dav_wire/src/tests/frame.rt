@@ -44,6 +44,8 @@ fn short_frames_are_written_as_the_grammar_says(rt: HostRuntime) -> Result<(), F
     assert!(rt; is_written_as(alloc, &dropped, &drop_bytes)?);
     assert!(rt; is_written_as(alloc, &Frame::NextExpiry, &[5])?);
     assert!(rt; is_written_as(alloc, &Frame::Held, &[6])?);
+    assert!(rt; is_written_as(alloc, &Frame::BeginBackup, &[7])?);
+    assert!(rt; is_written_as(alloc, &Frame::EndBackup, &[8])?);
     Ok(())
 }
 
@@ -117,7 +119,7 @@ fn bodies_are_written_as_the_grammar_says(rt: HostRuntime) -> Result<(), Fail> {
 #[test]
 fn other_bytes_are_refused(rt: HostRuntime) -> Result<(), Fail> {
     let cut = READ.get(..46).unwrap_or(&[]);
-    let others: [&[u8]; 5] = [&[], &[7], &[1, 0], &[3, 0], cut];
+    let others: [&[u8]; 5] = [&[], &[9], &[1, 0], &[3, 0], cut];
     for bytes in others {
         assert!(rt; Frame::decode(rt.alloc(), bytes).err() == Some(WireError::Malformed));
     }

@@ -37,6 +37,8 @@ impl Writer {
             }
             Frame::NextExpiry => self.write_u8(5)?,
             Frame::Held => self.write_u8(6)?,
+            Frame::BeginBackup => self.write_u8(7)?,
+            Frame::EndBackup => self.write_u8(8)?,
         }
         Ok(())
     }

@@ -15,6 +15,8 @@ pub loop-init : goal.loop-init
 loop-init g c =
     record {
       same = refl;
+      loans = refl;
+      clean = λ clean. clean;
       run = keeps_none g.F.GuardedFileSystem.seen g.L.DavLockSystem.seen g.F.GuardedFileSystem.is_honest (rules_of c.args.self.now)
           g.K.Keeper.lasts g.K.Keeper.same g.met.K.Keeper.same_as c.args.keeper.now c.args.self.now (g.R.Read.remaining c.args.input.now) (g.W.Write.contents c.args.output.now);
     }
@@ -25,6 +27,8 @@ loop-preserved g c =
     let more = c.in_ok-exchange_kept.ensures.served c.if-not-branch.false in
     record {
       same = c.in_ok-exchange_kept.ensures.rules ∙ so_far.same;
+      loans = c.in_ok-exchange_kept.ensures.loans ∙ so_far.loans;
+      clean = λ clean. so_far.clean (c.in_ok-exchange_kept.ensures.clean clean);
       run = keeps_more g.F.GuardedFileSystem.seen g.L.DavLockSystem.seen g.F.GuardedFileSystem.is_honest (rules_of c.args.self.now)
           g.K.Keeper.lasts g.K.Keeper.same g.met.K.Keeper.same_as c.args.keeper.now c.loop.keeper c.exchange_kept.new.keeper c.args.self.now c.loop.self c.exchange_kept.new.self _ _ _ _ _ _
           so_far.run (rw so_far.same at more) c.in_ok-exchange_kept.ensures.kept;

@@ -69,8 +69,16 @@ pub returns-in-6 : goal.returns-in-6
 unfolding frame
 returns-in-6 c = rw (is_read c.args.self.now _ 6 _ c.in-6.is c.in_ok-read_u8.ensures) refl
 
+pub returns-in-7 : goal.returns-in-7
+unfolding frame
+returns-in-7 c = rw (is_read c.args.self.now _ 7 _ c.in-7.is c.in_ok-read_u8.ensures) refl
+
+pub returns-in-8 : goal.returns-in-8
+unfolding frame
+returns-in-8 c = rw (is_read c.args.self.now _ 8 _ c.in-8.is c.in_ok-read_u8.ensures) refl
+
 pub returns-in_default : goal.returns-in_default
 unfolding frame
 returns-in_default c =
-    let other : 7 ≤ c.in_ok-read_u8.field-0 = omega arith in
+    let other : 9 ≤ c.in_ok-read_u8.field-0 = omega arith in
     unknown_variant frame_position frame_variants c.args.self.now c.in_ok-read_u8.field-0 c.read_u8.new.self c.in_ok-read_u8.ensures other

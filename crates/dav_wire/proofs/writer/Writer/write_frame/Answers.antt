@@ -54,3 +54,15 @@ unfolding frame
 returns-in_ok-write_u8-in-Held c =
     rw c.in-Held.is
     (appends_as byte frame 6 frames.Held c.args.self.now c.write_u8-in-Held.new.self (λ ok. refl) refl c.in_ok-write_u8-in-Held.ensures)
+
+pub returns-in_ok-write_u8-in-BeginBackup : goal.returns-in_ok-write_u8-in-BeginBackup
+unfolding frame
+returns-in_ok-write_u8-in-BeginBackup c =
+    rw c.in-BeginBackup.is
+    (appends_as byte frame 7 frames.BeginBackup c.args.self.now c.write_u8-in-BeginBackup.new.self (λ ok. refl) refl c.in_ok-write_u8-in-BeginBackup.ensures)
+
+pub returns-in_ok-write_u8-in-EndBackup : goal.returns-in_ok-write_u8-in-EndBackup
+unfolding frame
+returns-in_ok-write_u8-in-EndBackup c =
+    rw c.in-EndBackup.is
+    (appends_as byte frame 8 frames.EndBackup c.args.self.now c.write_u8-in-EndBackup.new.self (λ ok. refl) refl c.in_ok-write_u8-in-EndBackup.ensures)

@@ -1,0 +1,7 @@
+use Rattle.std.proofs.Common.{refl}
+use Rattle.dav_server.specs.Events as events
+use Rattle.dav_server.proofs.Reactions.{reacts}
+use Rattle.dav_server.proofs.server.Server.begin_backup.Goals as goal
+
+pub returns-clause-reacts : goal.returns-clause-reacts
+returns-clause-reacts g c = reacts _ _ _ _ _ _ _ events.BackupBegun _ refl refl refl c.encode.ensures
