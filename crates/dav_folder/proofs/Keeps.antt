@@ -1,12 +1,15 @@
 -- What a call of the keeper comes to for a server.
-use Rattle.std.proofs.Common.{◌≡◌, ◌∙◌, inl, inr, ℕ, true, false, List, map, refl, sym, ap, ap₂, subst}
+use Rattle.std.proofs.Common.{◌≡◌, ◌≤◌, ◌∙◌, arith, inl, inr, ℕ, Bool, true, false, List, map, refl, sym, ap, ap₂, subst}
 use base.Stored.{Gv}
+use Rattle.sqlite.specs.State.{HasCleanDisk}
+use Rattle.sqlite_trees.specs.View.{doubt}
 use Rattle.sqlite_trees.specs.declared.store.Store as store
 use Rattle.dav_cells.specs.Locks.{kept_lock}
 use Rattle.dav_keep.proofs.Committing.{leaves_known}
 use Rattle.dav_keep.proofs.Images.{Settles}
 use Rattle.dav_keep.specs.Images.{Image}
-use Rattle.dav_keep.specs.Keeping.{IsKept, KeepsNow, Stops}
+use Rattle.dav_keep.specs.Keeping.{database, IsKept, KeepsNow, Stops}
+use Rattle.dav_keep.specs.declared.keeping.Keeping.{Keeping}
 use Rattle.dav_memls.specs.declared.memory_locks.MemLs.{MemLs}
 use Rattle.dav_pieces.specs.declared.piece.Piece.{Piece}
 use Rattle.dav_server.specs.Snapshots.{snapshot_at, KeepsOne}
@@ -26,6 +29,11 @@ same_tail a b c d same = cc
 same_resources : (a b : Gv) (q r : Resources) → saved_code a q ≡ saved_code b r → q ≡ r
 same_resources a b q r same = resources_code.inj q r (same_tail a (resources_code.code q) b (resources_code.code r) same)
 
+-- a disk that is clean was clean before
+pub was_clean : {S : Type 0} {rows : store.Ghosts S} (old new : Keeping S rows) → doubt (database old).is_clean ≤ doubt (database new).is_clean
+    → HasCleanDisk (database new) → HasCleanDisk (database old)
+was_clean old new doubts clean = omega arith
+
 module _ {S M : Type 0} {rows : store.Ghosts S} {g : Ghosts M (List Piece)} (old new : Folder S rows) (first mid : TreeFs M (List Piece) g)
     (locks : MemLs) (now batch : ℕ) (before : At g) (lasts : Lasts old (before_of first) before) where
   -- the image is saved under another value, which is the same
@@ -34,7 +42,7 @@ module _ {S M : Type 0} {rows : store.Ghosts S} {g : Ghosts M (List Piece)} (old
 
   module _ (settles : Settles rows) (saved : IsSaved mid.entries) where
     -- something has changed, and then the medium may have been swept
-    pub keeps_next : IsSound (memory_of mid).resources → (last : TreeFs M (List Piece) g) → KeepsNow true lasts.image (keeping_of new) mid locks now batch → memory_of last ≡ memory_of mid → entries_of last ≡ entries_of mid
+    keeps_next : IsSound (memory_of mid).resources → (last : TreeFs M (List Piece) g) → KeepsNow true lasts.image (keeping_of new) mid locks now batch → memory_of last ≡ memory_of mid → entries_of last ≡ entries_of mid
         → KeepsOne Lasts IsSameKept new (before_of last) before (snapshot_at last locks now batch)
     keeps_next resources last keeps memory entries =
         let same : before_of last ≡ before_of mid = ap (λ (m : Memory). m.held.before) memory in
@@ -52,19 +60,34 @@ module _ {S M : Type 0} {rows : store.Ghosts S} {g : Ghosts M (List Piece)} (old
           left = leaves_known settles (keeping_of new) (keeping_of new) keeps.image refl keeps.kept.known;
         })
 
-    -- nothing has changed
-    pub keeps_same : KeepsNow false lasts.image (keeping_of new) mid locks now batch → before_of mid ≡ before_of first
-        → KeepsOne Lasts IsSameKept new (before_of mid) before (snapshot_at mid locks now batch)
-    keeps_same keeps unchanged =
+    -- nothing has changed, and then the medium may have been swept
+    keeps_same : (last : TreeFs M (List Piece) g) → KeepsNow false lasts.image (keeping_of new) mid locks now batch → before_of mid ≡ before_of first → memory_of last ≡ memory_of mid
+        → KeepsOne Lasts IsSameKept new (before_of last) before (snapshot_at last locks now batch)
+    keeps_same last keeps unchanged memory =
+        let same : before_of last ≡ before_of mid = ap (λ (m : Memory). m.held.before) memory in
         let kept = subst (IsKept g.body_code (keeping_of new) (before_of mid)) keeps.since keeps.kept in
         inr (
-          record { image = lasts.image; at = resaved (before_of mid) unchanged; kept = kept; left = leaves_known settles (keeping_of new) (keeping_of new) lasts.image refl kept.known },
           record {
-            resources = same_resources (entries_of mid) (entries_of before.store) (memory_of mid).resources (memory_of before.store).resources (saved ∙ unchanged ∙ sym lasts.at.saved_is);
-            counter = sym keeps.is.counter ∙ ap (λ (i : Image). i.numbers.counter) keeps.since ∙ lasts.at.is.counter;
+            image = lasts.image;
+            at = resaved (before_of last) (same ∙ unchanged);
+            kept = subst (λ b. IsKept g.body_code (keeping_of new) b lasts.image) (sym same) kept;
+            left = leaves_known settles (keeping_of new) (keeping_of new) lasts.image refl kept.known;
+          },
+          record {
+            resources =
+                ap (λ (m : Memory). m.resources) memory
+                ∙ same_resources (entries_of mid) (entries_of before.store) (memory_of mid).resources (memory_of before.store).resources (saved ∙ unchanged ∙ sym lasts.at.saved_is);
+            counter = ap (λ (m : Memory). m.version) memory ∙ sym keeps.is.counter ∙ ap (λ (i : Image). i.numbers.counter) keeps.since ∙ lasts.at.is.counter;
             locks_are = sym lasts.at.is.locks_are ∙ sym (ap (λ (i : Image). map kept_lock i.locks) keeps.since) ∙ keeps.is.locks_are;
           },
         )
+
+    -- something has changed or not, and then the medium may have been swept
+    pub keeps_one : (changed : Bool) → IsSound (memory_of mid).resources → (last : TreeFs M (List Piece) g) → KeepsNow changed lasts.image (keeping_of new) mid locks now batch
+        → (changed ≡ false → before_of mid ≡ before_of first) → memory_of last ≡ memory_of mid → entries_of last ≡ entries_of mid
+        → KeepsOne Lasts IsSameKept new (before_of last) before (snapshot_at last locks now batch)
+    keeps_one true resources last keeps unchanged memory entries = keeps_next resources last keeps memory entries
+    keeps_one false resources last keeps unchanged memory entries = keeps_same last keeps (unchanged refl) memory
 
   -- the call failed
   pub stops : IsSound (memory_of mid).resources → Stops lasts.image (keeping_of new) first mid locks now batch → LastsEither new (before_of mid) before (snapshot_at mid locks now batch)

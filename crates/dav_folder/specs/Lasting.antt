@@ -2,6 +2,7 @@
 use Rattle.std.specs.Prelude.{◌≡◌, ◌⊎◌, List, refl}
 use Rattle.std.proofs.Common.{inl, inr}
 use base.Stored.{Gv}
+use Rattle.sqlite.specs.State.{HasCleanDisk}
 use Rattle.sqlite_trees.specs.declared.store.Store as store
 use Rattle.dav_keep.specs.Images.{Image, IsSound, IsImageOf, AreSameLocks}
 use Rattle.dav_keep.specs.Keeping.{database, IsKept, Leaves, LeavesEither}
@@ -43,6 +44,10 @@ module _ {M : Type 0} {g : Ghosts M (List Piece)} where
 
   pub same_as : (snapshot : At g) → IsSameKept snapshot snapshot
   same_as snapshot = record { resources = refl; counter = refl; locks_are = refl }
+
+-- the disk of the folder's database is clean
+abbrev pub HasCleanDatabase : {S : Type 0} {rows : store.Ghosts S} → Folder S rows → Type 0
+HasCleanDatabase folder = HasCleanDisk (database (keeping_of folder))
 
 module _ {S M : Type 0} {rows : store.Ghosts S} {g : Ghosts M (List Piece)} where
   -- the folder keeps the image of a snapshot

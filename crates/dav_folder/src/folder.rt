@@ -9,17 +9,24 @@ use sqlite::{Alter, Connection};
 use std::io::{self, ErrorKind};
 
 /// Keeps a store over the data file of a folder, and its locks, in the folder's database. Blocks of the data file that
-/// nothing needs any more are used again: those that a sweep finds, which follows a batch when it is time for it.
+/// nothing needs any more are used again: those that a sweep finds, which follows a batch when it is time for it, and
+/// never while somebody copies the files.
 #[derive(Drop)]
 pub struct Folder<S: Alter> {
     keeping: Keeping<S>,
     /// Why the last call failed.
     failure: Option<KeepError>,
+    /// Whether there was a sweep since the folder was opened.
+    has_swept: bool,
+    /// How many writes to the data file had found no room at the last sweep.
+    refused: u64,
 }
 
 impl<S: Alter> Folder<S> {
-    ghost use Rattle.std.specs.Prelude.{◌≡◌};
+    ghost use Rattle.std.specs.Prelude.{◌≡◌, true};
     ghost use Rattle.dav_keep.specs.Keeping.{connection_of};
+    ghost use Rattle.dav_tree.specs.Before.{IsSaved};
+    ghost use Rattle.dav_tree.specs.TreeFs.{memory_of, entries_of, records_of};
     ghost use Rattle.dav_folder.specs.Folders.{keeping_of};
 
     /// Keeps with this keeper.
@@ -29,12 +36,54 @@ impl<S: Alter> Folder<S> {
         Folder {
             keeping,
             failure: None,
+            has_swept: false,
+            refused: 0,
         }
     }
 
     /// Returns why a batch could not be kept, if one could not.
     pub fn failure(&self) -> Option<&KeepError> {
         self.failure.as_ref()
+    }
+
+    /// Has the data file use again what nothing needs any more, if it is time for that and nobody copies the files.
+    /// `changed` says whether something that is kept has changed since the last call.
+    fn reuse<D: Roomy + Drop>(
+        &mut self,
+        store: &mut TreeFs<DataFile<D>>,
+        changed: bool,
+        in_backup: bool,
+    )
+        requires { IsSaved store.old.entries }
+        ensures keeping { keeping_of self.new ≡ keeping_of self.old }
+        ensures memory { memory_of store.new ≡ memory_of store.old }
+        ensures entries { entries_of store.new ≡ entries_of store.old }
+        ensures records { records_of store.new ≡ records_of store.old }
+        ensures backup { in_backup ≡ true → store.new ≡ store.old }
+    {
+        if in_backup || !self.wants_sweep(store, changed) {
+            return;
+        }
+        self.has_swept = true;
+        self.refused = store.medium().disk().tally().refused;
+        // A sweep gives nothing up before what was written is on the disk.
+        if changed || store.take_changes().is_ok() {
+            store.sweep();
+        }
+    }
+
+    /// Returns whether it is time for a sweep. If something has changed, the data file says so; or its disk is full, so that
+    /// what a DELETE gave up is there for the next PUT; or there was none yet, and so nobody knows what was lost when the
+    /// program ended. Otherwise a write has found no room since the last sweep, so that what a PUT wrote before it failed is
+    /// there again.
+    fn wants_sweep<D: Roomy + Drop>(&self, store: &TreeFs<DataFile<D>>, changed: bool) -> bool {
+        let medium = store.medium();
+        let disk = medium.disk();
+        if changed {
+            !self.has_swept || medium.wants_sweep() || disk.is_full()
+        } else {
+            disk.tally().refused != self.refused
+        }
     }
 
     /// Returns the connection to the database.
@@ -46,13 +95,15 @@ impl<S: Alter> Folder<S> {
 }
 
 impl<D: Roomy + Drop, S: Alter> Keeper<TreeFs<DataFile<D>>, MemLs> for Folder<S> {
-    ghost use Rattle.dav_folder.specs.Lasting.{Lasts, LastsEither, IsSameKept, as_first, as_second, same_as};
+    ghost use Rattle.dav_folder.specs.Lasting.{Lasts, LastsEither, IsSameKept, HasCleanDatabase, as_first, as_second, same_as};
 
     ghost lasts = { Lasts };
 
     ghost lasts_either = { LastsEither };
 
     ghost same = { IsSameKept };
+
+    ghost is_clean = { HasCleanDatabase };
 
     ghost as_first = { as_first };
 
@@ -66,16 +117,14 @@ impl<D: Roomy + Drop, S: Alter> Keeper<TreeFs<DataFile<D>>, MemLs> for Folder<S>
         locks: &MemLs,
         now: u64,
         last: u64,
+        in_backup: bool,
     ) -> io::Result<()> {
         match self.keeping.keep(store, locks, now, last) {
-            Ok(true) => {
+            Ok(changed) => {
                 store.show_sound();
-                if wants_sweep(store) {
-                    store.sweep();
-                }
+                self.reuse(store, changed, in_backup);
                 Ok(())
             }
-            Ok(false) => Ok(()),
             Err(error) => {
                 store.show_sound();
                 self.failure = Some(error);
@@ -83,11 +132,4 @@ impl<D: Roomy + Drop, S: Alter> Keeper<TreeFs<DataFile<D>>, MemLs> for Folder<S>
             }
         }
     }
-}
-
-/// Returns whether it is time for a sweep: the data file says so, or its disk is full, so that each batch that may have
-/// given something up is followed by one.
-fn wants_sweep<D: Roomy + Drop>(store: &TreeFs<DataFile<D>>) -> bool {
-    let medium = store.medium();
-    medium.wants_sweep() || medium.disk().is_full()
 }

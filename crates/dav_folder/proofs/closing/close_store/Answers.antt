@@ -40,3 +40,8 @@ returns-clause-either g c = λ one other lasts same.
           (subst (λ store. HasSaved (coded_list piece_code) (body_bytes medium) (is_synced medium) (older_of store)) (sym same) c.into_medium-data.ensures.older)
           c.into_medium-data.ensures.last between.at_first between.at_second between.left
     ]
+
+pub returns-clause-clean : goal.returns-clause-clean
+returns-clause-clean g c =
+    let files = c.into_files-files.result in
+    subst (λ conn. IsClean (view files) → HasCleanDisk (file_state conn)) c.into_connection.ensures c.into_files-files.ensures.clean
