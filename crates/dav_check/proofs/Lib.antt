@@ -1,0 +1,6 @@
+pub mod Counting
+pub mod Course
+pub mod Lists
+pub mod Members
+pub mod PieceReads
+pub mod Walk
