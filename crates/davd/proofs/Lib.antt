@@ -1,2 +1,5 @@
 pub mod Arguments
 pub mod Prefixes
+pub mod Checks
+pub mod Finding
+pub mod FreshFiles

@@ -1,26 +1,78 @@
--- What the program does over a folder.
-use Rattle.std.specs.Prelude.{◌≡◌, ℕ, List, Option, Some}
-use Rattle.dav_folder.specs.Lasting.{Lasts, IsSameKept}
+-- What the program does over a folder: what a start finds there, and what a run leaves.
+use Rattle.std.specs.Prelude.{◌≡◌, ℕ, true, List, [], Option, Some}
+use Rattle.std.specs.FinMap.{empty, insert}
+use Rattle.std.specs.Option.{option_map}
+use Rattle.dav_folder.specs.Files.{KeptStore, kept_at, Hold}
+use Rattle.dav_folder.specs.Lasting.{Lasts, LastsEither, IsSameKept, HasCleanDatabase}
 use Rattle.dav_folder.specs.Opening.{opened_at}
-use Rattle.dav_folder.specs.declared.folder.Folder.{Folder}
 use Rattle.dav_folder.specs.declared.opening.Opened.{Opened}
+use Rattle.dav_keep.specs.Images.{StandForImage}
+use Rattle.dav_keep.specs.Loading.{first_image}
 use Rattle.dav_memls.specs.MemLs.{locks_of}
 use Rattle.dav_memls.specs.declared.memory_locks.MemLs.{MemLs}
 use Rattle.dav_pieces.specs.declared.piece.Piece.{Piece}
-use Rattle.dav_server.specs.Keeping.{snapshot_of, RunsAndKeeps}
+use Rattle.dav_rows.specs.Contents.{Contents}
+use Rattle.dav_rows.specs.declared.loading.Rows.{Rows}
+use Rattle.dav_rows_files.specs.Starting.{IsVacant, BeginsNew}
+use Rattle.dav_server.specs.Keeping.{snapshot_of, RunsAndKeeps, StopsAfterKept}
 use Rattle.dav_server.specs.State.{Rules}
 use Rattle.dav_server.specs.declared.server.Server.{Server}
-use Rattle.dav_tree.specs.TreeFs.{store_of, honest_of}
+use Rattle.dav_folder.specs.declared.folder.Folder.{Folder}
+use Rattle.dav_store.specs.Store as store_specs
+use Rattle.dav_tree.specs.Memory.{fresh}
+use Rattle.dav_tree.specs.TreeFs.{memory_of, store_of, before_of, honest_of}
 use Rattle.dav_tree.specs.declared.medium.Medium.{Ghosts}
 use Rattle.dav_tree.specs.declared.tree_fs.TreeFs.{TreeFs}
+use Rattle.sqlite.specs.Recovery as files
+use Rattle.sqlite.specs.State.{State}
 use Rattle.sqlite_trees.specs.declared.store.Store as store
 
+-- ---- what a start finds
+
+-- a new store: the root, made at time 0, without locks, before batch 1
+abbrev pub first_kept : KeptStore
+first_kept = record { resources = insert empty [] (fresh store_specs.Directory 0 0); counter = 0; locks = []; time = 0; batch = 0 }
+
+-- where the files had no table, the rows and the connection are those of a new store
+abbrev pub BeginsFirst : files.Image → State → Rows → Type 0
+BeginsFirst left state rows = (tables : Contents) × (key : ℕ) × StandForImage tables (first_image key) × BeginsNew left state tables rows
+
 module _ {S M : Type 0} {rows : store.Ghosts S} {g : Ghosts M (List Piece)} where
-  -- a run of a server that goes on from what was opened; if a crash left what was opened, it now leaves what the first exchanges of the run led to, and
-  -- the later ones have changed nothing that is kept
+  -- what is opened is kept
+  abbrev pub IsOpenedAsKept : Opened S M (List Piece) rows g → Type 0
+  IsOpenedAsKept opened = Lasts opened.folder (before_of opened.store) (opened_at opened)
+
+  -- this store is opened, with this quota, and it is kept; its files have their bytes if the data file is honest
+  pub record IsFound (quota : Option ℕ) (kept : KeptStore) (opened : Opened S M (List Piece) rows g) : Type 0 where
+    pub lasts : IsOpenedAsKept opened
+    pub is : honest_of opened.store ≡ true → kept_at (opened_at opened) ≡ kept
+    pub limit : (memory_of opened.store).limit ≡ option_map Some quota
+
+  -- so it is if the disk of the database is clean
+  abbrev pub IsFoundIfClean : Option ℕ → KeptStore → Opened S M (List Piece) rows g → Type 0
+  IsFoundIfClean quota kept opened = HasCleanDatabase opened.folder → IsFound quota kept opened
+
+  -- if the files held a store, it is found
+  abbrev pub FindsKept : files.Image → List ℕ → Option ℕ → Opened S M (List Piece) rows g → Type 0
+  FindsKept left file quota opened = (kept : KeptStore) → Hold left file kept → IsFoundIfClean quota kept opened
+
+  -- if the files had no table, a new store is found
+  abbrev pub FindsFirst : files.Image → Option ℕ → Opened S M (List Piece) rows g → Type 0
+  FindsFirst left quota opened = IsVacant left → IsFoundIfClean quota first_kept opened
+
+  -- ---- what a run leaves in the keeper
+
+  -- a run of a server that goes on from what was opened, and what its keeper keeps then
   pub record ServesOpened (rules : Rules) (opened : Opened S M (List Piece) rows g) (folder : Folder S rows) (input input' output output' : Option (List ℕ)) : Type 0
     where
       pub first : Server (TreeFs M (List Piece) g) MemLs
       pub last : Server (TreeFs M (List Piece) g) MemLs
       pub begins : snapshot_of first ≡ Some (opened_at opened)
       pub runs : RunsAndKeeps (store_of {g = g}) locks_of Lasts IsSameKept honest_of rules opened.folder folder first last input input' output output'
+
+  -- such a run that an error stops
+  pub record StopsOpened (rules : Rules) (opened : Opened S M (List Piece) rows g) (folder : Folder S rows) (output output' : Option (List ℕ)) : Type 0 where
+    pub first : Server (TreeFs M (List Piece) g) MemLs
+    pub last : Server (TreeFs M (List Piece) g) MemLs
+    pub begins : snapshot_of first ≡ Some (opened_at opened)
+    pub stops : StopsAfterKept (store_of {g = g}) locks_of Lasts LastsEither IsSameKept honest_of rules opened.folder folder first last output output'

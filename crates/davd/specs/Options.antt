@@ -8,17 +8,18 @@ use Rattle.davd.specs.declared.program.Stopped.{Stopped}
 use Rattle.davd.specs.declared.program.Stopped.TheVariants.{Memory, Usage}
 
 -- the options of a run: the path prefix, whether anyone may remove and refresh a lock, how many bytes the content of a batch may have, the quota, and the
--- folder in which everything is kept
+-- folder in which everything is kept, and whether this is checked and not served
 pub record OptionsValue : Type 0 where
   pub prefix : List ℕ
   pub anyone_unlocks : Bool
   pub max_batch : ℕ
   pub quota : Option ℕ
   pub folder : Option (List ℕ)
+  pub checks : Bool
 
 -- the options without arguments
 abbrev pub first_options : OptionsValue
-first_options = record { prefix = []; anyone_unlocks = false; max_batch = 2 ^ 30; quota = None; folder = None }
+first_options = record { prefix = []; anyone_unlocks = false; max_batch = 2 ^ 30; quota = None; folder = None; checks = false }
 
 abbrev pub is_unlocks : List ℕ → Bool
 is_unlocks name = bytes_eq name (codes "-anyone-unlocks")
@@ -52,14 +53,28 @@ with_arguments (name ∷ value ∷ rest) options =
     if is_unlocks name then with_arguments (value ∷ rest) (unlocking options)
     else option_and_then (with_arguments rest) (with_value name value options)
 
--- the options that the arguments say, unless they are wrong
+-- the options of a server that the arguments say, unless they are wrong
+abbrev pub server_options_of : List (List ℕ) → Option OptionsValue
+server_options_of arguments = with_arguments arguments first_options
+
+-- the options of a check of this folder, unless it may not be the name of one
+abbrev pub check_of : List ℕ → Option OptionsValue
+check_of folder = option_map (λ (options : OptionsValue). record options { checks = true }) (with_folder folder first_options)
+
+abbrev pub is_check : List ℕ → Bool
+is_check name = bytes_eq name (codes "--check")
+
+-- the options that the arguments say, unless they are wrong: two of which the first is `--check` say a check of the folder that is the second
 abbrev pub options_of : List (List ℕ) → Option OptionsValue
-options_of arguments = with_arguments arguments first_options
+options_of [] = server_options_of []
+options_of (name ∷ []) = server_options_of (name ∷ [])
+options_of (name ∷ folder ∷ []) = if is_check name then check_of folder else server_options_of (name ∷ folder ∷ [])
+options_of (name ∷ folder ∷ next ∷ rest) = server_options_of (name ∷ folder ∷ next ∷ rest)
 
 -- the options that the program has read
 abbrev pub value_of : ProgramOptions → OptionsValue
 value_of options =
-    record { prefix = string_bytes options.server.prefix; anyone_unlocks = options.server.anyone_unlocks; max_batch = options.server.max_batch; quota = options.quota; folder = option_map string_bytes options.folder }
+    record { prefix = string_bytes options.server.prefix; anyone_unlocks = options.server.anyone_unlocks; max_batch = options.server.max_batch; quota = options.quota; folder = option_map string_bytes options.folder; checks = options.checks }
 
 -- why arguments are not read: memory runs out, or they are wrong as `Wrong` says
 abbrev pub IsFault : Type 0 → Stopped → Type 0

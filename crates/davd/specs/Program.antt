@@ -11,7 +11,7 @@ use Rattle.dav_server.specs.Exchanges.{Runs}
 use Rattle.dav_server.specs.State.{ServerState, first_rules, first_state}
 use Rattle.davd.specs.Options.{OptionsValue, options_of}
 use Rattle.davd.specs.declared.program.Stopped.{Stopped}
-use Rattle.davd.specs.declared.program.Stopped.TheVariants.{Usage, Stream, Memory, NotAStore, InUse, Disk, Full, NotKept}
+use Rattle.davd.specs.declared.program.Stopped.TheVariants.{Usage, Stream, Memory, NotAStore, InUse, Disk, Full, NotKept, Damaged}
 
 -- a run with these options, which begins with a store that has only its root, without locks, at time 0 and before batch 1
 pub record ServesWith {M B : Type 0} (medium : Ghosts M B) (options : OptionsValue) (input input' output output' : Option (List ℕ)) : Type 0 where
@@ -32,12 +32,17 @@ pub record ServesAll {M B : Type 0} (medium : Ghosts M B) (arguments : List (Lis
 abbrev pub HaveNoFolder : List (List ℕ) → Type 0
 HaveNoFolder arguments = (options : OptionsValue) → options_of arguments ≡ Some options → options.folder ≡ None
 
+-- the arguments say that a folder is checked, and not served
+abbrev pub DoCheck : List (List ℕ) → Type 0
+DoCheck arguments = (options : OptionsValue) × (folder : List ℕ) × (options_of arguments ≡ Some options) × (options.checks ≡ true) × (options.folder ≡ Some folder)
+
 -- another reason than wrong arguments
 abbrev pub IsNotUsage : Stopped → Type 0
 IsNotUsage stopped = stopped ≡ Usage → ⊥
 
 -- the exit status: 0 at the end of the input, 2 for wrong arguments, 3 if a stream failed or memory ran out; over a folder 4 if it is not one of a store,
--- 5 if it is in use, 6 if its disk fails, 7 if the disk is full, and 8 if a batch is not kept for another reason
+-- 5 if it is in use, 6 if its disk fails, 7 if the disk is full, and 8 if a batch is not kept for another reason; 1 if a check
+-- has found a damaged file
 abbrev pub status_of : Result (Unit {0}) Stopped → ℕ
 status_of (Ok done) = 0
 status_of (Err Usage) = 2
@@ -48,3 +53,4 @@ status_of (Err InUse) = 5
 status_of (Err (Disk error)) = 6
 status_of (Err Full) = 7
 status_of (Err NotKept) = 8
+status_of (Err Damaged) = 1

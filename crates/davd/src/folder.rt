@@ -1,8 +1,23 @@
 //! A store in a folder.
-ghost use Rattle.std.specs.Prelude.{◌≡◌, true, false, IfOk, OnOk, IfErr, string_bytes};
+ghost use Rattle.std.specs.Prelude.{◌≡◌, true, false, Some, IfOk, OnOk, OnErr, IfErr, string_bytes};
 ghost use Rattle.std.specs.Io.KnownBytes.{IsAtEnd};
+ghost use Rattle.std.specs.Option.{option_map};
+ghost use Rattle.sqlite.specs.Files.{file_state};
+ghost use Rattle.sqlite.specs.Held.{state};
+ghost use Rattle.sqlite.specs.State.{HasCleanDisk};
+ghost use Rattle.sqlite.specs.WalFiles.{image_at};
+ghost use Rattle.dav_folder.specs.Folders.{keeping_of};
+ghost use Rattle.dav_folder.specs.Lasting.{HasCleanDatabase};
+ghost use Rattle.dav_folder.specs.Opening.{Opens, HasBytes};
+ghost use Rattle.dav_keep.specs.Images.{Image};
+ghost use Rattle.dav_keep.specs.Keeping.{connection_of};
+ghost use Rattle.dav_keep.specs.Loading.{AreRowsOfImage};
+ghost use Rattle.dav_rows.specs.Contents.{Contents};
+ghost use Rattle.dav_rows.specs.Saving.{IsAt};
+ghost use Rattle.dav_rows_files.specs.Starting.{Finds, BeginsAt};
 ghost use Rattle.dav_server.specs.State.{first_rules};
-ghost use Rattle.davd.specs.Folder.{ServesOpened};
+ghost use Rattle.dav_tree.specs.TreeFs.{memory_of};
+ghost use Rattle.davd.specs.Folder.{FindsKept, FindsFirst, BeginsFirst, ServesOpened, StopsOpened};
 ghost use Rattle.davd.specs.Program.{IsNotUsage};
 
 use crate::program::Stopped;
@@ -15,44 +30,54 @@ use dav_rows::{Rows, StartError};
 use dav_rows_files::start;
 use dav_server::{Options, Server};
 use dav_store_rows::SaveError;
-use sqlite::{Alter, Connection, Error, ErrorCode, FileFrom, FileStore, Unknown};
+use sqlite::{Alter, Connection, Error, ErrorCode, FileFrom, FileStore, Start};
 use sqlite_disk::{Disk, Files};
 use std::alloc::Global;
 use std::fs;
 use std::hash::{BuildHasher, RandomState};
 use std::io::{self, ErrorKind, Read, Write};
 
-/// A store in two files of the system. Beside the data file, a third one keeps room back.
-pub type OpenedFiles = OpenedOver<FileStore<FileFrom<Unknown>>, FileFrom<Unknown>>;
+/// A store in the files of a database and a data file, beside which a third one keeps room back.
+pub type OpenedFiles<R, T> = OpenedOver<FileStore<FileFrom<R>>, FileFrom<T>>;
 
 /// A store in a database and a data file, beside which room is kept back on such a disk.
 type OpenedOver<S, D> = Opened<S, DataFile<Reserved<D, D>>>;
 
 /// Opens the store of a folder, or makes a new one if the folder is not there or is empty. Its database is `meta.db`, and
 /// its data file is `data`. Beside that, `data-wal` keeps room back: when the disk is full, it is emptied, and the database
-/// has its room.
+/// has its room. `left` and `file` stand for what the files of the database and the data file held.
+///
+/// If they held a store, it is found. If they held no table, a new store is found.
 ///
 /// Errors: `NotAStore` if it has another database, or rows that are not those of a store; `InUse` if another process has it
 /// open; `Disk` if it cannot be read or written; `Memory`.
-pub fn open_folder(
+pub fn open_folder<R: Start, T: Start>(
     rt: &HostRuntime,
     folder: &str,
     quota: Option<u64>,
-) -> Result<OpenedFiles, Stopped>
-    ensures { IfErr result IsNotUsage }
+    left: R,
+    file: T,
+) -> Result<OpenedFiles<R, T>, Stopped>
+    ensures kept { IfOk result (FindsKept (image_at R.Start) T.Start.db quota) }
+    ensures new { IfOk result (FindsFirst (image_at R.Start) quota) }
+    ensures err { IfErr result IsNotUsage }
 {
     make_folder(rt, folder)?;
-    let (conn, rows) = open_rows(rt, folder)?;
+    let (conn, rows) = open_rows(rt, folder, left)?;
     let path = format!(in rt.alloc(); "{folder}/data")?;
-    let files = sqlite_std_file::open(rt, path.as_str(), Unknown)?;
+    let files = sqlite_std_file::open(rt, path.as_str(), file)?;
     open_over(rt.alloc(), conn, rows, files, quota)
 }
 
 /// Opens the database of a folder, or makes that of a new store. Errors are as for `open_folder`.
-fn open_rows(
+fn open_rows<R: Start>(
     rt: &HostRuntime,
     folder: &str,
-) -> Result<(Connection<FileStore<FileFrom<Unknown>>>, Rows), Stopped>
+    left: R,
+) -> Result<(Connection<FileStore<FileFrom<R>>>, Rows), Stopped>
+    ensures found { IfOk result (λ opened. Finds (image_at R.Start) (file_state opened.0) opened.1) }
+    ensures begins { IfOk result (λ opened. BeginsAt (image_at R.Start) (file_state opened.0)) }
+    ensures new { IfOk result (λ opened. BeginsFirst (image_at R.Start) (file_state opened.0) opened.1) }
     ensures idle { IfOk result (λ opened. opened.0.in_transaction ≡ false) }
     ensures err { IfErr result IsNotUsage }
 {
@@ -60,7 +85,7 @@ fn open_rows(
     let key = RandomState::new(rt)?.hash_one(&0u8) >> 1;
     let changes = first_changes(alloc, key)?;
     let path = format!(in alloc; "{folder}/meta.db")?;
-    Ok(start(rt, path.as_str(), Unknown, &changes)?)
+    Ok(start(rt, path.as_str(), left, &changes)?)
 }
 
 /// Opens the store of these rows and of a data file. The file that comes with it keeps room back. Errors are as for
@@ -75,10 +100,26 @@ fn open_over<S: Alter + Drop, D: Disk + Drop>(
     requires idle { conn.in_transaction ≡ false }
     requires usable { D.Disk.is_usable files.db ≡ true }
     requires reserve { D.Disk.is_usable files.log ≡ true }
-    ensures { IfErr result IsNotUsage }
+    ensures same { IfOk result (λ opened. connection_of (keeping_of opened.folder) ≡ conn) }
+    ensures opened { (image : Image) (tables : Contents) → AreRowsOfImage rows image tables
+        → (HasCleanDisk (state S.Store conn) → IsAt (state S.Store conn) tables) → IfOk result (Opens image) }
+    ensures bytes { (image : Image) (tables : Contents) → AreRowsOfImage rows image tables → IfOk result (HasBytes (D.Disk.seen files.db) image) }
+    ensures limit { (image : Image) (tables : Contents) → AreRowsOfImage rows image tables
+        → IfOk result (λ opened. (memory_of opened.store).limit ≡ option_map Some quota) }
+    ensures err { IfErr result IsNotUsage }
 {
     let disk = Reserved::new(files.db, files.log, ROOM);
-    Ok(open_store(alloc, conn, rows, disk, quota.map(Some))?)
+    Ok(open_store(alloc, conn, rows, disk, limit_of(quota))?)
+}
+
+/// Returns the limit of a store with this quota, or of one without.
+fn limit_of(quota: Option<u64>) -> Option<Option<u64>>
+    ensures { result ≡ option_map Some quota }
+{
+    match quota {
+        Some(bytes) => Some(Some(bytes)),
+        None => None,
+    }
 }
 
 /// Makes a folder, unless there is something of this name.
@@ -104,6 +145,9 @@ pub fn serve_opened<S: Alter, D: Roomy + Drop, I: Read, O: Write>(
 ) -> Result<(), Stopped>
     ensures served { OnOk result (ServesOpened (first_rules (string_bytes options.prefix) options.anyone_unlocks) opened.old opened.new.folder
         (I.remaining input.old) (I.remaining input.new) (O.contents output.old) (O.contents output.new)) }
+    ensures stopped { OnErr result (StopsOpened (first_rules (string_bytes options.prefix) options.anyone_unlocks) opened.old opened.new.folder
+        (O.contents output.old) (O.contents output.new)) }
+    ensures clean { HasCleanDatabase opened.new.folder → HasCleanDatabase opened.old.folder }
     ensures end { OnOk result (IsAtEnd (I.remaining input.new)) }
     ensures err { IfErr result IsNotUsage }
 {

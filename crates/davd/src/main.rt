@@ -1,6 +1,9 @@
 //! `davd [-prefix PREFIX] [-anyone-unlocks] [-max-batch BYTES] [-quota BYTES] [FOLDER]`: serves WebDAV requests. The
 //! requests come as frames on standard input, and the replies go to standard output.
 //!
+//! `davd --check FOLDER`: reads every byte of every file in a folder, and writes a line on standard output for each file that
+//! cannot be read, and last how many files and bytes there are. It serves nothing and reads no input.
+//!
 //! - `-prefix` is the path prefix of the server's URLs. Without it the prefix is empty.
 //! - With `-anyone-unlocks` any principal may remove and refresh the locks of others.
 //! - `-max-batch` is the number of bytes that the content of a batch may have, 1 GiB without it.
@@ -16,16 +19,18 @@
 //!
 //! Exit statuses, of which one line on standard error says why:
 //!
-//! - 0 at the end of the input.
+//! - 0 at the end of the input, or if a check has found no damage.
+//! - 1 if a check has found a damaged file.
 //! - 2 for wrong arguments.
 //! - 3 if a stream fails, if the input ends inside a batch, or if memory runs out at the start.
 //! - 4 if the folder is not one of a store, or is damaged. It is left as it was.
 //! - 5 if another process has the folder open.
-//! - 6 if the folder cannot be read or written at the start.
+//! - 6 if the folder cannot be read or written at the start, or if there is none to check.
 //! - 7 if a batch cannot be kept because the disk is full, and 8 if it cannot be kept for another reason. The batch is
 //!   not answered.
 #![tactic(auto)]
 
+mod checking;
 mod folder;
 mod options;
 mod program;
@@ -60,6 +65,3 @@ fn arguments_of(rt: &HostRuntime) -> Result<Vec<String>, Stopped> {
         Err(error) => Err(error.into()),
     }
 }
-
-#[cfg(test)]
-mod tests;

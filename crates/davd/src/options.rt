@@ -2,7 +2,7 @@
 ghost use Rattle.std.specs.Prelude.{◌≡◌, Some, None, IfOk, IfErr, OnOk, IsOk, IsErr};
 ghost use Rattle.dav_resource.specs.PathText.{read_prefix};
 ghost use Rattle.dav_resource.specs.Texts.{texts};
-ghost use Rattle.davd.specs.Options.{IsFault, first_options, options_of, value_of, with_value, with_folder, is_folder};
+ghost use Rattle.davd.specs.Options.{IsFault, first_options, options_of, server_options_of, check_of, value_of, with_value, with_folder, is_folder};
 
 use crate::program::Stopped;
 use dav_headers::read_number;
@@ -23,6 +23,8 @@ pub struct ProgramOptions {
     pub quota: Option<u64>,
     /// The folder in which everything is kept. `None` keeps everything in memory alone.
     pub folder: Option<String>,
+    /// Whether the folder is checked, and nothing is served.
+    pub checks: bool,
 }
 
 impl ProgramOptions {
@@ -38,6 +40,7 @@ impl ProgramOptions {
             },
             quota: None,
             folder: None,
+            checks: false,
         }
     }
 
@@ -88,6 +91,36 @@ fn is_folder(name: &str) -> bool
 pub fn read_options(alloc: Global, arguments: &[String]) -> Result<ProgramOptions, Stopped>
     ensures ok { IfOk result (λ options. options_of (texts arguments.now) ≡ Some (value_of options)) }
     ensures err { IfErr result (IsFault (options_of (texts arguments.now) ≡ None)) }
+{
+    match arguments {
+        [name, folder] => {
+            if name.as_str() == "--check" {
+                read_check(alloc, folder.as_str())
+            } else {
+                read_server_options(alloc, arguments)
+            }
+        }
+        [] => read_server_options(alloc, arguments),
+        [_] => read_server_options(alloc, arguments),
+        [_, _, _, ..] => read_server_options(alloc, arguments),
+    }
+}
+
+/// Returns the options of a check of this folder. Errors: `Usage` if the name is empty or begins with `-`; `Memory`.
+fn read_check(alloc: Global, folder: &str) -> Result<ProgramOptions, Stopped>
+    ensures ok { IfOk result (λ options. check_of folder.now ≡ Some (value_of options)) }
+    ensures err { IfErr result (IsFault (check_of folder.now ≡ None)) }
+{
+    let mut options = ProgramOptions::new(alloc);
+    options.set_folder(alloc, folder)?;
+    options.checks = true;
+    Ok(options)
+}
+
+/// Reads the options of a server from the arguments. Errors: `Usage` if they are wrong, and `Memory`.
+fn read_server_options(alloc: Global, arguments: &[String]) -> Result<ProgramOptions, Stopped>
+    ensures ok { IfOk result (λ options. server_options_of (texts arguments.now) ≡ Some (value_of options)) }
+    ensures err { IfErr result (IsFault (server_options_of (texts arguments.now) ≡ None)) }
 {
     let mut options = ProgramOptions::new(alloc);
     let mut rest = arguments;

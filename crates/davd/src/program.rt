@@ -6,14 +6,16 @@ ghost use Rattle.dav_resource.specs.Texts.{texts};
 ghost use Rattle.dav_tree.specs.TreeFs.{memory_of};
 ghost use Rattle.dav_tree.specs.Memory.{first_memory};
 ghost use Rattle.davd.specs.Options.{options_of, value_of};
-ghost use Rattle.davd.specs.Program.{HaveNoFolder, ServesAll, ServesWith, IsNotUsage, status_of};
+ghost use Rattle.davd.specs.Program.{DoCheck, HaveNoFolder, ServesAll, ServesWith, IsNotUsage, status_of};
 
+use crate::checking::check_folder;
 use crate::folder::{open_folder, serve_opened};
 use crate::options::{ProgramOptions, read_options};
 use dav_memls::MemLs;
 use dav_resource::{FsError, FsResult};
 use dav_server::Server;
 use dav_tree::{InMemory, Medium, MemFs};
+use sqlite::Unknown;
 use std::alloc::{AllocError, AllocFailed, Global};
 use std::io::{self, ErrorKind, Read, Write};
 
@@ -36,6 +38,8 @@ pub enum Stopped {
     Full,
     /// A batch cannot be kept for another reason.
     NotKept,
+    /// A check has found a damaged file.
+    Damaged,
 }
 
 impl From<io::Error> for Stopped {
@@ -79,11 +83,13 @@ impl From<FsError> for Stopped {
     }
 }
 
-/// Serves the batches of the input, with the options that the arguments say, until the input ends.
+/// Serves the batches of the input, with the options that the arguments say, until the input ends. Or checks a folder, and
+/// reads no input, if the arguments say so.
 ///
 /// Errors: `Usage` if the arguments are wrong; `Memory` if memory runs out before the first batch; `Stream` if a stream
-/// fails, or if the input ends inside a batch; over a folder those of `open_folder` and `serve_opened`. With wrong
-/// arguments nothing is read or written.
+/// fails, or if the input ends inside a batch; over a folder those of `open_folder` and `serve_opened`; of a check those of
+/// `check_folder`. With wrong arguments nothing is read or written. What the files of a folder held is not known here, so
+/// `Unknown` stands for it.
 pub fn run_program<I: Read, O: Write>(
     rt: &HostRuntime,
     arguments: &[String],
@@ -91,7 +97,8 @@ pub fn run_program<I: Read, O: Write>(
     output: &mut O,
 ) -> Result<(), Stopped>
     ensures served { HaveNoFolder (texts arguments.now) → OnOk result (ServesAll ⟦<InMemory as Medium>⟧ (texts arguments.now) (I.remaining input.old) (I.remaining input.new) (O.contents output.old) (O.contents output.new)) }
-    ensures end { OnOk result (IsAtEnd (I.remaining input.new)) }
+    ensures end { OnOk result (DoCheck (texts arguments.now) ⊎ IsAtEnd (I.remaining input.new)) }
+    ensures checked { DoCheck (texts arguments.now) → input.new ≡ input.old }
     ensures usage { result ≡ Err Stopped.Usage → options_of (texts arguments.now) ≡ None }
     ensures wrong { options_of (texts arguments.now) ≡ None → (result ≡ Err Stopped.Usage) ⊎ (result ≡ Err Stopped.Memory) }
     ensures unread { options_of (texts arguments.now) ≡ None → input.new ≡ input.old }
@@ -101,7 +108,10 @@ pub fn run_program<I: Read, O: Write>(
     let options = read_options(alloc, arguments)?;
     match &options.folder {
         Some(folder) => {
-            let mut opened = open_folder(rt, folder.as_str(), options.quota)?;
+            if options.checks {
+                return check_folder(rt, folder.as_str(), output);
+            }
+            let mut opened = open_folder(rt, folder.as_str(), options.quota, Unknown, Unknown)?;
             serve_opened(alloc, &mut opened, options.server, input, output)
         }
         None => serve_in_memory(alloc, options, input, output),
@@ -166,6 +176,7 @@ fn exit_status(stopped: &Stopped) -> u8
         Stopped::Disk(_) => 6,
         Stopped::Full => 7,
         Stopped::NotKept => 8,
+        Stopped::Damaged => 1,
     }
 }
 
@@ -173,7 +184,7 @@ fn exit_status(stopped: &Stopped) -> u8
 fn line_of(stopped: &Stopped) -> &'static str {
     match stopped {
         Stopped::Usage =>
-            "usage: davd [-prefix PREFIX] [-anyone-unlocks] [-max-batch BYTES] [-quota BYTES] [FOLDER]",
+            "usage: davd [-prefix PREFIX] [-anyone-unlocks] [-max-batch BYTES] [-quota BYTES] [FOLDER]\n       davd --check FOLDER",
         Stopped::Stream(error) => cause_of(error),
         Stopped::Memory => "davd: out of memory",
         Stopped::NotAStore => "davd: the folder is not one of davd, or it is damaged",
@@ -181,6 +192,7 @@ fn line_of(stopped: &Stopped) -> &'static str {
         Stopped::Disk(_) => "davd: the folder cannot be read or written",
         Stopped::Full => "davd: a batch is not kept, because the disk is full",
         Stopped::NotKept => "davd: a batch is not kept",
+        Stopped::Damaged => "davd: a file is damaged",
     }
 }
 
