@@ -7,7 +7,7 @@ from frames import Element
 from random_requests import dav
 
 NUMBERS = (0, 1, 2, 7, 8, 24, 255, 256, 257, 272, 273, 2**16, 2**31, 2**32 - 1, 2**32, 2**48, 2**63 - 1, 2**63)
-BYTES = (0, 1, 2, 3, 4, 5, 6, 7, 8, 0x20, 0x2F, 0x7F, 0x80, 0xC0, 0xED, 0xF4, 0xFF)
+BYTES = (0, 1, 2, 3, 4, 5, 6, 7, 8, 9, 0x20, 0x2F, 0x7F, 0x80, 0xC0, 0xED, 0xF4, 0xFF)
 
 FIELDS = (
     b"if", b"destination", b"lock-token", b"timeout", b"depth", b"if-match", b"if-none-match", b"overwrite",

@@ -96,7 +96,17 @@ class Held:
     pass
 
 
-Frame = Request | StartBody | AddToBody | DropBody | Read | NextExpiry | Held
+@dataclasses.dataclass(frozen=True)
+class BeginBackup:
+    pass
+
+
+@dataclasses.dataclass(frozen=True)
+class EndBackup:
+    pass
+
+
+Frame = Request | StartBody | AddToBody | DropBody | Read | NextExpiry | Held | BeginBackup | EndBackup
 
 
 @dataclasses.dataclass(frozen=True)
@@ -245,6 +255,10 @@ def encode_frame(frame: Frame) -> bytes:
             return b"\5"
         case Held():
             return b"\6"
+        case BeginBackup():
+            return b"\7"
+        case EndBackup():
+            return b"\x08"
 
 
 def quota(value: tuple[int, int | None]) -> bytes:
@@ -386,7 +400,7 @@ class Reader:
                 return Unreadable()
 
     def frame(self) -> Frame:
-        match self.kind(7, "a frame"):
+        match self.kind(9, "a frame"):
             case 0:
                 method, path, principal = self.text(), self.string(), self.optional(self.string)
                 return Request(method, path, principal, self.string(), self.many(self.field), self.body())
@@ -401,8 +415,12 @@ class Reader:
                 return Read(principal, path, self.number(), self.number(), self.optional(self.string))
             case 5:
                 return NextExpiry()
-            case _:
+            case 6:
                 return Held()
+            case 7:
+                return BeginBackup()
+            case _:
+                return EndBackup()
 
     def quota(self) -> tuple[int, int | None]:
         return self.number(), self.optional(self.number)
@@ -492,6 +510,8 @@ FRAMES = [
     Read("p", "/a", 1, GREATEST, '"1"'),
     NextExpiry(),
     Held(),
+    BeginBackup(),
+    EndBackup(),
 ]
 REPLIES = [
     Response(207, False, ((b"etag", b'"1"'),), LEAF),
@@ -512,6 +532,8 @@ REPLIES = [
 WRITTEN = [
     (encode_frame, DropBody(258), b"\3\0\0\0\0\0\0\1\2"),
     (encode_frame, Read(None, "/", 1, 2), b"\4\0" + b"\0" * 7 + b"\1/" + b"\0" * 7 + b"\1" + b"\0" * 7 + b"\2\0"),
+    (encode_frame, BeginBackup(), b"\7"),
+    (encode_frame, EndBackup(), b"\x08"),
     (encode_reply, Failed(507), b"\7\0\0\0\0\0\0\1\xfb"),
     (encode_reply, Expiry(1), b"\5\1\0\0\0\0\0\0\0\1"),
     (tree, Element("n", nodes=("t",)), b"\0" * 7 + b"\1n\0\0" + b"\0" * 8 + b"\2" + b"\0" * 7 + b"\1t\0"),
@@ -567,6 +589,7 @@ def test():
     for attributes in ((("b", ""), ("a", "")), (("a", ""), ("a", ""))):
         assert not is_read(decode_frame, encode_frame(Request(b"LOCK", "/", body=Element("x", attributes=attributes))))
     assert not is_read(decode_frame, encode_frame(Read(None, "/", 0, 0)).replace(b"/", b"\xff"))
+    assert not any(is_read(decode_frame, bytes([kind])) for kind in range(9, 256))
     batches = [ReplyBatch(1, 200, tuple(map(encode_reply, REPLIES))), ReplyBatch(3, 409, ())]
     assert decode_reply_batches(b"".join(map(encode_reply_batch, batches))) == batches
     content = encode_content([encode_frame(it) for it in FRAMES])

@@ -91,7 +91,7 @@ class Batches:
         return content[:8] + frames.number(frames.GREATEST - self.chance.randrange(20)) + content[16:]
 
     def items(self) -> list[Item]:
-        kinds = {"request": 70, "read": 12, "next": 4, "held": 4, "body": 6, "malformed": 6}
+        kinds = {"request": 70, "read": 12, "next": 4, "held": 4, "backup": 2, "body": 6, "malformed": 6}
         kind = self.chance.choices(list(kinds), list(kinds.values()))[0]
         if kind == "malformed":
             return [Item(self.malformed(), None)]
@@ -102,6 +102,9 @@ class Batches:
 
     def framed_held(self) -> list[Framed]:
         return [Framed(frames.Held())]
+
+    def framed_backup(self) -> list[Framed]:
+        return [Framed(self.chance.choice((frames.BeginBackup(), frames.EndBackup())))]
 
     def framed_request(self) -> list[Framed]:
         asked = self.requests.request()
@@ -148,7 +151,7 @@ class Batches:
                     deep = Element("x", nodes=(deep,))
                 encoded = bytearray(frames.encode_frame(frames.Request(b"LOCK", self.prefix + "/a", body=deep)))
             elif encoded:
-                encoded[self.chance.randrange(len(encoded))] = self.chance.choice((0, 1, 5, 7, 128, 255))
+                encoded[self.chance.randrange(len(encoded))] = self.chance.choice((0, 1, 5, 7, 9, 128, 255))
             if not frames.is_read(frames.decode_frame, bytes(encoded)):
                 return bytes(encoded)
 
@@ -243,6 +246,8 @@ class Model:
                     want(reply, frames.Expiry(min(ends, default=None)))
             case frames.Held():
                 self.check_held(reply)
+            case frames.BeginBackup() | frames.EndBackup():
+                want(reply, frames.Done())
             case frames.Request():
                 want_kind(reply, frames.Response)
                 self.check_request(frame, asked, reply)

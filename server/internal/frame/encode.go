@@ -20,6 +20,8 @@ const (
 	frameRead
 	frameNextExpiry
 	frameHeld
+	frameBeginBackup
+	frameEndBackup
 )
 
 func (f Request) appendTo(b []byte) []byte {
@@ -65,6 +67,14 @@ func (NextExpiry) appendTo(b []byte) []byte {
 
 func (Held) appendTo(b []byte) []byte {
 	return append(b, frameHeld)
+}
+
+func (BeginBackup) appendTo(b []byte) []byte {
+	return append(b, frameBeginBackup)
+}
+
+func (EndBackup) appendTo(b []byte) []byte {
+	return append(b, frameEndBackup)
 }
 
 // The first byte of the body of a request.

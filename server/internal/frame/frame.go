@@ -40,7 +40,8 @@ type Field struct {
 	Name, Value string
 }
 
-// A Frame asks davd for something. It is one of Request, StartBody, AddToBody, DropBody, Read, NextExpiry and Held.
+// A Frame asks davd for something. It is one of Request, StartBody, AddToBody, DropBody, Read, NextExpiry, Held,
+// BeginBackup and EndBackup.
 type Frame interface {
 	appendTo(b []byte) []byte
 }
@@ -98,6 +99,12 @@ type NextExpiry struct{}
 
 // Held asks how much is held. The reply is Holdings.
 type Held struct{}
+
+// BeginBackup begins a backup: until it ends, davd overwrites nothing that files contain. The reply is Done.
+type BeginBackup struct{}
+
+// EndBackup ends the backup, if there is one. The reply is Done.
+type EndBackup struct{}
 
 // A Reply answers a frame. It is one of Response, BodyStarted, Done, Part, Collection, Expiry, Holdings and Failed.
 type Reply interface {

@@ -60,8 +60,10 @@ var vectorFrames = map[string]Frame{
 	"read-of-version": Read{
 		Principal: pointer("p"), Path: "/\u00e9", Offset: 1 << 32, Count: greatest, ETag: pointer("5-1"),
 	},
-	"next-expiry": NextExpiry{},
-	"held":        Held{},
+	"next-expiry":  NextExpiry{},
+	"held":         Held{},
+	"begin-backup": BeginBackup{},
+	"end-backup":   EndBackup{},
 }
 
 var vectorReplies = map[string]Reply{

@@ -41,6 +41,8 @@ FRAMES = {
     "read-of-version": frames.Read("p", "/\u00e9", 2**32, frames.GREATEST, "5-1"),
     "next-expiry": frames.NextExpiry(),
     "held": frames.Held(),
+    "begin-backup": frames.BeginBackup(),
+    "end-backup": frames.EndBackup(),
 }
 
 REPLIES = {
