@@ -39,7 +39,8 @@ type Options struct {
 	// Quota is how many bytes all files may have together. 0: no limit.
 	Quota int64
 	// Memory is how many bytes the address space of davd may have. When they are used up, requests fail with 507. 0: no
-	// limit.
+	// limit. Over a folder it applies once the folder is loaded, and davd may have four times as many before. If it has
+	// more after that, each request that may add something fails with 507.
 	Memory int64
 	// StallTimeout is how long a client may take to send or to receive a part of a body. 0: one minute. It needs
 	// ConnContext in the http.Server.

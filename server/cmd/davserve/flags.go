@@ -21,6 +21,7 @@ type config struct {
 	options davserve.Options
 
 	listen         string
+	socket         string
 	users          string
 	realm          string
 	userHeader     string
@@ -66,11 +67,23 @@ func (p *prefixes) Set(text string) error {
 	return nil
 }
 
+const usage = `usage: davserve [OPTIONS]
+       davserve backup [-folder FOLDER | -socket PATH] TARGET
+
+The first serves WebDAV, with these options. The second makes a backup of what a
+server keeps in its folder, while it serves: davserve backup -h.
+
+`
+
 // parse reads the command line. What is wrong with it, or the help that it asks for, is written to the output.
 func parse(arguments []string, output io.Writer) (config, error) {
 	c := config{options: davserve.Options{MaxBody: 1 << 30, MaxXML: 1 << 20, Memory: 1 << 30}}
 	flags := flag.NewFlagSet("davserve", flag.ContinueOnError)
 	flags.SetOutput(output)
+	flags.Usage = func() {
+		fmt.Fprint(output, usage)
+		flags.PrintDefaults()
+	}
 	c.addServing(flags)
 	c.addUsers(flags)
 	c.addLimits(flags)
@@ -87,7 +100,9 @@ func parse(arguments []string, output io.Writer) (config, error) {
 func (c *config) addServing(flags *flag.FlagSet) {
 	flags.StringVar(&c.listen, "listen", "127.0.0.1:8080", "`address` to listen on")
 	flags.StringVar(&c.options.Davd, "davd", "", "the `program` davd (default: beside this program, or in PATH)")
-	flags.Func("folder", "`folder` in which everything is kept (default: none, and everything is in memory)", c.setFolder)
+	flags.Func("folder", "`folder` in which everything is kept (default: none, and everything is in memory)",
+		notEmpty(&c.options.Folder))
+	flags.Func("socket", "`path` of the socket for davserve backup (default: control in the folder)", notEmpty(&c.socket))
 	flags.StringVar(&c.options.Prefix, "prefix", "", "what the path of each URL begins with, such as /dav")
 	flags.StringVar(&c.options.PublicURL, "public-url", "", "the `URL` by which clients reach a server behind a proxy")
 	flags.StringVar(&c.cert, "cert", "", "`file` with the certificates for TLS, in PEM")
@@ -96,13 +111,21 @@ func (c *config) addServing(flags *flag.FlagSet) {
 	flags.BoolVar(&c.version, "version", false, "print the version and end")
 }
 
-// setFolder sets the folder. An empty one would be none: a script with an empty variable would lose all files.
-func (c *config) setFolder(name string) error {
-	if name == "" {
-		return errors.New("the name is empty")
+// notEmpty sets the name of a file or a folder. An empty one would be none: a script with an empty variable would lose
+// all files.
+func notEmpty(name *string) func(string) error {
+	return func(value string) error {
+		if value == "" {
+			return errors.New("the name is empty")
+		}
+		*name = value
+		return nil
 	}
-	c.options.Folder = name
-	return nil
+}
+
+// socketIn returns the path of the socket of a server over a folder.
+func socketIn(folder string) string {
+	return filepath.Join(folder, "control")
 }
 
 func (c *config) addUsers(flags *flag.FlagSet) {
@@ -135,6 +158,8 @@ func (c *config) check(rest []string) error {
 	switch {
 	case len(rest) > 0:
 		return fmt.Errorf("unknown argument %q", rest[0])
+	case c.socket != "" && c.options.Folder == "":
+		return errors.New("-socket needs -folder")
 	case (c.cert == "") != (c.key == ""):
 		return errors.New("-cert and -key need each other")
 	case c.users != "" && c.userHeader != "":

@@ -14,6 +14,7 @@ import (
 	"davserve"
 	"davserve/internal/accesslog"
 	"davserve/internal/auth"
+	"davserve/internal/control"
 	"davserve/internal/cors"
 	"davserve/internal/limit"
 )
@@ -36,6 +37,11 @@ func serve(ctx context.Context, c config, logger *log.Logger) (err error) {
 		return err
 	}
 	defer func() { err = closeDavd(dav, c.shutdownTimeout, err) }()
+	closeControl, err := c.control(ctx, dav, logger)
+	if err != nil {
+		return err
+	}
+	defer closeControl()
 	handler, err := c.handler(dav, logger)
 	if err != nil {
 		return err
@@ -55,6 +61,36 @@ func serve(ctx context.Context, c config, logger *log.Logger) (err error) {
 	}
 	c.announce(logger, listener.Addr())
 	return c.serveUntil(ctx, server, limit.Listener(listener, c.maxConnections, c.options.StallTimeout))
+}
+
+// control answers the commands of an operator, if there is a folder, until the function that it returns is called. Since
+// davd has the folder open, no other server listens at a socket there. A server that cannot have one there serves without
+// it: its path may be too long, or the disk full.
+func (c *config) control(ctx context.Context, dav *davserve.Handler, logger *log.Logger) (closeControl func(), err error) {
+	none := func() {}
+	if c.options.Folder == "" {
+		return none, nil
+	}
+	socket := c.socket
+	if socket == "" {
+		socket = socketIn(c.options.Folder)
+	}
+	listener, err := control.Listen(socket)
+	switch {
+	case err != nil && c.socket == "":
+		logger.Printf("no backup can be made: %v (-socket names another place)", err)
+		return none, nil
+	case err != nil:
+		return nil, err
+	}
+	server := control.Serve(ctx, listener, dav, c.options.StallTimeout, logger)
+	return func() {
+		ctx, cancel := context.WithTimeout(context.Background(), c.shutdownTimeout)
+		defer cancel()
+		if err := server.Close(ctx); err != nil {
+			logger.Printf("the socket: %v", err)
+		}
+	}, nil
 }
 
 // closeDavd ends davd after the last request.

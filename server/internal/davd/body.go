@@ -37,7 +37,7 @@ func (e *Engine) StartBody(ctx context.Context) (*Body, error) {
 // Add adds a piece at the end of the body. After an error the body lacks it and must not be used any more.
 func (b *Body) Add(ctx context.Context, piece []byte) error {
 	b.buffer = frame.Append(b.buffer[:0], frame.AddToBody{Number: b.number, Bytes: piece})
-	c := &call{frame: b.buffer, only: b.process, upload: true, done: make(chan struct{}, 1), what: "upload"}
+	c := &call{frame: b.buffer, only: b.process, done: make(chan struct{}, 1), what: "upload"}
 	reply, err := b.engine.do(ctx, c)
 	if err != nil {
 		b.buffer = nil // It may still be in the queue.

@@ -18,7 +18,9 @@ type call struct {
 	sentTo *process // the davd that got it last
 	number uint64   // of the batch in which that davd got it
 	reads  bool     // it changes nothing, so that it may be sent again
-	upload bool     // it is about a body, which davd holds in memory
+	lasts  bool     // davd may keep what it does in its folder; otherwise it ends with the davd that gets it
+	adds   bool     // davd may hold more after it
+	frees  bool     // davd may hold less after it
 	again  bool     // it was sent before
 	reply  []byte
 	err    error
@@ -28,11 +30,13 @@ type call struct {
 
 func newCall(f frame.Frame) *call {
 	return &call{
-		frame:  frame.Append(nil, f),
-		reads:  reads(f),
-		upload: isUpload(f),
-		done:   make(chan struct{}, 1),
-		what:   describe(f),
+		frame: frame.Append(nil, f),
+		reads: reads(f),
+		lasts: lasts(f),
+		adds:  adds(f),
+		frees: frees(f),
+		done:  make(chan struct{}, 1),
+		what:  describe(f),
 	}
 }
 
@@ -53,13 +57,34 @@ func reads(f frame.Frame) bool {
 	return false
 }
 
-// isUpload reports whether a frame is about a body that davd holds.
-func isUpload(f frame.Frame) bool {
+// lasts reports whether davd may keep what a frame does in its folder. It holds bodies and the begin of a backup in
+// memory only.
+func lasts(f frame.Frame) bool {
 	switch f.(type) {
-	case frame.StartBody, frame.AddToBody, frame.DropBody:
+	case frame.StartBody, frame.AddToBody, frame.DropBody, frame.BeginBackup, frame.EndBackup:
+		return false
+	}
+	return true
+}
+
+// adds reports whether davd may hold more after a frame. Without a body a LOCK refreshes one.
+func adds(f frame.Frame) bool {
+	switch f := f.(type) {
+	case frame.StartBody:
 		return true
+	case *frame.Request:
+		if f.Method == "LOCK" {
+			return f.Body != nil
+		}
+		return !reads(f) && !frees(f)
 	}
 	return false
+}
+
+// frees reports whether davd may hold less after a frame.
+func frees(f frame.Frame) bool {
+	request, ok := f.(*frame.Request)
+	return ok && (request.Method == "DELETE" || request.Method == "UNLOCK")
 }
 
 // describe names a frame in the log.
@@ -69,9 +94,10 @@ func describe(f frame.Frame) string {
 		return f.Method + " " + f.Path
 	case frame.Read:
 		return "read " + f.Path
-	}
-	if isUpload(f) {
+	case frame.StartBody, frame.AddToBody, frame.DropBody:
 		return "upload"
+	case frame.BeginBackup, frame.EndBackup:
+		return "backup"
 	}
 	return "query"
 }

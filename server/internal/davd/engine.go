@@ -32,6 +32,8 @@ var (
 	ErrDown = errors.New("davd does not run")
 	// ErrClosed says that the engine is closed.
 	ErrClosed = errors.New("the engine is closed")
+	// ErrInBackup says that a backup is under way.
+	ErrInBackup = errors.New("another backup is under way")
 )
 
 // Errors of a start over a folder.
@@ -44,7 +46,10 @@ var (
 	ErrNoAccess = errors.New("the folder cannot be read or written")
 )
 
-// A StatusError is the reply of davd to a frame that failed.
+// errNoMemory fails a frame that would add something to a davd that is full.
+var errNoMemory = &StatusError{Status: 507}
+
+// A StatusError is the reply of davd to a frame that failed, or 507 in its place if davd has no memory for the frame.
 type StatusError struct {
 	Status int // an HTTP status
 }
@@ -59,7 +64,7 @@ type Config struct {
 	Program string   // a path, or a name to look up in PATH
 	Args    []string // as docs/FRAMES.md lists them
 	Folder  string   // the folder that it keeps, its last argument; empty: it holds everything in memory
-	Memory  int64    // limit of its address space in bytes; 0: none
+	Memory  int64    // limit of its address space in bytes, over a folder once it is loaded; 0: none
 	Log     *log.Logger
 
 	pauses pauses // zero: the defaults
@@ -85,7 +90,10 @@ type Engine struct {
 	outage  *outage  // nil: no call waits for the next davd over a folder
 	pausing bool     // davd does not run, and calls fail until it does
 	closing bool
-	writing bool // somebody writes a batch
+	writing bool          // somebody writes a batch
+	paused  bool          // no batch is sent
+	idle    chan struct{} // closed when davd, in a pause, has answered what it was sent; nil: nobody waits for that
+	backup  bool          // a backup is under way
 	waiting []*call
 	now     uint64 // the time of the last batch
 	started uint64 // how many times davd was started again
@@ -203,6 +211,8 @@ func (e *Engine) refusal(c *call) error {
 		return c.only.lost
 	case e.pausing:
 		return ErrDown
+	case c.adds && e.process != nil && e.process.isFull && !e.renew():
+		return errNoMemory
 	}
 	return nil
 }
@@ -221,20 +231,22 @@ func (e *Engine) withdraw(c *call) bool {
 }
 
 // next takes a batch from the queue for the caller to write, or returns nil: if nothing waits, if somebody writes
-// already, or if enough batches are under way. It is called with e.mu held.
+// already, in a pause, or if enough batches are under way. It is called with e.mu held.
 func (e *Engine) next() *batch {
 	p := e.process
-	if p == nil || e.writing || len(e.waiting) == 0 || len(p.sent) == cap(p.sent) {
+	if p == nil || p.renewed || e.writing || e.paused || len(e.waiting) == 0 || len(p.sent) == cap(p.sent) {
 		return nil
 	}
 	e.writing = true
 	e.now = later(e.now, time.Now())
 	p.number++
+	p.pending++
 	b := &batch{process: p, number: p.number, now: e.now}
 	b.written.Add(1)
 	b.calls, e.waiting = cut(e.waiting)
 	for _, c := range b.calls {
 		c.sentTo, c.number = p, b.number
+		p.removed = p.removed || c.frees
 	}
 	p.sent <- b
 	return b
@@ -248,7 +260,7 @@ func (e *Engine) write(b *batch) {
 	b.written.Done()
 	e.mu.Lock()
 	e.writing = false
-	if e.closing {
+	if e.closing || b.process.renewed {
 		b.process.input.Close()
 	}
 	more := e.next()
@@ -258,9 +270,13 @@ func (e *Engine) write(b *batch) {
 	}
 }
 
-// wake writes what waits, after a batch was answered.
-func (e *Engine) wake() {
+// answered counts a batch as answered, and writes what waits.
+func (e *Engine) answered(p *process) {
 	e.mu.Lock()
+	if p.pending--; p.pending == 0 && e.idle != nil {
+		close(e.idle)
+		e.idle = nil
+	}
 	b := e.next()
 	e.mu.Unlock()
 	if b != nil {
@@ -274,6 +290,41 @@ func (e *Engine) failWaiting(err error) {
 		c.finish(nil, err)
 	}
 	e.waiting = nil
+}
+
+// loadPart is how many times as long as it has loaded its folder a davd serves at least that is full.
+const loadPart = 10
+
+// renew has a davd that is full end, if something was removed from its folder and it has run for some time. It reports
+// whether the next one will follow, which may need less memory. It is called with e.mu held.
+func (e *Engine) renew() bool {
+	p := e.process
+	if p.renewed {
+		return true
+	}
+	// All requests wait for a start. So it takes at most a small part of the time.
+	least := e.config.pauses.full + loadPart*p.loaded.Sub(p.began)
+	if !p.removed || e.backup || e.paused || time.Since(p.loaded) < least {
+		return false
+	}
+	p.renewed = true
+	if !e.writing {
+		p.input.Close() // davd ends when it has answered what it was sent.
+	}
+	return true
+}
+
+// failAdditions fails each call that waits and would add something. It is called with e.mu held.
+func (e *Engine) failAdditions() {
+	var others []*call
+	for _, c := range e.waiting {
+		if c.adds {
+			c.finish(nil, errNoMemory)
+		} else {
+			others = append(others, c)
+		}
+	}
+	e.waiting = others
 }
 
 // later returns the time in seconds since 1970, or an earlier result if the clock went back.

@@ -9,6 +9,7 @@ import (
 // exitReasons are why davd ended, by its exit status. Those from 4 on are of a davd over a folder.
 var exitReasons = map[int]error{
 	2: errors.New("davd rejects its arguments"),
+	3: errors.New("its memory ran out at the start, or a stream failed"),
 	4: ErrNoStore,
 	5: ErrInUse,
 	6: ErrNoAccess,

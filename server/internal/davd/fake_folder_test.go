@@ -11,7 +11,7 @@ import (
 )
 
 // A fakeFolder is what fake davds keep: numbers in files. The file last has the number of the last batch that was kept,
-// and starts how many davds were started.
+// starts how many davds were started, and backup whether one is under way.
 type fakeFolder string
 
 func (f fakeFolder) get(name string) uint64 {
@@ -37,6 +37,7 @@ func (f fakeFolder) set(name string, n uint64) {
 func fakeOver(folder fakeFolder, acts []string) {
 	starts := int(folder.get("starts"))
 	folder.set("starts", uint64(starts+1))
+	folder.set("backup", 0)
 	if starts >= len(acts) {
 		starts = len(acts) - 1
 	}
@@ -59,14 +60,24 @@ func fakeOver(folder fakeFolder, acts []string) {
 		case number != folder.get("last")+1:
 			writeReplies(folder.get("last"), 409, nil)
 			continue
-		case act == "ends" && frames[0][0] != 1: // not at the beginning of a body
+		case act == "ends" && frames[0][0] != 1 && frames[0][0] != 7: // not at the begin of a body or a backup
 			os.Exit(exit)
 		}
 		folder.set("last", number)
+		folder.noteBackup(frames)
 		if frames[0][0] == 0 { // a request
 			endKept(act, number, frames)
 		}
 		writeReplies(number, 200, replies(frames))
+	}
+}
+
+// noteBackup keeps whether a backup is under way after these frames.
+func (f fakeFolder) noteBackup(frames [][]byte) {
+	for _, asked := range frames {
+		if asked[0] == 7 || asked[0] == 8 {
+			f.set("backup", 8-uint64(asked[0]))
+		}
 	}
 }
 

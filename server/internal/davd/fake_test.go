@@ -44,6 +44,8 @@ func fake(how string) {
 		case how == "no memory for a drop" && frames[0][0] == 3:
 			os.Stderr.WriteString("a body is dropped\n")
 			writeReplies(number, 200, replies(frames))
+		case how == "no memory for an end" && frames[0][0] == 8 && count < 5:
+			writeReplies(number, 507, nil)
 		case how == "no memory":
 			writeReplies(number, 507, nil)
 		case how == "too few":
@@ -104,7 +106,7 @@ func replies(frames [][]byte) [][]byte {
 			reply = append(numbered(0, 201), make([]byte, 1+8+1)...)
 		case 1:
 			reply = numbered(1, uint64(os.Getpid()))
-		case 2, 3:
+		case 2, 3, 7, 8:
 			reply = []byte{2}
 		case 6:
 			reply = append(numbered(6, uint64(len(frames))), 1)

@@ -12,14 +12,18 @@ import (
 // errStopped says that nobody waits for the start any more.
 var errStopped = errors.New("it was stopped")
 
-// open starts davd. Over a folder it waits until davd has named the last batch that it kept. It gives up when stop is
-// closed.
+// open starts davd. Over a folder it waits until davd has named the last batch that it kept, and then limits its memory.
+// It gives up when stop is closed.
 func open(config Config, stop <-chan struct{}, now uint64) (*process, error) {
 	p, err := start(config)
 	if err != nil || config.Folder == "" {
 		return p, err
 	}
-	if err := p.greet(stop, config.pauses.load, now); err != nil {
+	err = p.greet(stop, config.pauses.load, now)
+	if err == nil {
+		err = p.limitMemory(config)
+	}
+	if err != nil {
 		p.kill()
 		return nil, fmt.Errorf("davd cannot serve the folder %s: %w", config.Folder, whyNot(err, p.wait()))
 	}
@@ -65,7 +69,7 @@ func (p *process) ask(now uint64) error {
 	if header.Status != statusNotNext || header.Count != 0 {
 		return fmt.Errorf("batch 0 has the status %d and %d replies", header.Status, header.Count)
 	}
-	p.number = header.Number
+	p.number, p.loaded = header.Number, time.Now()
 	return nil
 }
 

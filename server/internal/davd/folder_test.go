@@ -329,7 +329,7 @@ func TestStartSaysWhyAFolderIsNotServed(t *testing.T) {
 		says string
 	}{
 		{"ends at the start with 2", nil, "davd rejects its arguments"},
-		{"ends at the start with 3", nil, "exit status 3"},
+		{"ends at the start with 3", nil, "its memory ran out at the start, or a stream failed (exit status 3)"},
 		{"ends at the start with 4", ErrNoStore, "exit status 4"},
 		{"ends at the start with 5", ErrInUse, "the folder is in use by another process (exit status 5)"},
 		{"ends at the start with 6", ErrNoAccess, "exit status 6"},

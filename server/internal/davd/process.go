@@ -8,8 +8,8 @@ import (
 	"io"
 	"log"
 	"os/exec"
-	"strconv"
 	"syscall"
+	"time"
 
 	"davserve/internal/frame"
 )
@@ -28,10 +28,17 @@ type process struct {
 	input   io.WriteCloser
 	writer  *bufio.Writer
 	reader  *bufio.Reader
-	number  uint64      // of the last batch
-	sent    chan *batch // the batches whose replies were not begun to be read
-	reading *batch      // the batch whose replies are read, or could not be read whole
-	lost    error       // why a call that it has not done failed; set when it has ended
+	began   time.Time     // when it was started
+	loaded  time.Time     // when it had loaded its folder
+	isFull  bool          // it has more memory than it may, so that nothing is added to its folder
+	removed bool          // it was sent what removes something
+	renewed bool          // it gets no more batches and ends, so that the next one needs less memory
+	number  uint64        // of the last batch
+	pending int           // how many batches were sent whose replies were not all read
+	sent    chan *batch   // the batches whose replies were not begun to be read
+	reading *batch        // the batch whose replies are read, or could not be read whole
+	gone    chan struct{} // closed when it has ended
+	lost    error         // why a call that it has not done failed; set before gone is closed
 }
 
 // start starts davd. In a process group of its own it does not get the interrupts of a terminal.
@@ -40,13 +47,7 @@ func start(config Config) (*process, error) {
 	if err != nil {
 		return nil, fmt.Errorf("davd cannot be started: %w", err)
 	}
-	arguments := config.arguments()
-	command := exec.Command(program, arguments...)
-	if config.Memory > 0 {
-		kib := strconv.FormatInt((config.Memory+1023)/1024, 10)
-		limited := append([]string{"-c", `ulimit -v "$1" && shift && exec "$@"`, "sh", kib, program}, arguments...)
-		command = exec.Command("/bin/sh", limited...)
-	}
+	command := config.command(program)
 	command.SysProcAttr = &syscall.SysProcAttr{Setpgid: true}
 	command.Stderr = &lineWriter{log: config.Log}
 	input, err := command.StdinPipe()
@@ -62,10 +63,12 @@ func start(config Config) (*process, error) {
 	}
 	return &process{
 		command: command,
+		began:   time.Now(),
 		input:   input,
 		writer:  bufio.NewWriterSize(input, bufferSize),
 		reader:  bufio.NewReaderSize(output, bufferSize),
 		sent:    make(chan *batch, underWay),
+		gone:    make(chan struct{}),
 	}, nil
 }
 

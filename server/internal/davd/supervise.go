@@ -14,6 +14,7 @@ type pauses struct {
 	long            time.Duration // a davd that ran for so long counts as sound
 	load            time.Duration // how long a davd may take to load its folder
 	patience        time.Duration // how long calls wait for the next davd over a folder
+	full            time.Duration // how long a davd serves at least that is full, until the next one is tried
 }
 
 var defaultPauses = pauses{
@@ -22,6 +23,7 @@ var defaultPauses = pauses{
 	long:     time.Minute,
 	load:     5 * time.Minute,
 	patience: 40 * time.Second, // the greatest pause, and ten seconds to load the folder
+	full:     time.Minute,
 }
 
 // after returns the pause after a davd that ran for so long and was started after the pause last.
@@ -58,7 +60,7 @@ func (e *Engine) supervise(p *process) {
 		if e.isClosing() {
 			return
 		}
-		e.report(err, end, lost)
+		e.report(p, err, end, lost)
 		pause = e.config.pauses.after(time.Since(began), pause)
 		p = e.restart(&pause)
 	}
@@ -79,7 +81,7 @@ func (e *Engine) read(p *process) error {
 			return err
 		}
 		p.reading = nil
-		e.wake()
+		e.answered(p)
 	}
 }
 
@@ -89,6 +91,7 @@ func (e *Engine) detach(p *process, end error) []string {
 	e.mu.Lock()
 	defer e.mu.Unlock()
 	e.process, p.lost = nil, lossOf(end)
+	close(p.gone)
 	isKept := e.config.Folder != ""
 	var lost []string
 	var again, unknown []*call
@@ -96,7 +99,7 @@ func (e *Engine) detach(p *process, end error) []string {
 		switch {
 		case c.sentTo == nil && c.only == nil: // It was not sent yet.
 			again = append(again, c)
-		case isKept && c.sentTo != nil && !c.upload:
+		case isKept && c.sentTo != nil && c.lasts:
 			unknown = append(unknown, c)
 		case c.reads && !c.again && !e.closing:
 			c.again, c.sentTo = true, nil
@@ -130,7 +133,11 @@ func (p *process) unanswered() []*call {
 }
 
 // report logs how davd ended and what was lost.
-func (e *Engine) report(err, end error, lost []string) {
+func (e *Engine) report(p *process, err, end error, lost []string) {
+	if p.renewed && end == nil {
+		e.config.Log.Print("davd is started again. Its folder has less, and it may need less memory.")
+		return
+	}
 	how := howEnded(end)
 	if err != nil && !errors.Is(err, io.EOF) {
 		how += ", " + err.Error()
@@ -204,6 +211,9 @@ func (e *Engine) attach(p *process) *process {
 	e.process, e.pausing = p, false
 	e.started++
 	kept, undone := e.settle(p.number)
+	if p.isFull {
+		e.failAdditions()
+	}
 	if b := e.next(); b != nil {
 		go e.write(b)
 	}

@@ -57,6 +57,23 @@ func TestReadsAreWhatChangesNothing(t *testing.T) {
 	}
 }
 
+func TestWhatAdds(t *testing.T) {
+	for _, method := range []string{"PUT", "PATCH", "MKCOL", "COPY", "MOVE", "PROPPATCH"} {
+		if !adds(&frame.Request{Method: method}) {
+			t.Errorf("%s adds nothing", method)
+		}
+	}
+	others := []frame.Frame{frame.Read{}, frame.DropBody{}, frame.Held{}, frame.BeginBackup{}, frame.EndBackup{}}
+	for _, method := range []string{"PROPFIND", "OPTIONS", "DELETE", "UNLOCK", "LOCK"} { // the refresh of a lock
+		others = append(others, &frame.Request{Method: method})
+	}
+	for _, f := range others {
+		if adds(f) {
+			t.Errorf("%s %T adds something", describe(f), f)
+		}
+	}
+}
+
 func TestAChangeThatWasSentIsAwaited(t *testing.T) {
 	engine, _ := startFake(t, "slow") // It answers after 20 ms.
 	ctx, cancel := context.WithTimeout(context.Background(), 5*time.Millisecond)

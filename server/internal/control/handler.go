@@ -1,0 +1,151 @@
+package control
+
+import (
+	"context"
+	"encoding/json"
+	"errors"
+	"io"
+	"log"
+	"net/http"
+	"sync"
+	"syscall"
+	"time"
+
+	"davserve/internal/davd"
+)
+
+// backupPath is the path of the backups.
+const backupPath = "/backup"
+
+// A Source makes backups. Backup writes one as a tar archive. If it fails before it writes anything, the error says why
+// none was begun.
+type Source interface {
+	Backup(ctx context.Context, w io.Writer) error
+}
+
+// A State says what is known of the last backup.
+type State struct {
+	State string     `json:"state"` // none, running, done or failed
+	Began *time.Time `json:"began,omitempty"`
+	Ended *time.Time `json:"ended,omitempty"`
+	Bytes int64      `json:"bytes,omitempty"` // of the archive
+	Error string     `json:"error,omitempty"`
+}
+
+// A Handler answers the requests of an operator: POST /backup with a backup, and GET /backup with the State of the last
+// one.
+type Handler struct {
+	source  Source
+	log     *log.Logger
+	serving sync.WaitGroup // the backups
+
+	mu    sync.Mutex
+	state State
+}
+
+// NewHandler returns a handler that makes backups of a source.
+func NewHandler(source Source, log *log.Logger) *Handler {
+	return &Handler{source: source, log: log, state: State{State: "none"}}
+}
+
+// ServeHTTP implements http.Handler.
+func (h *Handler) ServeHTTP(w http.ResponseWriter, r *http.Request) {
+	switch {
+	case r.URL.Path != backupPath:
+		http.NotFound(w, r)
+	case r.Method == http.MethodPost:
+		h.backup(w, r)
+	case r.Method == http.MethodGet:
+		h.show(w)
+	default:
+		w.Header().Set("Allow", "GET, POST")
+		http.Error(w, "405 Method Not Allowed", http.StatusMethodNotAllowed)
+	}
+}
+
+// show answers with the state of the last backup.
+func (h *Handler) show(w http.ResponseWriter) {
+	h.mu.Lock()
+	state := h.state
+	h.mu.Unlock()
+	w.Header().Set("Content-Type", "application/json")
+	json.NewEncoder(w).Encode(state)
+}
+
+// backup answers with a backup. One that fails in the middle is broken off: the chunk that ends a response is not sent.
+func (h *Handler) backup(w http.ResponseWriter, r *http.Request) {
+	if !h.begin() {
+		http.Error(w, davd.ErrInBackup.Error(), http.StatusConflict)
+		return
+	}
+	defer h.serving.Done()
+	w.Header().Set("Content-Type", "application/x-tar")
+	archive := &counter{writer: w}
+	err := h.source.Backup(r.Context(), archive)
+	if err != nil && r.Context().Err() != nil {
+		err = reasonOf(r.Context())
+	}
+	h.end(archive.count, err)
+	switch {
+	case err != nil && archive.count > 0:
+		panic(http.ErrAbortHandler)
+	case err != nil:
+		http.Error(w, err.Error(), statusOf(err))
+	}
+}
+
+// begin reports whether no backup is under way, and counts one if so.
+func (h *Handler) begin() bool {
+	h.mu.Lock()
+	defer h.mu.Unlock()
+	if h.state.State == "running" {
+		return false
+	}
+	now := time.Now().UTC()
+	h.state = State{State: "running", Began: &now}
+	h.serving.Add(1)
+	return true
+}
+
+// end says how a backup ended.
+func (h *Handler) end(bytes int64, err error) {
+	now := time.Now().UTC()
+	h.mu.Lock()
+	began := *h.state.Began
+	h.state = State{State: "done", Began: &began, Ended: &now, Bytes: bytes}
+	if err != nil {
+		h.state.State, h.state.Error = "failed", err.Error()
+	}
+	h.mu.Unlock()
+	if err != nil {
+		h.log.Printf("the backup failed: %v", err)
+		return
+	}
+	h.log.Printf("the backup is done: %d bytes in %v", bytes, now.Sub(began).Round(time.Millisecond))
+}
+
+// statusOf returns the status of a backup that was not begun.
+func statusOf(err error) int {
+	switch {
+	case errors.Is(err, davd.ErrInBackup):
+		return http.StatusConflict
+	case errors.Is(err, davd.ErrFull), errors.Is(err, syscall.ENOSPC):
+		return http.StatusInsufficientStorage
+	case errors.Is(err, davd.ErrDown), errors.Is(err, davd.ErrClosed), errors.Is(err, davd.ErrLost):
+		return http.StatusServiceUnavailable
+	}
+	return http.StatusInternalServerError
+}
+
+// A counter counts what is written.
+type counter struct {
+	writer io.Writer
+	count  int64
+}
+
+// Write implements io.Writer.
+func (c *counter) Write(p []byte) (int, error) {
+	n, err := c.writer.Write(p)
+	c.count += int64(n)
+	return n, err
+}
