@@ -8,20 +8,37 @@ import sqlite3
 import threading
 import time
 
+import litmus
 from connection import Cut, Wrong
 from harness import Group, Starter
-from server import Server, expect
+from server import PROCESSES, Server, expect
 
 GROUP = Group("kept in a folder", is_shared=False)
 GROUPS = [GROUP]
 
 PATCH = b"""<?xml version="1.0"?><propertyupdate xmlns="DAV:"><set><prop><c xmlns="urn:c">red</c></prop></set></propertyupdate>"""
+QUOTA = b"""<?xml version="1.0"?><propfind xmlns="DAV:"><prop><quota-used-bytes/><quota-available-bytes/></prop></propfind>"""
 ASKED = b"""<?xml version="1.0"?><propfind xmlns="DAV:"><prop><c xmlns="urn:c"/><lockdiscovery/></prop></propfind>"""
 LOCK = b"""<?xml version="1.0"?><lockinfo xmlns="DAV:"><lockscope><exclusive/></lockscope><locktype><write/></locktype></lockinfo>"""
 
 
-def start(starter: Starter, **options) -> Server:
-    return starter.start("-folder", "{folder}/kept", **options)
+def start(starter: Starter, *flags, **options) -> Server:
+    return starter.start("-folder", "{folder}/kept", *flags, **options)
+
+
+def check(starter: Starter, folder: str, status: int) -> list[str]:
+    """What `davd --check` prints of a folder that nobody uses, line by line."""
+    checked = PROCESSES.run([starter.programs.davd, "--check", starter.folder / folder], seconds=30)
+    expect("the exit status", checked.returncode, status)
+    return checked.stdout.splitlines()
+
+
+def flip(starter: Starter, place: int):
+    """Flips a bit of the data file."""
+    data = starter.folder / "kept" / "data"
+    content = bytearray(data.read_bytes())
+    content[place] ^= 1
+    data.write_bytes(content)
 
 
 def kill(server: Server):
@@ -134,6 +151,40 @@ def large(starter: Starter):
     server.stop()
 
 
+@GROUP.check("-quota counts what is in a folder after davd was killed, and after the server was started again")
+def quota(starter: Starter):
+    def check(server: Server, used: int):
+        server.ask("PUT", "/more", bytes(1_000_001 - used), status=507)
+        server.ask("PUT", "/large", bytes(600_001 + 1_000_000 - used), status=507)
+        found = server.ask("PROPFIND", "/", QUOTA, fields=[("Depth", "0")], status=207).body.decode()
+        for name, count in (("used", used), ("available", 1_000_000 - used)):
+            if f"quota-{name}-bytes>{count}<" not in found:
+                raise Wrong(f"expected that {count} bytes are {name}, got {found}")
+
+    server = start(starter, "-quota", "1000000")
+    server.ask("PUT", "/large", bytes(600_000), status=201)
+    check(server, 600_000)
+    kill(server)
+    check(server, 600_000)
+    server.ask("PUT", "/small", bytes(300_000), status=201)
+    server.stop()
+    server = start(starter, "-quota", "1000000")
+    check(server, 900_000)
+    server.ask("DELETE", "/small", status=204)
+    check(server, 600_000)
+    server.ask("PUT", "/more", bytes(400_000), status=201)
+    server.stop()
+
+
+@GROUP.check("litmus passes over a folder, with a kill of davd behind each of its programs", seconds=120)
+def killed_litmus(starter: Starter):
+    server = start(starter)
+    for name, count in litmus.TESTS.items():
+        litmus.suite(server, name, count, ())
+        kill(server)
+    server.stop()
+
+
 @GROUP.check("a second server over the folder ends, and says why")
 def second(starter: Starter):
     first = start(starter)
@@ -170,10 +221,7 @@ def flipped(starter: Starter):
     body = random.Random(3).randbytes(300_000)
     server.ask("PUT", "/a", body, status=201)
     server.stop()
-    data = starter.folder / "kept" / "data"
-    content = bytearray(data.read_bytes())
-    content[150_000] ^= 1
-    data.write_bytes(content)
+    flip(starter, 150_000)
     server = start(starter)
     try:
         answer = server.ask("GET", "/a")
@@ -181,6 +229,43 @@ def flipped(starter: Starter):
         return
     if answer.status == 200:
         raise Wrong(f"expected an error, got {answer}")
+
+
+@GROUP.check("davd --check counts the files and bytes of a folder, and names exactly the file in which a bit was flipped")
+def checked(starter: Starter):
+    server = start(starter)
+    expect("while the folder is in use", check(starter, "kept", 5), ["davd: the folder is in use"])
+    content = random.Random(4)
+    server.ask("MKCOL", "/d", status=201)
+    server.ask("MKCOL", "/d/e", status=201)
+    server.ask("PUT", "/d/e/a%20b", content.randbytes(3_000_000), status=201)
+    after = (starter.folder / "kept" / "data").stat().st_size
+    server.ask("PUT", "/d/last", content.randbytes(2_000_000), status=201)
+    server.ask("PUT", "/first", content.randbytes(1 << 20), status=201)
+    server.ask("PUT", "/d/empty", b"", status=201)
+    server.stop()
+    expect("a good folder", check(starter, "kept", 0), ["4 files, 6048576 bytes, 0 damaged"])
+    flip(starter, after - 1)
+    damaged = ["damaged: /d/e/a%20b", "4 files, 3048576 bytes, 1 damaged", "davd: a file is damaged"]
+    expect("a damaged folder", check(starter, "kept", 1), damaged)
+    expect("once more", check(starter, "kept", 1), damaged)
+    flip(starter, after - 1)
+    expect("after it was mended", check(starter, "kept", 0), ["4 files, 6048576 bytes, 0 damaged"])
+
+
+@GROUP.check("davd --check finds no damage after kills, and makes nothing where there is no folder")
+def checked_after_kills(starter: Starter):
+    server = start(starter)
+    long = fill(server)
+    kill(server)
+    look(server, long)
+    kill(server)
+    server.stop()
+    expect("after kills", check(starter, "kept", 0), [f"3 files, {len(long) + 10} bytes, 0 damaged"])
+    expect("no folder", check(starter, "none", 6), ["davd: the folder cannot be read or written"])
+    (starter.folder / "none").mkdir()
+    expect("an empty folder", check(starter, "none", 6), ["davd: the folder cannot be read or written"])
+    expect("what is in it", list((starter.folder / "none").iterdir()), [])
 
 
 @GROUP.check("the views show what is in a folder when davd has ended")

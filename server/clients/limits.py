@@ -1,8 +1,10 @@
 """The limits on connections, requests and memory."""
+import os
+import signal
 import threading
 import time
 
-from connection import Wrong, chunked, head
+from connection import Cut, Wrong, chunked, head
 from harness import Group, Starter
 from server import expect, expected, memory_of
 
@@ -183,3 +185,88 @@ def properties(starter: Starter):
     if used > HOST_BOUND:
         raise Wrong(f"expected at most {HOST_BOUND // MB} MB, got {used // MB} MB")
     return f"the host used {used // MB} MB for a response of {len(answer.body) // 1000} KB"
+
+
+# ---- the memory of a davd over a folder
+
+SMALL_FOLDER = ("-memory", "32M", "-folder", "{folder}/kept")
+SMALL = 32 * MB
+# What davd may have while it loads its folder: loadFactor in internal/davd/memory.go.
+AT_START = 4 * SMALL
+TREES, FILES = 20, 50
+PROPERTY = b'<propertyupdate xmlns="DAV:"><set><prop><v xmlns="urn:v">' + b"v" * 300_000 + b"</v></prop></set></propertyupdate>"
+
+
+def copy_trees(server) -> int:
+    """Copies trees of a thousand files until memory runs out. Returns how many copies there are."""
+    server.ask("MKCOL", "/files", status=201)
+    server.ask("MKCOL", "/tree-0", status=201)
+    with server.connect() as connection:
+        for number in range(FILES):
+            connection.request("PUT", f"/files/{number}", b"x")
+            expected(connection.answer("PUT"), 201, "PUT")
+    for number in range(TREES):
+        server.ask("COPY", "/files", None, {"Destination": f"/tree-0/{number}"}, 201)
+    count = 1
+    while (got := server.ask("COPY", "/tree-0", None, {"Destination": f"/tree-{count}"})).status == 201:
+        count += 1
+    if got.status not in (503, 507):  # 503: davd could not keep the copy, and was started again.
+        raise Wrong(f"expected 503 or 507, got {got}")
+    return count
+
+
+@MEMORY.check("a folder that has filled -memory is served again under it: what adds something is 507, and DELETE 204")
+def served_again(starter: Starter):
+    server = starter.start(*SMALL_FOLDER)
+    count = copy_trees(server)
+    server.stop()
+    server = starter.start(*SMALL_FOLDER)
+    if f"-memory allows {SMALL // 1024} KiB" not in server.log():
+        raise Wrong(f"expected that -memory is too small for the folder, got\n{server.log()}")
+    expect("a file", server.ask("GET", "/tree-1/7/7", status=200).body, b"x")
+    server.ask("PROPFIND", "/tree-1/", None, {"Depth": "1"}, 207)
+    for method, body in (("PUT", b"x"), ("PUT", b"x" * MB), ("MKCOL", None)):
+        server.ask(method, "/new", body, status=507)
+    server.ask("COPY", "/files", None, {"Destination": "/new"}, 507)
+    for number in range(1, count):
+        server.ask("DELETE", f"/tree-{number}", status=204)
+    server.ask("GET", "/tree-1/7/7", status=404)
+    server.stop()
+    server = starter.start(*SMALL_FOLDER)
+    server.ask("PUT", "/new", b"x", status=201)
+    server.stop()
+    return f"{count * (TREES * (FILES + 1) + 1)} resources"
+
+
+def set_properties(server, turn: int) -> int:
+    """Sets long properties until one is refused. Returns how many were set."""
+    for number in range(AT_START // len(PROPERTY)):
+        try:
+            if server.ask("PUT", f"/{turn}-{number}", b"").status != 201:
+                return number
+            answer = server.ask("PROPPATCH", f"/{turn}-{number}", PROPERTY)
+        except Cut:
+            return number
+        if answer.status != 207 or b"HTTP/1.1 200" not in answer.body:
+            return number
+    raise Wrong("expected that memory runs out")
+
+
+@MEMORY.check("over a folder davd does not have more memory each time that it has filled -memory and is started again")
+def not_more(starter: Starter):
+    server = starter.start(*SMALL_FOLDER)
+    counts, peaks = [], []
+    for turn in range(3):
+        counts.append(set_properties(server, turn))
+        server.await_health()
+        os.kill(server.davd(), signal.SIGKILL)
+        server.await_health()
+        peaks.append(memory_of(server.davd(), "VmPeak") // MB)
+    if max(peaks) > AT_START // MB:
+        raise Wrong(f"expected at most {AT_START // MB} MB, got {peaks}")
+    if counts[0] < 10:
+        raise Wrong(f"expected that properties are set, got {counts}")
+    expect("what was set after davd was started again", counts[1:], [0, 0])
+    server.ask("DELETE", "/0-1", status=204)
+    server.stop()
+    return f"{counts[0]} properties of 300 KB, and then davd had up to {max(peaks)} MB"

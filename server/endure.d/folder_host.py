@@ -13,6 +13,7 @@ from server import Server
 
 LOG_SHOWN = 3000
 END_SECONDS = 20
+CHECK_SECONDS = 60
 BACK_SECONDS = 60
 LOCK = "2h"
 SERVES = "serving WebDAV at"
@@ -32,17 +33,27 @@ class Place:
         part.mkdir()
         return part
 
-    def start(self, folder: pathlib.Path, davd: pathlib.Path | None = None, is_awaited=True) -> Server:
+    def start(self, folder: pathlib.Path, davd: pathlib.Path | None = None, is_awaited=True, flags=()) -> Server:
         """Starts davserve over the folder `kept` of this folder. Its log is a file of the run."""
         plain = self.programs.davserve
         programs = server.Programs(plain, plain, self.programs.davd, [], self.folder)
-        flags = ("-folder", folder / "kept", "-max-lock", LOCK)
-        host = Server(programs, self.folder, flags, True, davd=davd, is_awaited=False)
+        all_flags = ("-folder", folder / "kept", "-max-lock", LOCK, *flags)
+        host = Server(programs, self.folder, all_flags, True, davd=davd, is_awaited=False)
         if is_port_taken(host):
-            return self.start(folder, davd, is_awaited)
+            return self.start(folder, davd, is_awaited, flags)
         if is_awaited:
             host.await_health()
         return host
+
+
+def check(place: Place, folder: pathlib.Path) -> list[str]:
+    """What `davd --check` says of the damage in the folder `kept` of this folder, which nobody uses."""
+    command = [place.programs.davd, "--check", folder / "kept"]
+    checked = server.PROCESSES.run(command, seconds=CHECK_SECONDS)
+    lines = checked.stdout.splitlines()
+    if checked.returncode not in (0, 1) or not lines:
+        raise Wrong(f"davd --check ends with status {checked.returncode}\n{checked.stdout}")
+    return [it for it in lines if it.startswith("damaged: ")]
 
 
 def is_port_taken(host: Server) -> bool:
@@ -138,6 +149,6 @@ def tail(host: Server) -> str:
 
 
 def copy(folder: pathlib.Path, target: pathlib.Path):
-    """Copies what is kept."""
+    """Copies what is kept, without the socket of a host that was killed."""
     shutil.rmtree(target, ignore_errors=True)
-    shutil.copytree(folder, target)
+    shutil.copytree(folder, target, ignore=shutil.ignore_patterns("control"))

@@ -102,6 +102,7 @@ class Kills:
                        lambda it=worker.number: self.check_worker(it))
         self.check("davserve ends with status 0, without a panic in its log", self.host.stop)
         self.check("everything is there when davserve is started again", self.check_again)
+        self.check("davd --check finds no damage", self.check_folder)
         self.note()
 
     def check(self, name: str, run):
@@ -125,6 +126,10 @@ class Kills:
         self.host.stop()
         if self.failures:
             raise Wrong("\n".join(self.failures.values()))
+
+    def check_folder(self):
+        if damaged := folder_host.check(self.place, self.folder):
+            raise Wrong("\n".join(damaged))
 
     def note(self):
         total = sum((it.counts for it in self.workers), collections.Counter())

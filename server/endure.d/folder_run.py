@@ -9,12 +9,19 @@ import folder_damage
 import folder_errors
 import folder_full
 import folder_kills
+import folder_large
+import folder_log
+import folder_many
+import folder_steady
 from endure_host import Programs
 from folder_host import Place
 from harness import Run
 from server import PROCESSES
 
-PARTS = {"kills": folder_kills, "full disk": folder_full, "errors": folder_errors, "damage": folder_damage}
+PARTS = {
+    "kills": folder_kills, "full disk": folder_full, "errors": folder_errors, "damage": folder_damage,
+    "large": folder_large, "many": folder_many, "steady": folder_steady, "log": folder_log,
+}
 
 
 def run(options: argparse.Namespace, programs: Programs, counts: Run):

@@ -1,0 +1,78 @@
+"""A folder on a disk that is full: what is answered then, and that a PUT finds room again after a DELETE."""
+import contextlib
+import os
+import random
+import signal
+import subprocess
+
+from connection import Wrong
+from harness import Group, Skipped, Starter
+from server import Server, expect
+
+GROUP = Group("a full disk", is_shared=False)
+GROUPS = [GROUP]
+
+SIZE = "36m"  # davd keeps 16 MiB of it back
+BODY = 1 << 20
+MOST = 40
+
+
+@contextlib.contextmanager
+def small_disk(starter: Starter):
+    """A small disk in memory, mounted as `disk` in the folder of the check."""
+    folder = starter.folder / "disk"
+    folder.mkdir()
+    words = ["mount", "-t", "tmpfs", "-o", f"size={SIZE}", "tmpfs", str(folder)]
+    if os.geteuid() != 0:
+        raise Skipped("only root can mount a small disk")
+    try:
+        ran = subprocess.run(words, capture_output=True, text=True)
+    except FileNotFoundError:
+        raise Skipped("no command mount") from None
+    if ran.returncode:
+        raise Skipped(f"`{' '.join(words)}` fails: {ran.stderr.strip()}")
+    try:
+        yield
+    finally:
+        subprocess.run(["umount", "-l", str(folder)], capture_output=True)
+
+
+def body(number: int) -> bytes:
+    return random.Random(number).randbytes(BODY)
+
+
+def fill(server: Server) -> int:
+    """Stores files until a PUT is 507. Returns how many there are."""
+    for number in range(MOST):
+        status = server.ask("PUT", f"/{number}", body(number)).status
+        if status == 507:
+            return number
+        expect("status of a PUT", status, 201)
+    raise Wrong(f"{MOST} MiB are on a disk of {SIZE}")
+
+
+def compare(server: Server, numbers):
+    for number in numbers:
+        if server.ask("GET", f"/{number}", status=200).body != body(number):
+            raise Wrong(f"/{number} has other bytes")
+
+
+def no_trap(starter: Starter, is_killed: bool):
+    with small_disk(starter):
+        server = starter.start("-folder", "{folder}/disk/kept")
+        count = fill(server)
+        server.ask("PUT", "/0", body(count), status=507)
+        server.ask("GET", f"/{count}", status=404)
+        if is_killed:
+            os.kill(server.davd(), signal.SIGKILL)
+            server.await_health()
+        compare(server, range(count))
+        server.ask("DELETE", "/1", status=204)
+        server.ask("DELETE", "/2", status=204)
+        server.ask("PUT", "/1", body(1), status=201)
+        compare(server, [0, 1, *range(3, count)])
+        server.stop()
+
+
+GROUP.add("a PUT is 507, a DELETE is 204, and then a PUT finds room", no_trap, False)
+GROUP.add("the same if davd was killed on the full disk", no_trap, True)
