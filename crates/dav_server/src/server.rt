@@ -45,6 +45,7 @@ pub struct Server<'a, F, L> {
 
 impl<'a, F: TimedStore, L: ExpiringLocks> Server<'a, F, L> {
     ghost use Rattle.dav_server.specs.State.{HasEmptyLog, state_of, rules_of, loans_of, resumed_state, first_state, first_rules, after_expiry};
+    ghost use Rattle.dav_engine.specs.DavInner.{lent};
     ghost use Rattle.dav_server.specs.Snapshots.{snapshot_at};
     ghost use Rattle.dav_server.specs.Keeping.{snapshot_of};
     ghost use Rattle.dav_server.specs.Frames.{Reacts, ServesFrame};
@@ -90,6 +91,15 @@ impl<'a, F: TimedStore, L: ExpiringLocks> Server<'a, F, L> {
             max_batch: options.max_batch,
             in_backup: false,
         }
+    }
+
+    /// Ends the server and returns the store that it borrowed, as it is now.
+    pub fn into_store(self) -> &'a mut F
+        ensures loan { result.ghost_name ≡ (loans_of self.entry).0 }
+        ensures store { result.now ≡ lent self.entry.engine }
+    {
+        let engine = self.engine;
+        engine.fs
     }
 
     /// Serves a frame and returns the encoded reply: removes the locks that have expired, and then does what the
