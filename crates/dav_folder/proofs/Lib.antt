@@ -1,4 +1,5 @@
 pub mod Keeps
 pub mod Opens
+pub mod Starts
 pub mod Leaving
 pub mod LoadedBytes

@@ -7,16 +7,17 @@ use Rattle.dav_data.specs.declared.data_file.DataFile.{DataFile}
 use Rattle.dav_pieces.specs.declared.piece.Piece.{Piece}
 use Rattle.dav_tree.specs.TreeFs.{before_of}
 use Rattle.dav_tree.specs.declared.medium.Medium.{Ghosts}
+use Rattle.dav_tree.specs.declared.tree_fs.TreeFs.{TreeFs}
 use Rattle.dav_folder.specs.Files.{Leave, LeaveEither, kept_at}
 use Rattle.dav_folder.specs.Lasting.{At, LastsAlone, LastsEither}
-use Rattle.dav_folder.specs.declared.opening.Opened.{Opened}
+use Rattle.dav_folder.specs.declared.folder.Folder.{Folder}
 
 module _ {D E : Type 0} {d : disk.Ghosts D} {e : disk.Ghosts E} {rows : store.Ghosts (FileStore D d)} {g : Ghosts (DataFile E e) (List Piece)} where
   -- what lasts alone is what a crash leaves of the files
-  abbrev pub LeavesAlone : Opened (FileStore D d) (DataFile E e) (List Piece) rows g → FileStore D d × DataFile E e → Type 0
-  LeavesAlone opened files = (snapshot : At g) → LastsAlone opened.folder (before_of opened.store) snapshot → Leave files (kept_at snapshot)
+  abbrev pub LeavesAlone : Folder (FileStore D d) rows → TreeFs (DataFile E e) (List Piece) g → FileStore D d × DataFile E e → Type 0
+  LeavesAlone folder store files = (snapshot : At g) → LastsAlone folder (before_of store) snapshot → Leave files (kept_at snapshot)
 
   -- of two snapshots of which one lasts, a crash leaves one, if the second is that of the store
-  abbrev pub LeavesOneOf : Opened (FileStore D d) (DataFile E e) (List Piece) rows g → FileStore D d × DataFile E e → Type 0
-  LeavesOneOf opened files =
-      (one other : At g) → LastsEither opened.folder (before_of opened.store) one other → other.store ≡ opened.store → LeaveEither files (kept_at one) (kept_at other)
+  abbrev pub LeavesOneOf : Folder (FileStore D d) rows → TreeFs (DataFile E e) (List Piece) g → FileStore D d × DataFile E e → Type 0
+  LeavesOneOf folder store files =
+      (one other : At g) → LastsEither folder (before_of store) one other → other.store ≡ store → LeaveEither files (kept_at one) (kept_at other)

@@ -1,14 +1,21 @@
 -- What is opened of a folder.
-use Rattle.std.specs.Prelude.{◌≡◌, ℕ, true, List}
+use Rattle.std.specs.Prelude.{◌≡◌, ◌⊎◌, ◌≤◌, ℕ, true, false, List, length}
+use Rattle.std.specs.declared.io.Error.{Error}
+use Rattle.sqlite_disk.specs.Disk.{MoreFaults}
+use Rattle.sqlite_disk.specs.declared.Disk as disk
 use Rattle.dav_keep.specs.Images.{Image}
+use Rattle.dav_keep.specs.Loading.{IsWholeImage}
 use Rattle.dav_pieces.specs.declared.piece.Piece.{Piece}
 use Rattle.dav_server.specs.Snapshots.{snapshot_at}
 use Rattle.dav_pieces.specs.Pieces.{bytes_of}
 use Rattle.dav_tree.specs.Kept.{resources_by}
+use Rattle.dav_tree.specs.Memory.{IsSound}
 use Rattle.dav_tree.specs.TreeFs.{memory_of, before_of, honest_of}
 use Rattle.dav_tree.specs.declared.medium.Medium.{Ghosts}
 use Rattle.sqlite_trees.specs.declared.store.Store as store
 use Rattle.dav_folder.specs.Lasting.{At, Lasts}
+use Rattle.dav_folder.specs.declared.opening.OpenError.{OpenError}
+use Rattle.dav_folder.specs.declared.opening.OpenError.TheVariants.{Data, Memory}
 use Rattle.dav_folder.specs.declared.opening.Opened.{Opened}
 
 module _ {S M : Type 0} {rows : store.Ghosts S} {g : Ghosts M (List Piece)} where
@@ -24,3 +31,18 @@ module _ {S M : Type 0} {rows : store.Ghosts S} {g : Ghosts M (List Piece)} wher
   -- if the data file is honest, the store has the resources of an image with the bytes in these contents of the data file
   abbrev pub HasBytes : List ℕ → Image → Opened S M (List Piece) rows g → Type 0
   HasBytes file image opened = honest_of opened.store ≡ true → (memory_of opened.store).resources ≡ resources_by (bytes_of file) image.tree
+
+-- ---- when a start fails
+
+-- the data file has the blocks of an image's files, and the resources with these bytes are sound
+pub record HasFiles (file : List ℕ) (image : Image) (whole : IsWholeImage image) : Type 0 where
+  pub within : whole.end ≤ length file
+  pub sound : IsSound (resources_by (bytes_of file) image.tree)
+
+-- a call of the disk failed, or it has not done what its calls promise
+abbrev pub HasDiskFailed : {D : Type 0} → disk.Ghosts D → D → Type 0
+HasDiskFailed {D} g old = (new : D) × ((g.is_clean new ≡ false) ⊎ MoreFaults (g.faults old) (g.faults new))
+
+-- memory ran out, or the disk of the data file failed
+abbrev pub IsMemoryOrDisk : {D : Type 0} → disk.Ghosts D → D → OpenError → Type 0
+IsMemoryOrDisk g old e = (e ≡ Memory) ⊎ ((cause : Error) × (e ≡ Data cause) × HasDiskFailed g old)

@@ -4,23 +4,25 @@ ghost use Rattle.sqlite_trees.specs.View.{IsClean};
 ghost use Rattle.dav_folder.specs.Closing.{LeavesAlone, LeavesOneOf};
 ghost use Rattle.dav_folder.specs.Lasting.{HasCleanDatabase};
 
-use crate::Opened;
+use crate::Folder;
 use dav_data::DataFile;
 use dav_rows_files::into_files;
+use dav_tree::TreeFs;
 use sqlite::FileStore;
 use sqlite_disk::Disk;
 
-/// Gives up the store of a folder and its keeper, so that what a crash leaves can be said of the files alone: those of the
+/// Gives up a folder and the store that it keeps, so that what a crash leaves can be said of the files alone: those of the
 /// database, and the data file.
 pub fn close_store<D: Disk + Drop, E: Disk + Drop>(
-    opened: Opened<FileStore<D>, DataFile<E>>,
+    folder: Folder<FileStore<D>>,
+    store: TreeFs<DataFile<E>>,
 ) -> (FileStore<D>, DataFile<E>)
-    ensures alone { LeavesAlone opened result }
-    ensures either { LeavesOneOf opened result }
-    ensures clean { IsClean (view result.0) → HasCleanDatabase opened.folder }
+    ensures alone { LeavesAlone folder store result }
+    ensures either { LeavesOneOf folder store result }
+    ensures clean { IsClean (view result.0) → HasCleanDatabase folder }
 {
-    let files = into_files(opened.folder.into_connection());
-    let data = opened.store.into_medium();
+    let files = into_files(folder.into_connection());
+    let data = store.into_medium();
     data.show_synced();
     data.safe_end();
     (files, data)

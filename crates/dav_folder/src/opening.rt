@@ -1,5 +1,5 @@
 //! The store of a folder, made from what was kept.
-ghost use Rattle.std.specs.Prelude.{◌≡◌, true, false, [], IfOk};
+ghost use Rattle.std.specs.Prelude.{◌≡◌, true, false, [], IfOk, IfErr};
 ghost use Rattle.sqlite.specs.Held.{state};
 ghost use Rattle.sqlite.specs.State.{HasCleanDisk};
 ghost use Rattle.dav_keep.specs.Images.{Image};
@@ -9,7 +9,7 @@ ghost use Rattle.dav_rows.specs.Contents.{Contents};
 ghost use Rattle.dav_rows.specs.Saving.{IsAt};
 ghost use Rattle.dav_tree.specs.TreeFs.{memory_of, store_of};
 ghost use Rattle.dav_folder.specs.Folders.{keeping_of};
-ghost use Rattle.dav_folder.specs.Opening.{Opens, HasBytes};
+ghost use Rattle.dav_folder.specs.Opening.{Opens, HasBytes, HasFiles, IsMemoryOrDisk};
 
 use crate::Folder;
 use dav_data::DataFile;
@@ -40,6 +40,11 @@ pub enum OpenError {
 }
 
 impl From<LoadError> for OpenError {
+    ghost use Rattle.dav_store_rows.specs.Loads.{IsMemory};
+    ghost use Rattle.dav_folder.specs.declared.opening.OpenError.TheVariants.{Memory};
+
+    ghost from_gives = { λ error e. IsMemory error → e ≡ Memory };
+
     fn from(error: LoadError) -> OpenError {
         match error {
             LoadError::Damaged => OpenError::Damaged,
@@ -49,6 +54,11 @@ impl From<LoadError> for OpenError {
 }
 
 impl From<RowsError> for OpenError {
+    ghost use Rattle.dav_nodes.specs.declared.nodes.loading.RowsError.TheVariants as causes;
+    ghost use Rattle.dav_folder.specs.declared.opening.OpenError.TheVariants.{Memory};
+
+    ghost from_gives = { λ error e. error ≡ causes.Memory → e ≡ Memory };
+
     fn from(error: RowsError) -> OpenError {
         match error {
             RowsError::NotATree => OpenError::Damaged,
@@ -58,6 +68,10 @@ impl From<RowsError> for OpenError {
 }
 
 impl From<io::Error> for OpenError {
+    ghost use Rattle.dav_folder.specs.declared.opening.OpenError.TheVariants.{Data};
+
+    ghost from_gives = { λ error e. e ≡ Data error };
+
     fn from(error: io::Error) -> OpenError {
         OpenError::Data(error)
     }
@@ -83,6 +97,8 @@ pub struct Opened<S: Alter, M: Medium> {
 /// - `Damaged`: the rows are not those of a store that was kept.
 /// - `Data`: the data file cannot be read, or it is shorter than the rows say.
 /// - `Memory`: memory runs out.
+///
+/// On the rows of a store whose files the data file has, it fails only if memory runs out, or if the disk fails.
 pub fn open_store<S: Alter + Drop, D: Disk + Drop>(
     alloc: Global,
     conn: Connection<S>,
@@ -98,6 +114,8 @@ pub fn open_store<S: Alter + Drop, D: Disk + Drop>(
     ensures bytes { (image : Image) (tables : Contents) → AreRowsOfImage rows image tables → IfOk result (HasBytes (D.Disk.seen disk) image) }
     ensures limit { (image : Image) (tables : Contents) → AreRowsOfImage rows image tables → IfOk result (λ opened. (memory_of opened.store).limit ≡ limit) }
     ensures log { IfOk result (λ opened. (store_of opened.store).log ≡ []) }
+    ensures err { (image : Image) (tables : Contents) (are : AreRowsOfImage rows image tables) → HasFiles (D.Disk.seen disk) image are.whole
+        → IfErr result (IsMemoryOrDisk D.Disk disk) }
 {
     let (keeping, loaded) = Keeping::load(alloc, conn, rows)?;
     let numbers = loaded.numbers;

@@ -19,10 +19,10 @@ pub returns-clause-alone : goal.returns-clause-alone
 returns-clause-alone g c = λ snapshot lasts.
     let files = c.into_files-files.result in
     let is = c.into_connection.ensures in
-    leave c.into_medium-data.result c.safe_end.result c.safe_end.ensures.below c.safe_end.ensures.small files (file_state (connection_of (keeping_of c.args.opened.folder)))
+    leave c.into_medium-data.result c.safe_end.result c.safe_end.ensures.below c.safe_end.ensures.small files (file_state (connection_of (keeping_of c.args.folder)))
     (subst (λ conn. IsClean (view files) → HasCleanDisk (file_state conn)) is c.into_files-files.ensures.clean)
     (subst (λ conn. LeavesDatabases (file_state conn) files) is c.into_files-files.ensures.left)
-    c.show_synced.ensures.bytes c.safe_end.ensures.left (before_of c.args.opened.store) snapshot lasts.image c.into_medium-data.ensures.last lasts.at lasts.left
+    c.show_synced.ensures.bytes c.safe_end.ensures.left (before_of c.args.store) snapshot lasts.image c.into_medium-data.ensures.last lasts.at lasts.left
 
 pub returns-clause-either : goal.returns-clause-either
 returns-clause-either g c = λ one other lasts same.
@@ -33,10 +33,10 @@ returns-clause-either g c = λ one other lasts same.
       | inl alone ↦ leave_first files medium (kept_at one) (kept_at other) (returns-clause-alone g c one alone)
       | inr (inl alone) ↦ leave_second files medium (kept_at one) (kept_at other) (returns-clause-alone g c other alone)
       | inr (inr between) ↦
-          leave_either medium c.safe_end.result c.safe_end.ensures.below c.safe_end.ensures.small files (file_state (connection_of (keeping_of c.args.opened.folder)))
+          leave_either medium c.safe_end.result c.safe_end.ensures.below c.safe_end.ensures.small files (file_state (connection_of (keeping_of c.args.folder)))
           (subst (λ conn. IsClean (view files) → HasCleanDisk (file_state conn)) is c.into_files-files.ensures.clean)
           (subst (λ conn. LeavesDatabases (file_state conn) files) is c.into_files-files.ensures.left)
-          c.show_synced.ensures.bytes c.safe_end.ensures.left (older_of other.store) (before_of c.args.opened.store) one other between.first between.second
+          c.show_synced.ensures.bytes c.safe_end.ensures.left (older_of other.store) (before_of c.args.store) one other between.first between.second
           (subst (λ store. HasSaved (coded_list piece_code) (body_bytes medium) (is_synced medium) (older_of store)) (sym same) c.into_medium-data.ensures.older)
           c.into_medium-data.ensures.last between.at_first between.at_second between.left
     ]

@@ -1,4 +1,4 @@
-use Rattle.std.proofs.Common.{◌∙◌, refl, sym, ap, subst}
+use Rattle.std.proofs.Common.{◌≡◌, ◌∙◌, refl, sym, ap, subst, inl, inr, arith}
 use Rattle.dav_data.specs.Data.{is_below, body_bytes}
 use Rattle.dav_keep.specs.Keeping.{IsKnown}
 use Rattle.dav_keep.specs.declared.numbers.Numbers.{Numbers}
@@ -7,6 +7,11 @@ use Rattle.dav_tree.proofs.Keeping.{same-resources}
 use Rattle.dav_tree.specs.Memory.{Memory}
 use Rattle.dav_folder.proofs.LoadedBytes.{tree_below}
 use Rattle.dav_folder.proofs.Opens.{lasts}
+use Rattle.dav_keep.proofs.LoadedImages.{values_below}
+use Rattle.dav_nodes.specs.declared.nodes.loading.RowsError.TheVariants as causes
+use Rattle.dav_folder.proofs.Starts.{err_by, disk_failed, other_bytes}
+use Rattle.dav_folder.specs.Opening.{IsMemoryOrDisk}
+use Rattle.dav_folder.specs.declared.opening.OpenError.TheVariants as errors
 use Rattle.dav_folder.proofs.opening.open_store.Goals as goal
 
 pub returns-clause-opened : goal.returns-clause-opened
@@ -31,3 +36,21 @@ returns-clause-bytes g c = λ image tables are honest.
     ap (λ (m : Memory). m.resources) (store.memory image.tree values)
     ∙ same-resources (bytes_of (g.D.Disk.seen c.args.disk)) (body_bytes c.in_ok-medium.medium) (is_below loaded.end) (is_below loaded.end) (λ body below. below)
     (c.in_ok-medium.ensures.same (sym store.honest ∙ honest)) image.tree (tree_below loaded.values.items image.tree loaded.end values c.in_ok-keeping.ensures.end.reached)
+
+pub returns-in_err-medium-clause-err : goal.returns-in_err-medium-clause-err
+returns-in_err-medium-clause-err g c = λ image tables are has.
+    let values = c.in_ok-keeping.loaded.values.items in
+    let below = values_below c.args.rows image tables are values (c.in_ok-keeping.ensures.loaded image tables are).values in
+    let most = c.in_ok-keeping.ensures.end.least are.whole.end below in
+    let cause = c.in_err-medium.field-0.0 in
+    let failed = disk_failed g.D.Disk c.args.disk c.in_ok-keeping.loaded.end cause c.in_err-medium.ensures.err (omega (arith, most, has.within)) in
+    err_by (λ e. e ≡ errors.Data cause) (IsMemoryOrDisk g.D.Disk c.args.disk) c.from_residual-in_err-medium.result c.from_residual-in_err-medium.ensures.1
+    (λ e is. inr (cause, is, failed))
+
+pub returns-in_err-store-clause-err : goal.returns-in_err-store-clause-err
+returns-in_err-store-clause-err g c = λ image tables are has.
+    let listed = (c.in_ok-keeping.ensures.loaded image tables are).values in
+    let sound = other_bytes image.tree (bytes_of (g.D.Disk.seen c.args.disk)) (body_bytes c.in_ok-medium.medium) has.sound in
+    let cause = c.in_err-store.field-0.0 in
+    err_by (λ e. cause ≡ causes.Memory → e ≡ errors.Memory) (IsMemoryOrDisk g.D.Disk c.args.disk) c.from_residual-in_err-store.result
+    c.from_residual-in_err-store.ensures.1 (λ e given. inl (given (c.in_err-store.ensures.err image.tree listed sound)))
