@@ -3,3 +3,5 @@ pub mod Prefixes
 pub mod Checks
 pub mod Finding
 pub mod FreshFiles
+pub mod Leaves
+pub mod Kept

@@ -1,9 +1,10 @@
 -- What the program does over a folder: what a start finds there, and what a run leaves.
-use Rattle.std.specs.Prelude.{◌≡◌, ℕ, true, List, [], Option, Some}
+use Rattle.std.specs.Prelude.{◌≡◌, ℕ, true, List, [], string_bytes, Option, Some}
 use Rattle.std.specs.FinMap.{empty, insert}
 use Rattle.std.specs.Option.{option_map}
+use Rattle.dav_engine.specs.DavInner.{lent}
 use Rattle.dav_folder.specs.Files.{KeptStore, kept_at, Hold}
-use Rattle.dav_folder.specs.Lasting.{Lasts, LastsEither, IsSameKept, HasCleanDatabase}
+use Rattle.dav_folder.specs.Lasting.{At, Lasts, LastsEither, IsSameKept, HasCleanDatabase}
 use Rattle.dav_folder.specs.Opening.{opened_at}
 use Rattle.dav_folder.specs.declared.opening.Opened.{Opened}
 use Rattle.dav_keep.specs.Images.{StandForImage}
@@ -15,7 +16,9 @@ use Rattle.dav_rows.specs.Contents.{Contents}
 use Rattle.dav_rows.specs.declared.loading.Rows.{Rows}
 use Rattle.dav_rows_files.specs.Starting.{IsVacant, BeginsNew}
 use Rattle.dav_server.specs.Keeping.{snapshot_of, RunsAndKeeps, StopsAfterKept}
-use Rattle.dav_server.specs.State.{Rules}
+use Rattle.dav_server.specs.State.{Rules, ServerState, first_rules, state_of}
+use Rattle.dav_server.specs.Snapshots.{state_at}
+use Rattle.dav_server.specs.declared.server.Options.{Options}
 use Rattle.dav_server.specs.declared.server.Server.{Server}
 use Rattle.dav_folder.specs.declared.folder.Folder.{Folder}
 use Rattle.dav_store.specs.Store as store_specs
@@ -26,6 +29,26 @@ use Rattle.dav_tree.specs.declared.tree_fs.TreeFs.{TreeFs}
 use Rattle.sqlite.specs.Recovery as files
 use Rattle.sqlite.specs.State.{State}
 use Rattle.sqlite_trees.specs.declared.store.Store as store
+
+-- the rules of a server with these options
+abbrev pub rules_for : Options → Rules
+rules_for options = first_rules (string_bytes options.prefix) options.anyone_unlocks
+
+-- ---- servers over a folder
+
+module _ {M : Type 0} where
+  -- a server over a store on this medium
+  abbrev pub Serving : Ghosts M (List Piece) → Type 0
+  Serving g = Server (TreeFs M (List Piece) g) MemLs
+
+  module _ {g : Ghosts M (List Piece)} where
+    -- its state
+    abbrev pub state_now : Serving g → ServerState
+    state_now server = state_of (store_of {g = g}) locks_of server
+
+    -- the state of one that goes on from here
+    abbrev pub state_from : At g → ServerState
+    state_from snapshot = state_at (store_of {g = g}) locks_of snapshot
 
 -- ---- what a start finds
 
@@ -41,6 +64,11 @@ module _ {S M : Type 0} {rows : store.Ghosts S} {g : Ghosts M (List Piece)} wher
   -- what is opened is kept
   abbrev pub IsOpenedAsKept : Opened S M (List Piece) rows g → Type 0
   IsOpenedAsKept opened = Lasts opened.folder (before_of opened.store) (opened_at opened)
+
+  -- the server goes on from what was opened
+  pub record BeginsOpened (first : Serving g) (opened : Opened S M (List Piece) rows g) : Type 0 where
+    pub snapshot : snapshot_of first ≡ Some (opened_at opened)
+    pub state : state_now first ≡ state_from (opened_at opened)
 
   -- this store is opened, with this quota, and it is kept; its files have their bytes if the data file is honest
   pub record IsFound (quota : Option ℕ) (kept : KeptStore) (opened : Opened S M (List Piece) rows g) : Type 0 where
@@ -63,16 +91,19 @@ module _ {S M : Type 0} {rows : store.Ghosts S} {g : Ghosts M (List Piece)} wher
   -- ---- what a run leaves in the keeper
 
   -- a run of a server that goes on from what was opened, and what its keeper keeps then
-  pub record ServesOpened (rules : Rules) (opened : Opened S M (List Piece) rows g) (folder : Folder S rows) (input input' output output' : Option (List ℕ)) : Type 0
-    where
-      pub first : Server (TreeFs M (List Piece) g) MemLs
-      pub last : Server (TreeFs M (List Piece) g) MemLs
-      pub begins : snapshot_of first ≡ Some (opened_at opened)
-      pub runs : RunsAndKeeps (store_of {g = g}) locks_of Lasts IsSameKept honest_of rules opened.folder folder first last input input' output output'
+  pub record ServesOpened (rules : Rules) (opened : Opened S M (List Piece) rows g) (kept : Folder S rows × TreeFs M (List Piece) g)
+      (input input' output output' : Option (List ℕ)) : Type 0 where
+    pub first : Serving g
+    pub last : Serving g
+    pub begins : BeginsOpened first opened
+    pub ends : lent last.engine ≡ kept.1
+    pub runs : RunsAndKeeps (store_of {g = g}) locks_of Lasts IsSameKept honest_of rules opened.folder kept.0 first last input input' output output'
 
   -- such a run that an error stops
-  pub record StopsOpened (rules : Rules) (opened : Opened S M (List Piece) rows g) (folder : Folder S rows) (output output' : Option (List ℕ)) : Type 0 where
-    pub first : Server (TreeFs M (List Piece) g) MemLs
-    pub last : Server (TreeFs M (List Piece) g) MemLs
-    pub begins : snapshot_of first ≡ Some (opened_at opened)
-    pub stops : StopsAfterKept (store_of {g = g}) locks_of Lasts LastsEither IsSameKept honest_of rules opened.folder folder first last output output'
+  pub record StopsOpened (rules : Rules) (opened : Opened S M (List Piece) rows g) (kept : Folder S rows × TreeFs M (List Piece) g)
+      (output output' : Option (List ℕ)) : Type 0 where
+    pub first : Serving g
+    pub last : Serving g
+    pub begins : BeginsOpened first opened
+    pub ends : lent last.engine ≡ kept.1
+    pub stops : StopsAfterKept (store_of {g = g}) locks_of Lasts LastsEither IsSameKept honest_of rules opened.folder kept.0 first last output output'

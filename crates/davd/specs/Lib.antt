@@ -1,3 +1,4 @@
 pub mod Options
 pub mod Folder
+pub mod Leaving
 pub mod Program

@@ -1,5 +1,5 @@
 -- What the program does.
-use Rattle.std.specs.Prelude.{◌≡◌, ℕ, Bool, true, List, [], Option, Some, None, Result, Ok, Err}
+use Rattle.std.specs.Prelude.{◌≡◌, ℕ, Bool, true, false, List, [], Option, Some, None, Result, Ok, Err}
 use Rattle.std.specs.Option.{option_map}
 use Rattle.dav_tree.specs.TreeFs.{memory_of, store_of, honest_of}
 use Rattle.dav_tree.specs.Memory.{first_memory}
@@ -8,25 +8,37 @@ use Rattle.dav_tree.specs.declared.tree_fs.TreeFs.{TreeFs}
 use Rattle.dav_memls.specs.MemLs.{list_of, locks_of}
 use Rattle.dav_memls.specs.declared.memory_locks.MemLs.{MemLs}
 use Rattle.dav_server.specs.Exchanges.{Runs}
-use Rattle.dav_server.specs.State.{ServerState, first_rules, first_state}
+use Rattle.dav_server.specs.State.{Rules, ServerState, first_rules, first_state}
+use Rattle.dav_data.specs.declared.data_file.DataFile.{DataFile}
+use Rattle.dav_pieces.specs.declared.piece.Piece.{Piece}
+use Rattle.sqlite.specs.Recovery as database
+use Rattle.sqlite_disk.specs.declared.Disk as disk
+use Rattle.sqlite_store.specs.declared.store.FileStore.{FileStore}
+use Rattle.davd.specs.Leaving.{GoesOn, GoesOnAndStops}
 use Rattle.davd.specs.Options.{OptionsValue, options_of}
 use Rattle.davd.specs.declared.program.Stopped.{Stopped}
 use Rattle.davd.specs.declared.program.Stopped.TheVariants.{Usage, Stream, Memory, NotAStore, InUse, Disk, Full, NotKept, Damaged}
 
--- a run with these options, which begins with a store that has only its root, without locks, at time 0 and before batch 1
-pub record ServesWith {M B : Type 0} (medium : Ghosts M B) (options : OptionsValue) (input input' output output' : Option (List ℕ)) : Type 0 where
+-- ---- runs in memory
+
+-- a run by these rules, which begins with a store that has only its root, with this quota, without locks, at time 0 and before batch 1
+pub record ServesInMemory {M B : Type 0} (medium : Ghosts M B) (rules : Rules) (quota : Option ℕ) (input input' output output' : Option (List ℕ)) : Type 0 where
   pub store : TreeFs M B medium
   pub locks : MemLs
-  pub empty : memory_of store ≡ first_memory 0 (option_map Some options.quota)
+  pub empty : memory_of store ≡ first_memory 0 (option_map Some quota)
   pub unlocked : list_of locks ≡ []
   pub final : ServerState
-  pub runs : Runs (store_of {g = medium}) honest_of (first_rules options.prefix options.anyone_unlocks) (first_state (store_of store) (locks_of locks)) final input input' output output'
+  pub runs : Runs (store_of {g = medium}) honest_of rules (first_state (store_of store) (locks_of locks)) final input input' output output'
+
+-- the rules that the options say
+abbrev pub rules_in : OptionsValue → Rules
+rules_in options = first_rules options.prefix options.anyone_unlocks
 
 -- such a run with the options that the arguments say
 pub record ServesAll {M B : Type 0} (medium : Ghosts M B) (arguments : List (List ℕ)) (input input' output output' : Option (List ℕ)) : Type 0 where
   pub options : OptionsValue
   pub read : options_of arguments ≡ Some options
-  pub serves : ServesWith medium options input input' output output'
+  pub serves : ServesInMemory medium (rules_in options) options.quota input input' output output'
 
 -- the arguments do not say a folder
 abbrev pub HaveNoFolder : List (List ℕ) → Type 0
@@ -35,6 +47,31 @@ HaveNoFolder arguments = (options : OptionsValue) → options_of arguments ≡ S
 -- the arguments say that a folder is checked, and not served
 abbrev pub DoCheck : List (List ℕ) → Type 0
 DoCheck arguments = (options : OptionsValue) × (folder : List ℕ) × (options_of arguments ≡ Some options) × (options.checks ≡ true) × (options.folder ≡ Some folder)
+
+-- ---- runs over a folder
+
+-- the arguments say these options, with which a folder is served
+abbrev pub SayFolder : List (List ℕ) → OptionsValue → Type 0
+SayFolder arguments options = (options_of arguments ≡ Some options) × (options.checks ≡ false) × ((folder : List ℕ) × (options.folder ≡ Some folder))
+
+-- `left` and `file` are what the files of its database and its data file held
+module _ {D E : Type 0} (d : disk.Ghosts D) {e : disk.Ghosts E} (medium : Ghosts (DataFile E e) (List Piece)) (left : database.Image) (file : List ℕ)
+    (options : OptionsValue) where
+  -- a run goes on from what they held
+  pub record ServesFolder (input input' output output' : Option (List ℕ)) : Type 0 where
+    pub files : FileStore D d × DataFile E e
+    pub goes_on : GoesOn left file files medium (rules_in options) options.quota input input' output output'
+
+  -- an error stops such a run
+  pub record StopsInFolder (output output' : Option (List ℕ)) : Type 0 where
+    pub files : FileStore D d × DataFile E e
+    pub stops : GoesOnAndStops left file files medium (rules_in options) options.quota output output'
+
+-- nothing is read or written
+abbrev pub HasNotBegun : {I O : Type 0} → I → I → O → O → Type 0
+HasNotBegun input input' output output' = (input' ≡ input) × (output' ≡ output)
+
+-- ---- how the program ends
 
 -- another reason than wrong arguments
 abbrev pub IsNotUsage : Stopped → Type 0

@@ -6,7 +6,7 @@ use crate::folder::open_folder;
 use crate::program::Stopped;
 use dav_check::{Checked, check};
 use dav_resource::FsError;
-use sqlite::Unknown;
+use sqlite::Start;
 use std::fs;
 use std::io::Write;
 
@@ -15,11 +15,17 @@ use std::io::Write;
 ///
 /// Errors: `Damaged` if a file cannot be read; those of `open_folder`; `Disk` if the folder has no database, and then
 /// nothing is made; `Memory`; `Stream` if the output fails.
-pub fn check_folder<O: Write>(rt: &HostRuntime, folder: &str, output: &mut O) -> Result<(), Stopped>
+pub fn check_folder<R: Start, T: Start, O: Write>(
+    rt: &HostRuntime,
+    folder: &str,
+    held: (R, T),
+    output: &mut O,
+) -> Result<(), Stopped>
     ensures { IfErr result IsNotUsage }
 {
     expect_database(rt, folder)?;
-    let mut opened = open_folder(rt, folder, None, Unknown, Unknown)?;
+    let (left, file) = held;
+    let mut opened = open_folder(rt, folder, None, left, file)?;
     let checked = match check(rt.alloc(), &mut opened.store) {
         Ok(checked) => checked,
         Err(FsError::Memory) => return Err(Stopped::Memory),

@@ -1,13 +1,11 @@
 //! A store in a folder.
-ghost use Rattle.std.specs.Prelude.{◌≡◌, true, false, Some, IfOk, OnOk, OnErr, IfErr, string_bytes};
-ghost use Rattle.std.specs.Io.KnownBytes.{IsAtEnd};
+ghost use Rattle.std.specs.Prelude.{◌≡◌, true, false, Some, IfOk, IfErr};
 ghost use Rattle.std.specs.Option.{option_map};
 ghost use Rattle.sqlite.specs.Files.{file_state};
 ghost use Rattle.sqlite.specs.Held.{state};
 ghost use Rattle.sqlite.specs.State.{HasCleanDisk};
 ghost use Rattle.sqlite.specs.WalFiles.{image_at};
 ghost use Rattle.dav_folder.specs.Folders.{keeping_of};
-ghost use Rattle.dav_folder.specs.Lasting.{HasCleanDatabase};
 ghost use Rattle.dav_folder.specs.Opening.{Opens, HasBytes};
 ghost use Rattle.dav_keep.specs.Images.{Image};
 ghost use Rattle.dav_keep.specs.Keeping.{connection_of};
@@ -15,27 +13,24 @@ ghost use Rattle.dav_keep.specs.Loading.{AreRowsOfImage};
 ghost use Rattle.dav_rows.specs.Contents.{Contents};
 ghost use Rattle.dav_rows.specs.Saving.{IsAt};
 ghost use Rattle.dav_rows_files.specs.Starting.{Finds, BeginsAt};
-ghost use Rattle.dav_server.specs.State.{first_rules};
 ghost use Rattle.dav_tree.specs.TreeFs.{memory_of};
-ghost use Rattle.davd.specs.Folder.{FindsKept, FindsFirst, BeginsFirst, ServesOpened, StopsOpened};
+ghost use Rattle.davd.specs.Folder.{FindsKept, FindsFirst, BeginsFirst};
 ghost use Rattle.davd.specs.Program.{IsNotUsage};
 
 use crate::program::Stopped;
 use dav_data::DataFile;
-use dav_folder::{Folder, OpenError, Opened, open_store};
-use dav_keep::{KeepError, first_changes};
-use dav_reserve::{ROOM, Reserved, Roomy};
-use dav_resource::FsError;
+use dav_folder::{OpenError, Opened, open_store};
+use dav_keep::first_changes;
+use dav_reserve::{ROOM, Reserved};
 use dav_rows::{Rows, StartError};
 use dav_rows_files::start;
-use dav_server::{Options, Server};
 use dav_store_rows::SaveError;
 use sqlite::{Alter, Connection, Error, ErrorCode, FileFrom, FileStore, Start};
 use sqlite_disk::{Disk, Files};
 use std::alloc::Global;
 use std::fs;
 use std::hash::{BuildHasher, RandomState};
-use std::io::{self, ErrorKind, Read, Write};
+use std::io::{self, ErrorKind};
 
 /// A store in the files of a database and a data file, beside which a third one keeps room back.
 pub type OpenedFiles<R, T> = OpenedOver<FileStore<FileFrom<R>>, FileFrom<T>>;
@@ -130,64 +125,6 @@ fn make_folder(rt: &HostRuntime, folder: &str) -> Result<(), Stopped>
         Err(error) if error.kind() != ErrorKind::AlreadyExists => Err(Stopped::Disk(error)),
         _ => Ok(()),
     }
-}
-
-/// Serves the batches of the input over a store in a folder, and keeps each before its answer is written, until the input
-/// ends.
-///
-/// Errors: `Full` or `NotKept` if a batch cannot be kept; `Stream` if a stream fails, or if the input ends inside a batch.
-pub fn serve_opened<S: Alter, D: Roomy + Drop, I: Read, O: Write>(
-    alloc: Global,
-    opened: &mut Opened<S, DataFile<D>>,
-    options: Options,
-    input: &mut I,
-    output: &mut O,
-) -> Result<(), Stopped>
-    ensures served { OnOk result (ServesOpened (first_rules (string_bytes options.prefix) options.anyone_unlocks) opened.old opened.new.folder
-        (I.remaining input.old) (I.remaining input.new) (O.contents output.old) (O.contents output.new)) }
-    ensures stopped { OnErr result (StopsOpened (first_rules (string_bytes options.prefix) options.anyone_unlocks) opened.old opened.new.folder
-        (O.contents output.old) (O.contents output.new)) }
-    ensures clean { HasCleanDatabase opened.new.folder → HasCleanDatabase opened.old.folder }
-    ensures end { OnOk result (IsAtEnd (I.remaining input.new)) }
-    ensures err { IfErr result IsNotUsage }
-{
-    let (now, last) = (opened.now, opened.last);
-    let mut server = Server::resume(
-        alloc,
-        &mut opened.store,
-        &mut opened.locks,
-        options,
-        now,
-        last,
-    );
-    match server.serve_kept(&mut opened.folder, input, output) {
-        Ok(()) => Ok(()),
-        Err(error) => Err(stopped_by(&opened.folder, error)),
-    }
-}
-
-/// Returns why serving ended with this error: the keeper says so, or else a stream failed.
-fn stopped_by<S: Alter>(folder: &Folder<S>, error: io::Error) -> Stopped
-    ensures { IsNotUsage result }
-{
-    match folder.failure() {
-        Some(failure) if is_full(failure) => Stopped::Full,
-        Some(_) => Stopped::NotKept,
-        None => Stopped::Stream(error),
-    }
-}
-
-/// Whether a batch could not be kept because the disk is full.
-fn is_full(failure: &KeepError) -> bool {
-    match failure {
-        KeepError::Data(error) => matches!(error, FsError::InsufficientStorage),
-        KeepError::Database(error) => is_disk_full(error),
-        KeepError::Rows(_) => false,
-    }
-}
-
-fn is_disk_full(error: &Error) -> bool {
-    matches!(error, Error::SqliteFailure(ErrorCode::DiskFull))
 }
 
 impl From<StartError> for Stopped {

@@ -34,8 +34,10 @@ mod checking;
 mod folder;
 mod options;
 mod program;
+mod serving;
 
 use program::{Stopped, report, run_program};
+use sqlite::Unknown;
 use std::env;
 use std::io::{self, BufReader, BufWriter, ErrorKind};
 use std::process::ExitCode;
@@ -54,7 +56,7 @@ fn run(rt: &HostRuntime) -> Result<(), Stopped> {
     let arguments = arguments_of(rt)?;
     let mut input = BufReader::with_capacity(alloc, BUFFERED, rt.stdin())?;
     let mut output = BufWriter::with_capacity(alloc, BUFFERED, rt.stdout())?;
-    run_program(rt, &arguments, &mut input, &mut output)
+    run_program(rt, &arguments, (Unknown, Unknown), &mut input, &mut output)
 }
 
 /// Returns the arguments without the program's name. One that is not UTF-8 is wrong.

@@ -1,21 +1,25 @@
 //! The program: options, the store and the lock system, and the streams.
-ghost use Rattle.std.specs.Prelude.{◌≡◌, ◌⊎◌, Err, IfOk, IfErr, OnOk, None, Some};
+ghost use Rattle.std.specs.Prelude.{◌≡◌, ◌⊎◌, Err, IfOk, IfErr, OnOk, OnErr, None, Some};
 ghost use Rattle.std.specs.Option.{option_map};
 ghost use Rattle.std.specs.Io.KnownBytes.{IsAtEnd};
 ghost use Rattle.dav_resource.specs.Texts.{texts};
 ghost use Rattle.dav_tree.specs.TreeFs.{memory_of};
 ghost use Rattle.dav_tree.specs.Memory.{first_memory};
-ghost use Rattle.davd.specs.Options.{options_of, value_of};
-ghost use Rattle.davd.specs.Program.{DoCheck, HaveNoFolder, ServesAll, ServesWith, IsNotUsage, status_of};
+ghost use Rattle.sqlite.specs.WalFiles.{image_at};
+ghost use Rattle.davd.specs.Folder.{rules_for};
+ghost use Rattle.davd.specs.Options.{OptionsValue, options_of};
+ghost use Rattle.davd.specs.Program.{DoCheck, HaveNoFolder, SayFolder, ServesAll, ServesInMemory, IsNotUsage, status_of};
+ghost use Rattle.davd.specs.Program.{ServesFolder, StopsInFolder, HasNotBegun};
 
 use crate::checking::check_folder;
-use crate::folder::{open_folder, serve_opened};
 use crate::options::{ProgramOptions, read_options};
+use crate::serving::{FolderData, serve_folder};
 use dav_memls::MemLs;
 use dav_resource::{FsError, FsResult};
-use dav_server::Server;
+use dav_server::{Options, Server};
 use dav_tree::{InMemory, Medium, MemFs};
-use sqlite::Unknown;
+use sqlite::{FileFrom, Start};
+use sqlite_disk::Disk;
 use std::alloc::{AllocError, AllocFailed, Global};
 use std::io::{self, ErrorKind, Read, Write};
 
@@ -84,19 +88,28 @@ impl From<FsError> for Stopped {
 }
 
 /// Serves the batches of the input, with the options that the arguments say, until the input ends. Or checks a folder, and
-/// reads no input, if the arguments say so.
+/// reads no input, if the arguments say so. `held` stands for what the files of the folder's database and its data file
+/// held: in the program this is not known, so the clauses hold for all contents.
 ///
 /// Errors: `Usage` if the arguments are wrong; `Memory` if memory runs out before the first batch; `Stream` if a stream
-/// fails, or if the input ends inside a batch; over a folder those of `open_folder` and `serve_opened`; of a check those of
-/// `check_folder`. With wrong arguments nothing is read or written. What the files of a folder held is not known here, so
-/// `Unknown` stands for it.
-pub fn run_program<I: Read, O: Write>(
+/// fails, or if the input ends inside a batch; over a folder those of `serve_folder`; of a check those of `check_folder`.
+/// With wrong arguments nothing is read or written.
+pub fn run_program<R: Start, T: Start, I: Read, O: Write>(
     rt: &HostRuntime,
     arguments: &[String],
+    held: (R, T),
     input: &mut I,
     output: &mut O,
 ) -> Result<(), Stopped>
-    ensures served { HaveNoFolder (texts arguments.now) → OnOk result (ServesAll ⟦<InMemory as Medium>⟧ (texts arguments.now) (I.remaining input.old) (I.remaining input.new) (O.contents output.old) (O.contents output.new)) }
+    ensures served { HaveNoFolder (texts arguments.now) → OnOk result (ServesAll ⟦<InMemory as Medium>⟧ (texts arguments.now)
+        (I.remaining input.old) (I.remaining input.new) (O.contents output.old) (O.contents output.new)) }
+    ensures kept { (options : OptionsValue) → SayFolder (texts arguments.now) options
+        → OnOk result (ServesFolder ⟦<FileFrom<R> as Disk>⟧ ⟦<FolderData<T> as Medium>⟧ (image_at R.Start) T.Start.db options
+        (I.remaining input.old) (I.remaining input.new) (O.contents output.old) (O.contents output.new)) }
+    ensures stopped { (options : OptionsValue) → SayFolder (texts arguments.now) options
+        → OnErr result (HasNotBegun input.old input.new output.old output.new
+        ⊎ StopsInFolder ⟦<FileFrom<R> as Disk>⟧ ⟦<FolderData<T> as Medium>⟧ (image_at R.Start) T.Start.db options
+        (O.contents output.old) (O.contents output.new)) }
     ensures end { OnOk result (DoCheck (texts arguments.now) ⊎ IsAtEnd (I.remaining input.new)) }
     ensures checked { DoCheck (texts arguments.now) → input.new ≡ input.old }
     ensures usage { result ≡ Err Stopped.Usage → options_of (texts arguments.now) ≡ None }
@@ -104,37 +117,41 @@ pub fn run_program<I: Read, O: Write>(
     ensures unread { options_of (texts arguments.now) ≡ None → input.new ≡ input.old }
     ensures unwritten { options_of (texts arguments.now) ≡ None → output.new ≡ output.old }
 {
-    let alloc = rt.alloc();
-    let options = read_options(alloc, arguments)?;
-    match &options.folder {
+    let ProgramOptions {
+        server,
+        quota,
+        folder,
+        checks,
+    } = read_options(rt.alloc(), arguments)?;
+    match folder {
+        Some(folder) if checks => check_folder(rt, folder.as_str(), held, output),
         Some(folder) => {
-            if options.checks {
-                return check_folder(rt, folder.as_str(), output);
-            }
-            let mut opened = open_folder(rt, folder.as_str(), options.quota, Unknown, Unknown)?;
-            serve_opened(alloc, &mut opened, options.server, input, output)
+            let served = serve_folder(rt, folder.as_str(), quota, held, server, input, output)?;
+            served.0
         }
-        None => serve_in_memory(alloc, options, input, output),
+        None => serve_in_memory(rt.alloc(), quota, server, input, output),
     }
 }
 
-/// Serves the batches of the input over a store and a lock system in memory, until the input ends.
+/// Serves the batches of the input over a store and a lock system in memory, with this quota, until the input ends.
 ///
 /// Errors: `Memory` if memory runs out before the first batch; `Stream` if a stream fails, or if the input ends inside a
 /// batch.
 fn serve_in_memory<I: Read, O: Write>(
     alloc: Global,
-    options: ProgramOptions,
+    quota: Option<u64>,
+    options: Options,
     input: &mut I,
     output: &mut O,
 ) -> Result<(), Stopped>
-    ensures served { OnOk result (ServesWith ⟦<InMemory as Medium>⟧ (value_of options) (I.remaining input.old) (I.remaining input.new) (O.contents output.old) (O.contents output.new)) }
+    ensures served { OnOk result (ServesInMemory ⟦<InMemory as Medium>⟧ (rules_for options) quota
+        (I.remaining input.old) (I.remaining input.new) (O.contents output.old) (O.contents output.new)) }
     ensures end { OnOk result (IsAtEnd (I.remaining input.new)) }
     ensures err { IfErr result IsNotUsage }
 {
-    let mut store = new_store(alloc, options.quota)?;
+    let mut store = new_store(alloc, quota)?;
     let mut locks = MemLs::new(alloc);
-    let mut server = Server::new(alloc, &mut store, &mut locks, options.server);
+    let mut server = Server::new(alloc, &mut store, &mut locks, options);
     match server.serve(input, output) {
         Ok(()) => Ok(()),
         Err(error) => Err(Stopped::Stream(error)),

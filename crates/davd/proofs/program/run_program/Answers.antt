@@ -1,20 +1,19 @@
-use Rattle.std.proofs.Common.{◌≡◌, ◌⊎◌, inr, Option, None, Some, Result, Ok, Err, sym, ap, ◌∙◌}
-use Rattle.std.specs.Option.{option_map}
-use Rattle.std.specs.Prelude.{OnOk, string_bytes}
+use Rattle.std.proofs.Common.{sym, ◌∙◌}
+use Rattle.sqlite.specs.WalFiles.{image_at}
+use Rattle.davd.proofs.Kept.{some_same, serves_folder, stops_in_folder}
 use Rattle.davd.specs.Options.{value_of}
 use Rattle.davd.proofs.program.run_program.Goals as goal
 
-not_none : {A B : Type 0} (f : A → B) (o : Option A) (x : A) → o ≡ Some x → option_map f o ≡ None → ⊥
-not_none f o x is none = let clash : Some (f x) ≡ None = sym (ap (option_map f) is) ∙ none in cc
+pub returns-in_ok-served-in-Some-2-clause-kept : goal.returns-in_ok-served-in-Some-2-clause-kept
+returns-in_ok-served-in-Some-2-clause-kept g c = λ options say.
+    let read = value_of c.in_ok-server.field-0 in
+    let served = c.in_ok-served-in-Some-2 in
+    serves_folder _ (image_at g.R.Start) g.T.Start.db read options (some_same read options (sym c.in_ok-server.ensures.ok ∙ say.0)) served.served.1 served.served.0
+    _ _ _ _ served.ensures.served
 
--- the arguments say a folder
-pub returns-in_ok-opened-in-Some-clause-served : goal.returns-in_ok-opened-in-Some-clause-served
-returns-in_ok-opened-in-Some-clause-served g c = λ none.
-    absurd (not_none string_bytes c.in_ok-options.options.folder _ c.in-Some.is (none (value_of c.in_ok-options.options) c.in_ok-options.ensures.ok))
-
-on_either : {E : Type 0} (A B : Type 0) (result : Result (Unit {0}) E) → OnOk result B → OnOk result (A ⊎ B)
-on_either A B (Ok done) is = inr is
-on_either A B (Err error) is = tt
-
-pub returns-in_ok-opened-in-Some-clause-end : goal.returns-in_ok-opened-in-Some-clause-end
-returns-in_ok-opened-in-Some-clause-end g c = on_either _ _ c.serve_opened.result c.serve_opened.ensures.end
+pub returns-in_ok-served-in-Some-2-clause-stopped : goal.returns-in_ok-served-in-Some-2-clause-stopped
+returns-in_ok-served-in-Some-2-clause-stopped g c = λ options say.
+    let read = value_of c.in_ok-server.field-0 in
+    let served = c.in_ok-served-in-Some-2 in
+    stops_in_folder _ (image_at g.R.Start) g.T.Start.db read options (some_same read options (sym c.in_ok-server.ensures.ok ∙ say.0)) served.served.1 served.served.0
+    _ _ _ served.ensures.stopped

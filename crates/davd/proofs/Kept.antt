@@ -1,0 +1,31 @@
+-- A run over the files of a folder, with the options that the arguments say.
+use Rattle.std.proofs.Common.{◌≡◌, ◌⊎◌, inr, ℕ, List, Option, Some, Result, Ok, Err, subst}
+use Rattle.std.specs.Prelude.{OnOk, OnErr}
+use Rattle.dav_data.specs.declared.data_file.DataFile.{DataFile}
+use Rattle.dav_pieces.specs.declared.piece.Piece.{Piece}
+use Rattle.dav_server.specs.State.{Rules}
+use Rattle.dav_tree.specs.declared.medium.Medium.{Ghosts}
+use Rattle.sqlite.specs.Recovery as database
+use Rattle.sqlite_disk.specs.declared.Disk as disk
+use Rattle.sqlite_store.specs.declared.store.FileStore.{FileStore}
+use Rattle.davd.proofs.Leaves.{on_ok, on_err}
+use Rattle.davd.specs.Leaving.{GoesOn, GoesOnAndStops}
+use Rattle.davd.specs.Options.{OptionsValue}
+use Rattle.davd.specs.Program.{rules_in, ServesFolder, StopsInFolder}
+use Rattle.davd.specs.declared.program.Stopped.{Stopped}
+
+pub some_same : {X : Type 0} (x y : X) → Some x ≡ Some y → x ≡ y
+some_same x y is = cc
+
+module _ {D E : Type 0} {d : disk.Ghosts D} {e : disk.Ghosts E} (medium : Ghosts (DataFile E e) (List Piece)) (left : database.Image) (file : List ℕ)
+    (read options : OptionsValue) (is : read ≡ options) (files : FileStore D d × DataFile E e) (result : Result (Unit {0}) Stopped) where
+  pub serves_folder : (input input' output output' : Option (List ℕ)) → OnOk result (GoesOn left file files medium (rules_in read) read.quota input input' output output')
+      → OnOk result (ServesFolder d medium left file options input input' output output')
+  serves_folder input input' output output' goes =
+      subst (λ o. OnOk result (ServesFolder d medium left file o input input' output output')) is (on_ok result goes (λ goes_on. record { files = files; goes_on = goes_on }))
+
+  pub stops_in_folder : (Other : Type 0) (output output' : Option (List ℕ)) → OnErr result (GoesOnAndStops left file files medium (rules_in read) read.quota output output')
+      → OnErr result (Other ⊎ StopsInFolder d medium left file options output output')
+  stops_in_folder Other output output' stops =
+      subst (λ o. OnErr result (Other ⊎ StopsInFolder d medium left file o output output')) is
+      (on_err result stops (λ goes_on. inr (record { files = files; stops = goes_on })))

@@ -1,0 +1,181 @@
+-- What is left of a run whose keeper keeps each batch.
+use Rattle.std.proofs.Common.{◌≡◌, ◌∙◌, ◌⊎◌, inl, inr, ℕ, List, [], ◌∷◌, ◌++◌, Option, Some, None, Result, Ok, Err, refl, subst}
+use Rattle.std.specs.Prelude.{IfSome, OnOk, OnErr, option_map}
+use Rattle.dav_data.specs.declared.data_file.DataFile.{DataFile}
+use Rattle.dav_engine.specs.DavInner.{lent, lent_locks}
+use Rattle.dav_folder.specs.Closing.{LeavesAlone, LeavesOneOf}
+use Rattle.dav_folder.specs.Files.{kept_at}
+use Rattle.dav_folder.specs.Lasting.{At, Lasts, LastsEither, IsSameKept, HasCleanDatabase}
+use Rattle.dav_folder.specs.Opening.{opened_at}
+use Rattle.dav_folder.specs.declared.folder.Folder.{Folder}
+use Rattle.dav_folder.specs.declared.opening.Opened.{Opened}
+use Rattle.dav_memls.specs.MemLs.{locks_of}
+use Rattle.dav_memls.specs.declared.memory_locks.MemLs.{MemLs}
+use Rattle.dav_pieces.specs.declared.piece.Piece.{Piece}
+use Rattle.dav_server.specs.Batches.{Exchange}
+use Rattle.dav_server.specs.Keeping.{snapshot_of, IsKept, IsKeptAfter, IsKeptOrNow}
+use Rattle.dav_server.specs.Snapshots.{snapshot_at}
+use Rattle.dav_server.specs.State.{Rules, ServerState}
+use Rattle.dav_tree.specs.TreeFs.{memory_of, store_of, honest_of, before_of}
+use Rattle.dav_tree.specs.declared.medium.Medium.{Ghosts}
+use Rattle.dav_tree.specs.declared.tree_fs.TreeFs.{TreeFs}
+use Rattle.sqlite.specs.Recovery as database
+use Rattle.sqlite_disk.specs.declared.Disk as disk
+use Rattle.sqlite_store.specs.FileStore.{view}
+use Rattle.sqlite_store.specs.declared.store.FileStore.{FileStore}
+use Rattle.sqlite_trees.specs.View.{IsClean}
+use Rattle.sqlite_trees.specs.declared.store.Store as store
+use Rattle.davd.specs.Folder.{Serving, state_now, state_from, IsOpenedAsKept, BeginsOpened, FindsKept, FindsFirst, ServesOpened, StopsOpened}
+use Rattle.davd.specs.Leaving.{LeavesAfter, LeavesAfterOrNow, RunsAndLeaves, LeavesLast, StopsAndLeaves, HeldAStore, BeginsWith, GoesOn, GoesOnAndStops}
+
+-- what follows on Ok, or on Err
+pub on_ok : {T E A B : Type 0} (result : Result T E) → OnOk result A → (A → B) → OnOk result B
+on_ok (Ok value) a f = f a
+on_ok (Err e) a f = tt
+
+pub on_err : {T E A B : Type 0} (result : Result T E) → OnErr result A → (A → B) → OnErr result B
+on_err (Ok value) a f = tt
+on_err (Err e) a f = f a
+
+module _ {M : Type 0} {g : Ghosts M (List Piece)} where
+  has_store : (kept : TreeFs M (List Piece) g) (locks : Option MemLs) (now last : ℕ)
+      → IfSome (option_map (λ l. snapshot_at kept l now last) locks) (λ (snapshot : At g). snapshot.store ≡ kept)
+  has_store kept None now last = tt
+  has_store kept (Some locks) now last = refl
+
+  -- the snapshot of a server has its store
+  snapshot_store : (server : Serving g) (snapshot : At g) → snapshot_of server ≡ Some snapshot → snapshot.store ≡ lent server.engine
+  snapshot_store server snapshot is =
+      subst (λ these. IfSome these (λ (s : At g). s.store ≡ lent server.engine)) is
+      (has_store (lent server.engine) (lent_locks server.engine) server.now server.last)
+
+module _ {D E : Type 0} {d : disk.Ghosts D} {e : disk.Ghosts E} {rows : store.Ghosts (FileStore D d)} {g : Ghosts (DataFile E e) (List Piece)} (rules : Rules)
+    (opened : Opened (FileStore D d) (DataFile E e) (List Piece) rows g) (folder : Folder (FileStore D d) rows) (kept : TreeFs (DataFile E e) (List Piece) g)
+    (files : FileStore D d × DataFile E e) where
+  begins_kept : (first : Serving g) → BeginsOpened first opened → IsOpenedAsKept opened → IsKept (store_of {g = g}) Lasts opened.folder first
+  begins_kept first begins lasts = record { snapshot = opened_at opened; is = begins.snapshot; kept = lasts }
+
+  module _ (last : Serving g) (ends : lent last.engine ≡ kept) where
+    after : (exchanges : List Exchange) (old : ServerState) → LeavesAlone folder kept files
+        → IsKeptAfter store_of locks_of Lasts IsSameKept honest_of rules folder exchanges old last → LeavesAfter g rules exchanges old last files
+    after exchanges old alone is_kept =
+        let same = snapshot_store last is_kept.since.snapshot is_kept.since.is ∙ ends in
+        let lasts : Lasts folder (before_of kept) is_kept.snapshot =
+        subst (λ (these : TreeFs (DataFile E e) (List Piece) g). Lasts folder (before_of these) is_kept.snapshot) same is_kept.since.kept in
+        record {
+          snapshot = is_kept.snapshot;
+          passed = is_kept.passed;
+          now = is_kept.since.snapshot;
+          is = is_kept.since.is;
+          unchanged = is_kept.since.unchanged;
+          left = alone is_kept.snapshot (record { image = lasts.image; at = lasts.at; left = lasts.left });
+        }
+
+    after_or_now : (exchanges : List Exchange) (old mid : ServerState) → LeavesOneOf folder kept files
+        → IsKeptOrNow store_of locks_of Lasts LastsEither IsSameKept honest_of rules folder exchanges old mid last
+        → LeavesAfterOrNow g rules exchanges old mid last files
+    after_or_now exchanges old mid one_of is_kept =
+        let now = is_kept.either.snapshot in
+        let same = snapshot_store last now is_kept.either.is ∙ ends in
+        record {
+          snapshot = is_kept.snapshot;
+          passed = is_kept.passed;
+          after = is_kept.last;
+          was = is_kept.was;
+          unchanged = is_kept.unchanged;
+          now = now;
+          is = is_kept.either.is;
+          left = one_of is_kept.snapshot now
+              (subst (λ (these : TreeFs (DataFile E e) (List Piece) g). LastsEither folder (before_of these) is_kept.snapshot now) same is_kept.either.kept) same;
+        }
+
+  -- a run whose keeper keeps it leaves it in the files
+  module _ (input input' output output' : Option (List ℕ)) where
+    pub runs_and_leaves : LeavesAlone folder kept files → ServesOpened rules opened (folder, kept) input input' output output'
+        → RunsAndLeaves g rules (IsOpenedAsKept opened) (state_from (opened_at opened)) files input input' output output'
+    runs_and_leaves alone serves =
+        subst (λ old. RunsAndLeaves g rules (IsOpenedAsKept opened) old files input input' output output') serves.begins.state
+        (record {
+          last = serves.last;
+          run = serves.runs.run;
+          leaves = λ lasts. after serves.last serves.ends serves.runs.run.exchanges (state_now serves.first) alone
+              (serves.runs.kept (begins_kept serves.first serves.begins lasts));
+        })
+
+  -- so does one that an error stops
+  module _ (output output' : Option (List ℕ)) where
+    pub stops_and_leaves : LeavesAlone folder kept files → LeavesOneOf folder kept files → StopsOpened rules opened (folder, kept) output output'
+        → StopsAndLeaves g rules (IsOpenedAsKept opened) (state_from (opened_at opened)) files output output'
+    stops_and_leaves alone one_of serves =
+        subst (λ old. StopsAndLeaves g rules (IsOpenedAsKept opened) old files output output') serves.begins.state
+        (record {
+          exchanges = serves.stops.exchanges;
+          mid = serves.stops.mid;
+          answered = serves.stops.answered;
+          law = serves.stops.law;
+          last = serves.last;
+          stopped = serves.stops.stopped;
+          leaves = λ lasts. after_or_now serves.last serves.ends serves.stops.exchanges (state_now serves.first) serves.stops.mid one_of
+              (serves.stops.kept (begins_kept serves.first serves.begins lasts));
+          in_order = elim serves.stops.in_order [
+            | inl written ↦ inl written
+            | inr more ↦ inr (record {
+              exchange = more.exchange;
+              served = more.answered;
+              leaves = λ lasts. after serves.last serves.ends (serves.stops.exchanges ++ more.exchange ∷ []) (state_now serves.first) alone
+                  (more.kept (begins_kept serves.first serves.begins lasts));
+            })
+          ];
+        })
+
+module _ {D E : Type 0} {d : disk.Ghosts D} {e : disk.Ghosts E} {rows : store.Ghosts (FileStore D d)} {g : Ghosts (DataFile E e) (List Piece)} (rules : Rules)
+    (opened : Opened (FileStore D d) (DataFile E e) (List Piece) rows g) (files : FileStore D d × DataFile E e) where
+  -- `left` and `file` are what the files held
+  module _ (left : database.Image) (file : List ℕ) (quota : Option ℕ) (finds : FindsKept left file quota opened) (finds_new : FindsFirst left quota opened)
+      (was_clean : IsClean (view files.0) → HasCleanDatabase opened.folder) where
+    lasts_at_start : HeldAStore left file files → IsOpenedAsKept opened
+    lasts_at_start (clean, inl (held, hold)) = (finds held hold (was_clean clean)).lasts
+    lasts_at_start (clean, inr vacant) = (finds_new vacant (was_clean clean)).lasts
+
+    limit_at_start : HeldAStore left file files → (memory_of opened.store).limit ≡ option_map Some quota
+    limit_at_start (clean, inl (held, hold)) = (finds held hold (was_clean clean)).limit
+    limit_at_start (clean, inr vacant) = (finds_new vacant (was_clean clean)).limit
+
+    begins_with : BeginsWith left file files quota (opened_at opened)
+    begins_with = record {
+      kept = λ held clean hold. (finds held hold (was_clean clean)).is;
+      new = λ clean vacant. (finds_new vacant (was_clean clean)).is;
+      limit = limit_at_start;
+    }
+
+    -- what was found goes on
+    pub goes_on : (input input' output output' : Option (List ℕ))
+        → RunsAndLeaves g rules (IsOpenedAsKept opened) (state_from (opened_at opened)) files input input' output output'
+        → GoesOn left file files g rules quota input input' output output'
+    goes_on input input' output output' runs =
+        record {
+          first = opened_at opened;
+          begins = begins_with;
+          goes = record { last = runs.last; run = runs.run; leaves = λ held. runs.leaves (lasts_at_start held) };
+        }
+
+    pub goes_on_and_stops : (output output' : Option (List ℕ))
+        → StopsAndLeaves g rules (IsOpenedAsKept opened) (state_from (opened_at opened)) files output output' → GoesOnAndStops left file files g rules quota output output'
+    goes_on_and_stops output output' stops =
+        record {
+          first = opened_at opened;
+          begins = begins_with;
+          stops = record {
+            exchanges = stops.exchanges;
+            mid = stops.mid;
+            answered = stops.answered;
+            law = stops.law;
+            last = stops.last;
+            stopped = stops.stopped;
+            leaves = λ held. stops.leaves (lasts_at_start held);
+            in_order = elim stops.in_order [
+              | inl written ↦ inl written
+              | inr more ↦ inr (record { exchange = more.exchange; served = more.served; leaves = λ held. more.leaves (lasts_at_start held) })
+            ];
+          };
+        }

@@ -1,0 +1,111 @@
+-- What a run over a folder leaves of its files, and what the next run there begins with.
+use Rattle.std.specs.Prelude.{◌≡◌, ◌⊎◌, ℕ, true, List, [], ◌∷◌, ◌++◌, flat_map, Option, Some}
+use Rattle.std.specs.Io.KnownBytes.{Appends}
+use Rattle.std.specs.Option.{option_map}
+use Rattle.dav_data.specs.declared.data_file.DataFile.{DataFile}
+use Rattle.dav_folder.specs.Files.{KeptStore, kept_at, Hold, Leave, LeaveEither}
+use Rattle.dav_folder.specs.Lasting.{At, IsSameKept}
+use Rattle.dav_memls.specs.MemLs.{locks_of}
+use Rattle.dav_pieces.specs.declared.piece.Piece.{Piece}
+use Rattle.dav_rows_files.specs.Starting.{IsVacant}
+use Rattle.dav_server.specs.Batches.{Exchange}
+use Rattle.dav_server.specs.Exchanges.{bytes_out, InOrder, StopsBy}
+use Rattle.dav_server.specs.Keeping.{snapshot_of, IsAnsweredAndSaved, AreSavedRun, RunsAndSaves, LeadThrough}
+use Rattle.dav_server.specs.Snapshots.{state_at}
+use Rattle.dav_server.specs.State.{Rules, ServerState}
+use Rattle.dav_tree.specs.TreeFs.{memory_of, store_of, honest_of}
+use Rattle.dav_tree.specs.declared.medium.Medium.{Ghosts}
+use Rattle.sqlite.specs.Recovery as database
+use Rattle.sqlite_disk.specs.declared.Disk as disk
+use Rattle.sqlite_store.specs.FileStore.{view}
+use Rattle.sqlite_store.specs.declared.store.FileStore.{FileStore}
+use Rattle.sqlite_trees.specs.View.{IsClean}
+use Rattle.davd.specs.Folder.{Serving, state_now, state_from, first_kept}
+
+-- `g` says how the data file is a medium; an exchange is a batch with its answer
+module _ {E : Type 0} {e : disk.Ghosts E} (g : Ghosts (DataFile E e) (List Piece)) (rules : Rules) where
+  -- a batch is served
+  abbrev Serves : Exchange → ServerState → ServerState → Type 0
+  Serves = IsAnsweredAndSaved (store_of {g = g}) honest_of rules
+
+  -- these exchanges lead from one state to the other, and through what this snapshot has
+  abbrev Pass : List Exchange → ServerState → At g → ServerState → Type 0
+  Pass exchanges old snapshot new = LeadThrough store_of locks_of honest_of rules exchanges old snapshot new
+
+-- `D` is the disk of the database, and `E` that of the data file
+module _ {D E : Type 0} {d : disk.Ghosts D} {e : disk.Ghosts E} (g : Ghosts (DataFile E e) (List Piece)) (rules : Rules) where
+  -- A crash leaves what was in the server after the first ones of these exchanges, with the time and the number of then. Of what is kept, the server has
+  -- the same now.
+  pub record LeavesAfter (exchanges : List Exchange) (old : ServerState) (last : Serving g) (files : FileStore D d × DataFile E e) : Type 0 where
+    pub snapshot : At g
+    pub passed : Pass g rules exchanges old snapshot (state_now last)
+    pub now : At g
+    pub is : snapshot_of last ≡ Some now
+    pub unchanged : IsSameKept snapshot now
+    pub left : Leave files (kept_at snapshot)
+
+  -- a crash leaves what is in the server now, or what was in it after the first ones of these exchanges; of what is kept, it had the same after all of them
+  pub record LeavesAfterOrNow (exchanges : List Exchange) (old mid : ServerState) (last : Serving g) (files : FileStore D d × DataFile E e) : Type 0 where
+    pub snapshot : At g
+    pub passed : Pass g rules exchanges old snapshot mid
+    pub after : At g
+    pub was : state_from after ≡ mid
+    pub unchanged : IsSameKept snapshot after
+    pub now : At g
+    pub is : snapshot_of last ≡ Some now
+    pub left : LeaveEither files (kept_at snapshot) (kept_at now)
+
+  -- ---- runs from this state; `If` is what has to hold at the start for the run to be kept
+
+  module _ (If : Type 0) (old : ServerState) where
+    -- a run to the end of the input, and what a crash leaves of the files then
+    pub record RunsAndLeaves (files : FileStore D d × DataFile E e) (input input' output output' : Option (List ℕ)) : Type 0 where
+      pub last : Serving g
+      pub run : RunsAndSaves (store_of {g = g}) honest_of rules old (state_now last) input input' output output'
+      pub leaves : If → LeavesAfter run.exchanges old last files
+
+    -- one more batch is served and kept after these exchanges
+    pub record LeavesLast (exchanges : List Exchange) (mid : ServerState) (last : Serving g) (files : FileStore D d × DataFile E e) : Type 0 where
+      pub exchange : Exchange
+      pub served : Serves g rules exchange mid (state_now last)
+      pub leaves : If → LeavesAfter (exchanges ++ exchange ∷ []) old last files
+
+    -- An error stops a run, after these exchanges and in this state. Nothing changed since, or one more batch was served (`stopped`). Nothing but the
+    -- answers of the exchanges was written, or the last batch was kept as well (`in_order`).
+    pub record StopsAndLeaves (files : FileStore D d × DataFile E e) (output output' : Option (List ℕ)) : Type 0 where
+      pub exchanges : List Exchange
+      pub mid : ServerState
+      pub answered : InOrder (Serves g rules) exchanges old mid
+      pub law : AreSavedRun (store_of {g = g}) honest_of rules exchanges old mid
+      pub last : Serving g
+      pub stopped : StopsBy (Serves g rules) mid (state_now last)
+      pub leaves : If → LeavesAfterOrNow exchanges old mid last files
+      pub in_order : Appends output output' (flat_map bytes_out exchanges) ⊎ LeavesLast exchanges mid last files
+
+-- ---- runs over the files of a folder
+
+-- `left` and `file` are what the files of the database and the data file held
+module _ {D E : Type 0} {d : disk.Ghosts D} {e : disk.Ghosts E} (left : database.Image) (file : List ℕ) (files : FileStore D d × DataFile E e) where
+  -- the files held a store or had no table, and the disk of the database is clean at the end
+  abbrev pub HeldAStore : Type 0
+  HeldAStore = IsClean (view files.0) × (((kept : KeptStore) × Hold left file kept) ⊎ IsVacant left)
+
+  -- A run begins with what the files held, or with a new store if they had no table, and with this quota. Its files have their bytes if the data file is
+  -- honest.
+  pub record BeginsWith (quota : Option ℕ) {g : Ghosts (DataFile E e) (List Piece)} (first : At g) : Type 0 where
+    pub kept : (kept : KeptStore) → IsClean (view files.0) → Hold left file kept → honest_of first.store ≡ true → kept_at first ≡ kept
+    pub new : IsClean (view files.0) → IsVacant left → honest_of first.store ≡ true → kept_at first ≡ first_kept
+    pub limit : HeldAStore → (memory_of first.store).limit ≡ option_map Some quota
+
+  module _ (g : Ghosts (DataFile E e) (List Piece)) (rules : Rules) (quota : Option ℕ) where
+    -- a run goes on from what the files held, and what a crash leaves of them then
+    pub record GoesOn (input input' output output' : Option (List ℕ)) : Type 0 where
+      pub first : At g
+      pub begins : BeginsWith quota first
+      pub goes : RunsAndLeaves g rules HeldAStore (state_from first) files input input' output output'
+
+    -- an error stops such a run
+    pub record GoesOnAndStops (output output' : Option (List ℕ)) : Type 0 where
+      pub first : At g
+      pub begins : BeginsWith quota first
+      pub stops : StopsAndLeaves g rules HeldAStore (state_from first) files output output'
