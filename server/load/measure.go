@@ -4,6 +4,7 @@ import (
 	"context"
 	"fmt"
 	"io"
+	"syscall"
 )
 
 // measureAll measures each kind with each number of connections on each server.
@@ -33,6 +34,7 @@ func measureRounds(ctx context.Context, o options, k kind, connections int, prog
 	}
 	for round := 0; round < o.rounds; round++ {
 		for _, i := range orderOf(round, len(rows)) {
+			syscall.Sync() // No server waits until the disk has what another wrote.
 			c := newCrew(o.servers[i], k, connections, o.writers)
 			c.work(ctx, o.duration)
 			if err := ctx.Err(); err != nil {
