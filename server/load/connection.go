@@ -40,6 +40,7 @@ type connection struct {
 	deadline time.Time // after it, everything fails
 	conn     net.Conn
 	reader   *bufio.Reader
+	buffer   []byte // for the body of a response that is passed on, or nil
 }
 
 // do sends a request, reads the whole response, and returns its status. If the server has closed the connection since
@@ -65,7 +66,7 @@ func (c *connection) try(r request) (int, error) {
 	buffers := net.Buffers{r.head, r.body}
 	_, sendErr := buffers.WriteTo(c.conn)
 	// A server may answer before it has the whole body, and close the connection. The response says why.
-	status, keep, err := c.readResponse()
+	status, keep, err := c.readResponse(io.Discard)
 	if err != nil || sendErr != nil || !keep {
 		c.close()
 	}
@@ -86,7 +87,8 @@ func (c *connection) open() error {
 	return nil
 }
 
-func (c *connection) readResponse() (status int, keep bool, err error) {
+// readResponse reads a response, and passes on its body.
+func (c *connection) readResponse(to io.Writer) (status int, keep bool, err error) {
 	if _, err := c.reader.Peek(1); err != nil {
 		return 0, false, fmt.Errorf("%w: %v", errClosed, err)
 	}
@@ -98,7 +100,7 @@ func (c *connection) readResponse() (status int, keep bool, err error) {
 		if a.StatusCode >= 100 && a.StatusCode < 200 && a.StatusCode != http.StatusSwitchingProtocols {
 			continue
 		}
-		if _, err := io.Copy(io.Discard, a.Body); err != nil {
+		if _, err := io.CopyBuffer(to, a.Body, c.buffer); err != nil {
 			return 0, false, fmt.Errorf("the body of a response: %w", err)
 		}
 		return a.StatusCode, !a.Close, nil

@@ -2,16 +2,21 @@
 //
 //	load [-seconds 3] [-rounds 3] [-connections 1,8,64] [-kinds get,put,propfind0,propfind1,mixed]
 //	     [-writers 2] [-json FILE] NAME=URL...
+//	load -size BYTES [-rounds 3] [-json FILE] NAME=URL...
 //
 // It measures one kind of request and one number of connections after the other, and in each of these several rounds.
 // A round loads each server for the given seconds, one server at a time, and each second round takes the servers in
-// reverse order. So what else the machine does slows all servers alike.
+// reverse order. So what else the machine does slows all servers alike. Before each measurement it waits until the disk
+// has what was written before (sync).
 //
 //	get        GET of files of 1 KiB
 //	put        PUT of 1 KiB onto existing files
 //	propfind0  PROPFIND of a file, Depth 0, four properties
 //	propfind1  PROPFIND of a collection of ten files, Depth 1, four properties
 //	mixed      GET of 1 KiB on one connection, while other connections (-writers) PUT bodies of 20 MB
+//
+// With -size it measures a PUT of one file of that length, and then a GET, each on a connection of its own. The file is
+// sent and compared in pieces, and then removed. "PUT and sync" is the time until sync returns after the PUT.
 //
 // It prints Markdown tables. A rate is the median of the rounds and counts only requests with a status of 2xx. The
 // percentiles are of all rounds together, and the longest time is exact.
@@ -61,11 +66,15 @@ func run(ctx context.Context, o options, out, progress io.Writer) (err error) {
 			}
 		}(s)
 	}
-	rows, err := measureAll(ctx, o, progress)
+	measure, write := measureAll, writeTables
+	if o.size > 0 {
+		measure, write = measureLarge, writeLargeTable
+	}
+	rows, err := measure(ctx, o, progress)
 	if err != nil {
 		return err
 	}
-	if err := writeTables(out, rows); err != nil {
+	if err := write(out, rows); err != nil {
 		return err
 	}
 	if o.json == "" {

@@ -17,6 +17,7 @@ const (
 	mostConnections = 64
 	mostServers     = 16
 	mostWriters     = 16
+	mostSize        = 1 << 30 // davserve and Apache accept no longer body unless they are configured to
 )
 
 // A kind is a kind of load.
@@ -39,6 +40,7 @@ type options struct {
 	connections []int
 	kinds       []kind
 	writers     int
+	size        int64 // of one large file, which is measured instead of the kinds, or 0
 	json        string
 	servers     []server
 }
@@ -58,6 +60,7 @@ func parse(arguments []string, stderr io.Writer) (options, error) {
 	seconds := flags.Int("seconds", 3, "how long each round loads a server, at most 60")
 	flags.IntVar(&o.rounds, "rounds", 3, "how many rounds, at most 20")
 	flags.IntVar(&o.writers, "writers", 2, "how many connections PUT in mixed, at most 16")
+	flags.Int64Var(&o.size, "size", 0, "measure a file of so many `bytes` instead of the kinds, at most 1073741824")
 	flags.StringVar(&o.json, "json", "", "a `file` for the results as JSON")
 	flags.Func("connections", "how many connections at once, a `list` of numbers of at most 64 (default 1,8,64)",
 		func(text string) (err error) { o.connections, err = parseNumbers(text); return err })
@@ -95,6 +98,9 @@ func (o options) check(seconds int) error {
 		if b.value < 1 || b.value > b.most {
 			return fmt.Errorf("%s must be 1 to %d, not %d", b.name, b.most, b.value)
 		}
+	}
+	if o.size < 0 || o.size > mostSize {
+		return fmt.Errorf("-size must be 0 to %d, not %d", mostSize, o.size)
 	}
 	seen := map[string]bool{}
 	for _, s := range o.servers {

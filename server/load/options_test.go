@@ -31,6 +31,7 @@ func TestParse(t *testing.T) {
 		{"-seconds 60 -rounds 20 -writers 16 -json f a=http://127.0.0.1:80",
 			with(func(o *options) { o.duration, o.rounds, o.writers, o.json = time.Minute, 20, 16, "f" })},
 		{"-connections 64,1 a=http://127.0.0.1:80", with(func(o *options) { o.connections = []int{64, 1} })},
+		{"-size 1073741824 a=http://127.0.0.1:80", with(func(o *options) { o.size = 1 << 30 })},
 		{"-kinds mixed,get a=http://127.0.0.1:80", with(func(o *options) { o.kinds = []kind{mixed, get} })},
 	} {
 		got, err := parse(strings.Fields(c.arguments), io.Discard)
@@ -50,6 +51,7 @@ func TestParseRejects(t *testing.T) {
 		fine + fine,
 		"-seconds 0" + fine, "-seconds 61" + fine, "-seconds x" + fine,
 		"-rounds 0" + fine, "-rounds 21" + fine, "-writers 0" + fine, "-writers 17" + fine,
+		"-size -1" + fine, "-size 1073741825" + fine, "-size 1G" + fine,
 		"-connections 0" + fine, "-connections 65" + fine, "-connections 1,1" + fine, "-connections 1, " + fine,
 		"-kinds get,get" + fine, "-kinds GET" + fine, "-kinds get," + fine, "-unknown" + fine,
 		strings.Repeat(fine, 17),

@@ -61,6 +61,24 @@ func writeTables(out io.Writer, rows []*row) error {
 	return err
 }
 
+// writeLargeTable writes a table of the rows of measureLarge.
+func writeLargeTable(out io.Writer, rows []*row) error {
+	var lines [][]string
+	for ; len(rows) > 0; rows = rows[len(largeKinds):] {
+		cells, all := []string{rows[0].server}, row{}
+		for _, r := range rows[:len(largeKinds)] {
+			cells = append(cells, grouped(median(r.rates)), r.spread())
+			all.merge(&r.tally)
+		}
+		lines = append(lines, append(cells, all.errors()))
+	}
+	var text strings.Builder
+	writeTable(&text, []string{"server", "PUT MB/s", "of the rounds", "PUT and sync MB/s", "of the rounds", "GET MB/s",
+		"of the rounds", "errors"}, lines)
+	_, err := io.WriteString(out, text.String())
+	return err
+}
+
 // writeTable writes a table and an empty line, or nothing if it has no rows.
 func writeTable(text *strings.Builder, head []string, rows [][]string) {
 	if len(rows) == 0 {
@@ -77,6 +95,9 @@ func writeTable(text *strings.Builder, head []string, rows [][]string) {
 
 // spread returns the least and the greatest rate of the rounds.
 func (r *row) spread() string {
+	if len(r.rates) == 0 {
+		return "none"
+	}
 	sorted := append([]float64(nil), r.rates...)
 	sort.Float64s(sorted)
 	return grouped(sorted[0]) + " to " + grouped(sorted[len(sorted)-1])
