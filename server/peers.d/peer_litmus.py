@@ -6,7 +6,7 @@ import typing
 
 from connection import Wrong
 from peer_checks import Checks, table
-from peer_servers import DAVSERVE, Peer, Programs, Running
+from peer_servers import OURS, Peer, Programs, Running
 from server import PROCESSES
 
 SUITES = ("basic", "copymove", "props", "locks", "http")
@@ -59,7 +59,7 @@ def run_one(suite: str, server: Running, checks: Checks) -> str:
     except Wrong as wrong:
         checks.fail(name, str(wrong))
         return "no summary"
-    if server.peer.name == DAVSERVE and count.passed < count.run:
+    if server.peer.name in OURS and count.passed < count.run:
         checks.fail(name, f"{count}: {', '.join(count.failed)}")
         return str(count)
     checks.pass_(name, str(count))

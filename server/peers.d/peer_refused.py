@@ -8,7 +8,7 @@ import xml.etree.ElementTree as ElementTree
 
 from connection import Answer, Wrong
 from peer_checks import Checks, table
-from peer_servers import DAVSERVE, SABRE_THROWING, USER, Peer, Programs, Running
+from peer_servers import DAVSERVE, KEPT, SABRE_THROWING, USER, Peer, Programs, Running
 from programs import TOP
 
 FILES = ("a", "z", "c/u", "b_locked/x", "b_locked/y")
@@ -124,6 +124,8 @@ def run(peers: list[Peer], programs: Programs, parent: pathlib.Path, checks: Che
     """Tries each server, and returns the table."""
     rows = []
     for peer in peers:
+        if peer.name == KEPT:
+            continue  # It has the engine of davserve.
         if peer.name == DAVSERVE:
             row = of_the_engine()
             wrong = "" if row == RIGHT else f"{row}, not {RIGHT}"

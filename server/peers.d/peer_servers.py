@@ -17,6 +17,8 @@ START_SECONDS = 20
 END_SECONDS = 5
 USER = "www-data"
 DAVSERVE = "davserve"
+KEPT = "davserve -folder"
+OURS = (DAVSERVE, KEPT)
 
 
 class Place:
@@ -44,7 +46,9 @@ class Peer(typing.NamedTuple):
     """A server. `command` writes its configuration, and returns how it is started in the foreground."""
 
     name: str
+    word: str  # chooses it in the command line
     by: str
+    after_cut: str  # what a power cut may do to a change that was answered
     packages: tuple[str, ...]
     version: typing.Callable[["Programs"], str]
     command: typing.Callable[[Place, "Programs"], list]
@@ -76,7 +80,16 @@ def printed(command: list, pattern: str) -> str:
 
 
 def davserve(place: Place, programs: Programs) -> list:
-    return as_user([programs.davserve, "-listen", place.address, "-davd", programs.davd])
+    # The old and the new bytes of a file of 1 GB are more than the usual limit.
+    return of_davserve(place, programs, "-memory", "4G")
+
+
+def davserve_kept(place: Place, programs: Programs) -> list:
+    return of_davserve(place, programs, "-folder", place.data)
+
+
+def of_davserve(place: Place, programs: Programs, *flags) -> list:
+    return as_user([programs.davserve, "-listen", place.address, "-davd", programs.davd, *flags])
 
 
 APACHE = """\
@@ -199,21 +212,26 @@ def davserve_version(programs: Programs) -> str:
 
 PHP = ("php-cli", "php-sabre-dav")
 XNET = ("golang-go", "golang-golang-x-net-dev")
+# They write without a sync, so the system may not yet have written to the disk what was answered.
+UNSYNCED = "may be lost: no sync"
 SERVERS = (
-    Peer(DAVSERVE, "dav_engine, in memory", (), davserve_version, davserve),
-    Peer("Apache", "`mod_dav_fs`", ("apache2",), lambda _: printed(["apache2", "-v"], r"Apache/(\S+)"), apache),
-    Peer("nginx", "its DAV module and `dav-ext`", ("nginx-light", "libnginx-mod-http-dav-ext"),
+    Peer(DAVSERVE, "davserve", "dav_engine, in memory", "lost", (), davserve_version, davserve),
+    Peer(KEPT, "davserve-folder", "dav_engine, in a folder", "kept", (), davserve_version, davserve_kept),
+    Peer("Apache", "apache", "`mod_dav_fs`", UNSYNCED, ("apache2",),
+         lambda _: printed(["apache2", "-v"], r"Apache/(\S+)"), apache),
+    Peer("nginx", "nginx", "its DAV module and `dav-ext`", UNSYNCED, ("nginx-light", "libnginx-mod-http-dav-ext"),
          lambda _: printed(["nginx", "-v"], r"nginx/(\S+)"), nginx),
-    Peer("lighttpd", "`mod_webdav`", ("lighttpd", "lighttpd-mod-webdav"),
+    Peer("lighttpd", "lighttpd", "`mod_webdav`", UNSYNCED, ("lighttpd", "lighttpd-mod-webdav"),
          lambda _: printed(["lighttpd", "-v"], r"lighttpd/(\S+)"), lighttpd),
-    Peer("rclone", "`rclone serve webdav`", ("rclone",),
+    Peer("rclone", "rclone", "`rclone serve webdav`", UNSYNCED, ("rclone",),
          lambda _: printed(["rclone", "version"], r"v(\d[\d.]*)"), rclone),
-    Peer("SabreDAV", "its file system classes, in PHP's own server", PHP, sabre_version,
+    Peer("SabreDAV", "sabredav", "its file system classes, in PHP's own server", UNSYNCED, PHP, sabre_version,
          lambda place, _: sabre(place, "")),
-    Peer("x/net/webdav", "`webdav.Handler` over `webdav.Dir`", XNET,
+    Peer("x/net/webdav", "xnet", "`webdav.Handler` over `webdav.Dir`", UNSYNCED, XNET,
          lambda _: version_of("golang-golang-x-net-dev") or "unknown", xnet),
 )
-SABRE_THROWING = Peer("SabreDAV", "", PHP, sabre_version, lambda place, _: sabre(place, WARNINGS_THROW))
+SABRE_THROWING = Peer("SabreDAV", "sabredav", "", UNSYNCED, PHP, sabre_version,
+                      lambda place, _: sabre(place, WARNINGS_THROW))
 
 
 # ---- running
