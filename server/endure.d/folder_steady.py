@@ -23,6 +23,8 @@ LIVE = 75_000_000
 LARGEST = 16 << 20
 MOST_APPENDED = 200_000
 DIRECTORIES = 5
+# What the folder has is noted at most so often, and with at least so many seconds between.
+NOTES = 48
 NOTED_SECONDS = 30
 SAMPLED_SECONDS = 0.5
 TIMES = 3
@@ -169,14 +171,14 @@ class Steady:
         return ", ".join(f"{count:,} {it}" for it, count in sorted(total.items()))
 
     def watch(self, began: float, futures):
-        noted = began
+        noted, pause = began, max(NOTED_SECONDS, self.seconds / NOTES)
         while time.monotonic() < began + self.seconds and not any(it.done() for it in futures):
             time.sleep(SAMPLED_SECONDS)
             sample = self.sample(began)
             if all(it.is_warm for it in self.workers):
                 self.judge(sample)
-            if time.monotonic() >= noted + NOTED_SECONDS:
-                noted += NOTED_SECONDS
+            if time.monotonic() >= noted + pause:
+                noted += pause
                 self.counts.note(str(sample))
 
     def judge(self, sample: Sample):
