@@ -13,8 +13,9 @@ import (
 	"io/fs"
 	"os"
 	"path/filepath"
-	"syscall"
 	"time"
+
+	"davserve/internal/disk"
 )
 
 // The files of a folder that a backup has.
@@ -111,8 +112,7 @@ func unnamed(folder string) (*os.File, error) {
 
 // roomFor returns the folder if its disk has room for so many bytes, and os.TempDir otherwise.
 func roomFor(length int64, folder string) string {
-	var disk syscall.Statfs_t
-	if err := syscall.Statfs(folder, &disk); err == nil && int64(disk.Bavail)*disk.Bsize < length+spareRoom {
+	if free, err := disk.Free(folder); err == nil && free < length+spareRoom {
 		return os.TempDir()
 	}
 	return folder

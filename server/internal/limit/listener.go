@@ -2,10 +2,11 @@
 package limit
 
 import (
-	"errors"
 	"net"
 	"sync"
 	"time"
+
+	"davserve/internal/netconn"
 )
 
 // pieceSize is how many bytes of a write a client must receive in time.
@@ -42,7 +43,7 @@ func (l *listener) Accept() (net.Conn, error) {
 		<-l.slots
 		return nil, err
 	}
-	return &conn{Conn: c, stall: l.stall, slots: l.slots}, nil
+	return &conn{Wrapper: netconn.Wrapper{Conn: c}, stall: l.stall, slots: l.slots}, nil
 }
 
 // Close closes the listener and ends each Accept. Open connections stay.
@@ -53,7 +54,7 @@ func (l *listener) Close() error {
 
 // A conn gives its slot back when it is closed for the first time.
 type conn struct {
-	net.Conn
+	netconn.Wrapper
 	stall   time.Duration
 	writing sync.Mutex // keeps the pieces of a write together
 	slots   chan struct{}
@@ -88,18 +89,4 @@ func (c *conn) Close() error {
 	err := c.Conn.Close()
 	c.once.Do(func() { <-c.slots })
 	return err
-}
-
-// CloseWrite closes the sending side. http.Server calls it when it answers before it has read the whole request, so
-// that the client still gets the response.
-func (c *conn) CloseWrite() error {
-	if w, ok := c.Conn.(interface{ CloseWrite() error }); ok {
-		return w.CloseWrite()
-	}
-	return errors.New("the connection has no CloseWrite")
-}
-
-// NetConn returns the connection below, as that of tls.Conn does.
-func (c *conn) NetConn() net.Conn {
-	return c.Conn
 }

@@ -11,6 +11,8 @@ import (
 	"sync"
 	"testing"
 	"time"
+
+	"davserve/internal/netconn"
 )
 
 // listen returns a listener on a free port.
@@ -187,7 +189,7 @@ func TestCloseWrite(t *testing.T) {
 	}
 	other, peer := net.Pipe()
 	defer peer.Close()
-	if err := (&conn{Conn: other}).CloseWrite(); err == nil {
+	if err := (&conn{Wrapper: netconn.Wrapper{Conn: other}}).CloseWrite(); err == nil {
 		t.Error("a pipe has a CloseWrite")
 	}
 }

@@ -11,6 +11,8 @@ import (
 	"sync"
 	"testing"
 	"time"
+
+	"davserve/internal/netconn"
 )
 
 // pair returns both ends of a TCP connection.
@@ -134,7 +136,7 @@ func TestAbort(t *testing.T) {
 	client, server := pair(t)
 	slots := make(chan struct{}, 1)
 	slots <- struct{}{}
-	wrapped := &conn{Conn: server, slots: slots}
+	wrapped := &conn{Wrapper: netconn.Wrapper{Conn: server}, slots: slots}
 	if _, err := server.Write(bytes.Repeat([]byte("x"), 1000)); err != nil {
 		t.Fatal(err)
 	}
@@ -264,7 +266,7 @@ func TestAbortTLS(t *testing.T) {
 	client, accepted := pair(t)
 	slots := make(chan struct{}, 1)
 	slots <- struct{}{}
-	below := &conn{Conn: accepted, stall: time.Minute, slots: slots}
+	below := &conn{Wrapper: netconn.Wrapper{Conn: accepted}, stall: time.Minute, slots: slots}
 	certificates := httptest.NewUnstartedServer(nil)
 	certificates.StartTLS()
 	defer certificates.Close()
