@@ -21,6 +21,7 @@ type config struct {
 	options davserve.Options
 
 	listen         string
+	metrics        string
 	socket         string
 	users          string
 	realm          string
@@ -107,6 +108,7 @@ func (c *config) addServing(flags *flag.FlagSet) {
 	flags.StringVar(&c.options.PublicURL, "public-url", "", "the `URL` by which clients reach a server behind a proxy")
 	flags.StringVar(&c.cert, "cert", "", "`file` with the certificates for TLS, in PEM")
 	flags.StringVar(&c.key, "key", "", "`file` with the key for TLS, in PEM")
+	flags.StringVar(&c.metrics, "metrics", "", "`address` at which Prometheus gets metrics (default: none)")
 	flags.Var(&c.corsOrigins, "cors-origin", "`origin` whose pages may use the server (repeatable)")
 	flags.BoolVar(&c.version, "version", false, "print the version and end")
 }

@@ -92,6 +92,7 @@ func TestExitStatus(t *testing.T) {
 		{"-davd /no/such/davd", 1},
 		{"-davd /bin/true", 1},
 		{"-users /no/such/file", 1},
+		{"-metrics 127.0.0.1:no-port", 1},
 		{"backup -h", 0},
 		{"backup", 2},
 		{"backup -folder /no/such/folder /no/such/target", 1},

@@ -29,6 +29,11 @@ func serve(ctx context.Context, c config, logger *log.Logger) (err error) {
 	}
 	c.options.Log = logger
 	c.options.Principal = func(r *http.Request) (string, bool) { return auth.User(r.Context()) }
+	meter, closeMetrics, err := c.meter(logger)
+	if err != nil {
+		return err
+	}
+	defer closeMetrics()
 	dav, err := davserve.New(ctx, c.options)
 	if ctx.Err() != nil && errors.Is(err, ctx.Err()) {
 		return nil // It was interrupted while davd loaded its folder.
@@ -37,12 +42,13 @@ func serve(ctx context.Context, c config, logger *log.Logger) (err error) {
 		return err
 	}
 	defer func() { err = closeDavd(dav, c.shutdownTimeout, err) }()
+	meter.show(dav)
 	closeControl, err := c.control(ctx, dav, logger)
 	if err != nil {
 		return err
 	}
 	defer closeControl()
-	handler, err := c.handler(dav, logger)
+	handler, err := c.handler(dav, meter, logger)
 	if err != nil {
 		return err
 	}
@@ -60,7 +66,7 @@ func serve(ctx context.Context, c config, logger *log.Logger) (err error) {
 		ErrorLog:          logger,
 	}
 	c.announce(logger, listener.Addr())
-	return c.serveUntil(ctx, server, limit.Listener(listener, c.maxConnections, c.options.StallTimeout))
+	return c.serveUntil(ctx, server, limit.Listener(meter.listener(listener), c.maxConnections, c.options.StallTimeout))
 }
 
 // control answers the commands of an operator, if there is a folder, until the function that it returns is called. Since
@@ -105,7 +111,7 @@ func closeDavd(dav *davserve.Handler, timeout time.Duration, served error) error
 
 // handler puts the handlers one around the other. The health of the server is nobody's secret, and it is shown under
 // load, too.
-func (c *config) handler(dav *davserve.Handler, logger *log.Logger) (http.Handler, error) {
+func (c *config) handler(dav *davserve.Handler, meter *meter, logger *log.Logger) (http.Handler, error) {
 	inner, err := c.authenticate(logUser(dav), logger)
 	if err != nil {
 		return nil, err
@@ -124,7 +130,7 @@ func (c *config) handler(dav *davserve.Handler, logger *log.Logger) (http.Handle
 		}
 		inner.ServeHTTP(w, r)
 	})
-	return limit.Unread(c.options.StallTimeout, accesslog.New(logger, outer)), nil
+	return limit.Unread(c.options.StallTimeout, meter.around(accesslog.New(logger, outer, meter.observers()...))), nil
 }
 
 // logUser has the log show the user.

@@ -25,6 +25,14 @@ func SetUser(ctx context.Context, name string) {
 	}
 }
 
+// A Request is what is known of a request that has ended.
+type Request struct {
+	Method   string
+	Status   int // 0: no status was sent
+	Duration time.Duration
+	Aborted  bool // the response was broken off, or there was none
+}
+
 // New returns a handler that passes requests to next and logs a line for each when it ends:
 //
 //	192.0.2.1:5000 "alice" PUT "/dav/a%20b" 201 0 1.234ms
@@ -35,13 +43,16 @@ func SetUser(ctx context.Context, name string) {
 //
 // If next panics with http.ErrAbortHandler, the line ends with "aborted" and the panic goes on. Any other panic is
 // logged with its stack. The response is then 500, or it is aborted if it had begun.
-func New(l *log.Logger, next http.Handler) http.Handler {
-	return &handler{log: l, next: next}
+//
+// Each observer is called with each request, before its line is logged.
+func New(l *log.Logger, next http.Handler, observers ...func(Request)) http.Handler {
+	return &handler{log: l, next: next, observers: observers}
 }
 
 type handler struct {
-	log  *log.Logger
-	next http.Handler
+	log       *log.Logger
+	next      http.Handler
+	observers []func(Request)
 }
 
 func (h *handler) ServeHTTP(w http.ResponseWriter, r *http.Request) {
@@ -75,7 +86,11 @@ func (h *handler) end(line *line, seen *response, value any) (abort bool) {
 	if !abort && seen.status == 0 {
 		seen.status = http.StatusOK // net/http sends it
 	}
-	h.log.Print(line.text(seen, abort))
+	duration := time.Since(line.start)
+	for _, observe := range h.observers {
+		observe(Request{Method: line.method, Status: seen.status, Duration: duration, Aborted: abort})
+	}
+	h.log.Print(line.text(seen, duration, abort))
 	return abort
 }
 
@@ -86,7 +101,7 @@ type line struct {
 	user                 atomic.Pointer[string]
 }
 
-func (l *line) text(seen *response, aborted bool) string {
+func (l *line) text(seen *response, duration time.Duration, aborted bool) string {
 	user := "-"
 	if name := l.user.Load(); name != nil {
 		user = quote(*name)
@@ -103,9 +118,8 @@ func (l *line) text(seen *response, aborted bool) string {
 	if aborted {
 		end = " aborted"
 	}
-	duration := time.Since(l.start).Round(time.Microsecond)
 	return fmt.Sprintf("%s %s %s %s %s %d %s%s",
-		l.remote, user, method, quote(l.path), status, seen.bytes, duration, end)
+		l.remote, user, method, quote(l.path), status, seen.bytes, duration.Round(time.Microsecond), end)
 }
 
 // quote returns s as a string in Go and in ASCII. Of a long one it has the first bytes and an ellipsis.

@@ -397,3 +397,46 @@ func TestInjection(t *testing.T) {
 		t.Errorf("logged %q", got)
 	}
 }
+
+func TestObserversSeeEachRequest(t *testing.T) {
+	tests := []struct {
+		name    string
+		handler http.HandlerFunc
+		want    Request
+	}{
+		{"a status", func(w http.ResponseWriter, r *http.Request) { w.WriteHeader(404) }, Request{Method: "GET", Status: 404}},
+		{"nothing", func(w http.ResponseWriter, r *http.Request) {}, Request{Method: "GET", Status: 200}},
+		{"a panic", func(w http.ResponseWriter, r *http.Request) { panic("p") }, Request{Method: "GET", Status: 500}},
+		{
+			"no response", func(w http.ResponseWriter, r *http.Request) { panic(http.ErrAbortHandler) },
+			Request{Method: "GET", Aborted: true},
+		}, {
+			"a broken response", func(w http.ResponseWriter, r *http.Request) {
+				io.WriteString(w, "x")
+				panic(http.ErrAbortHandler)
+			},
+			Request{Method: "GET", Status: 200, Aborted: true},
+		},
+	}
+	for _, test := range tests {
+		var seen []Request
+		observe := func(r Request) { seen = append(seen, r) }
+		slow := func(w http.ResponseWriter, r *http.Request) {
+			time.Sleep(time.Millisecond)
+			test.handler(w, r)
+		}
+		func() {
+			defer func() { _ = recover() }()
+			New(log.New(io.Discard, "", 0), http.HandlerFunc(slow), observe, observe).
+				ServeHTTP(httptest.NewRecorder(), httptest.NewRequest("GET", "/", nil))
+		}()
+		if len(seen) != 2 || seen[0] != seen[1] || seen[0].Duration < time.Millisecond {
+			t.Errorf("%s: %+v", test.name, seen)
+			continue
+		}
+		seen[0].Duration = 0
+		if seen[0] != test.want {
+			t.Errorf("%s: %+v, want %+v", test.name, seen[0], test.want)
+		}
+	}
+}

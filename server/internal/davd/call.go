@@ -2,6 +2,7 @@ package davd
 
 import (
 	"sync"
+	"time"
 
 	"davserve/internal/frame"
 )
@@ -109,7 +110,19 @@ type batch struct {
 	now      uint64
 	calls    []*call
 	written  sync.WaitGroup // until the batch is written
+	wrote    time.Time      // when it was written
 	answered int            // how many calls are finished; only who reads the replies uses it
+	took     time.Duration  // how long davd had it until its replies came, if it was served
+}
+
+// changes reports whether a frame of the batch may change what davd keeps in its folder.
+func (b *batch) changes() bool {
+	for _, c := range b.calls {
+		if c.lasts && !c.reads {
+			return true
+		}
+	}
+	return false
 }
 
 // cut splits the calls of the next batch from the others. The batch has at least one call.

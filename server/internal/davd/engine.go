@@ -82,6 +82,7 @@ func (c Config) arguments() []string {
 // An Engine is a davd that is started again whenever it ends. Its methods may be called at the same time.
 type Engine struct {
 	config Config
+	stats  *stats
 	closed chan struct{} // closed by Close
 	ended  chan struct{} // closed when davd has ended for good
 
@@ -89,6 +90,7 @@ type Engine struct {
 	process *process // nil: not running
 	outage  *outage  // nil: no call waits for the next davd over a folder
 	pausing bool     // davd does not run, and calls fail until it does
+	loading bool     // the next davd loads its folder
 	closing bool
 	writing bool          // somebody writes a batch
 	paused  bool          // no batch is sent
@@ -113,7 +115,10 @@ func Start(ctx context.Context, config Config) (*Engine, error) {
 	if err != nil {
 		return nil, err
 	}
-	e := &Engine{config: config, process: process, now: now, closed: make(chan struct{}), ended: make(chan struct{})}
+	e := &Engine{
+		config: config, process: process, now: now,
+		stats: newStats(), closed: make(chan struct{}), ended: make(chan struct{}),
+	}
 	go e.supervise(process)
 	return e, nil
 }
@@ -257,6 +262,8 @@ func (e *Engine) write(b *batch) {
 	if err := b.process.write(b); err != nil {
 		b.process.kill() // The reader of its output finds the end, and fails what is under way.
 	}
+	b.wrote = time.Now()
+	e.stats.sent(b)
 	b.written.Done()
 	e.mu.Lock()
 	e.writing = false

@@ -3,6 +3,7 @@ package davd
 import (
 	"errors"
 	"math"
+	"strconv"
 	"strings"
 	"testing"
 	"time"
@@ -114,6 +115,25 @@ func TestADavdThatIsFullIsStartedAgainWhenSomethingWasRemoved(t *testing.T) {
 		t.Errorf("davd was started again %d times", engine.Started())
 	}
 	awaitLog(t, said, "davd is started again. Its folder has less")
+}
+
+func TestTheMemoryIsAMetric(t *testing.T) {
+	tests := []struct {
+		memory int64
+		full   string
+	}{{16 << 20, "1"}, {1 << 30, "0"}}
+	for _, test := range tests {
+		engine, _ := startShell(t, test.memory, grows, greets, goesOn)
+		got := metricsOf(t, engine)
+		has, err := strconv.ParseInt(got["davserve_davd_memory_bytes"], 10, 64)
+		if err != nil || has < 20_000_000 {
+			t.Errorf("the memory is %d, %v", has, err)
+		}
+		awaitMetrics(t, engine, map[string]string{
+			"davserve_davd_full":               test.full,
+			"davserve_davd_memory_limit_bytes": strconv.FormatInt(test.memory, 10),
+		})
+	}
 }
 
 func TestADavdThatIsFullRunsForSomeTime(t *testing.T) {

@@ -37,6 +37,7 @@ type process struct {
 	pending int           // how many batches were sent whose replies were not all read
 	sent    chan *batch   // the batches whose replies were not begun to be read
 	reading *batch        // the batch whose replies are read, or could not be read whole
+	free    time.Time     // when the replies to the last batch were read, so that davd could begin the next one
 	gone    chan struct{} // closed when it has ended
 	lost    error         // why a call that it has not done failed; set before gone is closed
 }
@@ -106,6 +107,7 @@ func (p *process) read(b *batch) error {
 	if err != nil {
 		return err
 	}
+	came := time.Now()
 	switch {
 	case header.Status == statusNotNext:
 		return fmt.Errorf("batch %d is not the next one: the status is 409, and the number %d", b.number, header.Number)
@@ -122,6 +124,7 @@ func (p *process) read(b *batch) error {
 		return fmt.Errorf("batch %d of %d frames has %d replies", b.number, len(b.calls), header.Count)
 	}
 	b.written.Wait() // Whoever gets a reply may use the memory of the frame again.
+	b.took = came.Sub(latest(b.wrote, p.free))
 	for _, c := range b.calls {
 		reply, err := frame.ReadReply(p.reader, replyLimit)
 		if err != nil {
@@ -130,7 +133,16 @@ func (p *process) read(b *batch) error {
 		b.answered++
 		c.finish(reply, nil)
 	}
+	p.free = time.Now()
 	return nil
+}
+
+// latest returns the later one of two times.
+func latest(one, other time.Time) time.Time {
+	if one.After(other) {
+		return one
+	}
+	return other
 }
 
 // longestLine is how many bytes of a line are logged together.

@@ -80,6 +80,9 @@ func (e *Engine) read(p *process) error {
 		if err := p.read(p.reading); err != nil {
 			return err
 		}
+		if p.reading.answered > 0 {
+			e.stats.served(p.reading)
+		}
 		p.reading = nil
 		e.answered(p)
 	}
@@ -164,7 +167,7 @@ func (e *Engine) restart(pause *time.Duration) *process {
 		if !e.sleep(*pause) {
 			return nil
 		}
-		p, err := open(e.config, e.closed, e.later())
+		p, err := e.openNext()
 		switch {
 		case err == nil:
 			return e.attach(p)
@@ -174,6 +177,19 @@ func (e *Engine) restart(pause *time.Duration) *process {
 		e.config.Log.Print(err)
 		*pause = e.config.pauses.longer(*pause)
 	}
+}
+
+// openNext starts the next davd. Over a folder it counts as loading meanwhile.
+func (e *Engine) openNext() (*process, error) {
+	e.setLoading(e.config.Folder != "")
+	defer e.setLoading(false)
+	return open(e.config, e.closed, e.later())
+}
+
+func (e *Engine) setLoading(loading bool) {
+	e.mu.Lock()
+	e.loading = loading
+	e.mu.Unlock()
 }
 
 // sleep waits, and reports whether the engine is still open. Calls wait too if the pause is short, and fail otherwise.

@@ -1,0 +1,55 @@
+package davserve
+
+import (
+	"context"
+	"io"
+	"os"
+	"path/filepath"
+
+	"davserve/internal/disk"
+	"davserve/internal/frame"
+	"davserve/internal/metrics"
+)
+
+// folderFiles are the files that davd makes in its folder.
+var folderFiles = []string{"data", "data-wal", "meta.db", "meta.db-wal"}
+
+// WriteMetrics writes what is known of davd and its folder, in the text format of Prometheus. It asks davd how many locks
+// there are. If davd does not answer before ctx is done, their metrics are left out.
+func (h *Handler) WriteMetrics(ctx context.Context, w io.Writer) error {
+	e := metrics.NewEncoder(w)
+	h.engine.WriteMetrics(e)
+	h.writeHoldings(ctx, e)
+	if h.options.Folder != "" {
+		writeFolder(h.options.Folder, e)
+	}
+	return e.Flush()
+}
+
+// writeHoldings writes what davd holds.
+func (h *Handler) writeHoldings(ctx context.Context, e *metrics.Encoder) {
+	reply, err := h.engine.Do(ctx, frame.Held{})
+	holdings, ok := reply.(frame.Holdings)
+	if err != nil || !ok {
+		return
+	}
+	e.Gauge("davserve_locks", "Locks that have not expired.", float64(holdings.Locks))
+	if h.options.Quota > 0 && holdings.Quota != nil {
+		e.Gauge("davserve_quota_used_bytes", "Bytes of all files together.", float64(holdings.Quota.Used))
+		e.Gauge("davserve_quota_bytes", "The option -quota.", float64(h.options.Quota))
+	}
+}
+
+// writeFolder writes how large the files of a folder are, and how many bytes are left to them.
+func writeFolder(folder string, e *metrics.Encoder) {
+	e.Gauges("davserve_folder_bytes", "Length of each file in the folder.", func(sample func(float64, ...string)) {
+		for _, name := range folderFiles {
+			if info, err := os.Stat(filepath.Join(folder, name)); err == nil {
+				sample(float64(info.Size()), "file", name)
+			}
+		}
+	})
+	if free, err := disk.Free(folder); err == nil {
+		e.Gauge("davserve_folder_free_bytes", "Bytes that are free on the file system of the folder.", float64(free))
+	}
+}
