@@ -15,11 +15,10 @@ import (
 	"log"
 	"os"
 	"os/signal"
+	"runtime"
 	"runtime/debug"
 	"syscall"
 )
-
-const version = "0.2.0-dev"
 
 // garbagePercent is how much the heap may grow until the garbage collector runs. What the server keeps is small and what
 // a request allocates is soon garbage, so that the collector would run all the time.
@@ -46,7 +45,7 @@ func run(ctx context.Context, arguments []string, output, errorOutput io.Writer)
 	case err != nil:
 		return 2
 	case c.version:
-		fmt.Fprintln(output, "davserve "+version)
+		fmt.Fprintln(output, versionLine(ownRevision(), runtime.Version()))
 		return 0
 	}
 	logger := log.New(errorOutput, "", log.LstdFlags|log.LUTC)

@@ -159,7 +159,8 @@ func (m *meter) serve(w http.ResponseWriter, r *http.Request) {
 // write writes all metrics to a buffer.
 func (m *meter) write(ctx context.Context, w *bytes.Buffer) error {
 	e := metrics.NewEncoder(w)
-	e.Gauge("davserve_build_info", "The version of davserve and that of Go.", 1, "version", version, "go", runtime.Version())
+	e.Gauge("davserve_build_info", "What davserve was built from.", 1,
+		"version", version, "revision", ownRevision(), "go", runtime.Version())
 	e.Gauge("process_start_time_seconds", "When davserve was started, in seconds since 1970.", float64(m.began.UnixMilli())/1000)
 	e.Gauge("davserve_connections", "Open connections.", float64(m.traffic.Open()))
 	e.Gauge("davserve_connections_limit", "The option -max-connections.", float64(m.config.maxConnections))
