@@ -94,7 +94,7 @@ class Server:
         self.files = files  # a folder for what the checks need on disk
         self.flags = [str(it) for it in flags]
         self.port = free_port()
-        self.is_tls = "-cert" in self.flags
+        self.is_tls = "-cert" in self.flags or "-tls-self-signed" in self.flags
         self.prefix = self.flags[self.flags.index("-prefix") + 1] if "-prefix" in self.flags else ""
         self.notes: dict = {}
         self.folders = 0

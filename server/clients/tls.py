@@ -1,4 +1,6 @@
 """TLS, and clients that do not speak it well."""
+import hashlib
+import re
 import socket
 import ssl
 import time
@@ -6,12 +8,13 @@ import warnings
 
 import accounts
 from connection import Connection, Wrong, head
-from harness import Group
+from harness import Group, Starter
 from server import Server, expect, expected
 
 HEADER, SLACK = 1, 6
 GROUP = Group("tls", "{tls}", *accounts.FLAGS, "-header-timeout", f"{HEADER}s", files=accounts.FILES)
-GROUPS = [GROUP]
+SELF_SIGNED = Group("self-signed tls", is_shared=False)
+GROUPS = [GROUP, SELF_SIGNED]
 
 
 def handshake(server: Server, greatest: ssl.TLSVersion | None = None, protocols=()) -> ssl.SSLSocket:
@@ -100,3 +103,20 @@ def cut(server):
     with server.connect() as connection:
         connection.request("GET", "/a", None, accounts.AS_ANNA)
         expected(connection.answer(), 200, "GET /a")
+
+
+def shown_fingerprint(server: Server) -> str:
+    """The fingerprint of the certificate that clients get, which must be the one in the log."""
+    with handshake(server) as secured:
+        digest = hashlib.sha256(secured.getpeercert(binary_form=True)).hexdigest().upper()
+    shown = re.search(r"fingerprint: ([0-9A-F:]+)$", server.log(), re.M)
+    expect("the fingerprint in the log", shown and shown[1].replace(":", ""), digest)
+    return digest
+
+
+@SELF_SIGNED.check("the log has the fingerprint, and the next start has another certificate")
+def self_signed(starter: Starter):
+    first, second = (starter.start("-tls-self-signed") for _ in range(2))
+    first.ask("PUT", "/a", b"x", status=201)
+    if shown_fingerprint(first) == shown_fingerprint(second):
+        raise Wrong("expected two certificates, got the same twice")

@@ -30,6 +30,7 @@ type config struct {
 	plainPasswords bool
 	anonymous      bool
 	cert, key      string
+	selfSigned     bool
 	corsOrigins    texts
 	maxConnections int
 	maxRequests    int
@@ -108,6 +109,7 @@ func (c *config) addServing(flags *flag.FlagSet) {
 	flags.StringVar(&c.options.PublicURL, "public-url", "", "the `URL` by which clients reach a server behind a proxy")
 	flags.StringVar(&c.cert, "cert", "", "`file` with the certificates for TLS, in PEM")
 	flags.StringVar(&c.key, "key", "", "`file` with the key for TLS, in PEM")
+	flags.BoolVar(&c.selfSigned, "tls-self-signed", false, "speak TLS with a certificate that is made at the start")
 	flags.StringVar(&c.metrics, "metrics", "", "`address` at which Prometheus gets metrics (default: none)")
 	flags.Var(&c.corsOrigins, "cors-origin", "`origin` whose pages may use the server (repeatable)")
 	flags.BoolVar(&c.version, "version", false, "print the version and end")
@@ -164,6 +166,8 @@ func (c *config) check(rest []string) error {
 		return errors.New("-socket needs -folder")
 	case (c.cert == "") != (c.key == ""):
 		return errors.New("-cert and -key need each other")
+	case c.cert != "" && c.selfSigned:
+		return errors.New("-cert and -tls-self-signed exclude each other")
 	case c.users != "" && c.userHeader != "":
 		return errors.New("-users and -user-header exclude each other")
 	case (c.userHeader != "") != (len(c.trustedProxies) > 0):
@@ -187,8 +191,8 @@ func (c *config) checkNetwork() error {
 	if c.users == "" && c.userHeader == "" && !c.anonymous {
 		return fmt.Errorf("%s can be reached by others: it needs -users, -user-header or -anonymous", c.listen)
 	}
-	if c.users != "" && c.cert == "" && !c.plainPasswords {
-		return fmt.Errorf("%s can be reached by others: passwords need -cert and -key, or -plain-passwords", c.listen)
+	if c.users != "" && !c.hasTLS() && !c.plainPasswords {
+		return fmt.Errorf("%s can be reached by others: passwords need -cert and -key, -tls-self-signed or -plain-passwords", c.listen)
 	}
 	return nil
 }

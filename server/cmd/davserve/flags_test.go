@@ -12,6 +12,7 @@ import (
 func TestParseRefuses(t *testing.T) {
 	tests := []struct{ arguments, says string }{
 		{"-cert c", "-cert and -key need each other"},
+		{"-cert c -key k -tls-self-signed", "exclude each other"},
 		{"-users u -user-header X -trusted-proxy 10.0.0.0/8", "exclude each other"},
 		{"-user-header X", "need each other"},
 		{"-trusted-proxy 10.0.0.0/8", "need each other"},
@@ -55,6 +56,8 @@ func TestParseAccepts(t *testing.T) {
 		"-listen localhost:8080 -users u",
 		"-listen :8080 -anonymous",
 		"-listen :443 -users u -cert c -key k",
+		"-listen :443 -users u -tls-self-signed",
+		"-tls-self-signed",
 		"-listen :8080 -users u -plain-passwords",
 		"-listen :8080 -user-header X-User -trusted-proxy 10.0.0.0/8 -trusted-proxy ::1/128",
 		"-folder data",

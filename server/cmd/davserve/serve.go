@@ -2,7 +2,6 @@ package main
 
 import (
 	"context"
-	"crypto/tls"
 	"errors"
 	"fmt"
 	"io"
@@ -52,6 +51,10 @@ func serve(ctx context.Context, c config, logger *log.Logger) (err error) {
 	if err != nil {
 		return err
 	}
+	tlsConfig, err := c.tlsConfig(logger)
+	if err != nil {
+		return err
+	}
 	listener, err := net.Listen("tcp", c.listen)
 	if err != nil {
 		return err
@@ -62,7 +65,7 @@ func serve(ctx context.Context, c config, logger *log.Logger) (err error) {
 		IdleTimeout:       c.idleTimeout,
 		MaxHeaderBytes:    maxHeaderBytes,
 		ConnContext:       davserve.ConnContext,
-		TLSConfig:         &tls.Config{MinVersion: tls.VersionTLS12}, // RFC 8996
+		TLSConfig:         tlsConfig,
 		ErrorLog:          logger,
 	}
 	c.announce(logger, listener.Addr())
@@ -193,7 +196,7 @@ func healthHandler(dav *davserve.Handler) http.Handler {
 // announce logs where the server listens.
 func (c *config) announce(logger *log.Logger, address net.Addr) {
 	scheme := "http"
-	if c.cert != "" {
+	if c.hasTLS() {
 		scheme = "https"
 	}
 	logger.Printf("serving WebDAV at %s://%s%s/", scheme, address, c.options.Prefix)
@@ -208,7 +211,7 @@ func (c *config) announce(logger *log.Logger, address net.Addr) {
 func (c *config) serveUntil(ctx context.Context, server *http.Server, listener net.Listener) error {
 	ended := make(chan error, 1)
 	go func() {
-		if c.cert != "" {
+		if c.hasTLS() {
 			ended <- server.ServeTLS(listener, c.cert, c.key)
 			return
 		}

@@ -1,0 +1,95 @@
+package main
+
+import (
+	"crypto/ecdsa"
+	"crypto/elliptic"
+	"crypto/rand"
+	"crypto/sha256"
+	"crypto/tls"
+	"crypto/x509"
+	"crypto/x509/pkix"
+	"fmt"
+	"log"
+	"math/big"
+	"net"
+	"os"
+	"strings"
+	"time"
+)
+
+const (
+	selfSignedTime = 365 * 24 * time.Hour
+	clockSkew      = time.Hour // how far the clock of a client may be behind
+	serialBits     = 128
+)
+
+// hasTLS reports whether the server speaks TLS.
+func (c *config) hasTLS() bool { return c.cert != "" || c.selfSigned }
+
+// tlsConfig returns how TLS is spoken. With -cert, http.Server adds the certificate.
+func (c *config) tlsConfig(logger *log.Logger) (*tls.Config, error) {
+	config := &tls.Config{MinVersion: tls.VersionTLS12} // RFC 8996
+	if !c.selfSigned {
+		return config, nil
+	}
+	certificate, err := selfSigned(hostsOf(c.listen), time.Now())
+	if err != nil {
+		return nil, fmt.Errorf("a certificate: %w", err)
+	}
+	logger.Printf("the certificate is made for this start, and nobody else has signed it. Its SHA-256 fingerprint: %s",
+		fingerprint(certificate.Certificate[0]))
+	config.Certificates = []tls.Certificate{certificate}
+	return config, nil
+}
+
+// hostsOf returns the names and addresses under which clients may reach a listener.
+func hostsOf(listen string) []string {
+	hosts := []string{"localhost", "127.0.0.1", "::1"}
+	if name, err := os.Hostname(); err == nil {
+		hosts = append(hosts, name)
+	}
+	host, _, err := net.SplitHostPort(listen)
+	if err == nil && host != "" && !net.ParseIP(host).IsUnspecified() {
+		hosts = append(hosts, host)
+	}
+	return hosts
+}
+
+// selfSigned returns a certificate for these names and addresses that its own key has signed. The key is in memory only.
+func selfSigned(hosts []string, now time.Time) (tls.Certificate, error) {
+	key, err := ecdsa.GenerateKey(elliptic.P256(), rand.Reader)
+	if err != nil {
+		return tls.Certificate{}, err
+	}
+	serial, err := rand.Int(rand.Reader, new(big.Int).Lsh(big.NewInt(1), serialBits))
+	if err != nil {
+		return tls.Certificate{}, err
+	}
+	template := &x509.Certificate{
+		SerialNumber:          serial,
+		Subject:               pkix.Name{CommonName: "davserve"},
+		NotBefore:             now.Add(-clockSkew),
+		NotAfter:              now.Add(selfSignedTime),
+		KeyUsage:              x509.KeyUsageDigitalSignature,
+		ExtKeyUsage:           []x509.ExtKeyUsage{x509.ExtKeyUsageServerAuth},
+		BasicConstraintsValid: true,
+	}
+	for _, host := range hosts {
+		if ip := net.ParseIP(host); ip != nil {
+			template.IPAddresses = append(template.IPAddresses, ip)
+		} else {
+			template.DNSNames = append(template.DNSNames, host)
+		}
+	}
+	signed, err := x509.CreateCertificate(rand.Reader, template, template, key.Public(), key)
+	if err != nil {
+		return tls.Certificate{}, err
+	}
+	return tls.Certificate{Certificate: [][]byte{signed}, PrivateKey: key}, nil
+}
+
+// fingerprint returns the SHA-256 digest of a certificate, as browsers and openssl show it.
+func fingerprint(certificate []byte) string {
+	digest := sha256.Sum256(certificate)
+	return strings.ReplaceAll(fmt.Sprintf("% X", digest), " ", ":")
+}
