@@ -80,6 +80,19 @@ server keeps in its folder, while it serves: davserve backup -h.
 // parse reads the command line. What is wrong with it, or the help that it asks for, is written to the output.
 func parse(arguments []string, output io.Writer) (config, error) {
 	c := config{options: davserve.Options{MaxBody: 1 << 30, MaxXML: 1 << 20, Memory: 1 << 30}}
+	flags := c.flags(output)
+	if err := flags.Parse(arguments); err != nil {
+		return c, err
+	}
+	err := c.check(flags.Args())
+	if err != nil {
+		fmt.Fprintf(output, "davserve: %v\n", err)
+	}
+	return c, err
+}
+
+// flags returns the options.
+func (c *config) flags(output io.Writer) *flag.FlagSet {
 	flags := flag.NewFlagSet("davserve", flag.ContinueOnError)
 	flags.SetOutput(output)
 	flags.Usage = func() {
@@ -89,14 +102,7 @@ func parse(arguments []string, output io.Writer) (config, error) {
 	c.addServing(flags)
 	c.addUsers(flags)
 	c.addLimits(flags)
-	if err := flags.Parse(arguments); err != nil {
-		return c, err
-	}
-	err := c.check(flags.Args())
-	if err != nil {
-		fmt.Fprintf(output, "davserve: %v\n", err)
-	}
-	return c, err
+	return flags
 }
 
 func (c *config) addServing(flags *flag.FlagSet) {

@@ -3,7 +3,12 @@ package main
 import (
 	"bytes"
 	"context"
+	"flag"
 	"io"
+	"os"
+	"reflect"
+	"regexp"
+	"sort"
 	"strings"
 	"testing"
 	"time"
@@ -81,6 +86,39 @@ func TestParseReadsLimits(t *testing.T) {
 	}
 	if o.MaxLock != 90*time.Second || o.MaxInfinity != 7 {
 		t.Errorf("%v and %d", o.MaxLock, o.MaxInfinity)
+	}
+}
+
+// optionsIn returns the options that a document describes, by expressions for their lines and for an option in a line.
+func optionsIn(t *testing.T, document string, line, option *regexp.Regexp) []string {
+	t.Helper()
+	text, err := os.ReadFile(document)
+	if err != nil {
+		t.Fatal(err)
+	}
+	var options []string
+	for _, described := range line.FindAllString(string(text), -1) {
+		for _, found := range option.FindAllStringSubmatch(described, -1) {
+			options = append(options, found[1])
+		}
+	}
+	sort.Strings(options)
+	return options
+}
+
+func TestTheDocumentsHaveEachOption(t *testing.T) {
+	var want []string
+	(&config{}).flags(io.Discard).VisitAll(func(f *flag.Flag) { want = append(want, f.Name) })
+	sort.Strings(want)
+	tests := []struct{ document, line, option string }{
+		{"../../install/davserve.1", `(?m)^\.It Fl .*`, `Fl ([a-z-]+)`},
+		{"../../../docs/SERVER.md", "(?m)^\\| `-[^|]*", "`-([a-z-]+)"},
+	}
+	for _, test := range tests {
+		got := optionsIn(t, test.document, regexp.MustCompile(test.line), regexp.MustCompile(test.option))
+		if !reflect.DeepEqual(got, want) {
+			t.Errorf("%s has\n%q, want\n%q", test.document, got, want)
+		}
 	}
 }
 
