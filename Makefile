@@ -2,6 +2,7 @@
 
 PREFIX     ?= /usr/local
 SYSCONFDIR ?= /etc
+UNITDIR    ?= $(PREFIX)/lib/systemd/system
 DESTDIR    ?=
 DAVD       ?= crates/davd/out/davd
 GO         ?= go
@@ -11,7 +12,7 @@ SOURCES  := $(shell find server -name '*.go' ! -name '*_test.go') server/go.mod
 
 BINDIR  := $(PREFIX)/bin
 MANDIR  := $(PREFIX)/share/man/man1
-UNIT    := $(PREFIX)/lib/systemd/system/davserve.service
+UNIT    := $(UNITDIR)/davserve.service
 USERS   := $(PREFIX)/lib/sysusers.d/davserve.conf
 OPTIONS := $(SYSCONFDIR)/default/davserve
 
