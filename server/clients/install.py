@@ -4,8 +4,8 @@ import pathlib
 import re
 import shlex
 import shutil
+import socket
 import subprocess
-import time
 
 import server as servers
 from connection import Connection, Wrong
@@ -17,7 +17,7 @@ GROUP = Group("install", needs="make", is_shared=False)
 GROUPS = [GROUP]
 
 MAKE_SECONDS = 120
-START_SECONDS = 20
+NOTIFY_SECONDS = 20
 MODES = {
     "bin/davserve": 0o755,
     "bin/davd": 0o755,
@@ -66,14 +66,31 @@ def places(starter: Starter):
     expect("the options", (root / "etc/default/davserve").read_text(), "kept")
 
 
-def started_by_unit(root: pathlib.Path, folder: pathlib.Path, port: int) -> subprocess.Popen:
-    """Starts what the unit starts, with the options of its file and another port."""
+class Manager:
+    """What systemd is to a service: the socket at which the service says its state."""
+
+    def __init__(self, folder: pathlib.Path):
+        self.path = folder / "notify"
+        self.socket = socket.socket(socket.AF_UNIX, socket.SOCK_DGRAM)
+        self.socket.bind(str(self.path))
+        self.socket.settimeout(NOTIFY_SECONDS)
+
+    def expect(self, state: bytes):
+        expect("the state of the service", self.socket.recv(100), state)
+
+
+def started_by_unit(root: pathlib.Path, folder: pathlib.Path, port: int, manager: Manager) -> subprocess.Popen:
+    """Starts what the unit starts, with the options of its file and another port, and waits until it serves."""
     unit = (root / "lib/systemd/system/davserve.service").read_text()
     words = re.search(r"^ExecStart=(.*)$", unit, re.M)[1]
     options = re.search(r'^DAVSERVE_OPTIONS="(.*)"$', (root / "etc/default/davserve").read_text(), re.M)[1]
     words = words.replace("${STATE_DIRECTORY}", str(folder)).replace("$DAVSERVE_OPTIONS", options)
-    with (folder / "log").open("wb") as log:
-        return PROCESSES.start([*shlex.split(words), "-listen", f"127.0.0.1:{port}"], stdout=log, stderr=log)
+    environment = {**os.environ, "NOTIFY_SOCKET": str(manager.path)}
+    with (manager.path.parent / "log").open("wb") as log:
+        command = [*shlex.split(words), "-listen", f"127.0.0.1:{port}"]
+        process = PROCESSES.start(command, env=environment, stdout=log, stderr=log)
+    manager.expect(b"READY=1")
+    return process
 
 
 def ask(port: int, method: str, path: str, status: int, body: bytes | None = None) -> bytes:
@@ -82,30 +99,19 @@ def ask(port: int, method: str, path: str, status: int, body: bytes | None = Non
         return expected(connection.answer(method), status, f"{method} {path}").body
 
 
-def await_start(port: int):
-    end = time.monotonic() + START_SECONDS
-    while True:
-        try:
-            ask(port, "GET", "/-/health", 200)
-            return
-        except (OSError, Wrong):
-            if time.monotonic() > end:
-                raise
-            time.sleep(0.05)
-
-
 @GROUP.check("the command of the unit serves from there, and a backup is made")
 def serves(starter: Starter):
     root, port = installed(starter), servers.free_port()
     kept, target = starter.folder / "state", starter.folder / "target"
     kept.mkdir()
-    process = started_by_unit(root, kept, port)
-    await_start(port)
+    manager = Manager(starter.folder)
+    process = started_by_unit(root, kept, port, manager)
     ask(port, "PUT", "/a", 201, b"installed")
     backup = PROCESSES.run([root / "bin/davserve", "backup", "-folder", kept, target], 30)
     expect(f"the status of the backup ({backup.stdout})", backup.returncode, 0)
     expect("the file", ask(port, "GET", "/a", 200), b"installed")
     process.terminate()
+    manager.expect(b"STOPPING=1")
     expect("the exit status", process.wait(servers.END_SECONDS), 0)
     checked = PROCESSES.run([root / "bin/davd", "--check", target], 30)
     expect(f"the check of the backup ({checked.stdout})", checked.returncode, 0)

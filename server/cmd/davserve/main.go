@@ -18,6 +18,8 @@ import (
 	"runtime"
 	"runtime/debug"
 	"syscall"
+
+	"davserve/internal/systemd"
 )
 
 // garbagePercent is how much the heap may grow until the garbage collector runs. What the server keeps is small and what
@@ -48,10 +50,18 @@ func run(ctx context.Context, arguments []string, output, errorOutput io.Writer)
 		fmt.Fprintln(output, versionLine(ownRevision(), runtime.Version()))
 		return 0
 	}
-	logger := log.New(errorOutput, "", log.LstdFlags|log.LUTC)
+	logger := log.New(errorOutput, "", logFlags(errorOutput))
 	if err := serve(ctx, c, logger); err != nil {
 		logger.Printf("davserve: %v", err)
 		return 1
 	}
 	return 0
+}
+
+// logFlags returns what each line of a log begins with: the time, if nobody else adds it.
+func logFlags(output io.Writer) int {
+	if file, ok := output.(*os.File); ok && systemd.IsJournal(file) {
+		return 0
+	}
+	return log.LstdFlags | log.LUTC
 }

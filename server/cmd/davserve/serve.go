@@ -16,6 +16,7 @@ import (
 	"davserve/internal/control"
 	"davserve/internal/cors"
 	"davserve/internal/limit"
+	"davserve/internal/systemd"
 )
 
 // maxHeaderBytes is how long the header of a request may be.
@@ -207,21 +208,30 @@ func (c *config) announce(logger *log.Logger, address net.Addr) {
 	logger.Print("files and locks are kept in memory and are lost when the server ends")
 }
 
+// notify says to systemd in which state the server is.
+func (c *config) notify(state string) {
+	if err := systemd.Notify(state); err != nil {
+		c.options.Log.Print(err)
+	}
+}
+
 // serveUntil serves until ctx is done, and then for as long as requests are under way, up to the timeout.
 func (c *config) serveUntil(ctx context.Context, server *http.Server, listener net.Listener) error {
 	ended := make(chan error, 1)
 	go func() {
 		if c.hasTLS() {
-			ended <- server.ServeTLS(listener, c.cert, c.key)
+			ended <- server.ServeTLS(listener, "", "") // TLSConfig has the certificate.
 			return
 		}
 		ended <- server.Serve(listener)
 	}()
+	c.notify(systemd.Ready)
 	select {
 	case err := <-ended:
 		return fmt.Errorf("the listener: %w", err)
 	case <-ctx.Done():
 	}
+	c.notify(systemd.Stopping)
 	limited, cancel := context.WithTimeout(context.Background(), c.shutdownTimeout)
 	defer cancel()
 	err := server.Shutdown(limited)

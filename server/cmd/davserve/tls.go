@@ -26,20 +26,33 @@ const (
 // hasTLS reports whether the server speaks TLS.
 func (c *config) hasTLS() bool { return c.cert != "" || c.selfSigned }
 
-// tlsConfig returns how TLS is spoken. With -cert, http.Server adds the certificate.
+// tlsConfig returns how TLS is spoken, or nil if it is not.
 func (c *config) tlsConfig(logger *log.Logger) (*tls.Config, error) {
-	config := &tls.Config{MinVersion: tls.VersionTLS12} // RFC 8996
+	if !c.hasTLS() {
+		return nil, nil
+	}
+	certificate, err := c.certificate(logger)
+	if err != nil {
+		return nil, fmt.Errorf("the certificate: %w", err)
+	}
+	return &tls.Config{
+		MinVersion:   tls.VersionTLS12, // RFC 8996
+		Certificates: []tls.Certificate{certificate},
+	}, nil
+}
+
+// certificate reads the certificate, or makes one.
+func (c *config) certificate(logger *log.Logger) (tls.Certificate, error) {
 	if !c.selfSigned {
-		return config, nil
+		return tls.LoadX509KeyPair(c.cert, c.key)
 	}
 	certificate, err := selfSigned(hostsOf(c.listen), time.Now())
 	if err != nil {
-		return nil, fmt.Errorf("a certificate: %w", err)
+		return certificate, err
 	}
 	logger.Printf("the certificate is made for this start, and nobody else has signed it. Its SHA-256 fingerprint: %s",
 		fingerprint(certificate.Certificate[0]))
-	config.Certificates = []tls.Certificate{certificate}
-	return config, nil
+	return certificate, nil
 }
 
 // hostsOf returns the names and addresses under which clients may reach a listener.

@@ -91,11 +91,24 @@ func TestEachSelfSignedCertificateIsNew(t *testing.T) {
 	}
 }
 
-func TestTLSWithFilesHasNoCertificateYet(t *testing.T) {
-	c := config{cert: "cert.pem", key: "key.pem"}
-	made, err := c.tlsConfig(log.New(io.Discard, "", 0))
-	if err != nil || len(made.Certificates) != 0 || made.MinVersion != tls.VersionTLS12 {
-		t.Errorf("%+v, %v", made, err)
+func TestTLSConfig(t *testing.T) {
+	tests := []struct {
+		name            string
+		config          config
+		hasTLS, isRight bool
+	}{
+		{"without TLS", config{}, false, true},
+		{"made", config{selfSigned: true}, true, true},
+		{"files that are not there", config{cert: "/no/such/cert", key: "/no/such/key"}, true, false},
+	}
+	for _, test := range tests {
+		made, err := test.config.tlsConfig(log.New(io.Discard, "", 0))
+		if (err == nil) != test.isRight || (made != nil) != (test.hasTLS && test.isRight) {
+			t.Errorf("%s: %v, %v", test.name, made, err)
+		}
+		if made != nil && made.MinVersion != tls.VersionTLS12 {
+			t.Errorf("%s: the least version is %x", test.name, made.MinVersion)
+		}
 	}
 }
 
