@@ -1,13 +1,12 @@
 -- What a crash leaves of the files of a folder, from what it leaves of its database.
-use Rattle.std.proofs.Common.{◌≡◌, ◌∙◌, ◌⊎◌, ◌<◌, ◌≤◌, ◌^◌, ℕ, Bool, true, inl, inr, List, length, refl, sym, ap, subst}
+use Rattle.std.proofs.Common.{◌≡◌, ◌∙◌, ◌⊎◌, ◌<◌, ◌≤◌, ◌^◌, ℕ, Bool, true, inl, inr, List, length, refl, ap}
 use Rattle.std.proofs.Math.Logic.{∥∥₁_map}
-use Rattle.std.specs.Coded.{Coded}
 use base.Stored.{Gv}
 use Rattle.sqlite.specs.Files.{HoldsDatabase}
 use Rattle.sqlite.specs.Recovery as database
 use Rattle.sqlite.specs.State.{State, HasCleanDisk}
 use Rattle.sqlite_disk.specs.declared.Disk as disk
-use Rattle.sqlite_store.specs.FileStore.{view, state}
+use Rattle.sqlite_store.specs.FileStore.{view}
 use Rattle.sqlite_store.specs.declared.store.FileStore.{FileStore}
 use Rattle.sqlite_trees.specs.Tree.{Trees}
 use Rattle.sqlite_trees.specs.View.{IsClean}
@@ -20,7 +19,7 @@ use Rattle.dav_pieces.specs.declared.piece.Piece.{Piece}
 use Rattle.dav_rows.specs.Contents.{Contents}
 use Rattle.dav_rows_files.specs.Starting.{Keeps, LeavesDatabases}
 use Rattle.dav_tree.proofs.Keeping.{same-resources}
-use Rattle.dav_tree.specs.Before.{entries_code, saved_code, IsSafe, HasSaved}
+use Rattle.dav_tree.specs.Before.{saved_code, IsSafe, HasSaved}
 use Rattle.dav_tree.specs.Entry.{is_held}
 use Rattle.dav_tree.specs.TreeFs.{memory_of}
 use Rattle.dav_tree.specs.declared.entry.Content.TheVariants.{File, Directory}

@@ -1,5 +1,5 @@
 -- Which arguments say a check.
-use Rattle.std.proofs.Common.{◌≡◌, ◌∙◌, ◌<◌, ◌≤◌, ℕ, false, arith, List, [], ◌∷◌, length, refl, sym, ap}
+use Rattle.std.proofs.Common.{◌≡◌, ◌∙◌, ◌<◌, ◌≤◌, false, arith, List, [], ◌∷◌, length, refl, sym, ap}
 use Rattle.std.specs.Prelude.{get_or, if◌then◌else◌}
 use Rattle.std.specs.String.{string_bytes}
 use Rattle.std.proofs.Common.{String, Global}

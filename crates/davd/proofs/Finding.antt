@@ -1,11 +1,11 @@
 -- What a start finds of what was kept.
-use Rattle.std.proofs.Common.{◌≡◌, ◌∙◌, ℕ, true, List, [], map, Option, Some, Result, Ok, Err, refl, sym, ap, subst}
+use Rattle.std.proofs.Common.{◌≡◌, ◌∙◌, ℕ, List, map, Option, Some, Result, Ok, Err, refl, sym, ap, subst}
 use Rattle.std.specs.Prelude.{IfOk}
 use Rattle.std.specs.Option.{option_map}
 use Rattle.dav_cells.specs.Locks.{kept_lock}
-use Rattle.dav_folder.specs.Files.{KeptStore, kept_at, Hold}
+use Rattle.dav_folder.specs.Files.{KeptStore}
 use Rattle.dav_folder.specs.Folders.{keeping_of}
-use Rattle.dav_folder.specs.Opening.{Opens, HasBytes, opened_at}
+use Rattle.dav_folder.specs.Opening.{Opens, HasBytes}
 use Rattle.dav_folder.specs.declared.opening.Opened.{Opened}
 use Rattle.dav_keep.proofs.NewStore.{first_whole, first_resources}
 use Rattle.dav_keep.specs.Images.{Image}

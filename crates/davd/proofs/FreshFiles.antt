@@ -1,5 +1,5 @@
 -- What a file shows that was just opened.
-use Rattle.std.proofs.Common.{◌≡◌, Bool, false, List, refl, ap₂}
+use Rattle.std.proofs.Common.{◌≡◌, Bool, false, List, ap₂}
 use Rattle.std.specs.Prelude.{if◌then◌else◌}
 use Rattle.sqlite_disk.specs.Events.{Event, replay}
 use Rattle.sqlite_disk.specs.Modelled.{start_of}

@@ -1,10 +1,9 @@
 -- What is left of a run whose keeper keeps each batch.
-use Rattle.std.proofs.Common.{◌≡◌, ◌∙◌, ◌⊎◌, inl, inr, ℕ, List, [], ◌∷◌, ◌++◌, Option, Some, None, Result, Ok, Err, refl, subst}
+use Rattle.std.proofs.Common.{◌≡◌, ◌∙◌, inl, inr, ℕ, List, [], ◌∷◌, ◌++◌, Option, Some, None, Result, Ok, Err, refl, subst}
 use Rattle.std.specs.Prelude.{IfSome, OnOk, OnErr, option_map}
 use Rattle.dav_data.specs.declared.data_file.DataFile.{DataFile}
 use Rattle.dav_engine.specs.DavInner.{lent, lent_locks}
 use Rattle.dav_folder.specs.Closing.{LeavesAlone, LeavesOneOf}
-use Rattle.dav_folder.specs.Files.{kept_at}
 use Rattle.dav_folder.specs.Lasting.{At, Lasts, LastsEither, IsSameKept, HasCleanDatabase}
 use Rattle.dav_folder.specs.Opening.{opened_at}
 use Rattle.dav_folder.specs.declared.folder.Folder.{Folder}
@@ -26,7 +25,7 @@ use Rattle.sqlite_store.specs.declared.store.FileStore.{FileStore}
 use Rattle.sqlite_trees.specs.View.{IsClean}
 use Rattle.sqlite_trees.specs.declared.store.Store as store
 use Rattle.davd.specs.Folder.{Serving, state_now, state_from, IsOpenedAsKept, BeginsOpened, FindsKept, FindsFirst, ServesOpened, StopsOpened}
-use Rattle.davd.specs.Leaving.{LeavesAfter, LeavesAfterOrNow, RunsAndLeaves, LeavesLast, StopsAndLeaves, HeldAStore, BeginsWith, GoesOn, GoesOnAndStops}
+use Rattle.davd.specs.Leaving.{LeavesAfter, LeavesAfterOrNow, RunsAndLeaves, StopsAndLeaves, HeldAStore, BeginsWith, GoesOn, GoesOnAndStops}
 
 -- what follows on Ok, or on Err
 pub on_ok : {T E A B : Type 0} (result : Result T E) → OnOk result A → (A → B) → OnOk result B

@@ -11,7 +11,6 @@ use Rattle.dav_rows_files.specs.Starting.{IsVacant}
 use Rattle.dav_server.specs.Batches.{Exchange}
 use Rattle.dav_server.specs.Exchanges.{bytes_out, InOrder, StopsBy}
 use Rattle.dav_server.specs.Keeping.{snapshot_of, IsAnsweredAndSaved, AreSavedRun, RunsAndSaves, LeadThrough}
-use Rattle.dav_server.specs.Snapshots.{state_at}
 use Rattle.dav_server.specs.State.{Rules, ServerState}
 use Rattle.dav_tree.specs.TreeFs.{memory_of, store_of, honest_of}
 use Rattle.dav_tree.specs.declared.medium.Medium.{Ghosts}

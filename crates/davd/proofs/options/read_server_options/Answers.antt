@@ -1,4 +1,4 @@
-use Rattle.std.proofs.Common.{◌∙◌, rules, sym, ap, refl, inr}
+use Rattle.std.proofs.Common.{◌∙◌, rules, sym, ap}
 use Rattle.std.specs.Option.{option_and_then}
 use Rattle.davd.proofs.Arguments.{after-flag, after-last, after-value, fault-by}
 use Rattle.davd.proofs.options.read_server_options.Goals as goal
