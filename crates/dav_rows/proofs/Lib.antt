@@ -17,3 +17,4 @@ pub mod CreateLemmas
 pub mod ListingTexts
 pub mod ListingLemmas
 pub mod OnlyReads
+pub mod FailLemmas

@@ -1,11 +1,9 @@
 -- What the list of tables tells.
-use Rattle.std.proofs.Common.{◌≡◌, ◌≢◌, List, [], ◌∷◌, ◌||◌, length, map, filter, flat_map, cond, not, true, false, Bool, Ordering, Less, Equal, Greater, Ok, Err, Result, Vec, refl, sym, ap, subst, ◌∙◌, arith}
+use Rattle.std.proofs.Common.{◌≡◌, List, [], ◌∷◌, ◌||◌, length, map, filter, flat_map, cond, not, true, false, Bool, Ok, Err, Result, Vec, refl, sym, ap, subst, ◌∙◌, arith}
 use Rattle.std.specs.declared.alloc.Global.{Global}
-use Rattle.std.specs.Ordering.{match_ordering}
 use Rattle.std.specs.List.{AllZip}
 use Rattle.std.proofs.lemmas.List.{length-map}
 use Rattle.std.proofs.lemmas.List.Sorted.{length_permutation}
-use Rattle.sqlite_value.specs.Order.{value_cmp}
 use Rattle.sqlite_trees.specs.Objects.{catalog_tree}
 use Rattle.sqlite_rules.specs.Edit.{put_all}
 use Rattle.sqlite_catalog.specs.Listing.{IsSound, IsTableRow, IsIndexRow, IsViewRow, is_table_row, is_index_row, is_view_row}
@@ -15,19 +13,15 @@ use Rattle.sqlite.specs.declared.types.Value.TheVariants.{Null}
 use Rattle.sqlite.specs.Order.{Row}
 use Rattle.sqlite.specs.Query.{IsAnswer, output}
 use Rattle.sqlite.specs.Program.{overlay}
-use Rattle.sqlite.specs.Tree.{Trees, rowid, put_row}
+use Rattle.sqlite.specs.Tree.{Trees}
 use Rattle.sqlite.specs.Effect.{Database, Reads as ReadsBy}
 use Rattle.sqlite.specs.Listing.{understood, reads_listing, IsSourceOf, shown}
 use Rattle.sqlite.specs.State.{State, Shown}
 use Rattle.sqlite.proofs.Callers.{IsPlain, command_of}
-use Rattle.dav_rows.specs.Tables.{rows_schema, no_schema}
-use Rattle.dav_rows.specs.Stored.{IsOurs}
-use Rattle.dav_rows.specs.Contents.{Contents}
-use Rattle.dav_rows.specs.Saving.{IsAt}
+use Rattle.dav_rows.specs.Tables.{no_schema}
 use Rattle.dav_rows.specs.Creating.{IsBlank, IsWhole}
-use Rattle.dav_rows.specs.Loading.{Reads, ReadsBlank}
-use Rattle.dav_rows.proofs.LoadingLemmas.{mapped}
-use Rattle.dav_rows.proofs.ListingTexts.{listing_text, listing_query, Lists, lists_ours, lists_none}
+use Rattle.dav_rows.specs.Loading.{ReadsBlank}
+use Rattle.dav_rows.proofs.ListingTexts.{listing_text, listing_query, Lists, lists_none}
 
 listed_as : (schema : Schema) (lists : Lists schema) (old new : State) (rows : List Row) → old.now.schema ≡ schema → Shown listing_text [] old new rows
     → (db : Database) × IsSourceOf true old.now db × IsAnswer listing_query (overlay db.trees []) [] rows
@@ -55,19 +49,6 @@ none_long : {X : Type 0} (xs : List X) → length xs ≡ 0 → xs ≡ []
 none_long [] e = refl
 none_long (x ∷ xs) e = absurd (omega arith)
 
-never_empty : (rs : List Row) (r : Row) (rows : List Row) → put_all (r ∷ rows) rs ≡ [] → ⊥
-never_empty [] r rows e = absurd (let x = e in cc)
-never_empty (q ∷ rs) r rows e = go (never_empty rs) (value_cmp (rowid r) (rowid q)) e
-  where
-    go : ((r : Row) (rows : List Row) → put_all (r ∷ rows) rs ≡ [] → ⊥) → (o : Ordering) → put_all (match_ordering o (r ∷ put_row q rows) (q ∷ rows) (q ∷ r ∷ rows)) rs ≡ [] → ⊥
-    go never Less e = never r (put_row q rows) e
-    go never Equal e = never q rows e
-    go never Greater e = never q (r ∷ rows) e
-
-none_put : (objects : List Row) → put_all [] (map shown objects) ≡ [] → objects ≡ []
-none_put [] e = refl
-none_put (x ∷ xs) e = absurd (never_empty (map shown xs) (shown x) [] e)
-
 -- with no table, index or view there is no row
 no_objects : (schema : Schema) (rows : List Row) → AllZip IsTableRow (filter is_table_row rows) [] → AllZip (IsIndexRow []) (filter is_index_row rows) [] → AllZip IsViewRow (filter is_view_row rows) [] → rows ≡ []
 no_objects schema [] tables indexes views = refl
@@ -79,15 +60,6 @@ no_objects schema (x ∷ xs) tables indexes views = absurd (go (is_table_row x) 
     go false true tables indexes views = views
     go false false tables indexes views = indexes
 
-some_listed : (old new : State) (rows : List Row) (m : Contents) → IsAt old m → Shown listing_text [] old new rows → rows ≢ []
-unfolding IsOurs
-some_listed old new rows m at h none =
-    let it = listed_as rows_schema lists_ours old new rows at.schema h in
-    let empty : it.0.trees 0 ≡ [] = none_long _ (sym (counted it.0.trees rows it.2) ∙ ap length none) in
-    let objects = none_put (old.now.trees catalog_tree) (sym it.1.1 ∙ empty) in
-    let tables = subst (λ rows. AllZip IsTableRow (filter is_table_row rows) rows_schema.tables) objects at.holds.sound.lists.listed.tables in
-    tables
-
 none_listed : (old new : State) (rows : List Row) → IsBlank old → Shown listing_text [] old new rows → rows ≡ []
 unfolding IsWhole
 none_listed old new rows blank h =
@@ -97,14 +69,13 @@ none_listed old new rows blank h =
     let empty : it.0.trees 0 ≡ [] = it.1.1 ∙ ap (λ rows. put_all [] (map shown rows)) objects in
     none_long _ (counted it.0.trees rows it.2 ∙ ap length empty)
 
-pub ours_listed : (old new : State) (r : Result (Vec Row Global) Error) → Reads old new r (λ rows m. Shown listing_text [] old new rows.items) → Reads old new r (λ rows m. rows.items ≢ [])
-ours_listed old new (Ok rows) reads = mapped old new rows (Ok rows) _ (λ rows m. rows.items ≢ []) reads (λ m at. some_listed old new rows.items m at)
-ours_listed old new (Err e) reads = record { clean = reads.clean; ok = λ clean. tt; at = reads.at; crash = reads.crash }
-
 pub blank_listed : (old new : State) (r : Result (Vec Row Global) Error) → ReadsBlank old new r (λ rows. Shown listing_text [] old new rows.items) → ReadsBlank old new r (λ rows. rows.items ≡ [])
 blank_listed old new (Ok rows) reads = record {
+  clean = reads.clean;
+  faults = reads.faults;
+  limit = reads.limit;
   ok = λ clean blank. let both = reads.ok clean blank in (both.0, none_listed old new rows.items blank both.1);
   at = reads.at;
   crash = reads.crash;
 }
-blank_listed old new (Err e) reads = record { ok = λ clean. tt; at = reads.at; crash = reads.crash }
+blank_listed old new (Err e) reads = record { clean = reads.clean; faults = reads.faults; limit = reads.limit; ok = λ clean. tt; at = reads.at; crash = reads.crash }

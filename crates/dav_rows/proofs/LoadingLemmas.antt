@@ -88,12 +88,16 @@ module _ (sql : List ℕ) (old new : State) where
       let keeps = λ (has : old.now.schema ≡ rows_schema) (clean : HasCleanDisk new). shown_keeps rows_schema sql plain old new has rows.items (ok clean) in
       record {
         clean = survives.clean;
+        faults = survives.counts;
+        limit = survives.limit;
         ok = λ clean m at. let same = keeps at.schema clean in (at_still old new m at (inl same) same.0.is_open, ok clean);
         at = λ clean m at. at_still old new m at (inl (keeps at.schema clean));
         crash = λ clean m at. leaves_old rows_schema sql plain old new at.schema survives clean;
       }
   rows_read plain (Err e) ok err survives = record {
     clean = survives.clean;
+    faults = survives.counts;
+    limit = survives.limit;
     ok = λ clean. tt;
     at = λ clean m at. at_still old new m at (failed_keeps sql old new e (err clean));
     crash = λ clean m at. leaves_old rows_schema sql plain old new at.schema survives clean;
@@ -104,11 +108,17 @@ module _ (sql : List ℕ) (old new : State) where
   blank_read plain (Ok rows) ok err survives =
       let keeps = λ (has : old.now.schema ≡ no_schema) (clean : HasCleanDisk new). shown_keeps no_schema sql plain old new has rows.items (ok clean) in
       record {
+        clean = survives.clean;
+        faults = survives.counts;
+        limit = survives.limit;
         ok = λ clean blank. let same = keeps blank.schema clean in (blank_still old new blank (inl same) same.0.is_open, ok clean);
         at = λ clean blank. blank_still old new blank (inl (keeps blank.schema clean));
         crash = λ clean blank. leaves_old no_schema sql plain old new blank.schema survives clean;
       }
   blank_read plain (Err e) ok err survives = record {
+    clean = survives.clean;
+    faults = survives.counts;
+    limit = survives.limit;
     ok = λ clean. tt;
     at = λ clean blank. blank_still old new blank (failed_keeps sql old new e (err clean));
     crash = λ clean blank. leaves_old no_schema sql plain old new blank.schema survives clean;
@@ -117,12 +127,12 @@ module _ (sql : List ℕ) (old new : State) where
 -- what is read fails, or gives what is so of the rows that were shown
 pub mapped : {X Y : Type 0} (old new : State) (x : X) (r : Result Y Error) (P : X → Contents → Type 0) (Q : Y → Contents → Type 0) → Reads old new (Ok x) P
     → IfOk r (λ y. (m : Contents) → IsAt old m → P x m → Q y m) → Reads old new r Q
-mapped old new x (Ok y) P Q reads is = record { clean = reads.clean; ok = λ clean m at. let both = reads.ok clean m at in (both.0, is m at both.1); at = reads.at; crash = reads.crash }
-mapped old new x (Err e) P Q reads is = record { clean = reads.clean; ok = λ clean. tt; at = reads.at; crash = reads.crash }
+mapped old new x (Ok y) P Q reads is = record { clean = reads.clean; faults = reads.faults; limit = reads.limit; ok = λ clean m at. let both = reads.ok clean m at in (both.0, is m at both.1); at = reads.at; crash = reads.crash }
+mapped old new x (Err e) P Q reads is = record { clean = reads.clean; faults = reads.faults; limit = reads.limit; ok = λ clean. tt; at = reads.at; crash = reads.crash }
 
 pub none_read : {X Y : Type 0} {old new : State} {e : Error} {P : X → Contents → Type 0} {Q : Y → Contents → Type 0} (r : Result Y Error) → IsErr r → Reads old new (Err e) P → Reads old new r Q
 none_read (Ok y) failed reads = absurd (let e = failed in cc)
-none_read (Err f) failed reads = record { clean = reads.clean; ok = λ clean. tt; at = reads.at; crash = reads.crash }
+none_read (Err f) failed reads = record { clean = reads.clean; faults = reads.faults; limit = reads.limit; ok = λ clean. tt; at = reads.at; crash = reads.crash }
 
 module _ {V T : Type 0} (cells : V → Row) (entry : T → ℤ × V) (entry_in : Row → ℤ × V) (back : (e : ℤ × V) → entry_in (shown cells e) ≡ e) (field : Contents → Numbered V)
     (tree : ℕ) (text : List ℕ) (seen : (db : Trees) → overlay db [] tree ≡ db tree) (s : Selects cells tree text) (has : (db : Trees) (m : Contents) → Holds db m → AreRows cells (db tree) (field m)) where
@@ -142,12 +152,12 @@ module _ {V T : Type 0} (cells : V → Row) (entry : T → ℤ × V) (entry_in :
 
 -- the same for what holds of a database with nothing in it
 pub mapped_blank : {X Y : Type 0} (old new : State) (x : X) (r : Result Y Error) (P : X → Type 0) (Q : Y → Type 0) → ReadsBlank old new (Ok x) P → IfOk r (λ y. P x → Q y) → ReadsBlank old new r Q
-mapped_blank old new x (Ok y) P Q reads is = record { ok = λ clean blank. let both = reads.ok clean blank in (both.0, is both.1); at = reads.at; crash = reads.crash }
-mapped_blank old new x (Err e) P Q reads is = record { ok = λ clean. tt; at = reads.at; crash = reads.crash }
+mapped_blank old new x (Ok y) P Q reads is = record { clean = reads.clean; faults = reads.faults; limit = reads.limit; ok = λ clean blank. let both = reads.ok clean blank in (both.0, is both.1); at = reads.at; crash = reads.crash }
+mapped_blank old new x (Err e) P Q reads is = record { clean = reads.clean; faults = reads.faults; limit = reads.limit; ok = λ clean. tt; at = reads.at; crash = reads.crash }
 
 pub none_blank : {X Y : Type 0} {old new : State} {e : Error} {P : X → Type 0} {Q : Y → Type 0} (r : Result Y Error) → IsErr r → ReadsBlank old new (Err e) P → ReadsBlank old new r Q
 none_blank (Ok y) failed reads = absurd (let e = failed in cc)
-none_blank (Err f) failed reads = record { ok = λ clean. tt; at = reads.at; crash = reads.crash }
+none_blank (Err f) failed reads = record { clean = reads.clean; faults = reads.faults; limit = reads.limit; ok = λ clean. tt; at = reads.at; crash = reads.crash }
 
 -- one read after another
 pub then_reads : {X Y : Type 0} {a b c : State} {x : X} {r : Result Y Error} {P : X → Contents → Type 0} {Q : Y → Contents → Type 0} → Reads a b (Ok x) P → Reads b c r Q → Reads a c r (λ y m. P x m × Q y m)
@@ -155,6 +165,8 @@ then_reads {X} {Y} {a} {b} {c} {x} {r} {P} {Q} first next =
     let was = λ (now : HasCleanDisk c). let clean : HasCleanDisk b = omega (arith, next.clean) in clean in
     record {
       clean = omega (arith, first.clean, next.clean);
+      faults = omega (arith, first.faults, next.faults);
+      limit = next.limit ∙ first.limit;
       ok = λ now. both r (next.ok now) (first.ok (was now));
       at = λ now m at. next.at now m (first.ok (was now) m at).0;
       crash = λ now m at db may. first.crash (was now) m at db (next.crash now m (first.ok (was now) m at).0 db may);
@@ -166,7 +178,7 @@ then_reads {X} {Y} {a} {b} {c} {x} {r} {P} {Q} first next =
 
 -- the same rows, read as what is so of them
 pub read_as : {X Y : Type 0} {old new : State} {x : X} {y : Y} {P : X → Contents → Type 0} {Q : Y → Contents → Type 0} → ((m : Contents) → P x m → Q y m) → Reads old new (Ok x) P → Reads old new (Ok y) Q
-read_as is reads = record { clean = reads.clean; ok = λ clean m at. let both = reads.ok clean m at in (both.0, is m both.1); at = reads.at; crash = reads.crash }
+read_as is reads = record { clean = reads.clean; faults = reads.faults; limit = reads.limit; ok = λ clean m at. let both = reads.ok clean m at in (both.0, is m both.1); at = reads.at; crash = reads.crash }
 
 pub given : {E : Type 0} (r : Result Rows E) (At Still : Contents → Type 0) (m : Contents) → IfOk r (λ rows. (n : Contents) → At n → Still n × AreAll rows n) → At m → IfOk r (λ rows. AreAll rows m)
 given (Ok rows) At Still m h at = (h m at).1

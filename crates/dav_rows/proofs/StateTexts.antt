@@ -1,5 +1,5 @@
 -- The table of states: what its texts mean.
-use Rattle.std.proofs.Common.{ℕ, List, [], ◌∷◌, codes, refl}
+use Rattle.std.proofs.Common.{ℕ, List, [], ◌∷◌, codes, arith, refl}
 use Rattle.sqlite.specs.declared.types.Value.TheVariants.{Null}
 use Rattle.sqlite.specs.Term.{Term, lit, col}
 use Rattle.sqlite_tied.specs.Compute.{everything}
@@ -40,4 +40,4 @@ names = codes "number" ∷ codes "counter" ∷ codes "time" ∷ codes "batch" �
 
 pub selects : Selects state_cells 4 select_text
 unfolding understood everything
-selects = record { project = project; names = names; is = refl; unlisted = refl; plain = (refl, refl); shows = λ e. refl }
+selects = record { project = project; names = names; is = refl; unlisted = refl; plain = (refl, refl); alone = (omega arith, refl); accepted = refl; shows = λ e. refl }

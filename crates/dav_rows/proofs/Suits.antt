@@ -1,7 +1,10 @@
 -- What the lemmas ask of a table and of its texts. Of each table that is written out, `refl` finds it.
-use Rattle.std.proofs.Common.{◌≡◌, ℕ, pos, negsuc, ℤ, ◌/◌, List, [], ◌∷◌, ◌++◌, length, slice_get, Some, None, false}
+use Rattle.std.proofs.Common.{◌≡◌, ℕ, ◌≤◌, pos, negsuc, ℤ, ◌/◌, List, [], ◌∷◌, ◌++◌, length, slice_get, Some, None, Ok, Err, Result, true, false}
 use Rattle.sqlite_schema.specs.declared.schema.Column.{Column}
 use Rattle.sqlite_schema.specs.declared.command.Conflict.TheVariants.{Replace}
+use Rattle.sqlite_resolve.specs.declared.compiled.Compiled.{Compiled}
+use Rattle.sqlite_resolve.specs.declared.error.CompileError.{CompileError}
+use Rattle.sqlite_typing.specs.Types.{accepts_program}
 use Rattle.sqlite_sql.specs.declared.ops.CompareOp.TheVariants.{Eq}
 use Rattle.sqlite_sql.specs.declared.ops.BinaryOp.TheVariants.{Compare}
 use Rattle.sqlite.specs.Collation.TheVariants.{Binary}
@@ -20,6 +23,11 @@ use Rattle.sqlite.specs.Listing.{understood, reads_listing}
 use Rattle.sqlite.proofs.Callers.{IsPlain, command_of}
 use Rattle.dav_rows.specs.Tables.{numbered, rows_schema}
 use Rattle.dav_rows.specs.Stored.{stored, shown}
+
+-- the text is one statement, with no parameter
+abbrev pub IsAlone : List ℕ → Result Compiled CompileError → Type 0
+IsAlone sql (Ok c) = (length sql ≤ c.tail) × (c.names ≡ [])
+IsAlone sql (Err e) = ⊥
 
 -- the cells fill the columns of the table as they are
 pub record Suits {V : Type 0} (cells : V → Row) (name : List ℕ) (tree : ℕ) (columns : List Column) : Type 0 where
@@ -74,4 +82,6 @@ pub record Selects {V : Type 0} (cells : V → Row) (tree : ℕ) (text : List �
   pub is : command_of (understood rows_schema text) ≡ Select (record { lets = []; body = select_query tree project }) names
   pub unlisted : reads_listing rows_schema text ≡ false
   pub plain : IsPlain (understood rows_schema text)
+  pub alone : IsAlone text (understood rows_schema text)
+  pub accepted : accepts_program rows_schema [] (select_query tree project) [] ≡ true
   pub shows : (e : ℤ × V) → eval_all project ([] ∷ stored cells e ∷ []) ≡ shown cells e

@@ -6,3 +6,4 @@ pub mod Changes
 pub mod Saving
 pub mod Creating
 pub mod Loading
+pub mod Failing

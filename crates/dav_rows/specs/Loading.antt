@@ -54,6 +54,8 @@ AreHeld old new rows = (m : Contents) → IsAt old m → IsAt new m × AreAll ro
 -- It answers what is so of the maps, and leaves the tables, and what a crash finds, as they are.
 pub record Reads {X : Type 0} (old new : State) (result : Result X Error) (Is : X → Contents → Type 0) : Type 0 where
   pub clean : doubt old.is_clean ≤ doubt new.is_clean
+  pub faults : old.faults ≤ new.faults
+  pub limit : new.step_limit ≡ old.step_limit
   pub ok : HasCleanDisk new → IfOk result (λ x. (m : Contents) → IsAt old m → IsAt new m × Is x m)
   pub at : HasCleanDisk new → (m : Contents) → IsAt old m → IsTrue new.is_open → IsAt new m
   pub crash : HasCleanDisk new → (m : Contents) → IsAt old m → (db : Trees) → new.may_leave db → old.may_leave db
@@ -64,6 +66,9 @@ ReadsText sql old new result = IsPlain (understood rows_schema sql) → Reads ol
 
 -- The same, over a database with nothing in it.
 pub record ReadsBlank {X : Type 0} (old new : State) (result : Result X Error) (Is : X → Type 0) : Type 0 where
+  pub clean : doubt old.is_clean ≤ doubt new.is_clean
+  pub faults : old.faults ≤ new.faults
+  pub limit : new.step_limit ≡ old.step_limit
   pub ok : HasCleanDisk new → IfOk result (λ x. IsBlank old → IsBlank new × Is x)
   pub at : HasCleanDisk new → IsBlank old → IsTrue new.is_open → IsBlank new
   pub crash : HasCleanDisk new → IsBlank old → (db : Trees) → new.may_leave db → old.may_leave db

@@ -1,5 +1,6 @@
 -- The tables of the store, and their schema.
-use Rattle.std.specs.Prelude.{ℕ, true, false, List, [], ◌∷◌, codes, Some}
+use Rattle.std.specs.Prelude.{◌≡◌, ℕ, true, false, List, [], ◌∷◌, codes, Some}
+use Rattle.std.specs.Borrow.{Bor}
 use Rattle.sqlite.specs.Collation.TheVariants.{Binary}
 use Rattle.sqlite.specs.declared.types.Value.TheVariants.{Null}
 use Rattle.sqlite_schema.specs.declared.schema.Column.{Column}
@@ -14,6 +15,20 @@ key = record { name = codes "number"; kind = Integer; is_strict = true; not_null
 -- a column that is never NULL
 abbrev pub filled : List ℕ → Kind → Column
 filled name kind = record { name = name; kind = kind; is_strict = true; not_null = true; default = Null; collation = Binary }
+
+-- the same, of a name and a kind
+abbrev pub filled_by : Bor (List ℕ) × Kind → Column
+filled_by c = filled c.0.now c.1
+
+-- The table has no UNIQUE, CHECK or FOREIGN KEY, no default that is computed, and no AUTOINCREMENT.
+pub record HasNoRules (table : Table) : Type 0 where
+  pub uniques : table.uniques ≡ []
+  pub orders : table.orders ≡ []
+  pub checks : table.checks ≡ []
+  pub references : table.references ≡ []
+  pub computed : table.computed ≡ []
+  pub stamps : table.stamps ≡ record { places = []; terms = []; formats = [] }
+  pub uncounted : table.is_counted ≡ false
 
 -- a table of numbered rows
 abbrev pub numbered : List ℕ → ℕ → List Column → Table

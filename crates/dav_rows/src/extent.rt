@@ -1,13 +1,15 @@
 //! The rows of the pieces of files.
-ghost use Rattle.std.specs.Prelude.{◌≡◌, false, map, IfOk};
+ghost use Rattle.std.specs.Prelude.{◌≡◌, false, map, IfOk, IfErr};
 ghost use Rattle.std.specs.FinMap.{entries};
 ghost use Rattle.sqlite.specs.State.{HasCleanDisk, KeepsCommit, Survives};
 ghost use Rattle.sqlite.specs.Held.{state};
+ghost use Rattle.dav_rows.specs.Contents.{extent_cells};
 ghost use Rattle.dav_rows.specs.Changes.{extent_entry, put_extent};
 ghost use Rattle.dav_rows.specs.Saving.{Applies};
 ghost use Rattle.dav_rows.specs.Loading.{Reads, extent_in};
+ghost use Rattle.dav_rows.specs.Failing.{IsOutOfMemory, HasNoText, IsShownBy, AreShownBy, FailsExcused};
 
-use crate::execute::{execute, rows_of};
+use crate::execute::{execute, rows_of, value_of};
 use sqlite::{Alter, Connection, Error, Row, Transaction, params};
 use std::alloc::Global;
 
@@ -41,6 +43,7 @@ pub(crate) fn load_all<S: Alter>(
     requires { conn.old.in_transaction ≡ false }
     ensures idle { conn.new.in_transaction ≡ false }
     ensures reads { Reads (state S.Store conn.old) (state S.Store conn.new) result (λ all m. map extent_entry all.items ≡ entries m.extents) }
+    ensures err { FailsExcused (state S.Store conn.old) (state S.Store conn.new) result }
 {
     let rows = rows_of(
         conn,
@@ -50,7 +53,8 @@ pub(crate) fn load_all<S: Alter>(
 }
 
 fn rows_in(alloc: Global, rows: &[Row]) -> Result<Vec<ExtentRow>, Error>
-    ensures { IfOk result (λ all. map extent_entry all.items ≡ map extent_in rows.now) }
+    ensures ok { IfOk result (λ all. map extent_entry all.items ≡ map extent_in rows.now) }
+    ensures err { IfErr result (λ e. AreShownBy extent_cells HasNoText rows.now → IsOutOfMemory e) }
 {
     let mut all = Vec::new(alloc);
     'rows: for row in rows {
@@ -60,12 +64,13 @@ fn rows_in(alloc: Global, rows: &[Row]) -> Result<Vec<ExtentRow>, Error>
 }
 
 fn row_of(row: &Row) -> Result<ExtentRow, Error>
-    ensures { IfOk result (λ r. extent_entry r ≡ extent_in row.now) }
+    ensures ok { IfOk result (λ r. extent_entry r ≡ extent_in row.now) }
+    ensures err { IfErr result (λ e. IsShownBy extent_cells HasNoText row.now → IsOutOfMemory e) }
 {
     Ok(ExtentRow {
-        number: row.get(0)?,
-        resource: row.get(1)?,
-        place: row.get(2)?,
-        pieces: row.get(3)?,
+        number: value_of(row, 0)?,
+        resource: value_of(row, 1)?,
+        place: value_of(row, 2)?,
+        pieces: value_of(row, 3)?,
     })
 }

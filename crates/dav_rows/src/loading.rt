@@ -5,6 +5,7 @@ ghost use Rattle.sqlite.specs.State.{HasCleanDisk};
 ghost use Rattle.sqlite.specs.Held.{state};
 ghost use Rattle.dav_rows.specs.Saving.{Stays, LeavesNoOther};
 ghost use Rattle.dav_rows.specs.Loading.{Reads, AreAll, AreHeld};
+ghost use Rattle.dav_rows.specs.Failing.{FailsExcused};
 
 use crate::extent::{self, ExtentRow};
 use crate::lock::{self, LockRow};
@@ -32,6 +33,7 @@ pub fn load<S: Alter>(conn: &mut Connection<S>, alloc: Global) -> Result<Rows, E
     ensures at { HasCleanDisk (state S.Store conn.new) → Stays (state S.Store conn.old) (state S.Store conn.new) }
     ensures crash { HasCleanDisk (state S.Store conn.new) → LeavesNoOther (state S.Store conn.old) (state S.Store conn.new) }
     ensures clean { doubt (state S.Store conn.old).is_clean ≤ doubt (state S.Store conn.new).is_clean }
+    ensures err { FailsExcused (state S.Store conn.old) (state S.Store conn.new) result }
 {
     read_all(conn, alloc)
 }
@@ -40,6 +42,7 @@ pub(crate) fn read_all<S: Alter>(conn: &mut Connection<S>, alloc: Global) -> Res
     requires { conn.old.in_transaction ≡ false }
     ensures idle { conn.new.in_transaction ≡ false }
     ensures reads { Reads (state S.Store conn.old) (state S.Store conn.new) result AreAll }
+    ensures err { FailsExcused (state S.Store conn.old) (state S.Store conn.new) result }
 {
     let resources = resource::load_all(conn, alloc)?;
     let extents = extent::load_all(conn, alloc)?;

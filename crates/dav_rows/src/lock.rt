@@ -1,13 +1,15 @@
 //! The rows of locks.
-ghost use Rattle.std.specs.Prelude.{◌≡◌, false, map, IfOk};
+ghost use Rattle.std.specs.Prelude.{◌≡◌, false, map, IfOk, IfErr};
 ghost use Rattle.std.specs.FinMap.{entries};
 ghost use Rattle.sqlite.specs.State.{HasCleanDisk, KeepsCommit, Survives};
 ghost use Rattle.sqlite.specs.Held.{state};
+ghost use Rattle.dav_rows.specs.Contents.{lock_cells};
 ghost use Rattle.dav_rows.specs.Changes.{lock_entry, put_lock};
 ghost use Rattle.dav_rows.specs.Saving.{Applies};
 ghost use Rattle.dav_rows.specs.Loading.{Reads, lock_in};
+ghost use Rattle.dav_rows.specs.Failing.{IsOutOfMemory, IsUtf8Lock, IsShownBy, AreShownBy, FailsExcused};
 
-use crate::execute::{execute, rows_of};
+use crate::execute::{execute, rows_of, value_of};
 use sqlite::{Alter, Connection, Error, Row, Transaction, params};
 use std::alloc::Global;
 
@@ -41,6 +43,7 @@ pub(crate) fn load_all<S: Alter>(
     requires { conn.old.in_transaction ≡ false }
     ensures idle { conn.new.in_transaction ≡ false }
     ensures reads { Reads (state S.Store conn.old) (state S.Store conn.new) result (λ all m. map lock_entry all.items ≡ entries m.locks) }
+    ensures err { FailsExcused (state S.Store conn.old) (state S.Store conn.new) result }
 {
     let rows = rows_of(
         conn,
@@ -50,7 +53,8 @@ pub(crate) fn load_all<S: Alter>(
 }
 
 fn rows_in(alloc: Global, rows: &[Row]) -> Result<Vec<LockRow>, Error>
-    ensures { IfOk result (λ all. map lock_entry all.items ≡ map lock_in rows.now) }
+    ensures ok { IfOk result (λ all. map lock_entry all.items ≡ map lock_in rows.now) }
+    ensures err { IfErr result (λ e. AreShownBy lock_cells IsUtf8Lock rows.now → IsOutOfMemory e) }
 {
     let mut all = Vec::new(alloc);
     'rows: for row in rows {
@@ -60,12 +64,13 @@ fn rows_in(alloc: Global, rows: &[Row]) -> Result<Vec<LockRow>, Error>
 }
 
 fn row_of(row: &Row) -> Result<LockRow, Error>
-    ensures { IfOk result (λ r. lock_entry r ≡ lock_in row.now) }
+    ensures ok { IfOk result (λ r. lock_entry r ≡ lock_in row.now) }
+    ensures err { IfErr result (λ e. IsShownBy lock_cells IsUtf8Lock row.now → IsOutOfMemory e) }
 {
     Ok(LockRow {
-        number: row.get(0)?,
-        token: row.get(1)?,
-        path: row.get(2)?,
-        lock: row.get(3)?,
+        number: value_of(row, 0)?,
+        token: value_of(row, 1)?,
+        path: value_of(row, 2)?,
+        lock: value_of(row, 3)?,
     })
 }

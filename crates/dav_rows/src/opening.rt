@@ -1,16 +1,18 @@
 //! Loads the rows of a database, or makes its tables.
-ghost use Rattle.std.specs.Prelude.{◌≡◌, ◌≢◌, ◌≤◌, [], false, IfOk, IsErrOf};
+ghost use Rattle.std.specs.Prelude.{◌≡◌, ◌≤◌, [], false, IfOk, IfErr, IsErrOf};
 ghost use Rattle.sqlite_trees.specs.View.{doubt};
 ghost use Rattle.sqlite.specs.State.{HasCleanDisk};
 ghost use Rattle.sqlite.specs.Held.{state};
-ghost use Rattle.dav_rows.specs.Saving.{Stays, LeavesNoOther};
+ghost use Rattle.dav_rows.specs.Saving.{IsAt, Stays, LeavesNoOther};
 ghost use Rattle.dav_rows.specs.Creating.{first, IsBlank, LeavesBlankOr};
 ghost use Rattle.dav_rows.specs.Loading.{Reads, ReadsBlank, AreHeld, AreNew, LeavesAlone};
+ghost use Rattle.dav_rows.specs.Failing.{IsExcusedStart, HasUtf8, FailsExcused, FailsExcusedBlank};
 ghost use Rattle.dav_rows.specs.declared.opening.StartError.TheVariants.{Foreign, Sqlite};
 
-use crate::change::{Change, Table};
-use crate::creating::{create, creation_of};
+use crate::change::Change;
+use crate::creating::create;
 use crate::loading::{Rows, read_all};
+use crate::recognizing::is_ours;
 use sqlite::{Alter, Connection, Error, Row};
 use std::alloc::Global;
 
@@ -61,6 +63,8 @@ pub fn load_or_create<S: Alter>(
     ensures foreign { HasCleanDisk (state S.Store conn.new) → IsErrOf result Foreign → LeavesAlone (state S.Store conn.old) (state S.Store conn.new) }
     ensures foreign_has_tables { HasCleanDisk (state S.Store conn.new) → IsErrOf result Foreign → IsBlank (state S.Store conn.old) → ⊥ }
     ensures clean { doubt (state S.Store conn.old).is_clean ≤ doubt (state S.Store conn.new).is_clean }
+    ensures err { HasCleanDisk (state S.Store conn.new) → IfErr result (λ e. (m : _) → IsAt (state S.Store conn.old) m → HasUtf8 m
+        → IsExcusedStart (state S.Store conn.old) (state S.Store conn.new) e) }
 {
     match found_in(conn)? {
         Found::Nothing => Ok(create_and_load(conn, alloc, changes)?),
@@ -87,63 +91,30 @@ fn create_and_load<S: Alter>(
 fn found_in<S: Alter>(conn: &mut Connection<S>) -> Result<Found, Error>
     requires { conn.old.in_transaction ≡ false }
     ensures idle { conn.new.in_transaction ≡ false }
-    ensures reads { Reads (state S.Store conn.old) (state S.Store conn.new) result (λ found m. found ≢ Found.Nothing) }
+    ensures reads { Reads (state S.Store conn.old) (state S.Store conn.new) result (λ found m. found ≡ Found.Ours) }
     ensures blank { ReadsBlank (state S.Store conn.old) (state S.Store conn.new) result (λ found. found ≡ Found.Nothing) }
-    ensures alone { HasCleanDisk (state S.Store conn.new) → IfOk result (λ _. LeavesAlone (state S.Store conn.old) (state S.Store conn.new)) }
+    ensures alone { HasCleanDisk (state S.Store conn.new) → IfOk result (λ found. found ≡ Found.Other → LeavesAlone (state S.Store conn.old) (state S.Store conn.new)) }
+    ensures err { FailsExcused (state S.Store conn.old) (state S.Store conn.new) result }
+    ensures err_blank { FailsExcusedBlank (state S.Store conn.old) (state S.Store conn.new) result }
 {
+    if is_ours(conn.schema()) {
+        return Ok(Found::Ours);
+    }
     let rows = listing_of(conn)?;
-    kind_of(rows.as_slice())
-}
-
-/// Reads the texts of all tables and indexes, in the order of their names.
-fn listing_of<S: Alter>(conn: &mut Connection<S>) -> Result<Vec<Row>, Error>
-    requires { conn.old.in_transaction ≡ false }
-    ensures idle { conn.new.in_transaction ≡ false }
-    ensures reads { Reads (state S.Store conn.old) (state S.Store conn.new) result (λ rows m. rows.items ≢ []) }
-    ensures blank { ReadsBlank (state S.Store conn.old) (state S.Store conn.new) result (λ rows. rows.items ≡ []) }
-    ensures alone { HasCleanDisk (state S.Store conn.new) → IfOk result (λ _. LeavesAlone (state S.Store conn.old) (state S.Store conn.new)) }
-{
-    conn.query_all("SELECT sql FROM sqlite_schema ORDER BY name", &[])
-}
-
-fn kind_of(rows: &[Row]) -> Result<Found, Error>
-    ensures nothing { IfOk result (λ found. found ≡ Found.Nothing → rows.now ≡ []) }
-    ensures empty { IfOk result (λ found. rows.now ≡ [] → found ≡ Found.Nothing) }
-    ensures ours { IfOk result (λ found. found ≡ Found.Ours → rows.now ≢ []) }
-{
     if rows.is_empty() {
         Ok(Found::Nothing)
-    } else if are_ours(rows)? {
-        Ok(Found::Ours)
     } else {
         Ok(Found::Other)
     }
 }
 
-/// Whether the texts are those of our tables, in the order of their names.
-fn are_ours(rows: &[Row]) -> Result<bool, Error> {
-    let tables = [
-        Table::Extent,
-        Table::Lock,
-        Table::Property,
-        Table::Resource,
-        Table::State,
-    ];
-    if rows.len() != tables.len() {
-        return Ok(false);
-    }
-    for (row, table) in rows.iter().zip(&tables) {
-        if !is_creation(row, *table)? {
-            return Ok(false);
-        }
-    }
-    Ok(true)
-}
-
-fn is_creation(row: &Row, table: Table) -> Result<bool, Error> {
-    let sql: Option<String> = row.get(0)?;
-    match sql {
-        Some(sql) => Ok(sql.as_str() == creation_of(table)),
-        None => Ok(false),
-    }
+/// Reads the names of all objects of the database.
+fn listing_of<S: Alter>(conn: &mut Connection<S>) -> Result<Vec<Row>, Error>
+    requires { conn.old.in_transaction ≡ false }
+    ensures idle { conn.new.in_transaction ≡ false }
+    ensures blank { ReadsBlank (state S.Store conn.old) (state S.Store conn.new) result (λ rows. rows.items ≡ []) }
+    ensures alone { HasCleanDisk (state S.Store conn.new) → IfOk result (λ _. LeavesAlone (state S.Store conn.old) (state S.Store conn.new)) }
+    ensures err_blank { FailsExcusedBlank (state S.Store conn.old) (state S.Store conn.new) result }
+{
+    conn.query_all("SELECT name FROM sqlite_schema", &[])
 }

@@ -1,13 +1,15 @@
 //! The rows of dead properties.
-ghost use Rattle.std.specs.Prelude.{◌≡◌, false, map, IfOk};
+ghost use Rattle.std.specs.Prelude.{◌≡◌, false, map, IfOk, IfErr};
 ghost use Rattle.std.specs.FinMap.{entries};
 ghost use Rattle.sqlite.specs.State.{HasCleanDisk, KeepsCommit, Survives};
 ghost use Rattle.sqlite.specs.Held.{state};
+ghost use Rattle.dav_rows.specs.Contents.{property_cells};
 ghost use Rattle.dav_rows.specs.Changes.{property_entry, put_property};
 ghost use Rattle.dav_rows.specs.Saving.{Applies};
 ghost use Rattle.dav_rows.specs.Loading.{Reads, property_in};
+ghost use Rattle.dav_rows.specs.Failing.{IsOutOfMemory, IsUtf8Property, IsShownBy, AreShownBy, FailsExcused};
 
-use crate::execute::{execute, rows_of};
+use crate::execute::{execute, rows_of, value_of};
 use sqlite::{Alter, Connection, Error, Row, Transaction, params};
 use std::alloc::Global;
 
@@ -48,6 +50,7 @@ pub(crate) fn load_all<S: Alter>(
     requires { conn.old.in_transaction ≡ false }
     ensures idle { conn.new.in_transaction ≡ false }
     ensures reads { Reads (state S.Store conn.old) (state S.Store conn.new) result (λ all m. map property_entry all.items ≡ entries m.properties) }
+    ensures err { FailsExcused (state S.Store conn.old) (state S.Store conn.new) result }
 {
     let rows = rows_of(
         conn,
@@ -57,7 +60,8 @@ pub(crate) fn load_all<S: Alter>(
 }
 
 fn rows_in(alloc: Global, rows: &[Row]) -> Result<Vec<PropertyRow>, Error>
-    ensures { IfOk result (λ all. map property_entry all.items ≡ map property_in rows.now) }
+    ensures ok { IfOk result (λ all. map property_entry all.items ≡ map property_in rows.now) }
+    ensures err { IfErr result (λ e. AreShownBy property_cells IsUtf8Property rows.now → IsOutOfMemory e) }
 {
     let mut all = Vec::new(alloc);
     'rows: for row in rows {
@@ -67,13 +71,14 @@ fn rows_in(alloc: Global, rows: &[Row]) -> Result<Vec<PropertyRow>, Error>
 }
 
 fn row_of(row: &Row) -> Result<PropertyRow, Error>
-    ensures { IfOk result (λ r. property_entry r ≡ property_in row.now) }
+    ensures ok { IfOk result (λ r. property_entry r ≡ property_in row.now) }
+    ensures err { IfErr result (λ e. IsShownBy property_cells IsUtf8Property row.now → IsOutOfMemory e) }
 {
     Ok(PropertyRow {
-        number: row.get(0)?,
-        resource: row.get(1)?,
-        namespace: row.get(2)?,
-        name: row.get(3)?,
-        element: row.get(4)?,
+        number: value_of(row, 0)?,
+        resource: value_of(row, 1)?,
+        namespace: value_of(row, 2)?,
+        name: value_of(row, 3)?,
+        element: value_of(row, 4)?,
     })
 }

@@ -1,13 +1,15 @@
 //! The rows of resources.
-ghost use Rattle.std.specs.Prelude.{◌≡◌, false, map, IfOk};
+ghost use Rattle.std.specs.Prelude.{◌≡◌, false, map, IfOk, IfErr};
 ghost use Rattle.std.specs.FinMap.{entries};
 ghost use Rattle.sqlite.specs.State.{HasCleanDisk, KeepsCommit, Survives};
 ghost use Rattle.sqlite.specs.Held.{state};
+ghost use Rattle.dav_rows.specs.Contents.{resource_cells};
 ghost use Rattle.dav_rows.specs.Changes.{resource_entry, put_resource};
 ghost use Rattle.dav_rows.specs.Saving.{Applies};
 ghost use Rattle.dav_rows.specs.Loading.{Reads, resource_in};
+ghost use Rattle.dav_rows.specs.Failing.{IsOutOfMemory, IsUtf8Resource, IsShownBy, AreShownBy, FailsExcused};
 
-use crate::execute::{execute, rows_of};
+use crate::execute::{execute, rows_of, value_of};
 use sqlite::{Alter, Connection, Error, Row, Transaction, params};
 use std::alloc::Global;
 
@@ -54,6 +56,7 @@ pub(crate) fn load_all<S: Alter>(
     requires { conn.old.in_transaction ≡ false }
     ensures idle { conn.new.in_transaction ≡ false }
     ensures reads { Reads (state S.Store conn.old) (state S.Store conn.new) result (λ all m. map resource_entry all.items ≡ entries m.resources) }
+    ensures err { FailsExcused (state S.Store conn.old) (state S.Store conn.new) result }
 {
     let rows = rows_of(
         conn,
@@ -63,7 +66,8 @@ pub(crate) fn load_all<S: Alter>(
 }
 
 fn rows_in(alloc: Global, rows: &[Row]) -> Result<Vec<ResourceRow>, Error>
-    ensures { IfOk result (λ all. map resource_entry all.items ≡ map resource_in rows.now) }
+    ensures ok { IfOk result (λ all. map resource_entry all.items ≡ map resource_in rows.now) }
+    ensures err { IfErr result (λ e. AreShownBy resource_cells IsUtf8Resource rows.now → IsOutOfMemory e) }
 {
     let mut all = Vec::new(alloc);
     'rows: for row in rows {
@@ -73,16 +77,17 @@ fn rows_in(alloc: Global, rows: &[Row]) -> Result<Vec<ResourceRow>, Error>
 }
 
 fn row_of(row: &Row) -> Result<ResourceRow, Error>
-    ensures { IfOk result (λ r. resource_entry r ≡ resource_in row.now) }
+    ensures ok { IfOk result (λ r. resource_entry r ≡ resource_in row.now) }
+    ensures err { IfErr result (λ e. IsShownBy resource_cells IsUtf8Resource row.now → IsOutOfMemory e) }
 {
     Ok(ResourceRow {
-        number: row.get(0)?,
-        parent: row.get(1)?,
-        name: row.get(2)?,
-        directory: row.get(3)?,
-        size: row.get(4)?,
-        version: row.get(5)?,
-        created: row.get(6)?,
-        modified: row.get(7)?,
+        number: value_of(row, 0)?,
+        parent: value_of(row, 1)?,
+        name: value_of(row, 2)?,
+        directory: value_of(row, 3)?,
+        size: value_of(row, 4)?,
+        version: value_of(row, 5)?,
+        created: value_of(row, 6)?,
+        modified: value_of(row, 7)?,
     })
 }

@@ -1,13 +1,15 @@
 //! The row of what a store has beside its resources.
-ghost use Rattle.std.specs.Prelude.{◌≡◌, false, map, IfOk};
+ghost use Rattle.std.specs.Prelude.{◌≡◌, false, map, IfOk, IfErr};
 ghost use Rattle.std.specs.FinMap.{entries};
 ghost use Rattle.sqlite.specs.State.{HasCleanDisk, KeepsCommit, Survives};
 ghost use Rattle.sqlite.specs.Held.{state};
+ghost use Rattle.dav_rows.specs.Contents.{state_cells};
 ghost use Rattle.dav_rows.specs.Changes.{state_entry, put_state};
 ghost use Rattle.dav_rows.specs.Saving.{Applies};
 ghost use Rattle.dav_rows.specs.Loading.{Reads, state_in};
+ghost use Rattle.dav_rows.specs.Failing.{IsOutOfMemory, HasNoText, IsShownBy, AreShownBy, FailsExcused};
 
-use crate::execute::{execute, rows_of};
+use crate::execute::{execute, rows_of, value_of};
 use sqlite::{Alter, Connection, Error, Row, Transaction, params};
 use std::alloc::Global;
 
@@ -48,6 +50,7 @@ pub(crate) fn load_all<S: Alter>(
     requires { conn.old.in_transaction ≡ false }
     ensures idle { conn.new.in_transaction ≡ false }
     ensures reads { Reads (state S.Store conn.old) (state S.Store conn.new) result (λ all m. map state_entry all.items ≡ entries m.states) }
+    ensures err { FailsExcused (state S.Store conn.old) (state S.Store conn.new) result }
 {
     let rows = rows_of(
         conn,
@@ -57,7 +60,8 @@ pub(crate) fn load_all<S: Alter>(
 }
 
 fn rows_in(alloc: Global, rows: &[Row]) -> Result<Vec<StateRow>, Error>
-    ensures { IfOk result (λ all. map state_entry all.items ≡ map state_in rows.now) }
+    ensures ok { IfOk result (λ all. map state_entry all.items ≡ map state_in rows.now) }
+    ensures err { IfErr result (λ e. AreShownBy state_cells HasNoText rows.now → IsOutOfMemory e) }
 {
     let mut all = Vec::new(alloc);
     'rows: for row in rows {
@@ -67,13 +71,14 @@ fn rows_in(alloc: Global, rows: &[Row]) -> Result<Vec<StateRow>, Error>
 }
 
 fn row_of(row: &Row) -> Result<StateRow, Error>
-    ensures { IfOk result (λ r. state_entry r ≡ state_in row.now) }
+    ensures ok { IfOk result (λ r. state_entry r ≡ state_in row.now) }
+    ensures err { IfErr result (λ e. IsShownBy state_cells HasNoText row.now → IsOutOfMemory e) }
 {
     Ok(StateRow {
-        number: row.get(0)?,
-        counter: row.get(1)?,
-        time: row.get(2)?,
-        batch: row.get(3)?,
-        digest_key: row.get(4)?,
+        number: value_of(row, 0)?,
+        counter: value_of(row, 1)?,
+        time: value_of(row, 2)?,
+        batch: value_of(row, 3)?,
+        digest_key: value_of(row, 4)?,
     })
 }

@@ -1,15 +1,10 @@
 use Rattle.sqlite.specs.Held.{state}
-use Rattle.dav_rows.proofs.ListingTexts.{listing_text, lists_ours, lists_none}
-use Rattle.dav_rows.proofs.LoadingLemmas.{rows_read, blank_read}
-use Rattle.dav_rows.proofs.ListingLemmas.{ours_listed, blank_listed}
+use Rattle.dav_rows.proofs.ListingTexts.{listing_text, lists_none}
+use Rattle.dav_rows.proofs.LoadingLemmas.{blank_read}
+use Rattle.dav_rows.proofs.ListingLemmas.{blank_listed}
 use Rattle.dav_rows.proofs.OnlyReads.{listed_alone}
+use Rattle.dav_rows.proofs.FailLemmas.{listing_excused}
 use Rattle.dav_rows.proofs.opening.listing_of.Goals as goal
-
-pub returns-clause-reads : goal.returns-clause-reads
-returns-clause-reads g c =
-    let old = state g.S.Store c.args.conn.now in
-    let new = state g.S.Store c.query_all.new.self in
-    ours_listed old new c.query_all.result (rows_read listing_text old new lists_ours.plain c.query_all.result c.query_all.ensures.ok c.query_all.ensures.err c.query_all.ensures.survives)
 
 pub returns-clause-blank : goal.returns-clause-blank
 returns-clause-blank g c =
@@ -20,3 +15,6 @@ returns-clause-blank g c =
 pub returns-clause-alone : goal.returns-clause-alone
 returns-clause-alone g c =
     listed_alone (state g.S.Store c.args.conn.now) (state g.S.Store c.query_all.new.self) c.query_all.result c.query_all.ensures.ok c.query_all.ensures.survives
+
+pub returns-clause-err_blank : goal.returns-clause-err_blank
+returns-clause-err_blank g c = listing_excused (state g.S.Store c.args.conn.now) (state g.S.Store c.query_all.new.self) c.query_all.result c.query_all.ensures.err

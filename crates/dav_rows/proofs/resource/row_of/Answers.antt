@@ -1,0 +1,38 @@
+use Rattle.std.proofs.Common.{arith, refl}
+use Rattle.sqlite.specs.Values.{IsInt}
+use Rattle.dav_rows.specs.Contents.{resource_cells}
+use Rattle.dav_rows.specs.Failing.{IsUtf8Resource}
+use Rattle.dav_rows.proofs.FailLemmas.{unread, IsTextValue}
+use Rattle.dav_rows.proofs.resource.row_of.Goals as goal
+
+pub returns-in_err-value_of-clause-err : goal.returns-in_err-value_of-clause-err
+returns-in_err-value_of-clause-err c =
+    unread resource_cells IsUtf8Resource c.args.row.now 0 IsInt (λ n v text. (omega arith, (_, refl))) c.in_err-value_of.field-0.0 c.from_residual.result c.in_err-value_of.ensures.err c.from_residual.ensures.1
+
+pub returns-in_err-value_of-2-clause-err : goal.returns-in_err-value_of-2-clause-err
+returns-in_err-value_of-2-clause-err c =
+    unread resource_cells IsUtf8Resource c.args.row.now 1 IsInt (λ n v text. (omega arith, (_, refl))) c.in_err-value_of-2.field-0.0 c.from_residual-in_err-value_of-2.result c.in_err-value_of-2.ensures.err c.from_residual-in_err-value_of-2.ensures.1
+
+pub returns-in_err-value_of-3-clause-err : goal.returns-in_err-value_of-3-clause-err
+returns-in_err-value_of-3-clause-err c =
+    unread resource_cells IsUtf8Resource c.args.row.now 2 IsTextValue (λ n v text. (omega arith, (_, refl, text))) c.in_err-value_of-3.field-0.0 c.from_residual-in_err-value_of-3.result c.in_err-value_of-3.ensures.err c.from_residual-in_err-value_of-3.ensures.1
+
+pub returns-in_err-value_of-4-clause-err : goal.returns-in_err-value_of-4-clause-err
+returns-in_err-value_of-4-clause-err c =
+    unread resource_cells IsUtf8Resource c.args.row.now 3 IsInt (λ n v text. (omega arith, (_, refl))) c.in_err-value_of-4.field-0.0 c.from_residual-in_err-value_of-4.result c.in_err-value_of-4.ensures.err c.from_residual-in_err-value_of-4.ensures.1
+
+pub returns-in_err-value_of-5-clause-err : goal.returns-in_err-value_of-5-clause-err
+returns-in_err-value_of-5-clause-err c =
+    unread resource_cells IsUtf8Resource c.args.row.now 4 IsInt (λ n v text. (omega arith, (_, refl))) c.in_err-value_of-5.field-0.0 c.from_residual-in_err-value_of-5.result c.in_err-value_of-5.ensures.err c.from_residual-in_err-value_of-5.ensures.1
+
+pub returns-in_err-value_of-6-clause-err : goal.returns-in_err-value_of-6-clause-err
+returns-in_err-value_of-6-clause-err c =
+    unread resource_cells IsUtf8Resource c.args.row.now 5 IsInt (λ n v text. (omega arith, (_, refl))) c.in_err-value_of-6.field-0.0 c.from_residual-in_err-value_of-6.result c.in_err-value_of-6.ensures.err c.from_residual-in_err-value_of-6.ensures.1
+
+pub returns-in_err-value_of-7-clause-err : goal.returns-in_err-value_of-7-clause-err
+returns-in_err-value_of-7-clause-err c =
+    unread resource_cells IsUtf8Resource c.args.row.now 6 IsInt (λ n v text. (omega arith, (_, refl))) c.in_err-value_of-7.field-0.0 c.from_residual-in_err-value_of-7.result c.in_err-value_of-7.ensures.err c.from_residual-in_err-value_of-7.ensures.1
+
+pub returns-in_err-value_of-8-clause-err : goal.returns-in_err-value_of-8-clause-err
+returns-in_err-value_of-8-clause-err c =
+    unread resource_cells IsUtf8Resource c.args.row.now 7 IsInt (λ n v text. (omega arith, (_, refl))) c.in_err-value_of-8.field-0.0 c.from_residual-in_err-value_of-8.result c.in_err-value_of-8.ensures.err c.from_residual-in_err-value_of-8.ensures.1

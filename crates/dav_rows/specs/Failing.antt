@@ -1,0 +1,79 @@
+-- Why a call fails.
+use Rattle.std.specs.Prelude.{◌≡◌, ◌⊎◌, ⊤, ℤ, List, All, Result, IfErr, IsTrue, IsSome, IsUtf8}
+use Rattle.std.specs.List.{AllByRecursion}
+use Rattle.std.specs.FinMap.{entries}
+use Rattle.sqlite_disk.specs.Disk.{MoreFaults}
+use Rattle.sqlite.specs.declared.error.ErrorCode.TheVariants.{OutOfMemory, OperationInterrupted}
+use Rattle.sqlite.specs.declared.error.Error.{Error}
+use Rattle.sqlite.specs.declared.error.Error.TheVariants.{SqliteFailure}
+use Rattle.sqlite.specs.Order.{Row}
+use Rattle.sqlite.specs.State.{State, HasCleanDisk, is_disk_error}
+use Rattle.dav_rows.specs.declared.opening.StartError.{StartError}
+use Rattle.dav_rows.specs.declared.opening.StartError.TheVariants.{Foreign, Sqlite}
+use Rattle.dav_rows.specs.Stored.{Numbered, shown}
+use Rattle.dav_rows.specs.Contents.{Contents, ResourceValues, PropertyValues, LockValues}
+use Rattle.dav_rows.specs.Saving.{IsAt}
+use Rattle.dav_rows.specs.Creating.{IsBlank}
+
+-- ---- causes
+
+abbrev pub IsOutOfMemory : Error → Type 0
+IsOutOfMemory e = e ≡ SqliteFailure OutOfMemory
+
+-- the disk reported a fault meanwhile, and the error is that of a fault
+abbrev pub IsFault : State → State → Error → Type 0
+IsFault old new e = IsTrue (is_disk_error e) × MoreFaults old.faults new.faults
+
+-- a query took more steps than the caller had allowed on the connection
+abbrev pub IsOverLimit : State → Error → Type 0
+IsOverLimit old e = (e ≡ SqliteFailure OperationInterrupted) × IsSome old.step_limit
+
+-- Memory ran out, the disk reported a fault, or the caller's limit on steps was reached.
+abbrev pub IsExcused : State → State → Error → Type 0
+IsExcused old new e = IsOutOfMemory e ⊎ (IsFault old new e ⊎ IsOverLimit old e)
+
+-- the same of a start, which is not refused as foreign
+abbrev pub IsExcusedStart : State → State → StartError → Type 0
+IsExcusedStart old new Foreign = ⊥
+IsExcusedStart old new (Sqlite e) = IsExcused old new e
+
+-- ---- maps of texts
+
+abbrev pub AreUtf8 : {V : Type 0} → (V → Type 0) → Numbered V → Type 0
+AreUtf8 IsText m = AllByRecursion (λ e. IsText e.1) (entries m)
+
+abbrev pub IsUtf8Resource : ResourceValues → Type 0
+IsUtf8Resource v = IsUtf8 v.name
+
+abbrev pub IsUtf8Property : PropertyValues → Type 0
+IsUtf8Property v = IsUtf8 v.namespace × IsUtf8 v.name
+
+abbrev pub IsUtf8Lock : LockValues → Type 0
+IsUtf8Lock v = IsUtf8 v.token × IsUtf8 v.path
+
+-- values with no text
+abbrev pub HasNoText : {V : Type 0} → V → Type 0
+HasNoText v = ⊤
+
+-- each text is UTF-8, as each `String` is
+pub record HasUtf8 (m : Contents) : Type 0 where
+  pub resources : AreUtf8 IsUtf8Resource m.resources
+  pub properties : AreUtf8 IsUtf8Property m.properties
+  pub locks : AreUtf8 IsUtf8Lock m.locks
+
+-- the row shows a number and values whose texts are UTF-8
+abbrev pub IsShownBy : {V : Type 0} → (V → Row) → (V → Type 0) → Row → Type 0
+IsShownBy {V} cells IsText row = (n : ℤ) × (v : V) × IsText v × (row ≡ shown cells (n, v))
+
+abbrev pub AreShownBy : {V : Type 0} → (V → Row) → (V → Type 0) → List Row → Type 0
+AreShownBy cells IsText = All (IsShownBy cells IsText)
+
+-- ---- calls
+
+-- over our tables, whose texts are UTF-8, it fails for these causes alone
+abbrev pub FailsExcused : {X : Type 0} → State → State → Result X Error → Type 0
+FailsExcused old new result = HasCleanDisk new → IfErr result (λ e. (m : Contents) → IsAt old m → HasUtf8 m → IsExcused old new e)
+
+-- over a database with nothing in it, it fails for these causes alone
+abbrev pub FailsExcusedBlank : {X : Type 0} → State → State → Result X Error → Type 0
+FailsExcusedBlank old new result = HasCleanDisk new → IfErr result (λ e. IsBlank old → IsExcused old new e)
