@@ -1,9 +1,16 @@
 -- What an open finds, and what a crash leaves for it.
-use Rattle.std.proofs.Common.{◌≡◌, ◌⊎◌, inl, inr, Ok, Err, Result, OnOk, IsTrue, sym, ap, subst, ◌∙◌}
+use Rattle.std.proofs.Common.{◌≡◌, ◌⊎◌, ◌≤◌, ◌==◌, inl, inr, Bool, true, false, cond, None, Some, Option, IfSome, Ok, Err, Result, OnOk, IsTrue, arith, refl, sym, ap, subst, ◌∙◌}
+use Rattle.std.specs.Prelude.{IsSome}
 use Rattle.std.proofs.Math.Logic.{∥∥₁_map}
 use Rattle.sqlite_disk.specs.declared.Disk.{Ghosts}
 use Rattle.sqlite_store.specs.declared.store.FileStore.{FileStore}
-use Rattle.sqlite_store.specs.FileStore.{state, view, recovers}
+use Rattle.sqlite_store.specs.FileStore.{state, view, recovers, faults}
+use Rattle.sqlite_store.specs.Report.{named}
+use Rattle.sqlite_trees.specs.declared.error.StoreError.TheVariants.{Io, Full, Corrupt}
+use Rattle.sqlite_disk.specs.declared.Files.{Files}
+use Rattle.sqlite_disk.specs.declared.tally.Tally.{Tally}
+use Rattle.sqlite.specs.declared.file.Leftover.{Leftover}
+use Rattle.sqlite.specs.declared.file.Leftover.TheVariants as left
 use Rattle.sqlite_catalog.specs.Listing.{IsSound}
 use Rattle.sqlite_catalog.proofs.ReadLemmas.{lists_once}
 use Rattle.sqlite_trees.specs.Objects.{catalog_tree}
@@ -13,10 +20,13 @@ use Rattle.sqlite.specs.Recovery.{Image}
 use Rattle.sqlite.specs.Tree.{Trees}
 use Rattle.sqlite.specs.Effect.{Database}
 use Rattle.sqlite_schema.specs.declared.schema.Schema.{Schema}
-use Rattle.sqlite.specs.State.{State, Opens, IsLive}
+use Rattle.sqlite.specs.State.{State, Opens, IsLive, store_error, is_disk_error}
 use Rattle.sqlite.specs.Start.{FindsIn}
 use Rattle.sqlite.specs.Held.{AreDatabases}
-use Rattle.sqlite.specs.Files.{HoldsDatabase}
+use Rattle.sqlite.specs.Files.{HoldsDatabase, FailsToOpenFiles, LeavesFiles, IsCleanLeft, tally_left, image_of}
+use Rattle.sqlite_wal.specs.Reads.{tally_of_files}
+use Rattle.sqlite.specs.declared.error.ErrorCode.TheVariants.{OutOfMemory, CannotOpen, DatabaseBusy}
+use Rattle.sqlite.specs.declared.error.Error.TheVariants.{SqliteFailure}
 use Rattle.sqlite.proofs.ListingLemmas.{empty_is_sound}
 use Rattle.sqlite.proofs.Theorems.{opens_again}
 use Rattle.dav_rows.specs.Tables.{rows_schema, no_schema}
@@ -24,7 +34,10 @@ use Rattle.dav_rows.specs.Stored.{IsOurs}
 use Rattle.dav_rows.specs.Contents.{Contents, Holds}
 use Rattle.dav_rows.specs.Saving.{IsAt, Leaves}
 use Rattle.dav_rows.specs.Creating.{IsBlank, IsWhole}
-use Rattle.dav_rows_files.specs.Starting.{Keeps, KeepsEither, IsVacant, NextKeeps}
+use Rattle.dav_rows.specs.declared.opening.StartError.{StartError}
+use Rattle.dav_rows.specs.declared.opening.StartError.TheVariants.{Foreign, Sqlite}
+use Rattle.dav_rows.specs.Failing.{IsExcusedStart}
+use Rattle.dav_rows_files.specs.Starting.{Keeps, KeepsEither, IsVacant, IsStopped, FailsToStart, NextKeeps}
 
 -- the trees tell the schema
 sole : (schema : Schema) (db : Trees) → IsSound schema db → IsOurs db → schema ≡ rows_schema
@@ -80,3 +93,40 @@ pub kept_next : {D : Type 0} {g : Ghosts D} {X : Type 0} (s new : State) (it : F
     → (IsClean (view it) → OnOk r (Leaves s new f)) → ((db : Trees) → recovers it db → new.may_leave db) → OnOk r (NextKeeps s it f)
 kept_next s new it f (Ok x) numbered leaves outcomes = λ clean m at. next_only it (f m) (numbered clean) (λ db may. leaves clean m at db (outcomes db may))
 kept_next s new it f (Err e) numbered leaves outcomes = tt
+
+-- ---- how a start fails
+
+-- an open names a fault as SQLite does
+named_fault : (a b : Tally) → IsTrue (is_disk_error (store_error (named a b)))
+named_fault a b = go (b.caught == a.caught) (b.refused == a.refused)
+  where
+    go : (p q : Bool) → IsTrue (is_disk_error (store_error (cond p (cond q Io Full) Corrupt)))
+    go true true = refl
+    go true false = refl
+    go false q = refl
+
+module _ {D : Type 0} {g : Ghosts D} where
+  -- where the files keep maps, an open fails for these causes alone
+  pub open_stopped : (files : Files D) (left : Leftover D g) (image : Image) (m : Contents) (e : Error) → image_of g files ≡ image → Keeps image m → FailsToOpenFiles files left e → IsStopped left (Sqlite e)
+  open_stopped files left image m e same keeps (inl memory) = inl memory
+  open_stopped files left image m e same keeps (inr (inl refused)) = absurd (refused.1 (inl (keeps.db, subst (λ i. HoldsDatabase i keeps.db) (sym same) keeps.database)))
+  open_stopped files left image m e same keeps (inr (inr (inl fault))) =
+      inr (inl (subst (λ e. IsTrue (is_disk_error e)) (sym fault.0) (named_fault (tally_of_files g (files.log, files.db)) (tally_left left)), omega (arith, fault.1)))
+  open_stopped files left image m e same keeps (inr (inr (inr full))) = inr (inr full)
+
+  pub open_failed : (image : Image) (FreshLog FreshDb : Files D → Type 0) → ((files : Files D) → FreshLog files → FreshDb files → image_of g files ≡ image) → (e : Error) (left : Option (Leftover D g))
+      → (left ≡ None → (e ≡ SqliteFailure CannotOpen) ⊎ ((e ≡ SqliteFailure OutOfMemory) ⊎ (e ≡ SqliteFailure DatabaseBusy)))
+      → IfSome left (λ left. (files : Files D) × FreshLog files × FreshDb files × (IsCleanLeft left → FailsToOpenFiles files left e × LeavesFiles files left)) → FailsToStart image (Sqlite e, left)
+  open_failed image FreshLog FreshDb same e None unopened cause = elim (unopened refl) [
+    | inl cannot ↦ inl (ap Sqlite cannot)
+    | inr other ↦ elim other [ inl memory ↦ inr (inl (ap Sqlite memory)) | inr busy ↦ inr (inr (ap Sqlite busy)) ]
+  ]
+  open_failed image FreshLog FreshDb same e (Some left) unopened cause = λ clean m keeps utf8.
+      open_stopped cause.0 left image m e (same cause.0 cause.1 cause.2) keeps (cause.3 clean).0
+
+  -- a load fails for these causes alone
+  pub load_stopped : (s new : State) (last : FileStore D g) (e : StartError) → s.step_limit ≡ None → new.faults ≤ faults last → IsExcusedStart s new e → IsStopped (left.Store last) e
+  load_stopped s new last Foreign unlimited counts h = h
+  load_stopped s new last (Sqlite e) unlimited counts (inl memory) = inl memory
+  load_stopped s new last (Sqlite e) unlimited counts (inr (inl fault)) = inr (inl (fault.0, omega (arith, counts, fault.1)))
+  load_stopped s new last (Sqlite e) unlimited counts (inr (inr over)) = absurd (let some = subst IsSome unlimited over.1 in cc)

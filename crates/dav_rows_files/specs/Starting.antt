@@ -1,18 +1,25 @@
 -- What the files hold.
-use Rattle.std.specs.Prelude.{◌≡◌, ◌⊎◌, []}
+use Rattle.std.specs.Prelude.{◌≡◌, ◌⊎◌, ◌<◌, [], Option, MatchOption, IsTrue}
 use Rattle.sqlite_disk.specs.declared.Disk.{Ghosts}
 use Rattle.sqlite_store.specs.declared.store.FileStore.{FileStore}
 use Rattle.sqlite_store.specs.FileStore as store
 use Rattle.sqlite_trees.specs.View.{IsClean}
 use Rattle.sqlite_trees.specs.Objects.{catalog_tree}
 use Rattle.sqlite.specs.Recovery.{Image}
-use Rattle.sqlite.specs.Files.{HoldsDatabase, AreFoundIn}
+use Rattle.sqlite.specs.Files.{HoldsDatabase, AreFoundIn, IsCleanLeft, IsFullLeft, faults_left}
 use Rattle.sqlite.specs.Tree.{Trees}
-use Rattle.sqlite.specs.State.{State, HasCleanDisk}
+use Rattle.sqlite.specs.State.{State, HasCleanDisk, is_disk_error}
+use Rattle.sqlite.specs.declared.file.Leftover.{Leftover}
+use Rattle.sqlite.specs.declared.error.ErrorCode.TheVariants.{OutOfMemory, CannotOpen, DatabaseBusy, DiskFull}
+use Rattle.sqlite.specs.declared.error.Error.{Error}
+use Rattle.sqlite.specs.declared.error.Error.TheVariants.{SqliteFailure}
 use Rattle.dav_rows.specs.declared.loading.Rows.{Rows}
+use Rattle.dav_rows.specs.declared.opening.StartError.{StartError}
+use Rattle.dav_rows.specs.declared.opening.StartError.TheVariants.{Foreign, Sqlite}
 use Rattle.dav_rows.specs.Contents.{Contents, Holds}
 use Rattle.dav_rows.specs.Saving.{IsAt}
 use Rattle.dav_rows.specs.Loading.{AreAll}
+use Rattle.dav_rows.specs.Failing.{IsOutOfMemory, HasUtf8}
 
 -- the files hold a database whose tables stand for the maps
 pub record Keeps (image : Image) (m : Contents) : Type 0 where
@@ -40,6 +47,26 @@ BeginsAt image s = HasCleanDisk s → (m : Contents) → Keeps image m → IsAt 
 -- where the files had no table, it begins at these maps
 abbrev pub BeginsNew : Image → State → Contents → Rows → Type 0
 BeginsNew image s m rows = HasCleanDisk s → IsVacant image → IsAt s m × AreAll rows m
+
+-- ---- how a start fails
+
+-- the files cannot be opened, memory ran out, or another connection has the files
+abbrev pub IsUnopened : StartError → Type 0
+IsUnopened e = (e ≡ Sqlite (SqliteFailure CannotOpen)) ⊎ ((e ≡ Sqlite (SqliteFailure OutOfMemory)) ⊎ (e ≡ Sqlite (SqliteFailure DatabaseBusy)))
+
+module _ {D : Type 0} {g : Ghosts D} where
+  -- the disk reported a fault after the files were opened, and the error is that of a fault
+  abbrev pub IsFaultLeft : Leftover D g → Error → Type 0
+  IsFaultLeft left e = IsTrue (is_disk_error e) × (0 < faults_left left)
+
+  -- Memory ran out, the disk reported a fault, or a file is as long as SQLite allows.
+  abbrev pub IsStopped : Leftover D g → StartError → Type 0
+  IsStopped left Foreign = ⊥
+  IsStopped left (Sqlite e) = IsOutOfMemory e ⊎ (IsFaultLeft left e ⊎ ((e ≡ SqliteFailure DiskFull) × IsFullLeft left))
+
+  -- Where the files keep maps whose texts are UTF-8, and the disk has returned what was written, nothing else stops a start.
+  abbrev pub FailsToStart : Image → StartError × Option (Leftover D g) → Type 0
+  FailsToStart image e = MatchOption e.1 (IsUnopened e.0) (λ left. IsCleanLeft left → (m : Contents) → Keeps image m → HasUtf8 m → IsStopped left e.0)
 
 -- ---- what the files keep after a run
 

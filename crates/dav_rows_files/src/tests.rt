@@ -70,7 +70,10 @@ fn batch(alloc: Global) -> Result<Vec<Change>, Fail> {
 
 /// Starts on the file, counts its locks, and removes one.
 fn count_locks(rt: &HostRuntime, path: &str, changes: &[Change]) -> Result<usize, StartError> {
-    let (conn, rows) = start(rt, path, Unknown, changes)?;
+    let (conn, rows) = match start(rt, path, Unknown, changes) {
+        Ok(started) => started,
+        Err((error, _)) => return Err(error),
+    };
     let (saved, _) = save_to_the_end(conn, &[Change::Remove(Table::Lock, 2)]);
     saved?;
     Ok(rows.locks.len())

@@ -80,7 +80,11 @@ fn open_rows<R: Start>(
     let key = RandomState::new(rt)?.hash_one(&0u8) >> 1;
     let changes = first_changes(alloc, key)?;
     let path = format!(in alloc; "{folder}/meta.db")?;
-    Ok(start(rt, path.as_str(), left, &changes)?)
+    let opened = match start(rt, path.as_str(), left, &changes) {
+        Ok(opened) => opened,
+        Err((error, _)) => return Err(Stopped::from(error)),
+    };
+    Ok(opened)
 }
 
 /// Opens the store of these rows and of a data file. The file that comes with it keeps room back. Errors are as for

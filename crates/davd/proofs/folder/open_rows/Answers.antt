@@ -9,4 +9,4 @@ stands : {key : ℕ} (read changes : List Change) → read ≡ changes → Stand
 stands {key} read changes same stand = subst (λ these. StandForImage (first these) (first_image key)) (sym same) stand
 
 pub returns-clause-new : goal.returns-clause-new
-returns-clause-new g c = (first c.deref.result.now, _, stands _ _ c.deref.ensures.value c.in_ok-changes.ensures, c.in_ok-start.ensures.blank)
+returns-clause-new g c = (first c.deref.result.now, _, stands _ _ c.deref.ensures.value c.in_ok-changes.ensures, c.in-Ok.ensures.blank)
