@@ -86,7 +86,7 @@ equal_number a n is = int_cmp-IsAntisymmetric a n (go (int_cmp a n) is)
     go Equal e = refl
     go Greater e = absurd (let x = e in cc)
 
-all_ids : (n : ℤ) (found : List Row) → ((x : Row) → Has found x → id_in (rowid x) ≡ n) → AllByRecursion (λ i. i ≡ n) (ids_of found)
+pub all_ids : (n : ℤ) (found : List Row) → ((x : Row) → Has found x → id_in (rowid x) ≡ n) → AllByRecursion (λ i. i ≡ n) (ids_of found)
 all_ids n [] h = tt
 all_ids n (x ∷ more) h = (h x (inl refl), all_ids n more (λ y at. h y (inr at)))
 
@@ -105,7 +105,7 @@ module _ {V : Type 0} (cells : V → Row) (name : List ℕ) (tree : ℕ) (column
   abbrev task_of : Option ℕ → Row → Task
   task_of limit params = record { limit = limit; keys = Enforced; schema = rows_schema; table = table; params = params }
 
-  cast_stored : (e : ℤ × V) → cast_row table (stored cells e) ≡ stored cells e
+  pub cast_stored : (e : ℤ × V) → cast_row table (stored cells e) ≡ stored cells e
   cast_stored e = rw (cast_int e.0, cast_null, it.cast e.1) refl
 
   -- the trees that an edit of the table leaves
@@ -114,13 +114,13 @@ module _ {V : Type 0} (cells : V → Row) (name : List ℕ) (tree : ℕ) (column
   edits db next gone rowids from rows h =
       let step = one_step rows_schema Enforced db next (edit_of db table gone rowids from rows) refl h in (step.rows, λ t apart. step.others t apart tt)
 
-  stored_among : (es : List (ℤ × V)) (r : Row) → Has (map (stored cells) es) r → (e : ℤ × V) × (r ≡ stored cells e)
+  pub stored_among : (es : List (ℤ × V)) (r : Row) → Has (map (stored cells) es) r → (e : ℤ × V) × (r ≡ stored cells e)
   stored_among [] r h = absurd h
   stored_among (e ∷ es) r (inl is) = (e, is)
   stored_among (e ∷ es) r (inr later) = stored_among es r later
 
   -- a row that conflicts has the number
-  conflicting : (n : ℤ) (v : V) (a : ℤ × V) → conflicts None [] table (stored cells (n, v)) (stored cells a) ≡ true → a.0 ≡ n
+  pub conflicting : (n : ℤ) (v : V) (a : ℤ × V) → conflicts None [] table (stored cells (n, v)) (stored cells a) ≡ true → a.0 ≡ n
   unfolding first_key
   conflicting n v a is = equal_number a.0 n (sym (same_number a.0 n) ∙ go _ is)
     where
@@ -129,7 +129,7 @@ module _ {V : Type 0} (cells : V → Row) (name : List ℕ) (tree : ℕ) (column
       go false e = e
 
   -- the row that the statement is given is the one that is stored
-  row_given : (n : ℤ) (v : V) (top : ℤ) (rows : List Row) → with_rowid (rowids_for table top) rows (cast_row table (mended Replace table (stored cells (n, v)))) ≡ stored cells (n, v)
+  pub row_given : (n : ℤ) (v : V) (top : ℤ) (rows : List Row) → with_rowid (rowids_for table top) rows (cast_row table (mended Replace table (stored cells (n, v)))) ≡ stored cells (n, v)
   row_given n v top rows = rw (cast_int n, cast_null, it.filled v, it.cast v) refl
 
   module _ (limit : Option ℕ) (params : Row) (n : ℤ) (v : V) where

@@ -1,11 +1,19 @@
 -- What CREATE TABLE makes.
-use Rattle.std.proofs.Common.{◌≡◌, ℕ, zero, suc, ◌+◌, List, [], ◌∷◌, ◌++◌, length, map, false, None, Ok, Err, Result, OnOk, refl, sym, ap, subst, ◌∙◌, ◌<◌, get_or, arith, int_cmp}
-use Rattle.std.specs.List.{AllByRecursion}
+use Rattle.std.proofs.Common.{◌≡◌, ℕ, zero, suc, ◌+◌, ◌*◌, ◌^◌, codes, true, List, [], ◌∷◌, ◌++◌, length, map, false, None, Ok, Err, Result, OnOk, refl, sym, ap, subst, ◌∙◌, ◌<◌, get_or, arith, int_cmp}
+use Rattle.std.specs.List.{AllByRecursion, list_all}
 use Rattle.std.specs.FinMap.{entries, empty, len-empty, len-entries}
 use Rattle.sqlite.specs.Command.TheVariants.{CreateTable}
 use Rattle.sqlite.specs.Compile.{table_defined_by}
 use Rattle.sqlite.specs.Table.{Table}
 use Rattle.sqlite.specs.Change.{created, next_tree}
+use Rattle.sqlite_catalog.specs.Change.{is_used, is_reserved}
+use Rattle.sqlite_catalog.specs.Listing.{is_formed, is_fit}
+use Rattle.sqlite_schema.specs.Rules.{table_reals}
+use Rattle.std.specs.Prelude.{nat_lt}
+use Rattle.sqlite_value.specs.Order.{value_cmp}
+use Rattle.sqlite_trees.specs.Sound.{fits_kind, is_free_name, begins, same_name}
+use Rattle.sqlite.specs.declared.types.Value.TheVariants.{Text}
+use Rattle.dav_rows.proofs.Suits.{IsAlone}
 use Rattle.sqlite_catalog.specs.Change.{KeepsRows}
 use Rattle.sqlite.specs.Does.{Tally, lacks_sequence}
 use Rattle.sqlite.specs.Effect.{Database, IsDatabase}
@@ -29,7 +37,7 @@ use Rattle.dav_rows.specs.Creating.{place, nothing, first, schema_of, AreEmpty, 
 use Rattle.dav_rows.proofs.ChangeLemmas.{went, same_value, ours}
 
 -- the text makes the table behind the first so many
-record Makes (count : ℕ) (text : List ℕ) : Type 0 where
+pub record Makes (count : ℕ) (text : List ℕ) : Type 0 where
   pub command : command_of (understood (schema_of count) text) ≡ CreateTable
   pub plain : IsPlain (understood (schema_of count) text)
   pub whole : statement_of text (understood (schema_of count) text) ≡ text
@@ -37,14 +45,43 @@ record Makes (count : ℕ) (text : List ℕ) : Type 0 where
   pub defined : table_defined_by text ≡ Ok table
   pub next : created (schema_of count) table ≡ schema_of (count + 1)
   pub uncounted : lacks_sequence (schema_of (count + 1)) ≡ false
+  -- nothing is to refuse
+  pub alone : IsAlone text 0 (understood (schema_of count) text)
+  pub ascii : (list_all (λ b. nat_lt b 128) text ≡ true) × (list_all (λ b. nat_lt b 128) table.name ≡ true)
+  pub free : is_used (schema_of count) table.name ≡ false
+  pub unreserved : is_reserved table.name ≡ false
+  pub unindexed : table.uniques ≡ []
+  pub low : next_tree (schema_of count) < 65536
+  pub reals : table_reals table ≡ 0
+  pub formed : is_formed table ≡ true
+  pub title : List ℕ
+  pub titled : table.name ≡ title
+  pub fit : is_fit (Text (codes "table")) (Text title) (Text title) (Text text) ≡ true
+  pub short : 2 * length table.name + length text + 200 < 10 ^ 9
 
-makes : (name : Name) → Makes (place name) (creation name)
+abbrev title_of : Name → List ℕ
+title_of Resource = codes "resource"
+title_of Extent = codes "extent"
+title_of Property = codes "property"
+title_of Lock = codes "lock"
+title_of TheState = codes "state"
+
+-- the list of objects may have the table
+fits : (name : Name) → is_fit (Text (codes "table")) (Text (title_of name)) (Text (title_of name)) (Text (creation name)) ≡ true
+unfolding fits_kind is_free_name begins same_name value_cmp lib.Ieee.is_nan lib.Ieee.lt
+fits Resource = refl
+fits Extent = refl
+fits Property = refl
+fits Lock = refl
+fits TheState = refl
+
+pub makes : (name : Name) → Makes (place name) (creation name)
 unfolding understood everything
-makes Resource = record { command = refl; plain = (refl, refl); whole = refl; table = _; defined = refl; next = refl; uncounted = refl }
-makes Extent = record { command = refl; plain = (refl, refl); whole = refl; table = _; defined = refl; next = refl; uncounted = refl }
-makes Property = record { command = refl; plain = (refl, refl); whole = refl; table = _; defined = refl; next = refl; uncounted = refl }
-makes Lock = record { command = refl; plain = (refl, refl); whole = refl; table = _; defined = refl; next = refl; uncounted = refl }
-makes TheState = record { command = refl; plain = (refl, refl); whole = refl; table = _; defined = refl; next = refl; uncounted = refl }
+makes Resource = record { command = refl; plain = (refl, refl); whole = refl; table = _; defined = refl; next = refl; uncounted = refl; alone = (omega arith, refl); ascii = (refl, refl); free = refl; unreserved = refl; unindexed = refl; low = omega arith; reals = refl; formed = refl; title = codes "resource"; titled = refl; fit = fits Resource; short = omega arith }
+makes Extent = record { command = refl; plain = (refl, refl); whole = refl; table = _; defined = refl; next = refl; uncounted = refl; alone = (omega arith, refl); ascii = (refl, refl); free = refl; unreserved = refl; unindexed = refl; low = omega arith; reals = refl; formed = refl; title = codes "extent"; titled = refl; fit = fits Extent; short = omega arith }
+makes Property = record { command = refl; plain = (refl, refl); whole = refl; table = _; defined = refl; next = refl; uncounted = refl; alone = (omega arith, refl); ascii = (refl, refl); free = refl; unreserved = refl; unindexed = refl; low = omega arith; reals = refl; formed = refl; title = codes "property"; titled = refl; fit = fits Property; short = omega arith }
+makes Lock = record { command = refl; plain = (refl, refl); whole = refl; table = _; defined = refl; next = refl; uncounted = refl; alone = (omega arith, refl); ascii = (refl, refl); free = refl; unreserved = refl; unindexed = refl; low = omega arith; reals = refl; formed = refl; title = codes "lock"; titled = refl; fit = fits Lock; short = omega arith }
+makes TheState = record { command = refl; plain = (refl, refl); whole = refl; table = _; defined = refl; next = refl; uncounted = refl; alone = (omega arith, refl); ascii = (refl, refl); free = refl; unreserved = refl; unindexed = refl; low = omega arith; reals = refl; formed = refl; title = codes "state"; titled = refl; fit = fits TheState; short = omega arith }
 
 still_empty : (ts : List Table) (old new : Trees) → KeepsRows ts old new → AllByRecursion (λ t. old t.tree ≡ []) ts → AllByRecursion (λ t. new t.tree ≡ []) ts
 still_empty [] old new kept were = tt
@@ -82,7 +119,7 @@ builds count text it old new (Ok rows) ran built =
 pub creates : (name : Name) (old new : State) (r : Result ℕ Error) → ExecutesInside 0 (creation name) [] old new r → IsBuilt (place name) old → OnOk r (IsBuilt (place name + 1) new × (new.committed ≡ old.committed))
 creates name = builds (place name) (creation name) (makes name)
 
-none_long : {X : Type 0} (xs : List X) → length xs ≡ 0 → xs ≡ []
+pub none_long : {X : Type 0} (xs : List X) → length xs ≡ 0 → xs ≡ []
 none_long [] e = refl
 none_long (x ∷ xs) e = absurd (omega arith)
 

@@ -10,7 +10,7 @@ use Rattle.dav_rows.proofs.ChangeLemmas.{cast_int}
 use Rattle.dav_rows.proofs.Suits.{Suits, Puts, Removes, Selects}
 
 pub suits : Suits extent_cells (codes "extent") 1 extent_columns
-suits = record { there = refl; cast = λ v. simp cast_int; filled = λ v. refl; seen = λ db. refl }
+suits = record { there = refl; cast = λ v. simp cast_int; filled = λ v. refl; seen = λ db. refl; typed = λ v. refl; present = λ n v. refl; reals = refl }
 
 abbrev pub put_text : List ℕ
 put_text = codes "INSERT OR REPLACE INTO extent (number, resource, place, pieces) VALUES (?1, ?2, ?3, ?4)"
@@ -20,14 +20,14 @@ terms = col 0 0 ∷ lit Null ∷ col 0 1 ∷ col 0 2 ∷ col 0 3 ∷ []
 
 pub puts : Puts extent_cells 1 put_text
 unfolding understood everything
-puts = record { terms = terms; width = 5; is = refl; plain = (refl, refl); given = λ n v. refl }
+puts = record { terms = terms; width = 5; is = refl; plain = (refl, refl); alone = λ n v. (omega arith, refl); typed = λ n v. refl; given = λ n v. refl }
 
 abbrev pub remove_text : List ℕ
 remove_text = codes "DELETE FROM extent WHERE number = ?1"
 
 pub removes : Removes 1 remove_text
 unfolding understood everything
-removes = record { is = refl; plain = (refl, refl) }
+removes = record { is = refl; plain = (refl, refl); alone = (omega arith, refl); accepted = λ n. refl }
 
 abbrev pub select_text : List ℕ
 select_text = codes "SELECT number, resource, place, pieces FROM extent ORDER BY number"

@@ -48,26 +48,28 @@ caused old new e Unstorable is_open is why = absurd why
 pub failed : (old new : State) (e : Error) → IsTrue old.is_open → Fails old new ⊥ e → IsExcused old new e
 failed old new e is_open h = caused old new e h.0 is_open h.1 h.2
 
-module _ (schema : Schema) (sql : List ℕ) (plain : IsPlain (understood schema sql)) (alone : IsAlone sql (understood schema sql)) (old new : State) (has : old.now.schema ≡ schema) where
-  is_statement : (e : Error) → IsNoStatement old sql [] e → ⊥
-  is_statement e (inl h) = subst IsPlain (ap (λ s. understood s sql) (sym has) ∙ h.1) plain
-  is_statement e (inr h) =
-      let known = ap (λ s. understood s sql) (sym has) ∙ h.1 in
-      let bare = subst IsPlain known plain in
-      let one = subst (IsAlone sql) known alone in
-      elim h.2 [
-        | inl long ↦ long.0 one.0
-        | inr other ↦ elim other [
-          | inl count ↦ count.0 (sym (ap length one.1))
-          | inr untimed ↦ untimed.0 bare.1
-        ]
+-- a text that is one statement is one
+pub is_statement : (schema : Schema) (sql : List ℕ) (params : Row) → IsPlain (understood schema sql) → IsAlone sql (length params) (understood schema sql) → (old : State) → old.now.schema ≡ schema
+    → (e : Error) → IsNoStatement old sql params e → ⊥
+is_statement schema sql params plain alone old has e (inl h) = subst IsPlain (ap (λ s. understood s sql) (sym has) ∙ h.1) plain
+is_statement schema sql params plain alone old has e (inr h) =
+    let known = ap (λ s. understood s sql) (sym has) ∙ h.1 in
+    let bare = subst IsPlain known plain in
+    let one = subst (IsAlone sql (length params)) known alone in
+    elim h.2 [
+      | inl long ↦ long.0 one.0
+      | inr other ↦ elim other [
+        | inl count ↦ count.0 (sym one.1)
+        | inr untimed ↦ untimed.0 bare.1
       ]
+    ]
 
+module _ (schema : Schema) (sql : List ℕ) (plain : IsPlain (understood schema sql)) (alone : IsAlone sql 0 (understood schema sql)) (old new : State) (has : old.now.schema ≡ schema) where
   -- a query that fails did not run, or is refused
   ran : (e : Error) → FailsToQuery sql [] old new e
       → Fails old new ⊥ e ⊎ ((db : Database) × IsSourceOf (reads_listing schema sql) old.now db × RefusesToRead old.step_limit (command_of (understood schema sql)) db [] e)
   unfolding FailsToQuery IsNotRun
-  ran e (inl (inl h)) = absurd (is_statement e h.0)
+  ran e (inl (inl h)) = absurd (is_statement schema sql [] plain alone old has e h.0)
   ran e (inl (inr h)) = inl h
   ran e (inr h) =
       let known = sym h.1.is ∙ ap (λ s. understood s sql) has in

@@ -18,3 +18,5 @@ pub mod ListingTexts
 pub mod ListingLemmas
 pub mod OnlyReads
 pub mod FailLemmas
+pub mod RefuseLemmas
+pub mod CreateFailLemmas

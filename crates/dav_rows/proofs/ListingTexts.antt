@@ -33,7 +33,7 @@ pub record Lists (schema : Schema) : Type 0 where
   pub is : command_of (understood schema listing_text) ≡ Select (record { lets = []; body = listing_query }) (codes "name" ∷ [])
   pub listed : reads_listing schema listing_text ≡ true
   pub plain : IsPlain (understood schema listing_text)
-  pub alone : IsAlone listing_text (understood schema listing_text)
+  pub alone : IsAlone listing_text 0 (understood schema listing_text)
   pub accepted : accepts_program listing_schema [] listing_query [] ≡ true
 
 pub lists_none : Lists no_schema

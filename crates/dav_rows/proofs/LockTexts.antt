@@ -9,7 +9,7 @@ use Rattle.dav_rows.specs.Tables.{lock_columns}
 use Rattle.dav_rows.proofs.Suits.{Suits, Puts, Removes, Selects}
 
 pub suits : Suits lock_cells (codes "lock") 3 lock_columns
-suits = record { there = refl; cast = λ v. refl; filled = λ v. refl; seen = λ db. refl }
+suits = record { there = refl; cast = λ v. refl; filled = λ v. refl; seen = λ db. refl; typed = λ v. refl; present = λ n v. refl; reals = refl }
 
 abbrev pub put_text : List ℕ
 put_text = codes "INSERT OR REPLACE INTO lock (number, token, path, lock) VALUES (?1, ?2, ?3, ?4)"
@@ -19,14 +19,14 @@ terms = col 0 0 ∷ lit Null ∷ col 0 1 ∷ col 0 2 ∷ col 0 3 ∷ []
 
 pub puts : Puts lock_cells 3 put_text
 unfolding understood everything
-puts = record { terms = terms; width = 5; is = refl; plain = (refl, refl); given = λ n v. refl }
+puts = record { terms = terms; width = 5; is = refl; plain = (refl, refl); alone = λ n v. (omega arith, refl); typed = λ n v. refl; given = λ n v. refl }
 
 abbrev pub remove_text : List ℕ
 remove_text = codes "DELETE FROM lock WHERE number = ?1"
 
 pub removes : Removes 3 remove_text
 unfolding understood everything
-removes = record { is = refl; plain = (refl, refl) }
+removes = record { is = refl; plain = (refl, refl); alone = (omega arith, refl); accepted = λ n. refl }
 
 abbrev pub select_text : List ℕ
 select_text = codes "SELECT number, token, path, lock FROM lock ORDER BY number"

@@ -4,11 +4,12 @@ use Rattle.sqlite_schema.specs.declared.schema.Column.{Column}
 use Rattle.sqlite_schema.specs.declared.command.Conflict.TheVariants.{Replace}
 use Rattle.sqlite_resolve.specs.declared.compiled.Compiled.{Compiled}
 use Rattle.sqlite_resolve.specs.declared.error.CompileError.{CompileError}
-use Rattle.sqlite_typing.specs.Types.{accepts_program}
+use Rattle.sqlite_typing.specs.Types.{accepts_program, accepts_terms}
+use Rattle.sqlite_schema.specs.Rules.{are_typed, are_present, table_reals}
 use Rattle.sqlite_sql.specs.declared.ops.CompareOp.TheVariants.{Eq}
 use Rattle.sqlite_sql.specs.declared.ops.BinaryOp.TheVariants.{Compare}
 use Rattle.sqlite.specs.Collation.TheVariants.{Binary}
-use Rattle.sqlite.specs.declared.types.Value.TheVariants.{Int}
+use Rattle.sqlite.specs.declared.types.Value.TheVariants.{Null, Int}
 use Rattle.sqlite.specs.Order.{Row}
 use Rattle.sqlite.specs.Cast.{cast_all}
 use Rattle.sqlite.specs.Rows.{mended_from}
@@ -24,10 +25,10 @@ use Rattle.sqlite.proofs.Callers.{IsPlain, command_of}
 use Rattle.dav_rows.specs.Tables.{numbered, rows_schema}
 use Rattle.dav_rows.specs.Stored.{stored, shown}
 
--- the text is one statement, with no parameter
-abbrev pub IsAlone : List ℕ → Result Compiled CompileError → Type 0
-IsAlone sql (Ok c) = (length sql ≤ c.tail) × (c.names ≡ [])
-IsAlone sql (Err e) = ⊥
+-- the text is one statement, with so many parameters
+abbrev pub IsAlone : List ℕ → ℕ → Result Compiled CompileError → Type 0
+IsAlone sql parameters (Ok c) = (length sql ≤ c.tail) × (length c.names ≡ parameters)
+IsAlone sql parameters (Err e) = ⊥
 
 -- the cells fill the columns of the table as they are
 pub record Suits {V : Type 0} (cells : V → Row) (name : List ℕ) (tree : ℕ) (columns : List Column) : Type 0 where
@@ -35,6 +36,9 @@ pub record Suits {V : Type 0} (cells : V → Row) (name : List ℕ) (tree : ℕ)
   pub cast : (v : V) → cast_all columns (cells v) ≡ cells v
   pub filled : (v : V) → mended_from (Some 0) 1 columns (cells v) ≡ cells v
   pub seen : (db : Trees) → overlay db [] tree ≡ db tree
+  pub typed : (v : V) → are_typed (Some 0) 0 (numbered name tree columns).columns (Null ∷ cells v) ≡ true
+  pub present : (n : ℤ) (v : V) → are_present (Some 0) 0 (numbered name tree columns).columns (stored cells (n, v)) ≡ true
+  pub reals : table_reals (numbered name tree columns) ≡ 0
 
 -- the text puts a row, whose number and cells it is given
 pub record Puts {V : Type 0} (cells : V → Row) (tree : ℕ) (text : List ℕ) : Type 0 where
@@ -42,6 +46,8 @@ pub record Puts {V : Type 0} (cells : V → Row) (tree : ℕ) (text : List ℕ) 
   pub width : ℕ
   pub is : command_of (understood rows_schema text) ≡ InsertOr tree Replace (Values terms width) []
   pub plain : IsPlain (understood rows_schema text)
+  pub alone : (n : ℤ) (v : V) → IsAlone text (length (shown cells (n, v))) (understood rows_schema text)
+  pub typed : (n : ℤ) (v : V) → accepts_terms terms (shown cells (n, v) ++ []) ≡ true
   pub given : (n : ℤ) (v : V) → value_rows ((Int n ∷ cells v) ++ []) width (length terms / width) terms ≡ stored cells (n, v) ∷ []
 
 abbrev pub remove_query : ℕ → Query
@@ -61,6 +67,8 @@ remove_query tree = record {
 pub record Removes (tree : ℕ) (text : List ℕ) : Type 0 where
   pub is : command_of (understood rows_schema text) ≡ Delete tree (record { lets = []; body = remove_query tree })
   pub plain : IsPlain (understood rows_schema text)
+  pub alone : IsAlone text 1 (understood rows_schema text)
+  pub accepted : (n : ℤ) → accepts_program rows_schema [] (remove_query tree) (Int n ∷ []) ≡ true
 
 abbrev pub select_query : ℕ → List Term → Query
 select_query tree project = record {
@@ -82,6 +90,6 @@ pub record Selects {V : Type 0} (cells : V → Row) (tree : ℕ) (text : List �
   pub is : command_of (understood rows_schema text) ≡ Select (record { lets = []; body = select_query tree project }) names
   pub unlisted : reads_listing rows_schema text ≡ false
   pub plain : IsPlain (understood rows_schema text)
-  pub alone : IsAlone text (understood rows_schema text)
+  pub alone : IsAlone text 0 (understood rows_schema text)
   pub accepted : accepts_program rows_schema [] (select_query tree project) [] ≡ true
   pub shows : (e : ℤ × V) → eval_all project ([] ∷ stored cells e ∷ []) ≡ shown cells e

@@ -1,19 +1,23 @@
 -- Why a call fails.
-use Rattle.std.specs.Prelude.{◌≡◌, ◌⊎◌, ⊤, ℤ, List, All, Result, IfErr, IsTrue, IsSome, IsUtf8}
+use Rattle.std.specs.Prelude.{◌≡◌, ◌⊎◌, ⊤, ℕ, ℤ, List, All, Any, Result, IfErr, IsTrue, IsSome, IsUtf8}
 use Rattle.std.specs.List.{AllByRecursion}
 use Rattle.std.specs.FinMap.{entries}
 use Rattle.sqlite_disk.specs.Disk.{MoreFaults}
-use Rattle.sqlite.specs.declared.error.ErrorCode.TheVariants.{OutOfMemory, OperationInterrupted}
+use Rattle.sqlite_trees.specs.View.{IsStorableRow}
+use Rattle.sqlite.specs.declared.error.ErrorCode.TheVariants.{OutOfMemory, OperationInterrupted, TooBig}
 use Rattle.sqlite.specs.declared.error.Error.{Error}
 use Rattle.sqlite.specs.declared.error.Error.TheVariants.{SqliteFailure}
 use Rattle.sqlite.specs.Order.{Row}
 use Rattle.sqlite.specs.State.{State, HasCleanDisk, is_disk_error}
 use Rattle.dav_rows.specs.declared.opening.StartError.{StartError}
 use Rattle.dav_rows.specs.declared.opening.StartError.TheVariants.{Foreign, Sqlite}
-use Rattle.dav_rows.specs.Stored.{Numbered, shown}
-use Rattle.dav_rows.specs.Contents.{Contents, ResourceValues, PropertyValues, LockValues}
-use Rattle.dav_rows.specs.Saving.{IsAt}
-use Rattle.dav_rows.specs.Creating.{IsBlank}
+use Rattle.dav_rows.specs.Stored.{Numbered, stored, shown}
+use Rattle.dav_rows.specs.Contents.{Contents, Holds, ResourceValues, PropertyValues, LockValues, resource_cells, extent_cells, property_cells, lock_cells, state_cells}
+use Rattle.dav_rows.specs.Changes.{resource_entry, extent_entry, property_entry, lock_entry, state_entry}
+use Rattle.dav_rows.specs.declared.change.Change.{Change}
+use Rattle.dav_rows.specs.declared.change.Change.TheVariants.{PutResource, PutExtent, PutProperty, PutLock, PutState, Remove}
+use Rattle.dav_rows.specs.Saving.{IsAt, IsReady}
+use Rattle.dav_rows.specs.Creating.{IsBlank, IsBare, IsBuilt}
 
 -- ---- causes
 
@@ -67,6 +71,47 @@ IsShownBy {V} cells IsText row = (n : ℤ) × (v : V) × IsText v × (row ≡ sh
 
 abbrev pub AreShownBy : {V : Type 0} → (V → Row) → (V → Type 0) → List Row → Type 0
 AreShownBy cells IsText = All (IsShownBy cells IsText)
+
+-- ---- rows that are put
+
+-- SQLite cannot store the row, which has more than a billion bytes
+abbrev pub IsTooLong : {V : Type 0} → (V → Row) → ℤ × V → Type 0
+IsTooLong cells e = ¬ IsStorableRow 0 (stored cells e)
+
+abbrev pub PutsTooLong : Change → Type 0
+PutsTooLong (PutResource r) = IsTooLong resource_cells (resource_entry r)
+PutsTooLong (PutExtent r) = IsTooLong extent_cells (extent_entry r)
+PutsTooLong (PutProperty r) = IsTooLong property_cells (property_entry r)
+PutsTooLong (PutLock r) = IsTooLong lock_cells (lock_entry r)
+PutsTooLong (PutState r) = IsTooLong state_cells (state_entry r)
+PutsTooLong (Remove table n) = ⊥
+
+-- the same causes, or a row is too long
+abbrev pub IsExcusedPut : State → State → Type 0 → Error → Type 0
+IsExcusedPut old new Long e = IsExcused old new e ⊎ ((e ≡ SqliteFailure TooBig) × Long)
+
+-- inside a transaction over our tables, it fails for these causes alone
+abbrev pub FailsToApply : {X : Type 0} → State → State → Type 0 → Result X Error → Type 0
+FailsToApply old new Long result = HasCleanDisk new → IfErr result (λ e. IsReady old → (m : Contents) → Holds old.now.trees m → IsExcusedPut old new Long e)
+
+-- ---- tables that are made
+
+-- behind the first so many tables, it fails for these causes alone
+abbrev pub FailsToBuild : {X : Type 0} → ℕ → State → State → Result X Error → Type 0
+FailsToBuild from old new result = HasCleanDisk new → IfErr result (λ e. IsBuilt from old → IsExcused old new e)
+
+-- in a transaction over nothing, it fails for these causes alone
+abbrev pub FailsToFill : {X : Type 0} → State → State → List Change → Result X Error → Type 0
+FailsToFill old new changes result = HasCleanDisk new → IfErr result (λ e. IsBare old → IsExcusedPut old new (Any PutsTooLong changes) e)
+
+-- over a database with nothing in it, it fails for these causes alone
+abbrev pub FailsToCreate : {X : Type 0} → State → State → List Change → Result X Error → Type 0
+FailsToCreate old new changes result = HasCleanDisk new → IfErr result (λ e. IsBlank old → IsExcusedPut old new (Any PutsTooLong changes) e)
+
+-- the same of a start
+abbrev pub IsExcusedFirst : State → State → List Change → StartError → Type 0
+IsExcusedFirst old new changes Foreign = ⊥
+IsExcusedFirst old new changes (Sqlite e) = IsExcusedPut old new (Any PutsTooLong changes) e
 
 -- ---- calls
 

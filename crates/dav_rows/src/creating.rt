@@ -4,6 +4,7 @@ ghost use Rattle.sqlite_trees.specs.View.{doubt};
 ghost use Rattle.sqlite.specs.State.{HasCleanDisk, KeepsCommit, Survives};
 ghost use Rattle.sqlite.specs.Held.{state};
 ghost use Rattle.dav_rows.specs.Texts.{creation};
+ghost use Rattle.dav_rows.specs.Failing.{FailsToBuild, FailsToFill, FailsToCreate};
 ghost use Rattle.dav_rows.specs.Creating.{place, first, IsBare, Builds, Makes, IsFilled, StaysBlank, LeavesBlankOr};
 
 use crate::change::{Change, Table};
@@ -37,6 +38,7 @@ pub(crate) fn creation_of(table: Table) -> &'static str
 fn create_table<S: Alter>(tx: &mut Transaction<'_, S>, table: Table) -> Result<usize, Error>
     ensures same_reference { tx.new.conn.ghost_name ≡ tx.old.conn.ghost_name }
     ensures made { Builds (state S.Store tx.old.conn.now) (state S.Store tx.new.conn.now) (place table) (place table + 1) result }
+    ensures err { FailsToBuild (place table) (state S.Store tx.old.conn.now) (state S.Store tx.new.conn.now) result }
     ensures kept { HasCleanDisk (state S.Store tx.new.conn.now) → KeepsCommit (state S.Store tx.old.conn.now) (state S.Store tx.new.conn.now) }
     ensures survives { Survives (state S.Store tx.old.conn.now) (state S.Store tx.new.conn.now) (λ _. ⊥) }
 {
@@ -47,6 +49,7 @@ fn create_table<S: Alter>(tx: &mut Transaction<'_, S>, table: Table) -> Result<u
 fn create_tables<S: Alter>(tx: &mut Transaction<'_, S>) -> Result<(), Error>
     ensures same_reference { tx.new.conn.ghost_name ≡ tx.old.conn.ghost_name }
     ensures made { Builds (state S.Store tx.old.conn.now) (state S.Store tx.new.conn.now) 0 5 result }
+    ensures err { FailsToBuild 0 (state S.Store tx.old.conn.now) (state S.Store tx.new.conn.now) result }
     ensures kept { HasCleanDisk (state S.Store tx.new.conn.now) → KeepsCommit (state S.Store tx.old.conn.now) (state S.Store tx.new.conn.now) }
     ensures survives { Survives (state S.Store tx.old.conn.now) (state S.Store tx.new.conn.now) (λ _. ⊥) }
 {
@@ -67,6 +70,7 @@ fn fill<S: Alter>(tx: &mut Transaction<'_, S>, changes: &[Change]) -> Result<(),
     ensures same_reference { tx.new.conn.ghost_name ≡ tx.old.conn.ghost_name }
     ensures made { HasCleanDisk (state S.Store tx.new.conn.now) → IsBare (state S.Store tx.old.conn.now)
         → OnOk result (IsFilled (state S.Store tx.old.conn.now) (state S.Store tx.new.conn.now) (first changes.now)) }
+    ensures err { FailsToFill (state S.Store tx.old.conn.now) (state S.Store tx.new.conn.now) changes.now result }
     ensures kept { HasCleanDisk (state S.Store tx.new.conn.now) → KeepsCommit (state S.Store tx.old.conn.now) (state S.Store tx.new.conn.now) }
     ensures survives { Survives (state S.Store tx.old.conn.now) (state S.Store tx.new.conn.now) (λ _. ⊥) }
 {
@@ -77,6 +81,7 @@ fn fill<S: Alter>(tx: &mut Transaction<'_, S>, changes: &[Change]) -> Result<(),
 /// Makes the tables of an empty database and applies the changes to them, in one transaction.
 /// A crash leaves the tables with all of the changes, or an empty database.
 /// It fails if SQLite fails, as when the database has such a table already, memory runs out or the disk fails.
+/// In an empty database it fails only if memory runs out, the disk reports a fault, a query reaches the caller's step limit, or a row is too long.
 /// After an `Err` the database is still empty, or the connection is closed.
 pub fn create<S: Alter>(conn: &mut Connection<S>, changes: &[Change]) -> Result<(), Error>
     requires { conn.old.in_transaction ≡ false }
@@ -84,6 +89,9 @@ pub fn create<S: Alter>(conn: &mut Connection<S>, changes: &[Change]) -> Result<
     ensures ok { HasCleanDisk (state S.Store conn.new) → OnOk result (Makes (state S.Store conn.old) (state S.Store conn.new) (first changes.now)) }
     ensures err { HasCleanDisk (state S.Store conn.new) → OnErr result (StaysBlank (state S.Store conn.old) (state S.Store conn.new)) }
     ensures crash { HasCleanDisk (state S.Store conn.new) → LeavesBlankOr (state S.Store conn.old) (state S.Store conn.new) (first changes.now) }
+    ensures faults { (state S.Store conn.old).faults ≤ (state S.Store conn.new).faults }
+    ensures limit { (state S.Store conn.new).step_limit ≡ (state S.Store conn.old).step_limit }
+    ensures cause { FailsToCreate (state S.Store conn.old) (state S.Store conn.new) changes.now result }
     ensures clean { doubt (state S.Store conn.old).is_clean ≤ doubt (state S.Store conn.new).is_clean }
 {
     let mut tx = conn.transaction();

@@ -7,7 +7,7 @@ ghost use Rattle.dav_rows.specs.Contents.{extent_cells};
 ghost use Rattle.dav_rows.specs.Changes.{extent_entry, put_extent};
 ghost use Rattle.dav_rows.specs.Saving.{Applies};
 ghost use Rattle.dav_rows.specs.Loading.{Reads, extent_in};
-ghost use Rattle.dav_rows.specs.Failing.{IsOutOfMemory, HasNoText, IsShownBy, AreShownBy, FailsExcused};
+ghost use Rattle.dav_rows.specs.Failing.{IsOutOfMemory, IsTooLong, FailsToApply, HasNoText, IsShownBy, AreShownBy, FailsExcused};
 
 use crate::execute::{execute, rows_of, value_of};
 use sqlite::{Alter, Connection, Error, Row, Transaction, params};
@@ -25,9 +25,11 @@ pub struct ExtentRow {
 pub(crate) fn put<S: Alter>(tx: &mut Transaction<'_, S>, row: &ExtentRow) -> Result<usize, Error>
     ensures same_reference { tx.new.conn.ghost_name ≡ tx.old.conn.ghost_name }
     ensures row { Applies (state S.Store tx.old.conn.now) (state S.Store tx.new.conn.now) (put_extent row.now) result }
+    ensures err { FailsToApply (state S.Store tx.old.conn.now) (state S.Store tx.new.conn.now) (IsTooLong extent_cells (extent_entry row.now)) result }
     ensures kept { HasCleanDisk (state S.Store tx.new.conn.now) → KeepsCommit (state S.Store tx.old.conn.now) (state S.Store tx.new.conn.now) }
     ensures survives { Survives (state S.Store tx.old.conn.now) (state S.Store tx.new.conn.now) (λ _. ⊥) }
 {
+    let _number = row.number;
     execute(
         tx,
         "INSERT OR REPLACE INTO extent (number, resource, place, pieces) VALUES (?1, ?2, ?3, ?4)",

@@ -7,7 +7,7 @@ ghost use Rattle.dav_rows.specs.Contents.{lock_cells};
 ghost use Rattle.dav_rows.specs.Changes.{lock_entry, put_lock};
 ghost use Rattle.dav_rows.specs.Saving.{Applies};
 ghost use Rattle.dav_rows.specs.Loading.{Reads, lock_in};
-ghost use Rattle.dav_rows.specs.Failing.{IsOutOfMemory, IsUtf8Lock, IsShownBy, AreShownBy, FailsExcused};
+ghost use Rattle.dav_rows.specs.Failing.{IsOutOfMemory, IsTooLong, FailsToApply, IsUtf8Lock, IsShownBy, AreShownBy, FailsExcused};
 
 use crate::execute::{execute, rows_of, value_of};
 use sqlite::{Alter, Connection, Error, Row, Transaction, params};
@@ -25,9 +25,11 @@ pub struct LockRow {
 pub(crate) fn put<S: Alter>(tx: &mut Transaction<'_, S>, row: &LockRow) -> Result<usize, Error>
     ensures same_reference { tx.new.conn.ghost_name ≡ tx.old.conn.ghost_name }
     ensures row { Applies (state S.Store tx.old.conn.now) (state S.Store tx.new.conn.now) (put_lock row.now) result }
+    ensures err { FailsToApply (state S.Store tx.old.conn.now) (state S.Store tx.new.conn.now) (IsTooLong lock_cells (lock_entry row.now)) result }
     ensures kept { HasCleanDisk (state S.Store tx.new.conn.now) → KeepsCommit (state S.Store tx.old.conn.now) (state S.Store tx.new.conn.now) }
     ensures survives { Survives (state S.Store tx.old.conn.now) (state S.Store tx.new.conn.now) (λ _. ⊥) }
 {
+    let _number = row.number;
     execute(
         tx,
         "INSERT OR REPLACE INTO lock (number, token, path, lock) VALUES (?1, ?2, ?3, ?4)",

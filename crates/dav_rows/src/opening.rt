@@ -3,10 +3,11 @@ ghost use Rattle.std.specs.Prelude.{◌≡◌, ◌≤◌, [], false, IfOk, IfErr
 ghost use Rattle.sqlite_trees.specs.View.{doubt};
 ghost use Rattle.sqlite.specs.State.{HasCleanDisk};
 ghost use Rattle.sqlite.specs.Held.{state};
+ghost use Rattle.dav_rows.specs.Tables.{rows_schema};
 ghost use Rattle.dav_rows.specs.Saving.{IsAt, Stays, LeavesNoOther};
 ghost use Rattle.dav_rows.specs.Creating.{first, IsBlank, LeavesBlankOr};
 ghost use Rattle.dav_rows.specs.Loading.{Reads, ReadsBlank, AreHeld, AreNew, LeavesAlone};
-ghost use Rattle.dav_rows.specs.Failing.{IsExcusedStart, HasUtf8, FailsExcused, FailsExcusedBlank};
+ghost use Rattle.dav_rows.specs.Failing.{IsExcusedStart, IsExcusedFirst, HasUtf8, FailsToCreate, FailsExcused, FailsExcusedBlank};
 ghost use Rattle.dav_rows.specs.declared.opening.StartError.TheVariants.{Foreign, Sqlite};
 
 use crate::change::Change;
@@ -46,6 +47,8 @@ enum Found {
 /// Loads all rows of a database with this store's tables. In an empty database it makes the tables and applies the changes to them,
 /// in one transaction, and loads the rows that these make. In a database with the tables it applies no change.
 /// It fails with `Foreign` if the database has other tables, and changes nothing then.
+/// Where the database has this store's tables or none, it fails only if memory runs out, the disk reports a fault, a query reaches
+/// the caller's step limit, or a row of the changes is too long.
 /// It fails with `Sqlite` if SQLite fails, as when memory runs out or the disk fails. Then the rows stay as they were, a database that was empty
 /// has no table or the tables with all of the changes, or the connection is closed.
 pub fn load_or_create<S: Alter>(
@@ -65,6 +68,8 @@ pub fn load_or_create<S: Alter>(
     ensures clean { doubt (state S.Store conn.old).is_clean ≤ doubt (state S.Store conn.new).is_clean }
     ensures err { HasCleanDisk (state S.Store conn.new) → IfErr result (λ e. (m : _) → IsAt (state S.Store conn.old) m → HasUtf8 m
         → IsExcusedStart (state S.Store conn.old) (state S.Store conn.new) e) }
+    ensures err_blank { HasCleanDisk (state S.Store conn.new) → IfErr result (λ e. IsBlank (state S.Store conn.old)
+        → IsExcusedFirst (state S.Store conn.old) (state S.Store conn.new) changes.now e) }
 {
     match found_in(conn)? {
         Found::Nothing => Ok(create_and_load(conn, alloc, changes)?),
@@ -83,6 +88,7 @@ fn create_and_load<S: Alter>(
     ensures ok { HasCleanDisk (state S.Store conn.new) → IfOk result (AreNew (state S.Store conn.old) (state S.Store conn.new) (first changes.now)) }
     ensures crash { HasCleanDisk (state S.Store conn.new) → LeavesBlankOr (state S.Store conn.old) (state S.Store conn.new) (first changes.now) }
     ensures clean { doubt (state S.Store conn.old).is_clean ≤ doubt (state S.Store conn.new).is_clean }
+    ensures err { FailsToCreate (state S.Store conn.old) (state S.Store conn.new) changes.now result }
 {
     create(conn, changes)?;
     read_all(conn, alloc)
@@ -92,6 +98,7 @@ fn found_in<S: Alter>(conn: &mut Connection<S>) -> Result<Found, Error>
     requires { conn.old.in_transaction ≡ false }
     ensures idle { conn.new.in_transaction ≡ false }
     ensures reads { Reads (state S.Store conn.old) (state S.Store conn.new) result (λ found m. found ≡ Found.Ours) }
+    ensures ours { IfOk result (λ found. found ≡ Found.Ours → (state S.Store conn.old).now.schema ≡ rows_schema) }
     ensures blank { ReadsBlank (state S.Store conn.old) (state S.Store conn.new) result (λ found. found ≡ Found.Nothing) }
     ensures alone { HasCleanDisk (state S.Store conn.new) → IfOk result (λ found. found ≡ Found.Other → LeavesAlone (state S.Store conn.old) (state S.Store conn.new)) }
     ensures err { FailsExcused (state S.Store conn.old) (state S.Store conn.new) result }

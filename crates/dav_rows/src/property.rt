@@ -7,7 +7,7 @@ ghost use Rattle.dav_rows.specs.Contents.{property_cells};
 ghost use Rattle.dav_rows.specs.Changes.{property_entry, put_property};
 ghost use Rattle.dav_rows.specs.Saving.{Applies};
 ghost use Rattle.dav_rows.specs.Loading.{Reads, property_in};
-ghost use Rattle.dav_rows.specs.Failing.{IsOutOfMemory, IsUtf8Property, IsShownBy, AreShownBy, FailsExcused};
+ghost use Rattle.dav_rows.specs.Failing.{IsOutOfMemory, IsTooLong, FailsToApply, IsUtf8Property, IsShownBy, AreShownBy, FailsExcused};
 
 use crate::execute::{execute, rows_of, value_of};
 use sqlite::{Alter, Connection, Error, Row, Transaction, params};
@@ -26,9 +26,11 @@ pub struct PropertyRow {
 pub(crate) fn put<S: Alter>(tx: &mut Transaction<'_, S>, row: &PropertyRow) -> Result<usize, Error>
     ensures same_reference { tx.new.conn.ghost_name ≡ tx.old.conn.ghost_name }
     ensures row { Applies (state S.Store tx.old.conn.now) (state S.Store tx.new.conn.now) (put_property row.now) result }
+    ensures err { FailsToApply (state S.Store tx.old.conn.now) (state S.Store tx.new.conn.now) (IsTooLong property_cells (property_entry row.now)) result }
     ensures kept { HasCleanDisk (state S.Store tx.new.conn.now) → KeepsCommit (state S.Store tx.old.conn.now) (state S.Store tx.new.conn.now) }
     ensures survives { Survives (state S.Store tx.old.conn.now) (state S.Store tx.new.conn.now) (λ _. ⊥) }
 {
+    let _number = row.number;
     execute(
         tx,
         "INSERT OR REPLACE INTO property (number, resource, namespace, name, element) VALUES (?1, ?2, ?3, ?4, ?5)",

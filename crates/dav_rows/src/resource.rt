@@ -7,7 +7,7 @@ ghost use Rattle.dav_rows.specs.Contents.{resource_cells};
 ghost use Rattle.dav_rows.specs.Changes.{resource_entry, put_resource};
 ghost use Rattle.dav_rows.specs.Saving.{Applies};
 ghost use Rattle.dav_rows.specs.Loading.{Reads, resource_in};
-ghost use Rattle.dav_rows.specs.Failing.{IsOutOfMemory, IsUtf8Resource, IsShownBy, AreShownBy, FailsExcused};
+ghost use Rattle.dav_rows.specs.Failing.{IsOutOfMemory, IsTooLong, FailsToApply, IsUtf8Resource, IsShownBy, AreShownBy, FailsExcused};
 
 use crate::execute::{execute, rows_of, value_of};
 use sqlite::{Alter, Connection, Error, Row, Transaction, params};
@@ -29,9 +29,11 @@ pub struct ResourceRow {
 pub(crate) fn put<S: Alter>(tx: &mut Transaction<'_, S>, row: &ResourceRow) -> Result<usize, Error>
     ensures same_reference { tx.new.conn.ghost_name ≡ tx.old.conn.ghost_name }
     ensures row { Applies (state S.Store tx.old.conn.now) (state S.Store tx.new.conn.now) (put_resource row.now) result }
+    ensures err { FailsToApply (state S.Store tx.old.conn.now) (state S.Store tx.new.conn.now) (IsTooLong resource_cells (resource_entry row.now)) result }
     ensures kept { HasCleanDisk (state S.Store tx.new.conn.now) → KeepsCommit (state S.Store tx.old.conn.now) (state S.Store tx.new.conn.now) }
     ensures survives { Survives (state S.Store tx.old.conn.now) (state S.Store tx.new.conn.now) (λ _. ⊥) }
 {
+    let _number = row.number;
     execute(
         tx,
         "INSERT OR REPLACE INTO resource (number, parent, name, directory, size, version, created, modified) VALUES (?1, ?2, ?3, ?4, ?5, ?6, ?7, ?8)",

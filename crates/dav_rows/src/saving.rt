@@ -1,10 +1,11 @@
 //! Saves changes in one transaction.
-ghost use Rattle.std.specs.Prelude.{◌≡◌, ◌≤◌, false, OnOk, OnErr};
+ghost use Rattle.std.specs.Prelude.{◌≡◌, ◌≤◌, false, Any, OnOk, OnErr};
 ghost use Rattle.sqlite_trees.specs.View.{doubt};
 ghost use Rattle.sqlite.specs.State.{HasCleanDisk, KeepsCommit, Survives};
 ghost use Rattle.sqlite.specs.Held.{state};
 ghost use Rattle.dav_rows.specs.Texts.{removal};
 ghost use Rattle.dav_rows.specs.Changes.{removed, after_one, after};
+ghost use Rattle.dav_rows.specs.Failing.{PutsTooLong, FailsToApply};
 ghost use Rattle.dav_rows.specs.Saving.{Applies, Moves, Stays, Leaves, LeavesEither};
 
 use crate::change::{Change, Table};
@@ -27,6 +28,7 @@ fn removal_of(table: Table) -> &'static str
 fn remove<S: Alter>(tx: &mut Transaction<'_, S>, table: Table, number: &i64) -> Result<usize, Error>
     ensures same_reference { tx.new.conn.ghost_name ≡ tx.old.conn.ghost_name }
     ensures row { Applies (state S.Store tx.old.conn.now) (state S.Store tx.new.conn.now) (removed table number.now) result }
+    ensures err { FailsToApply (state S.Store tx.old.conn.now) (state S.Store tx.new.conn.now) ⊥ result }
     ensures kept { HasCleanDisk (state S.Store tx.new.conn.now) → KeepsCommit (state S.Store tx.old.conn.now) (state S.Store tx.new.conn.now) }
     ensures survives { Survives (state S.Store tx.old.conn.now) (state S.Store tx.new.conn.now) (λ _. ⊥) }
 {
@@ -37,6 +39,7 @@ fn remove<S: Alter>(tx: &mut Transaction<'_, S>, table: Table, number: &i64) -> 
 fn apply<S: Alter>(tx: &mut Transaction<'_, S>, change: &Change) -> Result<usize, Error>
     ensures same_reference { tx.new.conn.ghost_name ≡ tx.old.conn.ghost_name }
     ensures row { Applies (state S.Store tx.old.conn.now) (state S.Store tx.new.conn.now) (after_one change.now) result }
+    ensures err { FailsToApply (state S.Store tx.old.conn.now) (state S.Store tx.new.conn.now) (PutsTooLong change.now) result }
     ensures kept { HasCleanDisk (state S.Store tx.new.conn.now) → KeepsCommit (state S.Store tx.old.conn.now) (state S.Store tx.new.conn.now) }
     ensures survives { Survives (state S.Store tx.old.conn.now) (state S.Store tx.new.conn.now) (λ _. ⊥) }
 {
@@ -56,6 +59,7 @@ pub(crate) fn apply_all<S: Alter>(
 ) -> Result<(), Error>
     ensures same_reference { tx.new.conn.ghost_name ≡ tx.old.conn.ghost_name }
     ensures rows { Applies (state S.Store tx.old.conn.now) (state S.Store tx.new.conn.now) (after changes.now) result }
+    ensures err { FailsToApply (state S.Store tx.old.conn.now) (state S.Store tx.new.conn.now) (Any PutsTooLong changes.now) result }
     ensures kept { HasCleanDisk (state S.Store tx.new.conn.now) → KeepsCommit (state S.Store tx.old.conn.now) (state S.Store tx.new.conn.now) }
     ensures survives { Survives (state S.Store tx.old.conn.now) (state S.Store tx.new.conn.now) (λ _. ⊥) }
 {

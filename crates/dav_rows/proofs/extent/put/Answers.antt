@@ -1,3 +1,9 @@
+use Rattle.std.proofs.Common.{codes, rules}
+use Rattle.dav_rows.specs.Tables.{extent_columns}
+use Rattle.dav_rows.specs.Contents.{extent_cells}
+use Rattle.dav_rows.specs.Changes.{extent_entry}
+use Rattle.dav_rows.proofs.ExtentTexts.{suits, put_text, puts}
+use Rattle.dav_rows.proofs.RefuseLemmas.{put_excused, in_range}
 use Rattle.sqlite.specs.Held.{state}
 use Rattle.dav_rows.proofs.PutLemmas.{put_extent_edits}
 use Rattle.dav_rows.proofs.extent.put.Goals as goal
@@ -6,3 +12,9 @@ pub returns-clause-row : goal.returns-clause-row
 returns-clause-row g c clean ready =
     put_extent_edits (state g.S.Store c.args.tx.now.conn.now) (state g.S.Store c.execute.new.tx.conn.now) c.args.row.now c.execute.result
     (rw (c.params-to_sql.ensures, c.params-to_sql-2.ensures, c.params-to_sql-3.ensures, c.params-to_sql-4.ensures) at (c.execute.ensures.ran clean ready.inside)) ready
+
+pub returns-clause-err : goal.returns-clause-err
+returns-clause-err g c =
+    put_excused extent_cells (codes "extent") 1 extent_columns suits (λ m. m.extents) (λ db m holds. holds.extents) (state g.S.Store c.args.tx.now.conn.now) (state g.S.Store c.execute.new.tx.conn.now)
+    put_text puts c.args.row.now.number (extent_entry c.args.row.now).1 (in_range c.args.row.now.number (search rules)) c.execute.result
+    (λ clean inside. rw (c.params-to_sql.ensures, c.params-to_sql-2.ensures, c.params-to_sql-3.ensures, c.params-to_sql-4.ensures) at (c.execute.ensures.ran clean inside))

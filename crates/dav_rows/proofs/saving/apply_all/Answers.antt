@@ -1,9 +1,10 @@
-use Rattle.std.proofs.Common.{take, ◌+◌, ◌∙◌, arith}
+use Rattle.std.proofs.Common.{take, ◌+◌, ◌∙◌, sym, arith}
 use Rattle.sqlite.specs.State.{HasCleanDisk}
 use Rattle.sqlite.specs.Held.{state}
 use Rattle.sqlite.proofs.StateLemmas.{survives_then}
 use Rattle.dav_rows.specs.Changes.{after, after_one}
 use Rattle.dav_rows.proofs.SavingLemmas.{kept_then, edits_then, after_next}
+use Rattle.dav_rows.proofs.CreateFailLemmas.{applied_fails}
 use Rattle.dav_rows.proofs.saving.apply_all.Goals as goal
 
 pub changes-preserved : goal.changes-preserved
@@ -21,3 +22,10 @@ changes-preserved g c =
           edits_then first mid last (after (take i c.args.changes.now)) (after_one c.change-item.result) (after (take (i + 1) c.args.changes.now))
           (λ m. after_next c.args.changes.now i c.change-item.result m c.changes-test.true c.change-item.is) was (c.in_ok-apply.ensures.row now was.ready);
     }
+
+pub returns-in_err-apply-clause-err : goal.returns-in_err-apply-clause-err
+returns-in_err-apply-clause-err g c =
+    let i = c.changes.change-index in
+    applied_fails (state g.S.Store c.args.tx.now.conn.now) (state g.S.Store c.changes.tx.conn.now) (state g.S.Store c.apply.new.tx.conn.now) (after (take i c.args.changes.now)) _ _
+    c.in_err-apply.field-0.0 c.from_residual.result c.from_residual.ensures.1 c.changes.invariant.survives c.apply.ensures.survives.clean c.changes.invariant.rows c.in_err-apply.ensures.err
+    (λ long. (i, c.change-item.result, c.changes-test.true, sym c.change-item.is, long))
