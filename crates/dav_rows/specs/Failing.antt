@@ -74,7 +74,7 @@ AreShownBy cells IsText = All (IsShownBy cells IsText)
 
 -- ---- rows that are put
 
--- SQLite cannot store the row, which has more than a billion bytes
+-- SQLite does not store the row: it has more than a billion bytes
 abbrev pub IsTooLong : {V : Type 0} → (V → Row) → ℤ × V → Type 0
 IsTooLong cells e = ¬ IsStorableRow 0 (stored cells e)
 
@@ -93,6 +93,10 @@ IsExcusedPut old new Long e = IsExcused old new e ⊎ ((e ≡ SqliteFailure TooB
 -- inside a transaction over our tables, it fails for these causes alone
 abbrev pub FailsToApply : {X : Type 0} → State → State → Type 0 → Result X Error → Type 0
 FailsToApply old new Long result = HasCleanDisk new → IfErr result (λ e. IsReady old → (m : Contents) → Holds old.now.trees m → IsExcusedPut old new Long e)
+
+-- over our tables, it fails for these causes alone
+abbrev pub FailsToSave : {X : Type 0} → State → State → List Change → Result X Error → Type 0
+FailsToSave old new changes result = HasCleanDisk new → IfErr result (λ e. (m : Contents) → IsAt old m → IsExcusedPut old new (Any PutsTooLong changes) e)
 
 -- ---- tables that are made
 

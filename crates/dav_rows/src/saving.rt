@@ -5,7 +5,7 @@ ghost use Rattle.sqlite.specs.State.{HasCleanDisk, KeepsCommit, Survives};
 ghost use Rattle.sqlite.specs.Held.{state};
 ghost use Rattle.dav_rows.specs.Texts.{removal};
 ghost use Rattle.dav_rows.specs.Changes.{removed, after_one, after};
-ghost use Rattle.dav_rows.specs.Failing.{PutsTooLong, FailsToApply};
+ghost use Rattle.dav_rows.specs.Failing.{PutsTooLong, FailsToApply, FailsToSave};
 ghost use Rattle.dav_rows.specs.Saving.{Applies, Moves, Stays, Leaves, LeavesEither};
 
 use crate::change::{Change, Table};
@@ -70,11 +70,13 @@ pub(crate) fn apply_all<S: Alter>(
 }
 
 /// Saves the changes in one transaction. After an `Err` the tables are as they were, or the connection is shut and a crash may find either.
+/// Over the store's tables it fails only if memory runs out, the disk reports a fault, a query reaches the caller's step limit, or a row is too long.
 pub fn save<S: Alter>(conn: &mut Connection<S>, changes: &[Change]) -> Result<(), Error>
     requires { conn.old.in_transaction ≡ false }
     ensures idle { conn.new.in_transaction ≡ false }
     ensures ok { HasCleanDisk (state S.Store conn.new) → OnOk result (Moves (state S.Store conn.old) (state S.Store conn.new) (after changes.now)) }
     ensures durable { HasCleanDisk (state S.Store conn.new) → OnOk result (Leaves (state S.Store conn.old) (state S.Store conn.new) (after changes.now)) }
+    ensures cause { FailsToSave (state S.Store conn.old) (state S.Store conn.new) changes.now result }
     ensures err { HasCleanDisk (state S.Store conn.new) → OnErr result (Stays (state S.Store conn.old) (state S.Store conn.new)) }
     ensures crash { HasCleanDisk (state S.Store conn.new) → LeavesEither (state S.Store conn.old) (state S.Store conn.new) (after changes.now) }
     ensures clean { doubt (state S.Store conn.old).is_clean ≤ doubt (state S.Store conn.new).is_clean }

@@ -30,6 +30,7 @@ pub(crate) fn put<S: Alter>(tx: &mut Transaction<'_, S>, row: &StateRow) -> Resu
     ensures kept { HasCleanDisk (state S.Store tx.new.conn.now) → KeepsCommit (state S.Store tx.old.conn.now) (state S.Store tx.new.conn.now) }
     ensures survives { Survives (state S.Store tx.old.conn.now) (state S.Store tx.new.conn.now) (λ _. ⊥) }
 {
+    // The proof needs that it is an `i64`, which is known once it is read.
     let _number = row.number;
     execute(
         tx,
