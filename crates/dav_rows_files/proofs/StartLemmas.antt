@@ -1,5 +1,5 @@
 -- What an open finds, and what a crash leaves for it.
-use Rattle.std.proofs.Common.{◌≡◌, ◌⊎◌, ◌≤◌, ◌==◌, inl, inr, Bool, true, false, cond, None, Some, Option, IfSome, Ok, Err, Result, OnOk, IsTrue, arith, refl, sym, ap, subst, ◌∙◌}
+use Rattle.std.proofs.Common.{◌≡◌, ◌⊎◌, ◌≤◌, ◌==◌, inl, inr, Bool, true, false, cond, List, [], None, Some, Option, IfSome, Ok, Err, Result, OnOk, IsTrue, arith, refl, sym, ap, subst, ◌∙◌}
 use Rattle.std.specs.Prelude.{IsSome}
 use Rattle.std.proofs.Math.Logic.{∥∥₁_map}
 use Rattle.sqlite_disk.specs.declared.Disk.{Ghosts}
@@ -23,7 +23,7 @@ use Rattle.sqlite_schema.specs.declared.schema.Schema.{Schema}
 use Rattle.sqlite.specs.State.{State, Opens, IsLive, store_error, is_disk_error}
 use Rattle.sqlite.specs.Start.{FindsIn}
 use Rattle.sqlite.specs.Held.{AreDatabases}
-use Rattle.sqlite.specs.Files.{HoldsDatabase, FailsToOpenFiles, LeavesFiles, IsCleanLeft, tally_left, image_of}
+use Rattle.sqlite.specs.Files.{HoldsDatabase, IsNothing, FailsToOpenFiles, LeavesFiles, IsCleanLeft, tally_left, image_of}
 use Rattle.sqlite_wal.specs.Reads.{tally_of_files}
 use Rattle.sqlite.specs.declared.error.ErrorCode.TheVariants.{OutOfMemory, CannotOpen, DatabaseBusy}
 use Rattle.sqlite.specs.declared.error.Error.TheVariants.{SqliteFailure}
@@ -36,8 +36,9 @@ use Rattle.dav_rows.specs.Saving.{IsAt, Leaves}
 use Rattle.dav_rows.specs.Creating.{IsBlank, IsWhole}
 use Rattle.dav_rows.specs.declared.opening.StartError.{StartError}
 use Rattle.dav_rows.specs.declared.opening.StartError.TheVariants.{Foreign, Sqlite}
-use Rattle.dav_rows.specs.Failing.{IsExcusedStart}
-use Rattle.dav_rows_files.specs.Starting.{Keeps, KeepsEither, IsVacant, IsStopped, FailsToStart, NextKeeps}
+use Rattle.dav_rows.specs.Failing.{IsExcusedStart, IsExcusedFirst}
+use Rattle.dav_rows.specs.declared.change.Change.{Change}
+use Rattle.dav_rows_files.specs.Starting.{Keeps, KeepsEither, IsVacant, IsUnused, IsUnopened, IsStopped, IsStoppedFirst, FailsToStart, FailsToStartFirst, NextKeeps}
 
 -- the trees tell the schema
 sole : (schema : Schema) (db : Trees) → IsSound schema db → IsOurs db → schema ≡ rows_schema
@@ -59,16 +60,23 @@ at_start s image m opens live found keeps =
     let holds : Holds s.now.trees m = subst (λ db. Holds db m) (sym now) keeps.holds in
     record { is_open = opens.is_open; schema = sole s.now.schema s.now.trees (live opens.is_open).0 holds.sound; settled = opens.clean; holds = holds }
 
-pub blank_start : (s : State) (image : Image) → Opens s → IsLive s → FindsIn image s → IsVacant image → IsBlank s
-blank_start s image opens live found vacant =
-    let none = ap (λ (d : Database). d.trees catalog_tree) opens.clean ∙ vacant s.committed.trees found.reads in
+blank_over : (s : State) → Opens s → IsLive s → s.committed.trees catalog_tree ≡ [] → IsBlank s
+blank_over s opens live none =
+    let now = ap (λ (d : Database). d.trees catalog_tree) opens.clean ∙ none in
     let sound = (live opens.is_open).0 in
     record {
       is_open = opens.is_open;
-      schema = lists_once (s.now.trees catalog_tree) s.now.schema no_schema sound.lists (empty_is_sound s.now.trees none).lists;
+      schema = lists_once (s.now.trees catalog_tree) s.now.schema no_schema sound.lists (empty_is_sound s.now.trees now).lists;
       settled = opens.clean;
       sound = whole s.now sound;
     }
+
+pub blank_start : (s : State) (image : Image) → Opens s → IsLive s → FindsIn image s → IsVacant image → IsBlank s
+blank_start s image opens live found vacant = blank_over s opens live (vacant s.committed.trees found.reads)
+
+pub unused_start : (s : State) (image : Image) → Opens s → IsLive s → FindsIn image s → IsUnused image → IsBlank s
+unused_start s image opens live found (inl new) = blank_start s image opens live found new.1
+unused_start s image opens live found (inr held) = blank_over s opens live (ap (λ (db : Trees). db catalog_tree) (found.holds held.0 held.1) ∙ held.2)
 
 module _ {D : Type 0} {g : Ghosts D} (it : FileStore D g) (m n : Contents) (numbered : IsTrue (view it).is_numbered) where
   pub next_either : ((db : Trees) → recovers it db → Holds db m ⊎ Holds db n) → (left : Image) → (state it).may_leave left → ∥ KeepsEither left m n ∥₁
@@ -105,24 +113,42 @@ named_fault a b = go (b.caught == a.caught) (b.refused == a.refused)
     go true false = refl
     go false q = refl
 
-module _ {D : Type 0} {g : Ghosts D} where
-  -- where the files keep maps, an open fails for these causes alone
-  pub open_stopped : (files : Files D) (left : Leftover D g) (image : Image) (m : Contents) (e : Error) → image_of g files ≡ image → Keeps image m → FailsToOpenFiles files left e → IsStopped left (Sqlite e)
-  open_stopped files left image m e same keeps (inl memory) = inl memory
-  open_stopped files left image m e same keeps (inr (inl refused)) = absurd (refused.1 (inl (keeps.db, subst (λ i. HoldsDatabase i keeps.db) (sym same) keeps.database)))
-  open_stopped files left image m e same keeps (inr (inr (inl fault))) =
-      inr (inl (subst (λ e. IsTrue (is_disk_error e)) (sym fault.0) (named_fault (tally_of_files g (files.log, files.db)) (tally_left left)), omega (arith, fault.1)))
-  open_stopped files left image m e same keeps (inr (inr (inr full))) = inr (inr full)
+-- the files hold a database, or are new
+abbrev AreKnown : Image → Type 0
+AreKnown image = ((db : Trees) × HoldsDatabase image db) ⊎ IsNothing image
 
-  pub open_failed : (image : Image) (FreshLog FreshDb : Files D → Type 0) → ((files : Files D) → FreshLog files → FreshDb files → image_of g files ≡ image) → (e : Error) (left : Option (Leftover D g))
-      → (left ≡ None → (e ≡ SqliteFailure CannotOpen) ⊎ ((e ≡ SqliteFailure OutOfMemory) ⊎ (e ≡ SqliteFailure DatabaseBusy)))
-      → IfSome left (λ left. (files : Files D) × FreshLog files × FreshDb files × (IsCleanLeft left → FailsToOpenFiles files left e × LeavesFiles files left)) → FailsToStart image (Sqlite e, left)
-  open_failed image FreshLog FreshDb same e None unopened cause = elim (unopened refl) [
-    | inl cannot ↦ inl (ap Sqlite cannot)
-    | inr other ↦ elim other [ inl memory ↦ inr (inl (ap Sqlite memory)) | inr busy ↦ inr (inr (ap Sqlite busy)) ]
-  ]
-  open_failed image FreshLog FreshDb same e (Some left) unopened cause = λ clean m keeps utf8.
-      open_stopped cause.0 left image m e (same cause.0 cause.1 cause.2) keeps (cause.3 clean).0
+unopened : (e : Error) → (e ≡ SqliteFailure CannotOpen) ⊎ ((e ≡ SqliteFailure OutOfMemory) ⊎ (e ≡ SqliteFailure DatabaseBusy)) → IsUnopened (Sqlite e)
+unopened e (inl cannot) = inl (ap Sqlite cannot)
+unopened e (inr (inl memory)) = inr (inl (ap Sqlite memory))
+unopened e (inr (inr busy)) = inr (inr (ap Sqlite busy))
+
+module _ {D : Type 0} {g : Ghosts D} where
+  -- an open of such files fails for these causes alone
+  open_stopped : (files : Files D) (left : Leftover D g) (image : Image) (e : Error) → image_of g files ≡ image → AreKnown image → FailsToOpenFiles files left e → IsStopped left (Sqlite e)
+  open_stopped files left image e same known (inl memory) = inl memory
+  open_stopped files left image e same known (inr (inl refused)) = absurd (refused.1 (subst AreKnown (sym same) known))
+  open_stopped files left image e same known (inr (inr (inl fault))) =
+      inr (inl (subst (λ e. IsTrue (is_disk_error e)) (sym fault.0) (named_fault (tally_of_files g (files.log, files.db)) (tally_left left)), omega (arith, fault.1)))
+  open_stopped files left image e same known (inr (inr (inr full))) = inr (inr full)
+
+  module _ (image : Image) (FreshLog FreshDb : Files D → Type 0) (same : (files : Files D) → FreshLog files → FreshDb files → image_of g files ≡ image) (e : Error) where
+    abbrev Unopened : Option (Leftover D g) → Type 0
+    Unopened left = left ≡ None → (e ≡ SqliteFailure CannotOpen) ⊎ ((e ≡ SqliteFailure OutOfMemory) ⊎ (e ≡ SqliteFailure DatabaseBusy))
+
+    abbrev Cause : Option (Leftover D g) → Type 0
+    Cause left = IfSome left (λ left. (files : Files D) × FreshLog files × FreshDb files × (IsCleanLeft left → FailsToOpenFiles files left e × LeavesFiles files left))
+
+    pub open_failed : (left : Option (Leftover D g)) → Unopened left → Cause left → FailsToStart image (Sqlite e, left)
+    open_failed None bare cause = unopened e (bare refl)
+    open_failed (Some left) bare cause = λ clean m keeps utf8. open_stopped cause.0 left image e (same cause.0 cause.1 cause.2) (inl (keeps.db, keeps.database)) (cause.3 clean).0
+
+    pub open_failed_first : (changes : List Change) (left : Option (Leftover D g)) → Unopened left → Cause left → FailsToStartFirst image changes (Sqlite e, left)
+    open_failed_first changes None bare cause = unopened e (bare refl)
+    open_failed_first changes (Some left) bare cause = λ clean unused. inl (open_stopped cause.0 left image e (same cause.0 cause.1 cause.2) (turned unused) (cause.3 clean).0)
+      where
+        turned : IsUnused image → AreKnown image
+        turned (inl new) = inr new.0
+        turned (inr held) = inl (held.0, held.1)
 
   -- a load fails for these causes alone
   pub load_stopped : (s new : State) (last : FileStore D g) (e : StartError) → s.step_limit ≡ None → new.faults ≤ faults last → IsExcusedStart s new e → IsStopped (left.Store last) e
@@ -130,3 +156,8 @@ module _ {D : Type 0} {g : Ghosts D} where
   load_stopped s new last (Sqlite e) unlimited counts (inl memory) = inl memory
   load_stopped s new last (Sqlite e) unlimited counts (inr (inl fault)) = inr (inl (fault.0, omega (arith, counts, fault.1)))
   load_stopped s new last (Sqlite e) unlimited counts (inr (inr over)) = absurd (let some = subst IsSome unlimited over.1 in cc)
+
+  pub first_stopped : (s new : State) (last : FileStore D g) (changes : List Change) (e : StartError) → s.step_limit ≡ None → new.faults ≤ faults last → IsExcusedFirst s new changes e → IsStoppedFirst (left.Store last) changes e
+  first_stopped s new last changes Foreign unlimited counts h = h
+  first_stopped s new last changes (Sqlite e) unlimited counts (inl excused) = inl (load_stopped s new last (Sqlite e) unlimited counts excused)
+  first_stopped s new last changes (Sqlite e) unlimited counts (inr long) = inr long

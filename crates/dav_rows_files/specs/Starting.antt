@@ -1,16 +1,16 @@
 -- What the files hold.
-use Rattle.std.specs.Prelude.{◌≡◌, ◌⊎◌, ◌<◌, [], Option, MatchOption, IsTrue}
+use Rattle.std.specs.Prelude.{◌≡◌, ◌⊎◌, ◌<◌, List, [], Any, Option, MatchOption, IsTrue}
 use Rattle.sqlite_disk.specs.declared.Disk.{Ghosts}
 use Rattle.sqlite_store.specs.declared.store.FileStore.{FileStore}
 use Rattle.sqlite_store.specs.FileStore as store
 use Rattle.sqlite_trees.specs.View.{IsClean}
 use Rattle.sqlite_trees.specs.Objects.{catalog_tree}
 use Rattle.sqlite.specs.Recovery.{Image}
-use Rattle.sqlite.specs.Files.{HoldsDatabase, AreFoundIn, IsCleanLeft, IsFullLeft, faults_left}
+use Rattle.sqlite.specs.Files.{HoldsDatabase, IsNothing, AreFoundIn, IsCleanLeft, IsFullLeft, faults_left}
 use Rattle.sqlite.specs.Tree.{Trees}
 use Rattle.sqlite.specs.State.{State, HasCleanDisk, is_disk_error}
 use Rattle.sqlite.specs.declared.file.Leftover.{Leftover}
-use Rattle.sqlite.specs.declared.error.ErrorCode.TheVariants.{OutOfMemory, CannotOpen, DatabaseBusy, DiskFull}
+use Rattle.sqlite.specs.declared.error.ErrorCode.TheVariants.{OutOfMemory, CannotOpen, DatabaseBusy, DiskFull, TooBig}
 use Rattle.sqlite.specs.declared.error.Error.{Error}
 use Rattle.sqlite.specs.declared.error.Error.TheVariants.{SqliteFailure}
 use Rattle.dav_rows.specs.declared.loading.Rows.{Rows}
@@ -19,7 +19,8 @@ use Rattle.dav_rows.specs.declared.opening.StartError.TheVariants.{Foreign, Sqli
 use Rattle.dav_rows.specs.Contents.{Contents, Holds}
 use Rattle.dav_rows.specs.Saving.{IsAt}
 use Rattle.dav_rows.specs.Loading.{AreAll}
-use Rattle.dav_rows.specs.Failing.{IsOutOfMemory, HasUtf8}
+use Rattle.dav_rows.specs.Failing.{IsOutOfMemory, HasUtf8, PutsTooLong}
+use Rattle.dav_rows.specs.declared.change.Change.{Change}
 
 -- the files hold a database whose tables stand for the maps
 pub record Keeps (image : Image) (m : Contents) : Type 0 where
@@ -33,6 +34,10 @@ KeepsEither image m n = Keeps image m ⊎ Keeps image n
 -- an open finds no table, index or view in the files
 abbrev pub IsVacant : Image → Type 0
 IsVacant image = (db : Trees) → AreFoundIn image db → db catalog_tree ≡ []
+
+-- the files are new, or hold a database with no table, index or view
+abbrev pub IsUnused : Image → Type 0
+IsUnused image = (IsNothing image × IsVacant image) ⊎ ((db : Trees) × HoldsDatabase image db × (db catalog_tree ≡ []))
 
 -- ---- what a start finds
 
@@ -64,9 +69,18 @@ module _ {D : Type 0} {g : Ghosts D} where
   IsStopped left Foreign = ⊥
   IsStopped left (Sqlite e) = IsOutOfMemory e ⊎ (IsFaultLeft left e ⊎ ((e ≡ SqliteFailure DiskFull) × IsFullLeft left))
 
+  -- the same causes, or a row of the first changes is too long
+  abbrev pub IsStoppedFirst : Leftover D g → List Change → StartError → Type 0
+  IsStoppedFirst left changes Foreign = ⊥
+  IsStoppedFirst left changes (Sqlite e) = IsStopped left (Sqlite e) ⊎ ((e ≡ SqliteFailure TooBig) × Any PutsTooLong changes)
+
   -- Where the files keep maps whose texts are UTF-8, and the disk has returned what was written, nothing else stops a start.
   abbrev pub FailsToStart : Image → StartError × Option (Leftover D g) → Type 0
   FailsToStart image e = MatchOption e.1 (IsUnopened e.0) (λ left. IsCleanLeft left → (m : Contents) → Keeps image m → HasUtf8 m → IsStopped left e.0)
+
+  -- The same, where the files are unused.
+  abbrev pub FailsToStartFirst : Image → List Change → StartError × Option (Leftover D g) → Type 0
+  FailsToStartFirst image changes e = MatchOption e.1 (IsUnopened e.0) (λ left. IsCleanLeft left → IsUnused image → IsStoppedFirst left changes e.0)
 
 -- ---- what the files keep after a run
 
