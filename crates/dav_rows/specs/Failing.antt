@@ -92,11 +92,13 @@ IsExcusedPut old new Long e = IsExcused old new e ⊎ ((e ≡ SqliteFailure TooB
 
 -- inside a transaction over our tables, it fails for these causes alone
 abbrev pub FailsToApply : {X : Type 0} → State → State → Type 0 → Result X Error → Type 0
-FailsToApply old new Long result = HasCleanDisk new → IfErr result (λ e. IsReady old → (m : Contents) → Holds old.now.trees m → IsExcusedPut old new Long e)
+FailsToApply old new Long result =
+    HasCleanDisk new → IfErr result (λ e. IsReady old → (m : Contents) → Holds old.now.trees m → IsExcusedPut old new Long e)
 
 -- over our tables, it fails for these causes alone
 abbrev pub FailsToSave : {X : Type 0} → State → State → List Change → Result X Error → Type 0
-FailsToSave old new changes result = HasCleanDisk new → IfErr result (λ e. (m : Contents) → IsAt old m → IsExcusedPut old new (Any PutsTooLong changes) e)
+FailsToSave old new changes result =
+    HasCleanDisk new → IfErr result (λ e. (m : Contents) → IsAt old m → IsExcusedPut old new (Any PutsTooLong changes) e)
 
 -- ---- tables that are made
 

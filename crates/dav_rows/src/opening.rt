@@ -100,7 +100,8 @@ fn found_in<S: Alter>(conn: &mut Connection<S>) -> Result<Found, Error>
     ensures reads { Reads (state S.Store conn.old) (state S.Store conn.new) result (λ found m. found ≡ Found.Ours) }
     ensures ours { IfOk result (λ found. found ≡ Found.Ours → (state S.Store conn.old).now.schema ≡ rows_schema) }
     ensures blank { ReadsBlank (state S.Store conn.old) (state S.Store conn.new) result (λ found. found ≡ Found.Nothing) }
-    ensures alone { HasCleanDisk (state S.Store conn.new) → IfOk result (λ found. found ≡ Found.Other → LeavesAlone (state S.Store conn.old) (state S.Store conn.new)) }
+    ensures alone { HasCleanDisk (state S.Store conn.new) → IfOk result (λ found. found ≡ Found.Other
+        → LeavesAlone (state S.Store conn.old) (state S.Store conn.new)) }
     ensures err { FailsExcused (state S.Store conn.old) (state S.Store conn.new) result }
     ensures err_blank { FailsExcusedBlank (state S.Store conn.old) (state S.Store conn.new) result }
 {

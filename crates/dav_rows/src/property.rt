@@ -26,7 +26,8 @@ pub struct PropertyRow {
 pub(crate) fn put<S: Alter>(tx: &mut Transaction<'_, S>, row: &PropertyRow) -> Result<usize, Error>
     ensures same_reference { tx.new.conn.ghost_name ≡ tx.old.conn.ghost_name }
     ensures row { Applies (state S.Store tx.old.conn.now) (state S.Store tx.new.conn.now) (put_property row.now) result }
-    ensures err { FailsToApply (state S.Store tx.old.conn.now) (state S.Store tx.new.conn.now) (IsTooLong property_cells (property_entry row.now)) result }
+    ensures err { FailsToApply (state S.Store tx.old.conn.now) (state S.Store tx.new.conn.now)
+        (IsTooLong property_cells (property_entry row.now)) result }
     ensures kept { HasCleanDisk (state S.Store tx.new.conn.now) → KeepsCommit (state S.Store tx.old.conn.now) (state S.Store tx.new.conn.now) }
     ensures survives { Survives (state S.Store tx.old.conn.now) (state S.Store tx.new.conn.now) (λ _. ⊥) }
 {

@@ -164,7 +164,8 @@ fn are_filled(columns: &[Column], wanted: &[(&str, Kind)]) -> bool
 }
 
 fn is_column(column: &Column, name: &str, kind: Kind, not_null: bool) -> bool
-    ensures { IsTrue result ↔ (column.now ≡ record { name = name.now; kind = kind; is_strict = true; not_null = not_null; default = Null; collation = Binary }) }
+    ensures { IsTrue result
+        ↔ (column.now ≡ record { name = name.now; kind = kind; is_strict = true; not_null = not_null; default = Null; collation = Binary }) }
 {
     column.name.as_slice() == name.as_bytes()
         && column.kind == kind
