@@ -1,5 +1,5 @@
 -- Why a query fails.
-use Rattle.std.proofs.Common.{◌≡◌, ◌⊎◌, inl, inr, ℕ, zero, suc, ◌<◌, ℤ, List, [], ◌∷◌, length, map, true, Ok, Err, Result, IfErr, IsErrAnd, IsTrue, Vec, refl, sym, ap, subst, ◌∙◌, arith}
+use Rattle.std.proofs.Common.{◌≡◌, ◌⊎◌, inl, inr, ℕ, ◌<◌, ℤ, List, [], ◌∷◌, ◌++◌, length, map, true, Ok, Err, Result, IfErr, IsErrAnd, IsTrue, Vec, sym, ap, subst, ◌∙◌, arith}
 use Rattle.std.specs.declared.alloc.Global.{Global}
 use Rattle.std.specs.Prelude.{IsSome, IsUtf8, ◌≤◌}
 use Rattle.std.specs.List.{AllByRecursion}
@@ -19,16 +19,16 @@ use Rattle.sqlite.specs.Program.{overlay}
 use Rattle.sqlite.specs.Tree.{Trees}
 use Rattle.sqlite.specs.Effect.{Database, RefusesQuery, RefusesToRead}
 use Rattle.sqlite.specs.Listing.{understood, reads_listing, IsSourceOf}
-use Rattle.sqlite.specs.State.{State, HasCleanDisk, store_error, is_disk_error, HasCause, Fails, IsNoStatement, IsNotRun, FailsToQuery, Shown}
+use Rattle.sqlite.specs.State.{State, HasCleanDisk, store_error, is_disk_error, HasCause, Fails, IsNoStatement, IsNotRun, FailsToQuery}
 use Rattle.sqlite.proofs.Callers.{IsPlain, command_of}
 use Rattle.dav_rows.specs.Tables.{rows_schema, no_schema}
 use Rattle.dav_rows.specs.Stored.{Numbered, shown, AreRows}
 use Rattle.dav_rows.specs.Contents.{Contents, Holds}
 use Rattle.dav_rows.specs.Saving.{IsAt}
 use Rattle.dav_rows.specs.Loading.{Reads}
-use Rattle.dav_rows.specs.Failing.{IsOutOfMemory, IsExcused, AreUtf8, HasNoText, HasUtf8, IsShownBy, AreShownBy, FailsExcused, FailsExcusedBlank}
+use Rattle.dav_rows.specs.Failing.{IsOutOfMemory, IsExcused, AreUtf8, HasNoText, HasUtf8, IsShownBy, FailsExcused, FailsExcusedBlank, FailsText}
 use Rattle.dav_rows.proofs.Suits.{IsAlone, Selects, select_query}
-use Rattle.dav_rows.proofs.ReadLemmas.{loads}
+use Rattle.dav_rows.proofs.ReadLemmas.{begins}
 use Rattle.dav_rows.proofs.ListingTexts.{listing_text, listing_query, lists_none}
 
 -- what `?` passes on
@@ -107,24 +107,23 @@ module _ {V : Type 0} (cells : V → Row) (tree : ℕ) (text : List ℕ) (s : Se
       never db (inl over) = over
       never db (inr over) = over.4
 
-  -- where the query fails
-  pub query_excused : {X : Type 0} (old new : State) (e : Error) (r : Result X Error) → IsErrAnd r (λ f. f ≡ e) → (HasCleanDisk new → FailsToQuery text [] old new e) → FailsExcused old new r
-  query_excused old new e r same fails = λ clean. passed e r _ same (λ m at utf8. select_excused old new m e at (fails clean))
-
   module _ (IsText : V → Type 0) (field : Contents → Numbered V) (seen : (db : Trees) → overlay db [] tree ≡ db tree) (has : (db : Trees) (m : Contents) → Holds db m → AreRows cells (db tree) (field m))
       (texts : (m : Contents) → HasUtf8 m → AreUtf8 IsText (field m)) where
-    all_shown : (es : List (ℤ × V)) → AllByRecursion (λ e. IsText e.1) es → AreShownBy cells IsText (map (shown cells) es)
-    all_shown [] all k d low = absurd (omega (arith, low))
-    all_shown (e ∷ es) all zero d low = (e.0, e.1, all.0, refl)
-    all_shown (e ∷ es) all (suc k) d low = all_shown es all.1 k d (omega (arith, low))
+    shown_by : (rows tail : List Row) (row : Row) (es : List (ℤ × V)) → (rows ++ row ∷ []) ++ tail ≡ map (shown cells) es → AllByRecursion (λ e. IsText e.1) es → IsShownBy cells IsText row
+    shown_by [] tail row [] same all = absurd (let x = same in cc)
+    shown_by [] tail row (e ∷ es) same all = let is : row ≡ shown cells e = cc in (e.0, e.1, all.0, is)
+    shown_by (r ∷ rows) tail row [] same all = absurd (let x = same in cc)
+    shown_by (r ∷ rows) tail row (e ∷ es) same all = let more : (rows ++ row ∷ []) ++ tail ≡ map (shown cells) es = cc in shown_by rows tail row es more all.1
 
-    -- where the rows that were shown are not read
-    pub rows_excused : {X : Type 0} (old new : State) (rows : Vec Row Global) (given : List Row) (r : Result X Error) → given ≡ rows.items → Reads old new (Ok rows) (λ rows m. Shown text [] old new rows.items)
-        → IfErr r (λ e. AreShownBy cells IsText given → IsOutOfMemory e) → FailsExcused old new r
-    rows_excused old new rows given (Ok all) same reads is = λ clean. tt
-    rows_excused old new rows given (Err e) same reads is = λ clean m at utf8.
-        let it = loads cells tree text seen s old new rows.items (field m) at.schema (has old.now.trees m at.holds) (reads.ok clean m at).1 in
-        inl (is (subst (AreShownBy cells IsText) (sym (same ∙ it)) (all_shown (entries (field m)) (texts m utf8))))
+    -- a table that is not read
+    pub table_excused : {X : Type 0} (old new : State) (r : Result X Error) → FailsText (IsShownBy cells IsText) text old new r → FailsExcused old new r
+    table_excused old new (Ok all) fails = λ clean. tt
+    table_excused old new (Err e) fails = λ clean m at utf8. elim (fails s.plain clean m at) [
+      | inl query ↦ select_excused old new m e at query
+      | inr other ↦ inl (other (λ rows row begun.
+          let it = begins cells tree text seen s old (rows ++ row ∷ []) (field m) at.schema (has old.now.trees m at.holds) begun in
+          shown_by rows it.0 row (entries (field m)) it.1 (texts m utf8)))
+    ]
 
 -- ---- calls in turn
 

@@ -12,6 +12,7 @@ pub mod StateTexts
 pub mod PutLemmas
 pub mod SavingLemmas
 pub mod LoadingLemmas
+pub mod ReadingLemmas
 pub mod LoadLemmas
 pub mod CreateLemmas
 pub mod ListingTexts

@@ -1,11 +1,10 @@
 -- What is read of each table.
-use Rattle.std.proofs.Common.{◌≡◌, ℤ, Bool, true, false, List, [], map, Ok, Result, IfOk, Vec, refl, ap}
+use Rattle.std.proofs.Common.{◌≡◌, ℤ, Bool, true, false, map, Result, Vec, refl, ap}
 use Rattle.std.specs.declared.alloc.Global.{Global}
 use Rattle.std.specs.FinMap.{entries}
 use Rattle.sqlite.specs.declared.error.Error.{Error}
 use Rattle.sqlite.specs.declared.types.Value.TheVariants.{Int}
-use Rattle.sqlite.specs.Order.{Row}
-use Rattle.sqlite.specs.State.{State, Shown}
+use Rattle.sqlite.specs.State.{State}
 use Rattle.dav_rows.specs.declared.resource.ResourceRow.{ResourceRow}
 use Rattle.dav_rows.specs.declared.extent.ExtentRow.{ExtentRow}
 use Rattle.dav_rows.specs.declared.property.PropertyRow.{PropertyRow}
@@ -14,7 +13,7 @@ use Rattle.dav_rows.specs.declared.state.StateRow.{StateRow}
 use Rattle.dav_rows.specs.Stored.{shown}
 use Rattle.dav_rows.specs.Contents.{flag, resource_cells, ResourceValues, extent_cells, property_cells, lock_cells, state_cells}
 use Rattle.dav_rows.specs.Changes.{resource_entry, extent_entry, property_entry, lock_entry, state_entry}
-use Rattle.dav_rows.specs.Loading.{Reads, flag_in, resource_in, extent_in, property_in, lock_in, state_in}
+use Rattle.dav_rows.specs.Loading.{Reads, ReadsText, flag_in, resource_in, extent_in, property_in, lock_in, state_in}
 use Rattle.dav_rows.proofs.LoadingLemmas.{all_read}
 use Rattle.dav_rows.proofs.ResourceTexts as resource
 use Rattle.dav_rows.proofs.ExtentTexts as extent
@@ -29,22 +28,17 @@ flag_back false = refl
 resource_back : (e : ℤ × ResourceValues) → resource_in (shown resource_cells e) ≡ e
 resource_back e = ap (λ b. (e.0, record e.1 { directory = b })) (flag_back e.1.directory)
 
-pub resources_read : (old new : State) (rows : Vec Row Global) (given : List Row) (r : Result (Vec ResourceRow Global) Error) → given ≡ rows.items → Reads old new (Ok rows) (λ rows m. Shown resource.select_text [] old new rows.items)
-    → IfOk r (λ all. map resource_entry all.items ≡ map resource_in given) → Reads old new r (λ all m. map resource_entry all.items ≡ entries m.resources)
+pub resources_read : (old new : State) (r : Result (Vec ResourceRow Global) Error) → ReadsText resource_entry resource_in resource.select_text old new r → Reads old new r (λ all m. map resource_entry all.items ≡ entries m.resources)
 resources_read = all_read resource_cells resource_entry resource_in resource_back (λ m. m.resources) 0 resource.select_text resource.suits.seen resource.selects (λ db m holds. holds.resources)
 
-pub extents_read : (old new : State) (rows : Vec Row Global) (given : List Row) (r : Result (Vec ExtentRow Global) Error) → given ≡ rows.items → Reads old new (Ok rows) (λ rows m. Shown extent.select_text [] old new rows.items)
-    → IfOk r (λ all. map extent_entry all.items ≡ map extent_in given) → Reads old new r (λ all m. map extent_entry all.items ≡ entries m.extents)
+pub extents_read : (old new : State) (r : Result (Vec ExtentRow Global) Error) → ReadsText extent_entry extent_in extent.select_text old new r → Reads old new r (λ all m. map extent_entry all.items ≡ entries m.extents)
 extents_read = all_read extent_cells extent_entry extent_in (λ e. refl) (λ m. m.extents) 1 extent.select_text extent.suits.seen extent.selects (λ db m holds. holds.extents)
 
-pub properties_read : (old new : State) (rows : Vec Row Global) (given : List Row) (r : Result (Vec PropertyRow Global) Error) → given ≡ rows.items → Reads old new (Ok rows) (λ rows m. Shown property.select_text [] old new rows.items)
-    → IfOk r (λ all. map property_entry all.items ≡ map property_in given) → Reads old new r (λ all m. map property_entry all.items ≡ entries m.properties)
+pub properties_read : (old new : State) (r : Result (Vec PropertyRow Global) Error) → ReadsText property_entry property_in property.select_text old new r → Reads old new r (λ all m. map property_entry all.items ≡ entries m.properties)
 properties_read = all_read property_cells property_entry property_in (λ e. refl) (λ m. m.properties) 2 property.select_text property.suits.seen property.selects (λ db m holds. holds.properties)
 
-pub locks_read : (old new : State) (rows : Vec Row Global) (given : List Row) (r : Result (Vec LockRow Global) Error) → given ≡ rows.items → Reads old new (Ok rows) (λ rows m. Shown lock.select_text [] old new rows.items)
-    → IfOk r (λ all. map lock_entry all.items ≡ map lock_in given) → Reads old new r (λ all m. map lock_entry all.items ≡ entries m.locks)
+pub locks_read : (old new : State) (r : Result (Vec LockRow Global) Error) → ReadsText lock_entry lock_in lock.select_text old new r → Reads old new r (λ all m. map lock_entry all.items ≡ entries m.locks)
 locks_read = all_read lock_cells lock_entry lock_in (λ e. refl) (λ m. m.locks) 3 lock.select_text lock.suits.seen lock.selects (λ db m holds. holds.locks)
 
-pub states_read : (old new : State) (rows : Vec Row Global) (given : List Row) (r : Result (Vec StateRow Global) Error) → given ≡ rows.items → Reads old new (Ok rows) (λ rows m. Shown state.select_text [] old new rows.items)
-    → IfOk r (λ all. map state_entry all.items ≡ map state_in given) → Reads old new r (λ all m. map state_entry all.items ≡ entries m.states)
+pub states_read : (old new : State) (r : Result (Vec StateRow Global) Error) → ReadsText state_entry state_in state.select_text old new r → Reads old new r (λ all m. map state_entry all.items ≡ entries m.states)
 states_read = all_read state_cells state_entry state_in (λ e. refl) (λ m. m.states) 4 state.select_text state.suits.seen state.selects (λ db m holds. holds.states)

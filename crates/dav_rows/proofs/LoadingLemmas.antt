@@ -19,7 +19,7 @@ use Rattle.dav_rows.specs.Contents.{Contents, Holds}
 use Rattle.dav_rows.specs.Saving.{IsAt}
 use Rattle.dav_rows.specs.declared.loading.Rows.{Rows}
 use Rattle.dav_rows.specs.Creating.{IsBlank, IsWhole}
-use Rattle.dav_rows.specs.Loading.{Reads, ReadsBlank, AreAll}
+use Rattle.dav_rows.specs.Loading.{Reads, ReadsText, ReadsBlank, AreAll}
 use Rattle.dav_rows.proofs.Suits.{Selects}
 use Rattle.dav_rows.proofs.ReadLemmas.{loads}
 
@@ -61,7 +61,7 @@ same_still : (old new : State) → old.now ≡ old.committed → IsUnchanged old
 same_still old new settled (inl same) is_open = (same.0.now_is, same.0.now_is ∙ settled ∙ sym same.0.committed_is)
 same_still old new settled (inr back) is_open = let undone = back.undone is_open in (undone.0 ∙ sym settled, undone.0 ∙ sym undone.1)
 
-at_still : (old new : State) (m : Contents) → IsAt old m → IsUnchanged old new ⊎ IsRolledBack old new → IsTrue new.is_open → IsAt new m
+pub at_still : (old new : State) (m : Contents) → IsAt old m → IsUnchanged old new ⊎ IsRolledBack old new → IsTrue new.is_open → IsAt new m
 at_still old new m at kept is_open =
     let it = same_still old new at.settled kept is_open in
     record {
@@ -130,9 +130,15 @@ pub mapped : {X Y : Type 0} (old new : State) (x : X) (r : Result Y Error) (P : 
 mapped old new x (Ok y) P Q reads is = record { clean = reads.clean; faults = reads.faults; limit = reads.limit; ok = λ clean m at. let both = reads.ok clean m at in (both.0, is m at both.1); at = reads.at; crash = reads.crash }
 mapped old new x (Err e) P Q reads is = record { clean = reads.clean; faults = reads.faults; limit = reads.limit; ok = λ clean. tt; at = reads.at; crash = reads.crash }
 
-pub none_read : {X Y : Type 0} {old new : State} {e : Error} {P : X → Contents → Type 0} {Q : Y → Contents → Type 0} (r : Result Y Error) → IsErr r → Reads old new (Err e) P → Reads old new r Q
+-- a read that fails at last, whatever was read before
+pub none_read : {X Y : Type 0} {old new : State} {read : Result X Error} {P : X → Contents → Type 0} {Q : Y → Contents → Type 0} (r : Result Y Error) → IsErr r → Reads old new read P → Reads old new r Q
 none_read (Ok y) failed reads = absurd (let e = failed in cc)
 none_read (Err f) failed reads = record { clean = reads.clean; faults = reads.faults; limit = reads.limit; ok = λ clean. tt; at = reads.at; crash = reads.crash }
+
+-- the same read, as what is so of it where the old state has the maps
+where_at : {X : Type 0} {old new : State} {P Q : X → Contents → Type 0} (r : Result X Error) → Reads old new r P → ((x : X) (m : Contents) → IsAt old m → P x m → Q x m) → Reads old new r Q
+where_at (Ok x) reads is = record { clean = reads.clean; faults = reads.faults; limit = reads.limit; ok = λ clean m at. let both = reads.ok clean m at in (both.0, is x m at both.1); at = reads.at; crash = reads.crash }
+where_at (Err e) reads is = record { clean = reads.clean; faults = reads.faults; limit = reads.limit; ok = λ clean. tt; at = reads.at; crash = reads.crash }
 
 module _ {V T : Type 0} (cells : V → Row) (entry : T → ℤ × V) (entry_in : Row → ℤ × V) (back : (e : ℤ × V) → entry_in (shown cells e) ≡ e) (field : Contents → Numbered V)
     (tree : ℕ) (text : List ℕ) (seen : (db : Trees) → overlay db [] tree ≡ db tree) (s : Selects cells tree text) (has : (db : Trees) (m : Contents) → Holds db m → AreRows cells (db tree) (field m)) where
@@ -140,15 +146,10 @@ module _ {V T : Type 0} (cells : V → Row) (entry : T → ℤ × V) (entry_in :
   entries_in [] = refl
   entries_in (e ∷ es) = ap (λ x. x ∷ map entry_in (map (shown cells) es)) (back e) ∙ ap (λ l. e ∷ l) (entries_in es)
 
-  pub all_read : (old new : State) (rows : Vec Row Global) (given : List Row) (r : Result (Vec T Global) Error) → given ≡ rows.items → Reads old new (Ok rows) (λ rows m. Shown text [] old new rows.items)
-      → IfOk r (λ all. map entry all.items ≡ map entry_in given) → Reads old new r (λ all m. map entry all.items ≡ entries (field m))
-  all_read old new rows given r same reads is = mapped old new rows r (λ rows m. Shown text [] old new rows.items) (λ all m. map entry all.items ≡ entries (field m)) reads (go r is)
-    where
-      go : (r : Result (Vec T Global) Error) → IfOk r (λ all. map entry all.items ≡ map entry_in given) → IfOk r (λ all. (m : Contents) → IsAt old m → Shown text [] old new rows.items → map entry all.items ≡ entries (field m))
-      go (Ok all) is = λ m at shows.
-          let it = loads cells tree text seen s old new rows.items (field m) at.schema (has old.now.trees m at.holds) shows in
-          is ∙ ap (map entry_in) (same ∙ it) ∙ entries_in (entries (field m))
-      go (Err e) is = tt
+  pub all_read : (old new : State) (r : Result (Vec T Global) Error) → ReadsText entry entry_in text old new r → Reads old new r (λ all m. map entry all.items ≡ entries (field m))
+  all_read old new r reads = where_at r (reads s.plain) (λ all m at it.
+      let shows = loads cells tree text seen s old new it.0 (field m) at.schema (has old.now.trees m at.holds) it.1 in
+      it.2 ∙ ap (map entry_in) shows ∙ entries_in (entries (field m)))
 
 -- the same for what holds of a database with nothing in it
 pub mapped_blank : {X Y : Type 0} (old new : State) (x : X) (r : Result Y Error) (P : X → Type 0) (Q : Y → Type 0) → ReadsBlank old new (Ok x) P → IfOk r (λ y. P x → Q y) → ReadsBlank old new r Q

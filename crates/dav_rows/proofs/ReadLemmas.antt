@@ -1,5 +1,5 @@
 -- What SELECT shows.
-use Rattle.std.proofs.Common.{◌≡◌, ℕ, ℤ, List, [], ◌∷◌, map, flat_map, Bool, true, false, T, Equal, int_cmp, IsPermutation, refl, ap, subst, ◌∙◌, ◌&&◌}
+use Rattle.std.proofs.Common.{◌≡◌, ℕ, ℤ, List, [], ◌∷◌, ◌++◌, map, flat_map, Bool, true, false, T, Equal, int_cmp, IsPermutation, refl, ap, subst, ◌∙◌, ◌&&◌}
 use Rattle.std.specs.Ordering.{is_lt}
 use Rattle.std.specs.Cmp.{IsTotalOrder}
 use Rattle.std.specs.List.{AllByRecursion}
@@ -13,8 +13,8 @@ use Rattle.sqlite.specs.Order.{Row, column}
 use Rattle.sqlite.specs.Query.{IsAnswer, Output, output, output_cmp}
 use Rattle.sqlite.specs.Program.{overlay}
 use Rattle.sqlite.specs.Tree.{Trees}
-use Rattle.sqlite.specs.State.{State, Shown}
-use Rattle.sqlite.proofs.Callers.{reads_as}
+use Rattle.sqlite.specs.State.{State, Shown, Begins}
+use Rattle.sqlite.proofs.Callers.{reads_as, begins_as}
 use Rattle.dav_rows.specs.Tables.{rows_schema}
 use Rattle.dav_rows.specs.Stored.{Numbered, stored, shown, AreRows}
 use Rattle.dav_rows.proofs.Suits.{Selects, select_query}
@@ -70,3 +70,10 @@ module _ {V : Type 0} (cells : V → Row) where
     loads old new rows m has is h =
         let read = reads_as text [] old new rows_schema has _ s.is s.plain s.unlisted rows h in
         answered m old.now.trees rows is (read.answer Null)
+
+    -- rows that begin an answer
+    pub begins : (old : State) (rows : List Row) (m : Numbered V) → old.now.schema ≡ rows_schema → AreRows cells (old.now.trees tree) m → Begins text [] old rows
+        → (tail : List Row) × (rows ++ tail ≡ map (shown cells) (entries m))
+    begins old rows m has is h =
+        let read = (begins_as text [] old old rows_schema has _ s.is s.plain s.unlisted rows h).1 in
+        (read.0, answered m old.now.trees (rows ++ read.0) is (read.1 Null))

@@ -1,16 +1,21 @@
 -- Why a call fails.
-use Rattle.std.specs.Prelude.{◌≡◌, ◌⊎◌, ⊤, ℕ, ℤ, List, All, Any, Result, IfErr, IsTrue, IsSome, IsUtf8}
+use Rattle.std.specs.Prelude.{◌≡◌, ◌⊎◌, ⊤, ℕ, ℤ, List, [], ◌∷◌, ◌++◌, Any, Some, Result, IfErr, IsTrue, IsSome, IsUtf8}
 use Rattle.std.specs.List.{AllByRecursion}
 use Rattle.std.specs.FinMap.{entries}
 use Rattle.sqlite_disk.specs.Disk.{MoreFaults}
+use Rattle.sqlite_trees.specs.declared.store.Store.{Ghosts}
 use Rattle.sqlite_trees.specs.View.{IsStorableRow}
 use Rattle.sqlite.specs.declared.error.ErrorCode.TheVariants.{OutOfMemory, OperationInterrupted, TooBig}
 use Rattle.sqlite.specs.declared.error.Error.{Error}
 use Rattle.sqlite.specs.declared.error.Error.TheVariants.{SqliteFailure}
 use Rattle.sqlite.specs.Order.{Row}
-use Rattle.sqlite.specs.State.{State, HasCleanDisk, is_disk_error}
+use Rattle.sqlite.specs.State.{State, HasCleanDisk, IsUnchanged, Begins, FailsToQuery, is_disk_error}
+use Rattle.sqlite.specs.Held.{Held, state}
+use Rattle.sqlite.specs.Given.{IsPlain, Advances, FailsToAdvance}
+use Rattle.sqlite.specs.Listing.{understood}
 use Rattle.dav_rows.specs.declared.opening.StartError.{StartError}
 use Rattle.dav_rows.specs.declared.opening.StartError.TheVariants.{Foreign, Sqlite}
+use Rattle.dav_rows.specs.Tables.{rows_schema}
 use Rattle.dav_rows.specs.Stored.{Numbered, stored, shown}
 use Rattle.dav_rows.specs.Contents.{Contents, Holds, ResourceValues, PropertyValues, LockValues, resource_cells, extent_cells, property_cells, lock_cells, state_cells}
 use Rattle.dav_rows.specs.Changes.{resource_entry, extent_entry, property_entry, lock_entry, state_entry}
@@ -69,9 +74,6 @@ pub record HasUtf8 (m : Contents) : Type 0 where
 abbrev pub IsShownBy : {V : Type 0} → (V → Row) → (V → Type 0) → Row → Type 0
 IsShownBy {V} cells IsText row = (n : ℤ) × (v : V) × IsText v × (row ≡ shown cells (n, v))
 
-abbrev pub AreShownBy : {V : Type 0} → (V → Row) → (V → Type 0) → List Row → Type 0
-AreShownBy cells IsText = All (IsShownBy cells IsText)
-
 -- ---- rows that are put
 
 -- SQLite does not store the row: it has more than a billion bytes
@@ -128,3 +130,21 @@ FailsExcused old new result = HasCleanDisk new → IfErr result (λ e. (m : Cont
 -- over a database with nothing in it, it fails for these causes alone
 abbrev pub FailsExcusedBlank : {X : Type 0} → State → State → Result X Error → Type 0
 FailsExcusedBlank old new result = HasCleanDisk new → IfErr result (λ e. IsBlank old → IsExcused old new e)
+
+-- ---- queries that are read row by row
+
+-- each row that the query gives can be read
+abbrev pub AreReadable : (Row → Type 0) → List ℕ → State → Type 0
+AreReadable IsReadable sql s = (rows : List Row) (row : Row) → Begins sql [] s (rows ++ row ∷ []) → IsReadable row
+
+-- a query under way fails, or gives its next row, and that is not read
+abbrev pub FailsNext : {S : Type 0} → Ghosts S → (Row → Type 0) → Held S → Held S → Error → Type 0
+FailsNext g IsReadable old new e =
+    FailsToAdvance g old new e
+    ⊎ (IsUnchanged (state g old) (state g new) × (row : Row) × Advances g old new (Some row) × (IsReadable row → IsOutOfMemory e))
+
+-- Over our tables the query fails, or memory runs out, if the rows can be read.
+abbrev pub FailsText : {X : Type 0} → (Row → Type 0) → List ℕ → State → State → Result X Error → Type 0
+FailsText IsReadable sql old new result =
+    IsPlain (understood rows_schema sql) → HasCleanDisk new
+    → IfErr result (λ e. (m : Contents) → IsAt old m → FailsToQuery sql [] old new e ⊎ (AreReadable IsReadable sql old → IsOutOfMemory e))

@@ -1,15 +1,17 @@
 -- What is read back.
-use Rattle.std.specs.Prelude.{◌≡◌, ◌≤◌, ℕ, ℤ, Bool, not, pos, List, [], map, Vec, Result, IfOk, IsTrue}
+use Rattle.std.specs.Prelude.{◌≡◌, ◌≤◌, ℕ, ℤ, Bool, not, pos, List, [], map, Vec, Option, option_map, Result, IfOk, IsTrue}
 use Rattle.std.specs.Ordering.{int_eq}
 use Rattle.std.specs.FinMap.{entries}
 use Rattle.sqlite_trees.specs.View.{doubt}
+use Rattle.sqlite_trees.specs.declared.store.Store.{Ghosts}
 use Rattle.sqlite.specs.declared.error.Error.{Error}
 use Rattle.sqlite.specs.declared.types.Value.{Value}
 use Rattle.sqlite.specs.Order.{Row, column, bytes}
 use Rattle.sqlite.specs.Edit.{id_in}
 use Rattle.sqlite.specs.Tree.{Trees}
 use Rattle.sqlite.specs.State.{State, HasCleanDisk, Shown, IsUnchanged}
-use Rattle.sqlite.specs.Given.{IsPlain}
+use Rattle.sqlite.specs.Held.{Held, state}
+use Rattle.sqlite.specs.Given.{IsPlain, Advances}
 use Rattle.sqlite.specs.Listing.{understood}
 use Rattle.std.specs.declared.alloc.Global.{Global}
 use Rattle.dav_rows.specs.Tables.{rows_schema}
@@ -60,9 +62,22 @@ pub record Reads {X : Type 0} (old new : State) (result : Result X Error) (Is : 
   pub at : HasCleanDisk new → (m : Contents) → IsAt old m → IsTrue new.is_open → IsAt new m
   pub crash : HasCleanDisk new → (m : Contents) → IsAt old m → (db : Trees) → new.may_leave db → old.may_leave db
 
--- a query that only reads does so, and answers the rows that SQL shows
-abbrev pub ReadsText : List ℕ → State → State → Result (Vec Row Global) Error → Type 0
-ReadsText sql old new result = IsPlain (understood rows_schema sql) → Reads old new result (λ rows m. Shown sql [] old new rows.items)
+-- these are the entries of the rows that SQL shows, in their order
+abbrev pub AreShown : {T E : Type 0} → (T → E) → (Row → E) → List ℕ → State → State → Vec T Global → Type 0
+AreShown entry entry_in sql old new all = (rows : List Row) × Shown sql [] old new rows × (map entry all.items ≡ map entry_in rows)
+
+-- A query that only reads does so, and reads what SQL shows.
+abbrev pub ReadsText : {T E : Type 0} → (T → E) → (Row → E) → List ℕ → State → State → Result (Vec T Global) Error → Type 0
+ReadsText entry entry_in sql old new result = IsPlain (understood rows_schema sql) → Reads old new result (λ all m. AreShown entry entry_in sql old new all)
+
+-- a query under way gives its next row, which is read as its entry, or it is at its end
+abbrev pub GivesEntry : {S T E : Type 0} → Ghosts S → (T → E) → (Row → E) → Held S → Held S → Option T → Type 0
+GivesEntry g entry entry_in old new found =
+    IsUnchanged (state g old) (state g new) × (row : Option Row) × Advances g old new row × (option_map entry found ≡ option_map entry_in row)
+
+-- The next row of a query is read, and the tables are left as they are.
+abbrev pub ReadsNext : {S T E : Type 0} → Ghosts S → (T → E) → (Row → E) → Held S → Held S → Result (Option T) Error → Type 0
+ReadsNext g entry entry_in old new result = Reads (state g old) (state g new) result (λ found m. GivesEntry g entry entry_in old new found)
 
 -- The same, over a database with nothing in it.
 pub record ReadsBlank {X : Type 0} (old new : State) (result : Result X Error) (Is : X → Type 0) : Type 0 where

@@ -1,15 +1,12 @@
-//! Runs one statement, and reads the values of a row.
-ghost use Rattle.std.specs.Prelude.{◌≡◌, ◌<◌, [], false, length, IfOk, IfErr};
+//! Executes one statement in a transaction.
+ghost use Rattle.std.specs.Prelude.{◌≡◌};
 ghost use Rattle.sqlite.specs.Values.{bound};
-ghost use Rattle.sqlite.specs.Order.{column};
-ghost use Rattle.sqlite.specs.State.{HasCleanDisk, KeepsCommit, Survives, FailsToQuery};
+ghost use Rattle.sqlite.specs.State.{HasCleanDisk, KeepsCommit, Survives};
 ghost use Rattle.sqlite.specs.Held.{state};
 ghost use Rattle.dav_rows.specs.Saving.{RunsInside};
-ghost use Rattle.dav_rows.specs.Loading.{ReadsText};
-ghost use Rattle.dav_rows.specs.Failing.{IsOutOfMemory};
 
-use sqlite::types::{FromSql, ValueRef};
-use sqlite::{Alter, Connection, Error, Row, Transaction};
+use sqlite::types::ValueRef;
+use sqlite::{Alter, Error, Transaction};
 
 /// Runs a statement in the transaction.
 pub(crate) fn execute<S: Alter>(
@@ -23,22 +20,4 @@ pub(crate) fn execute<S: Alter>(
     ensures survives { Survives (state S.Store tx.old.conn.now) (state S.Store tx.new.conn.now) (λ _. ⊥) }
 {
     tx.execute(sql, params)
-}
-
-/// Runs a query that only reads.
-pub(crate) fn rows_of<S: Alter>(conn: &mut Connection<S>, sql: &str) -> Result<Vec<Row>, Error>
-    requires { conn.old.in_transaction ≡ false }
-    ensures idle { conn.new.in_transaction ≡ false }
-    ensures reads { ReadsText sql.now (state S.Store conn.old) (state S.Store conn.new) result }
-    ensures err { HasCleanDisk (state S.Store conn.new) → IfErr result (FailsToQuery sql.now [] (state S.Store conn.old) (state S.Store conn.new)) }
-{
-    conn.query_all(sql, &[])
-}
-
-/// Reads a column. Where it has a value of this type, only memory can run out.
-pub(crate) fn value_of<T: FromSql>(row: &Row, at: usize) -> Result<T, Error>
-    ensures ok { IfOk result (λ x. (at < length row.now) × T.FromSql.reads_as (column row.now at) x) }
-    ensures err { IfErr result (λ e. at < length row.now → T.FromSql.is_readable (column row.now at) → IsOutOfMemory e) }
-{
-    row.get(at)
 }

@@ -1,5 +1,5 @@
 //! The rows of the pieces of files.
-ghost use Rattle.std.specs.Prelude.{◌≡◌, false, map, IfOk, IfErr};
+ghost use Rattle.std.specs.Prelude.{◌≡◌, ℤ, false, map};
 ghost use Rattle.std.specs.FinMap.{entries};
 ghost use Rattle.sqlite.specs.State.{HasCleanDisk, KeepsCommit, Survives};
 ghost use Rattle.sqlite.specs.Held.{state};
@@ -7,9 +7,10 @@ ghost use Rattle.dav_rows.specs.Contents.{extent_cells};
 ghost use Rattle.dav_rows.specs.Changes.{extent_entry, put_extent};
 ghost use Rattle.dav_rows.specs.Saving.{Applies};
 ghost use Rattle.dav_rows.specs.Loading.{Reads, extent_in};
-ghost use Rattle.dav_rows.specs.Failing.{IsOutOfMemory, IsTooLong, FailsToApply, HasNoText, IsShownBy, AreShownBy, FailsExcused};
+ghost use Rattle.dav_rows.specs.Failing.{IsTooLong, FailsToApply, FailsExcused};
 
-use crate::execute::{execute, rows_of, value_of};
+use crate::execute::execute;
+use crate::reading::{TableRow, read_rows, value_of};
 use sqlite::{Alter, Connection, Error, Row, Transaction, params};
 use std::alloc::Global;
 
@@ -20,6 +21,28 @@ pub struct ExtentRow {
     pub resource: i64,
     pub place: i64,
     pub pieces: Vec<u8>,
+}
+
+impl TableRow for ExtentRow {
+    ghost use Rattle.dav_rows.specs.Contents.{ExtentValues};
+    ghost use Rattle.dav_rows.specs.Failing.{HasNoText, IsShownBy};
+
+    ghost Entry = { ℤ × ExtentValues };
+
+    ghost entry = { extent_entry };
+
+    ghost entry_in = { extent_in };
+
+    ghost IsReadable = { IsShownBy extent_cells HasNoText };
+
+    fn from_row(row: &Row) -> Result<ExtentRow, Error> {
+        Ok(ExtentRow {
+            number: value_of(row, 0)?,
+            resource: value_of(row, 1)?,
+            place: value_of(row, 2)?,
+            pieces: value_of(row, 3)?,
+        })
+    }
 }
 
 pub(crate) fn put<S: Alter>(tx: &mut Transaction<'_, S>, row: &ExtentRow) -> Result<usize, Error>
@@ -49,32 +72,9 @@ pub(crate) fn load_all<S: Alter>(
     ensures reads { Reads (state S.Store conn.old) (state S.Store conn.new) result (λ all m. map extent_entry all.items ≡ entries m.extents) }
     ensures err { FailsExcused (state S.Store conn.old) (state S.Store conn.new) result }
 {
-    let rows = rows_of(
+    read_rows(
         conn,
+        alloc,
         "SELECT number, resource, place, pieces FROM extent ORDER BY number",
-    )?;
-    rows_in(alloc, rows.as_slice())
-}
-
-fn rows_in(alloc: Global, rows: &[Row]) -> Result<Vec<ExtentRow>, Error>
-    ensures ok { IfOk result (λ all. map extent_entry all.items ≡ map extent_in rows.now) }
-    ensures err { IfErr result (λ e. AreShownBy extent_cells HasNoText rows.now → IsOutOfMemory e) }
-{
-    let mut all = Vec::new(alloc);
-    'rows: for row in rows {
-        all.push(row_of(row)?)?;
-    }
-    Ok(all)
-}
-
-fn row_of(row: &Row) -> Result<ExtentRow, Error>
-    ensures ok { IfOk result (λ r. extent_entry r ≡ extent_in row.now) }
-    ensures err { IfErr result (λ e. IsShownBy extent_cells HasNoText row.now → IsOutOfMemory e) }
-{
-    Ok(ExtentRow {
-        number: value_of(row, 0)?,
-        resource: value_of(row, 1)?,
-        place: value_of(row, 2)?,
-        pieces: value_of(row, 3)?,
-    })
+    )
 }

@@ -10,6 +10,7 @@ mod lock;
 mod memory;
 mod opening;
 mod property;
+mod reading;
 mod recognizing;
 mod resource;
 mod saving;

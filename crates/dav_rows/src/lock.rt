@@ -1,5 +1,5 @@
 //! The rows of locks.
-ghost use Rattle.std.specs.Prelude.{◌≡◌, false, map, IfOk, IfErr};
+ghost use Rattle.std.specs.Prelude.{◌≡◌, ℤ, false, map};
 ghost use Rattle.std.specs.FinMap.{entries};
 ghost use Rattle.sqlite.specs.State.{HasCleanDisk, KeepsCommit, Survives};
 ghost use Rattle.sqlite.specs.Held.{state};
@@ -7,9 +7,10 @@ ghost use Rattle.dav_rows.specs.Contents.{lock_cells};
 ghost use Rattle.dav_rows.specs.Changes.{lock_entry, put_lock};
 ghost use Rattle.dav_rows.specs.Saving.{Applies};
 ghost use Rattle.dav_rows.specs.Loading.{Reads, lock_in};
-ghost use Rattle.dav_rows.specs.Failing.{IsOutOfMemory, IsTooLong, FailsToApply, IsUtf8Lock, IsShownBy, AreShownBy, FailsExcused};
+ghost use Rattle.dav_rows.specs.Failing.{IsTooLong, FailsToApply, FailsExcused};
 
-use crate::execute::{execute, rows_of, value_of};
+use crate::execute::execute;
+use crate::reading::{TableRow, read_rows, value_of};
 use sqlite::{Alter, Connection, Error, Row, Transaction, params};
 use std::alloc::Global;
 
@@ -20,6 +21,28 @@ pub struct LockRow {
     pub token: String,
     pub path: String,
     pub lock: Vec<u8>,
+}
+
+impl TableRow for LockRow {
+    ghost use Rattle.dav_rows.specs.Contents.{LockValues};
+    ghost use Rattle.dav_rows.specs.Failing.{IsUtf8Lock, IsShownBy};
+
+    ghost Entry = { ℤ × LockValues };
+
+    ghost entry = { lock_entry };
+
+    ghost entry_in = { lock_in };
+
+    ghost IsReadable = { IsShownBy lock_cells IsUtf8Lock };
+
+    fn from_row(row: &Row) -> Result<LockRow, Error> {
+        Ok(LockRow {
+            number: value_of(row, 0)?,
+            token: value_of(row, 1)?,
+            path: value_of(row, 2)?,
+            lock: value_of(row, 3)?,
+        })
+    }
 }
 
 pub(crate) fn put<S: Alter>(tx: &mut Transaction<'_, S>, row: &LockRow) -> Result<usize, Error>
@@ -48,32 +71,9 @@ pub(crate) fn load_all<S: Alter>(
     ensures reads { Reads (state S.Store conn.old) (state S.Store conn.new) result (λ all m. map lock_entry all.items ≡ entries m.locks) }
     ensures err { FailsExcused (state S.Store conn.old) (state S.Store conn.new) result }
 {
-    let rows = rows_of(
+    read_rows(
         conn,
+        alloc,
         "SELECT number, token, path, lock FROM lock ORDER BY number",
-    )?;
-    rows_in(alloc, rows.as_slice())
-}
-
-fn rows_in(alloc: Global, rows: &[Row]) -> Result<Vec<LockRow>, Error>
-    ensures ok { IfOk result (λ all. map lock_entry all.items ≡ map lock_in rows.now) }
-    ensures err { IfErr result (λ e. AreShownBy lock_cells IsUtf8Lock rows.now → IsOutOfMemory e) }
-{
-    let mut all = Vec::new(alloc);
-    'rows: for row in rows {
-        all.push(row_of(row)?)?;
-    }
-    Ok(all)
-}
-
-fn row_of(row: &Row) -> Result<LockRow, Error>
-    ensures ok { IfOk result (λ r. lock_entry r ≡ lock_in row.now) }
-    ensures err { IfErr result (λ e. IsShownBy lock_cells IsUtf8Lock row.now → IsOutOfMemory e) }
-{
-    Ok(LockRow {
-        number: value_of(row, 0)?,
-        token: value_of(row, 1)?,
-        path: value_of(row, 2)?,
-        lock: value_of(row, 3)?,
-    })
+    )
 }

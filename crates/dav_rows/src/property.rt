@@ -1,5 +1,5 @@
 //! The rows of dead properties.
-ghost use Rattle.std.specs.Prelude.{◌≡◌, false, map, IfOk, IfErr};
+ghost use Rattle.std.specs.Prelude.{◌≡◌, ℤ, false, map};
 ghost use Rattle.std.specs.FinMap.{entries};
 ghost use Rattle.sqlite.specs.State.{HasCleanDisk, KeepsCommit, Survives};
 ghost use Rattle.sqlite.specs.Held.{state};
@@ -7,9 +7,10 @@ ghost use Rattle.dav_rows.specs.Contents.{property_cells};
 ghost use Rattle.dav_rows.specs.Changes.{property_entry, put_property};
 ghost use Rattle.dav_rows.specs.Saving.{Applies};
 ghost use Rattle.dav_rows.specs.Loading.{Reads, property_in};
-ghost use Rattle.dav_rows.specs.Failing.{IsOutOfMemory, IsTooLong, FailsToApply, IsUtf8Property, IsShownBy, AreShownBy, FailsExcused};
+ghost use Rattle.dav_rows.specs.Failing.{IsTooLong, FailsToApply, FailsExcused};
 
-use crate::execute::{execute, rows_of, value_of};
+use crate::execute::execute;
+use crate::reading::{TableRow, read_rows, value_of};
 use sqlite::{Alter, Connection, Error, Row, Transaction, params};
 use std::alloc::Global;
 
@@ -21,6 +22,29 @@ pub struct PropertyRow {
     pub namespace: String,
     pub name: String,
     pub element: Vec<u8>,
+}
+
+impl TableRow for PropertyRow {
+    ghost use Rattle.dav_rows.specs.Contents.{PropertyValues};
+    ghost use Rattle.dav_rows.specs.Failing.{IsUtf8Property, IsShownBy};
+
+    ghost Entry = { ℤ × PropertyValues };
+
+    ghost entry = { property_entry };
+
+    ghost entry_in = { property_in };
+
+    ghost IsReadable = { IsShownBy property_cells IsUtf8Property };
+
+    fn from_row(row: &Row) -> Result<PropertyRow, Error> {
+        Ok(PropertyRow {
+            number: value_of(row, 0)?,
+            resource: value_of(row, 1)?,
+            namespace: value_of(row, 2)?,
+            name: value_of(row, 3)?,
+            element: value_of(row, 4)?,
+        })
+    }
 }
 
 pub(crate) fn put<S: Alter>(tx: &mut Transaction<'_, S>, row: &PropertyRow) -> Result<usize, Error>
@@ -56,33 +80,9 @@ pub(crate) fn load_all<S: Alter>(
     ensures reads { Reads (state S.Store conn.old) (state S.Store conn.new) result (λ all m. map property_entry all.items ≡ entries m.properties) }
     ensures err { FailsExcused (state S.Store conn.old) (state S.Store conn.new) result }
 {
-    let rows = rows_of(
+    read_rows(
         conn,
+        alloc,
         "SELECT number, resource, namespace, name, element FROM property ORDER BY number",
-    )?;
-    rows_in(alloc, rows.as_slice())
-}
-
-fn rows_in(alloc: Global, rows: &[Row]) -> Result<Vec<PropertyRow>, Error>
-    ensures ok { IfOk result (λ all. map property_entry all.items ≡ map property_in rows.now) }
-    ensures err { IfErr result (λ e. AreShownBy property_cells IsUtf8Property rows.now → IsOutOfMemory e) }
-{
-    let mut all = Vec::new(alloc);
-    'rows: for row in rows {
-        all.push(row_of(row)?)?;
-    }
-    Ok(all)
-}
-
-fn row_of(row: &Row) -> Result<PropertyRow, Error>
-    ensures ok { IfOk result (λ r. property_entry r ≡ property_in row.now) }
-    ensures err { IfErr result (λ e. IsShownBy property_cells IsUtf8Property row.now → IsOutOfMemory e) }
-{
-    Ok(PropertyRow {
-        number: value_of(row, 0)?,
-        resource: value_of(row, 1)?,
-        namespace: value_of(row, 2)?,
-        name: value_of(row, 3)?,
-        element: value_of(row, 4)?,
-    })
+    )
 }

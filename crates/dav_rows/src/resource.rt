@@ -1,5 +1,5 @@
 //! The rows of resources.
-ghost use Rattle.std.specs.Prelude.{◌≡◌, false, map, IfOk, IfErr};
+ghost use Rattle.std.specs.Prelude.{◌≡◌, ℤ, false, map};
 ghost use Rattle.std.specs.FinMap.{entries};
 ghost use Rattle.sqlite.specs.State.{HasCleanDisk, KeepsCommit, Survives};
 ghost use Rattle.sqlite.specs.Held.{state};
@@ -7,9 +7,10 @@ ghost use Rattle.dav_rows.specs.Contents.{resource_cells};
 ghost use Rattle.dav_rows.specs.Changes.{resource_entry, put_resource};
 ghost use Rattle.dav_rows.specs.Saving.{Applies};
 ghost use Rattle.dav_rows.specs.Loading.{Reads, resource_in};
-ghost use Rattle.dav_rows.specs.Failing.{IsOutOfMemory, IsTooLong, FailsToApply, IsUtf8Resource, IsShownBy, AreShownBy, FailsExcused};
+ghost use Rattle.dav_rows.specs.Failing.{IsTooLong, FailsToApply, FailsExcused};
 
-use crate::execute::{execute, rows_of, value_of};
+use crate::execute::execute;
+use crate::reading::{TableRow, read_rows, value_of};
 use sqlite::{Alter, Connection, Error, Row, Transaction, params};
 use std::alloc::Global;
 
@@ -24,6 +25,32 @@ pub struct ResourceRow {
     pub version: i64,
     pub created: i64,
     pub modified: i64,
+}
+
+impl TableRow for ResourceRow {
+    ghost use Rattle.dav_rows.specs.Contents.{ResourceValues};
+    ghost use Rattle.dav_rows.specs.Failing.{IsUtf8Resource, IsShownBy};
+
+    ghost Entry = { ℤ × ResourceValues };
+
+    ghost entry = { resource_entry };
+
+    ghost entry_in = { resource_in };
+
+    ghost IsReadable = { IsShownBy resource_cells IsUtf8Resource };
+
+    fn from_row(row: &Row) -> Result<ResourceRow, Error> {
+        Ok(ResourceRow {
+            number: value_of(row, 0)?,
+            parent: value_of(row, 1)?,
+            name: value_of(row, 2)?,
+            directory: value_of(row, 3)?,
+            size: value_of(row, 4)?,
+            version: value_of(row, 5)?,
+            created: value_of(row, 6)?,
+            modified: value_of(row, 7)?,
+        })
+    }
 }
 
 pub(crate) fn put<S: Alter>(tx: &mut Transaction<'_, S>, row: &ResourceRow) -> Result<usize, Error>
@@ -62,36 +89,9 @@ pub(crate) fn load_all<S: Alter>(
     ensures reads { Reads (state S.Store conn.old) (state S.Store conn.new) result (λ all m. map resource_entry all.items ≡ entries m.resources) }
     ensures err { FailsExcused (state S.Store conn.old) (state S.Store conn.new) result }
 {
-    let rows = rows_of(
+    read_rows(
         conn,
+        alloc,
         "SELECT number, parent, name, directory, size, version, created, modified FROM resource ORDER BY number",
-    )?;
-    rows_in(alloc, rows.as_slice())
-}
-
-fn rows_in(alloc: Global, rows: &[Row]) -> Result<Vec<ResourceRow>, Error>
-    ensures ok { IfOk result (λ all. map resource_entry all.items ≡ map resource_in rows.now) }
-    ensures err { IfErr result (λ e. AreShownBy resource_cells IsUtf8Resource rows.now → IsOutOfMemory e) }
-{
-    let mut all = Vec::new(alloc);
-    'rows: for row in rows {
-        all.push(row_of(row)?)?;
-    }
-    Ok(all)
-}
-
-fn row_of(row: &Row) -> Result<ResourceRow, Error>
-    ensures ok { IfOk result (λ r. resource_entry r ≡ resource_in row.now) }
-    ensures err { IfErr result (λ e. IsShownBy resource_cells IsUtf8Resource row.now → IsOutOfMemory e) }
-{
-    Ok(ResourceRow {
-        number: value_of(row, 0)?,
-        parent: value_of(row, 1)?,
-        name: value_of(row, 2)?,
-        directory: value_of(row, 3)?,
-        size: value_of(row, 4)?,
-        version: value_of(row, 5)?,
-        created: value_of(row, 6)?,
-        modified: value_of(row, 7)?,
-    })
+    )
 }

@@ -1,5 +1,5 @@
 //! The row of what a store has beside its resources.
-ghost use Rattle.std.specs.Prelude.{◌≡◌, false, map, IfOk, IfErr};
+ghost use Rattle.std.specs.Prelude.{◌≡◌, ℤ, false, map};
 ghost use Rattle.std.specs.FinMap.{entries};
 ghost use Rattle.sqlite.specs.State.{HasCleanDisk, KeepsCommit, Survives};
 ghost use Rattle.sqlite.specs.Held.{state};
@@ -7,9 +7,10 @@ ghost use Rattle.dav_rows.specs.Contents.{state_cells};
 ghost use Rattle.dav_rows.specs.Changes.{state_entry, put_state};
 ghost use Rattle.dav_rows.specs.Saving.{Applies};
 ghost use Rattle.dav_rows.specs.Loading.{Reads, state_in};
-ghost use Rattle.dav_rows.specs.Failing.{IsOutOfMemory, IsTooLong, FailsToApply, HasNoText, IsShownBy, AreShownBy, FailsExcused};
+ghost use Rattle.dav_rows.specs.Failing.{IsTooLong, FailsToApply, FailsExcused};
 
-use crate::execute::{execute, rows_of, value_of};
+use crate::execute::execute;
+use crate::reading::{TableRow, read_rows, value_of};
 use sqlite::{Alter, Connection, Error, Row, Transaction, params};
 use std::alloc::Global;
 
@@ -21,6 +22,29 @@ pub struct StateRow {
     pub time: i64,
     pub batch: i64,
     pub digest_key: i64,
+}
+
+impl TableRow for StateRow {
+    ghost use Rattle.dav_rows.specs.Contents.{StateValues};
+    ghost use Rattle.dav_rows.specs.Failing.{HasNoText, IsShownBy};
+
+    ghost Entry = { ℤ × StateValues };
+
+    ghost entry = { state_entry };
+
+    ghost entry_in = { state_in };
+
+    ghost IsReadable = { IsShownBy state_cells HasNoText };
+
+    fn from_row(row: &Row) -> Result<StateRow, Error> {
+        Ok(StateRow {
+            number: value_of(row, 0)?,
+            counter: value_of(row, 1)?,
+            time: value_of(row, 2)?,
+            batch: value_of(row, 3)?,
+            digest_key: value_of(row, 4)?,
+        })
+    }
 }
 
 pub(crate) fn put<S: Alter>(tx: &mut Transaction<'_, S>, row: &StateRow) -> Result<usize, Error>
@@ -55,33 +79,9 @@ pub(crate) fn load_all<S: Alter>(
     ensures reads { Reads (state S.Store conn.old) (state S.Store conn.new) result (λ all m. map state_entry all.items ≡ entries m.states) }
     ensures err { FailsExcused (state S.Store conn.old) (state S.Store conn.new) result }
 {
-    let rows = rows_of(
+    read_rows(
         conn,
+        alloc,
         "SELECT number, counter, time, batch, digest_key FROM state ORDER BY number",
-    )?;
-    rows_in(alloc, rows.as_slice())
-}
-
-fn rows_in(alloc: Global, rows: &[Row]) -> Result<Vec<StateRow>, Error>
-    ensures ok { IfOk result (λ all. map state_entry all.items ≡ map state_in rows.now) }
-    ensures err { IfErr result (λ e. AreShownBy state_cells HasNoText rows.now → IsOutOfMemory e) }
-{
-    let mut all = Vec::new(alloc);
-    'rows: for row in rows {
-        all.push(row_of(row)?)?;
-    }
-    Ok(all)
-}
-
-fn row_of(row: &Row) -> Result<StateRow, Error>
-    ensures ok { IfOk result (λ r. state_entry r ≡ state_in row.now) }
-    ensures err { IfErr result (λ e. IsShownBy state_cells HasNoText row.now → IsOutOfMemory e) }
-{
-    Ok(StateRow {
-        number: value_of(row, 0)?,
-        counter: value_of(row, 1)?,
-        time: value_of(row, 2)?,
-        batch: value_of(row, 3)?,
-        digest_key: value_of(row, 4)?,
-    })
+    )
 }

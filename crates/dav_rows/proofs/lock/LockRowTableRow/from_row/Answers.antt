@@ -3,7 +3,7 @@ use Rattle.sqlite.specs.Values.{IsInt}
 use Rattle.dav_rows.specs.Contents.{lock_cells}
 use Rattle.dav_rows.specs.Failing.{IsUtf8Lock}
 use Rattle.dav_rows.proofs.FailLemmas.{unread, IsBlobValue, IsTextValue}
-use Rattle.dav_rows.proofs.lock.row_of.Goals as goal
+use Rattle.dav_rows.proofs.lock.LockRowTableRow.from_row.Goals as goal
 
 pub returns-in_err-value_of-clause-err : goal.returns-in_err-value_of-clause-err
 returns-in_err-value_of-clause-err c =

@@ -3,7 +3,7 @@ use Rattle.sqlite.specs.Values.{IsInt}
 use Rattle.dav_rows.specs.Contents.{state_cells}
 use Rattle.dav_rows.specs.Failing.{HasNoText}
 use Rattle.dav_rows.proofs.FailLemmas.{unread}
-use Rattle.dav_rows.proofs.state.row_of.Goals as goal
+use Rattle.dav_rows.proofs.state.StateRowTableRow.from_row.Goals as goal
 
 pub returns-in_err-value_of-clause-err : goal.returns-in_err-value_of-clause-err
 returns-in_err-value_of-clause-err c =

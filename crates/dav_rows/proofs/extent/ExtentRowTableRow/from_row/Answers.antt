@@ -3,7 +3,7 @@ use Rattle.sqlite.specs.Values.{IsInt}
 use Rattle.dav_rows.specs.Contents.{extent_cells}
 use Rattle.dav_rows.specs.Failing.{HasNoText}
 use Rattle.dav_rows.proofs.FailLemmas.{unread, IsBlobValue}
-use Rattle.dav_rows.proofs.extent.row_of.Goals as goal
+use Rattle.dav_rows.proofs.extent.ExtentRowTableRow.from_row.Goals as goal
 
 pub returns-in_err-value_of-clause-err : goal.returns-in_err-value_of-clause-err
 returns-in_err-value_of-clause-err c =
