@@ -39,6 +39,8 @@ fn decode_extents(alloc: Global, number: i64, rows: &[ExtentRow]) -> Result<Vec<
         }
         decode_pieces(&row.pieces, &mut pieces)?;
     }
+    // Most files have one piece, and a vector that grows has a capacity of four.
+    pieces.shrink_to_fit();
     Ok(pieces)
 }
 

@@ -39,5 +39,5 @@ rows-preserved c pieces have =
 pub returns : goal.returns
 returns c pieces (n, number, are) =
     let left = c.rows.invariant pieces (n, passed c.args.number n c.ranges.number number, are) in
-    groups-last n c.rows.pieces.items pieces
+    c.shrink_to_fit.ensures.items ∙ groups-last n c.rows.pieces.items pieces
     (subst (λ rs. GroupsLeft n (map extent_entry rs) c.rows.pieces.items pieces) (drop-end c.args.rows.now c.rows.row-index (omega arith)) left)
