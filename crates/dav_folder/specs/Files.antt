@@ -14,6 +14,7 @@ use Rattle.dav_memls.specs.MemLs.{list_of}
 use Rattle.dav_pieces.specs.Pieces.{bytes_of}
 use Rattle.dav_pieces.specs.declared.piece.Piece.{Piece}
 use Rattle.dav_rows.specs.Contents.{Contents}
+use Rattle.dav_rows.specs.Failing.{HasUtf8}
 use Rattle.dav_rows_files.specs.Starting.{Keeps}
 use Rattle.dav_store.specs.declared.lock.DavLock.{DavLock}
 use Rattle.dav_tree.specs.Kept.{resources_by}
@@ -55,6 +56,10 @@ pub record Hold (left : database.Image) (file : List ℕ) (kept : KeptStore) : T
   pub locks_are : map kept_lock image.locks ≡ kept.locks
   pub time : image.numbers.time ≡ kept.time
   pub batch_is : image.numbers.batch ≡ kept.batch
+
+-- Each text in the tables of a store that was kept is UTF-8.
+abbrev pub HoldsUtf8 : Type 0
+HoldsUtf8 = (left : database.Image) (file : List ℕ) (kept : KeptStore) (hold : Hold left file kept) → HasUtf8 hold.tables
 
 -- ---- what a crash leaves
 

@@ -3,8 +3,10 @@
 
 mod closing;
 mod folder;
+mod laws;
 mod opening;
 
 pub use closing::close_store;
 pub use folder::Folder;
+pub use laws::show_utf8;
 pub use opening::{OpenError, Opened, open_store};
