@@ -150,3 +150,12 @@ module _ (xs : List Piece) (e rest : Piece) (n from skip left skipped part : ℕ
       let is_piece = piece_is ∙ (λ i. take (parts i) (is_behind i)) ∙ take_min (n - length cut) behind in
       (λ i. was i ++ is_piece i) ∙ sym (take-append n cut behind) ∙ ap (take n) (sym (drop-append from front last))
       ∙ ap (λ bs. take n (drop from bs)) (sym (bytes_of-push file xs e))
+
+-- where the first pieces have all bytes of a cut
+pub cut-early : (file : List ℕ) (n from i : ℕ) (pieces : List Piece) → n ≤ size_of (take i pieces) - from
+    → take n (drop from (bytes_of file (take i pieces))) ≡ take n (drop from (bytes_of file pieces))
+cut-early file n from i pieces h =
+    let front = bytes_of file (take i pieces) in let back = bytes_of file (drop i pieces) in
+    let long = length-bytes_of file (take i pieces) in let cut_long = length-drop from front in
+    sym (take-append-le n (drop from front) (drop (from - length front) back) (omega arith))
+    ∙ ap (take n) (sym (drop-append from front back) ∙ ap (drop from) (sym (bytes_of-append file (take i pieces) (drop i pieces)) ∙ ap (bytes_of file) (take-append-drop i pieces)))

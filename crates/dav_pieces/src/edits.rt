@@ -159,11 +159,18 @@ pub(crate) fn cut(
     let mut skip = place;
     let mut left = count;
     for piece in pieces {
-        let skipped = piece.len().min(skip);
-        let rest = piece.rest(skipped);
+        if left == 0 {
+            break;
+        }
+        let len = piece.len();
+        if len <= skip {
+            skip -= len;
+            continue;
+        }
+        let rest = piece.rest(skip);
         let part = rest.len().min(left);
         push(&mut out, rest.first(part))?;
-        skip -= skipped;
+        skip = 0;
         left -= part;
     }
     Ok(out)
