@@ -8,6 +8,7 @@ use Rattle.dav_space.specs.declared.range.Range.{Range}
 use Rattle.dav_blocks.specs.Runs.{are_clear}
 use Rattle.dav_data.specs.declared.hash.Tail.{Tail}
 use Rattle.dav_data.specs.Digests.{hashed, IsHashed}
+use Rattle.dav_data.specs.Sip.{hasher_of}
 use Rattle.dav_data.proofs.Keeping.{in-use-joined, grown-bytes}
 
 abbrev use_of : List Range → ℕ → ℕ → ℕ → Bool
@@ -20,15 +21,15 @@ module _ (key : ℕ) (old new : List ℕ) (ranges : List Range) (end : ℕ) (tai
   bytes : bytes_at new grown.block.at grown.block.size ≡ bytes_at old tail.block.at tail.block.size ++ part
   bytes = (λ i. bytes_at new (at i) (size i)) ∙ grown-bytes old new tail.block.at tail.block.size len part same there
 
-  pub grown-hashed : tail.hasher ≡ hashed key (bytes_at old tail.block.at tail.block.size)
-      → ((before : List ℕ) → tail.hasher ≡ hashed key before → grown.hasher ≡ hashed key (before ++ part)) → IsHashed key new (use_of ranges end) grown
+  pub grown-hashed : hasher_of tail.hash ≡ hashed key (bytes_at old tail.block.at tail.block.size)
+      → ((before : List ℕ) → hasher_of tail.hash ≡ hashed key before → hasher_of grown.hash ≡ hashed key (before ++ part)) → IsHashed key new (use_of ranges end) grown
   grown-hashed was goes_on = record {
     used = (λ i. use_of ranges end (at i) (size i)) ∙ in-use-joined ranges end tail.block.at tail.block.size len used more;
     hash = goes_on _ was ∙ ap (hashed key) (sym bytes);
   }
 
-  pub grown-right : tail.hasher ≡ hashed key (bytes_at old tail.block.at tail.block.size)
-      → ((before : List ℕ) → tail.hasher ≡ hashed key before → grown.block.digest ≡ digest key (before ++ part)) → grown.block.digest ≡ digest key (bytes_at new grown.block.at grown.block.size)
+  pub grown-right : hasher_of tail.hash ≡ hashed key (bytes_at old tail.block.at tail.block.size)
+      → ((before : List ℕ) → hasher_of tail.hash ≡ hashed key before → grown.block.digest ≡ digest key (before ++ part)) → grown.block.digest ≡ digest key (bytes_at new grown.block.at grown.block.size)
   grown-right was goes_on = goes_on _ was ∙ ap (digest key) (sym bytes)
 
 -- the first bytes of those that fit

@@ -1,7 +1,9 @@
 -- What calls of a data file keep.
-use Rattle.std.proofs.Common.{◌≡◌, ◌∙◌, ℕ, ◌+◌, ◌-◌, Bool, true, leb, List, [], ◌∷◌, ◌++◌, length, ap, sym, arith}
+use Rattle.std.proofs.Common.{◌≡◌, ◌∙◌, ℕ, suc, ◌+◌, ◌-◌, Bool, true, leb, List, [], ◌∷◌, ◌++◌, length, ap, sym, arith}
 use Rattle.std.proofs.Math.ListN.{replicate, length-replicate}
 use Rattle.std.proofs.lemmas.List.{take_all, drop_all, append-nil, nil_from_length}
+use Rattle.std.proofs.lemmas.List.Elements.{All-push}
+use Rattle.std.specs.List.{remove}
 use Rattle.std.specs.Prelude.{◌&&◌, Result, Ok, Err, OnErr}
 use Rattle.std.proofs.lemmas.Bool.{and_parts, and_from, leb-true, le-leb}
 use Rattle.sqlite_disk.specs.declared.Disk.{Ghosts}
@@ -66,6 +68,16 @@ is_hashed-kept key old new old_use new_use used same tail is = record {
 pub hashed-kept : (key : ℕ) (old new : List ℕ) (old_use new_use : ℕ → ℕ → Bool) → ((at n : ℕ) → old_use at n ≡ true → new_use at n ≡ true)
     → ((at n : ℕ) → old_use at n ≡ true → bytes_at new at n ≡ bytes_at old at n) → (tails : List Tail) → AreHashed key old old_use tails → AreHashed key new new_use tails
 hashed-kept key old new old_use new_use used same tails are = λ k d lt. is_hashed-kept key old new old_use new_use used same _ (are k d lt)
+
+pub hashed-push : (key : ℕ) (old new : List ℕ) (old_use new_use : ℕ → ℕ → Bool) → ((at n : ℕ) → old_use at n ≡ true → new_use at n ≡ true)
+    → ((at n : ℕ) → old_use at n ≡ true → bytes_at new at n ≡ bytes_at old at n) → (tails : List Tail) (tail : Tail)
+    → AreHashed key old old_use tails → IsHashed key old old_use tail → AreHashed key new new_use (tails ++ tail ∷ [])
+hashed-push key old new old_use new_use used same tails tail are is =
+    All-push (IsHashed key new new_use) tails tail (hashed-kept key old new old_use new_use used same tails are) (is_hashed-kept key old new old_use new_use used same tail is)
+
+pub hashed-rest : (key : ℕ) (file : List ℕ) (in_use : ℕ → ℕ → Bool) (tails : List Tail) → AreHashed key file in_use tails → AreHashed key file in_use (remove tails 0)
+hashed-rest key file in_use [] are = are
+hashed-rest key file in_use (tail ∷ tails) are = λ k d lt. are (suc k) d (omega arith)
 
 -- two runs in use, of which one follows the other
 pub in-use-joined : (ranges : List Range) (end at n m : ℕ) → (leb (at + n) end && are_clear ranges at n) ≡ true → (leb (at + n + m) end && are_clear ranges (at + n) m) ≡ true

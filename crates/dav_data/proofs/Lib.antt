@@ -1,4 +1,5 @@
 pub mod Runs
+pub mod SipWords
 pub mod Hashing
 pub mod Bodies
 pub mod Places

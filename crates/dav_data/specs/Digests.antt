@@ -9,6 +9,7 @@ use Rattle.dav_pieces.specs.declared.piece.Piece.{Piece}
 use Rattle.dav_pieces.specs.declared.piece.Piece.TheVariants.{Part, Zeros}
 use Rattle.dav_pieces.specs.Pieces.{bytes_at, are_sound}
 use Rattle.dav_data.specs.declared.hash.Tail.{Tail}
+use Rattle.dav_data.specs.Sip.{hasher_of}
 
 -- the state of the hash after the key and these bytes
 abbrev pub hashed : ℕ → List ℕ → DefaultHasher
@@ -16,7 +17,7 @@ hashed key bytes = sip.write (sip.write sip.initial (to_le_bytes w64 key)) bytes
 
 -- a tail of no bytes
 abbrev pub no_tail : Tail
-no_tail = record { block = record { at = 0; size = 0; digest = 0 }; hasher = sip.initial }
+no_tail = record { block = record { at = 0; size = 0; digest = 0 }; hash = record { v0 = 0; v1 = 0; v2 = 0; v3 = 0; tail = 0; length = 0 } }
 
 -- the tail with this number has the place and the size of the block
 pub record IsTailOf (block : Block) (index : ℕ) (tails : List Tail) : Type 0 where
@@ -35,7 +36,7 @@ are_right key file pieces = are_sound (is_right key file) pieces
 -- the block of the tail is in use, and its hash is that of its bytes
 pub record IsHashed (key : ℕ) (file : List ℕ) (in_use : ℕ → ℕ → Bool) (tail : Tail) : Type 0 where
   pub used : in_use tail.block.at tail.block.size ≡ true
-  pub hash : tail.hasher ≡ hashed key (bytes_at file tail.block.at tail.block.size)
+  pub hash : hasher_of tail.hash ≡ hashed key (bytes_at file tail.block.at tail.block.size)
 
 abbrev pub AreHashed : ℕ → List ℕ → (ℕ → ℕ → Bool) → List Tail → Type 0
 AreHashed key file in_use tails = All (IsHashed key file in_use) tails

@@ -2,16 +2,17 @@
 ghost use Rattle.std.specs.Prelude.{◌≡◌, ◌<◌, ◌+◌, ◌^◌, ◌++◌, ℕ, List, [], length};
 ghost use Rattle.sqlite_disk.specs.Digest.{digest as digest_by};
 ghost use Rattle.dav_data.specs.Digests.{hashed};
+ghost use Rattle.dav_data.specs.Sip.{hasher_of};
 
+use crate::sip::Sip;
 use dav_blocks::Run;
 use dav_pieces::Block;
-use std::hash::{DefaultHasher, Hasher};
 
 /// A block that may grow, with the state of its digest.
 #[derive(Clone, Copy)]
 pub(crate) struct Tail {
     pub block: Block,
-    pub hasher: DefaultHasher,
+    pub hash: Sip,
 }
 
 impl Tail {
@@ -22,16 +23,16 @@ impl Tail {
         ensures at { result.block.at ≡ run.at }
         ensures size { result.block.size ≡ run.len }
         ensures digest { result.block.digest ≡ digest_by key bytes.now }
-        ensures hash { result.hasher ≡ hashed key bytes.now }
+        ensures hash { hasher_of result.hash ≡ hashed key bytes.now }
     {
-        let hasher = go_on(begin(key), bytes);
+        let hash = go_on(begin(key), bytes);
         Tail {
             block: Block {
                 at: run.at,
                 size: run.len as u32,
-                digest: digest(&hasher),
+                digest: digest(hash),
             },
-            hasher,
+            hash,
         }
     }
 
@@ -40,42 +41,45 @@ impl Tail {
         requires { self.block.size + length bytes.now < 2 ^ 32 }
         ensures at { result.block.at ≡ self.block.at }
         ensures size { result.block.size ≡ self.block.size + length bytes.now }
-        ensures digest { (key : ℕ) (before : List ℕ) → self.hasher ≡ hashed key before → result.block.digest ≡ digest_by key (before ++ bytes.now) }
-        ensures hash { (key : ℕ) (before : List ℕ) → self.hasher ≡ hashed key before → result.hasher ≡ hashed key (before ++ bytes.now) }
+        ensures digest { (key : ℕ) (before : List ℕ) → hasher_of self.hash ≡ hashed key before → result.block.digest ≡ digest_by key (before ++ bytes.now) }
+        ensures hash { (key : ℕ) (before : List ℕ) → hasher_of self.hash ≡ hashed key before → hasher_of result.hash ≡ hashed key (before ++ bytes.now) }
     {
-        let hasher = go_on(self.hasher, bytes);
+        let hash = go_on(self.hash, bytes);
         Tail {
             block: Block {
                 at: self.block.at,
                 size: self.block.size + bytes.len() as u32,
-                digest: digest(&hasher),
+                digest: digest(hash),
             },
-            hasher,
+            hash,
         }
     }
 }
 
-/// Begins the digest of a block.
-fn begin(key: u64) -> DefaultHasher
-    ensures { result ≡ hashed key [] }
+/// Returns the digest of the bytes of a block.
+pub(crate) fn digest_of(key: u64, bytes: &[u8]) -> u64
+    ensures { result ≡ digest_by key bytes.now }
 {
-    let mut hasher = DefaultHasher::new();
-    hasher.write(&key.to_le_bytes());
-    hasher
+    digest(go_on(begin(key), bytes))
+}
+
+/// Begins the hash of a block.
+fn begin(key: u64) -> Sip
+    ensures { hasher_of result ≡ hashed key [] }
+{
+    Sip::new().after(&key.to_le_bytes())
 }
 
 /// Goes on with the next bytes of a block.
-fn go_on(hasher: DefaultHasher, bytes: &[u8]) -> DefaultHasher
-    ensures { (key : ℕ) (before : List ℕ) → hasher ≡ hashed key before → result ≡ hashed key (before ++ bytes.now) }
+fn go_on(hash: Sip, bytes: &[u8]) -> Sip
+    ensures { (key : ℕ) (before : List ℕ) → hasher_of hash ≡ hashed key before → hasher_of result ≡ hashed key (before ++ bytes.now) }
 {
-    let mut hasher = hasher;
-    hasher.write(bytes);
-    hasher
+    hash.after(bytes)
 }
 
 /// Returns the digest of the bytes so far.
-fn digest(hasher: &DefaultHasher) -> u64
-    ensures { (key : ℕ) (bytes : List ℕ) → hasher.now ≡ hashed key bytes → result ≡ digest_by key bytes }
+fn digest(hash: Sip) -> u64
+    ensures { (key : ℕ) (bytes : List ℕ) → hasher_of hash ≡ hashed key bytes → result ≡ digest_by key bytes }
 {
-    1.max(hasher.finish())
+    1.max(hash.finish())
 }

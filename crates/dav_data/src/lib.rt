@@ -4,6 +4,7 @@
 mod data_file;
 mod hash;
 mod medium;
+mod sip;
 #[cfg(test)]
 mod tests;
 

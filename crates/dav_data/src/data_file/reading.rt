@@ -8,9 +8,10 @@ ghost use Rattle.dav_data.specs.Errors.{IsFailure};
 
 use crate::data_file::DataFile;
 use crate::data_file::writing::failure;
+use crate::hash::digest_of;
 use dav_pieces::{Block, Body, Piece};
 use dav_resource::{FsError, FsResult};
-use sqlite_disk::{Disk, digest_of};
+use sqlite_disk::Disk;
 use std::alloc::Global;
 
 impl<D: Disk> DataFile<D> {

@@ -7,4 +7,4 @@ use Rattle.dav_data.proofs.hash.begin.Goals as goal
 pub returns : goal.returns
 returns c =
     let bytes : c.to_le_bytes.result ≡ to_le_bytes w64 c.args.key = c.to_le_bytes.ensures in
-    c.write.ensures ∙ (λ i. write (c.new-hasher.ensures i) (bytes i)) ∙ sym (write-nil _)
+    c.after.ensures ∙ (λ i. write (c.new.ensures i) (bytes i)) ∙ sym (write-nil _)

@@ -4,4 +4,4 @@ use Rattle.dav_data.proofs.Hashing.{write-append}
 use Rattle.dav_data.proofs.hash.go_on.Goals as goal
 
 pub returns : goal.returns
-returns c = λ key before is. c.write.ensures ∙ ap (λ s. write s c.args.bytes.now) is ∙ write-append _ before c.args.bytes.now
+returns c = λ key before is. c.after.ensures ∙ ap (λ s. write s c.args.bytes.now) is ∙ write-append _ before c.args.bytes.now
