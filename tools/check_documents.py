@@ -8,7 +8,8 @@
   have the function and its contract the clause. The file of a link to an .antt file must define each name. In the other
   documents only citations with clauses are checked.
 - Laws: docs/GUARANTEES.md cites each definition that a field of a law of dav_engine uses (specs/Law.antt).
-- The picture docs/crates.svg is that of crates.txt (tools/picture).
+- The picture docs/crates.svg is that of crates.txt (tools/picture), and the chart docs/speed.svg that of the table in
+  docs/SPEED.md (tools/chart).
 - Words: the documents and the comments of the sources, those in Go too, use no word of WORDS. tools/words-allowed lists
   exceptions.
 """
@@ -156,9 +157,10 @@ def check_laws(prose):
         yield f"{file}.antt, {law} ({name})", wrong
 
 
-def check_picture():
-    ran = subprocess.run([TOP / "tools/picture", "--check"], capture_output=True, text=True)
-    yield "docs/crates.svg", (ran.stdout + ran.stderr).strip() or f"status {ran.returncode}" if ran.returncode else None
+def check_pictures():
+    for tool, picture in (("picture", "docs/crates.svg"), ("chart", "docs/speed.svg")):
+        ran = subprocess.run([TOP / "tools" / tool, "--check"], capture_output=True, text=True)
+        yield picture, (ran.stdout + ran.stderr).strip() or f"status {ran.returncode}" if ran.returncode else None
 
 
 # ---- words
@@ -207,5 +209,5 @@ def check_all():
         yield from check_laws(markdown.split(text_of(GUARANTEES))[1])
     else:
         yield shown(GUARANTEES), "is missing"
-    yield from check_picture()
+    yield from check_pictures()
     yield from check_words()
