@@ -1,9 +1,12 @@
 //! Dates of header fields and properties.
 ghost use Rattle.std.specs.Prelude.{◌≡◌, ◌≤◌, IfOk, IfSome, string_bytes};
-ghost use Rattle.http_header.specs.FieldValue.{IsFieldValue};
+ghost use Rattle.http_header.specs.FieldValue.{IsFieldValue, plain_value};
+ghost use Rattle.httpdate.specs.Date.{unix_secs};
 ghost use Rattle.dav_dates.specs.Moment.{last_shown, shown_moment};
 ghost use Rattle.dav_dates.specs.HttpDate.{IsHttpDate, http_date_text};
 
+use bytes::Bytes;
+use http_header::HeaderValue;
 use httpdate::{HttpDate, fmt_http_date};
 use std::alloc::{AllocError, Global};
 
@@ -30,6 +33,23 @@ pub fn http_date(alloc: Global, secs: u64) -> Result<String, AllocError>
     ensures exact { IfOk result (λ text. string_bytes text ≡ http_date_text secs) }
     ensures field { IfOk result (λ text. IsFieldValue (string_bytes text)) }
 {
-    let date = HttpDate::from_unix_secs(secs).unwrap();
-    fmt_http_date(alloc, date)
+    fmt_http_date(alloc, date_of(secs))
+}
+
+/// Formats a time in seconds since 1970 as `http_date` does, as the value of a header field. Fails only if memory
+/// runs out.
+pub fn http_date_value(alloc: Global, secs: u64) -> Result<HeaderValue, AllocError>
+    requires { secs ≤ last_shown }
+    ensures { IfOk result (λ value. value ≡ plain_value (http_date_text secs)) }
+{
+    let text = Bytes::copy_from_slice(alloc, &date_of(secs).to_bytes())?;
+    Ok(HeaderValue::from_known_valid(text))
+}
+
+/// Returns the date of a time in seconds since 1970.
+fn date_of(secs: u64) -> HttpDate
+    requires { secs ≤ last_shown }
+    ensures { unix_secs result ≡ secs }
+{
+    HttpDate::from_unix_secs(secs).unwrap()
 }

@@ -1,6 +1,7 @@
 //! PUT (RFC 9110, section 9.3.4; RFC 4918, section 9.7) and PATCH (RFC 5789).
 ghost use Rattle.std.specs.Prelude.{◌≡◌, ◌<◌, ◌+◌, ◌^◌, nat_eq, true, false, length, if◌then◌else◌, IfOk, IfErr, OnOk, OnErr, Some, Ok};
 ghost use Rattle.std.specs.Option.{ForSome, option_map_or};
+ghost use Rattle.dav_resource.specs.Methods.{method_of};
 ghost use Rattle.dav_store.specs.Store.{IsTagText};
 ghost use Rattle.dav_engine.specs.DavInner.{lent, lent_locks, bodies_by};
 ghost use Rattle.dav_engine.specs.Served.{IsServed};
@@ -19,11 +20,11 @@ use crate::target::{Target, find_target, stated_length};
 use dav_headers::read_checksum;
 use dav_messages::body_length;
 use dav_resource::{
-    Body, DavError, DavFile, DavMethod, DavRequest, DavResult, FsError, FsResult, Meta,
-    OpenOptions, ReqBody, Text,
+    Body, DavError, DavFile, DavRequest, DavResult, FsError, FsResult, Meta, OpenOptions, ReqBody,
+    Text,
 };
 use dav_store::{DavLockSystem, GuardedFileSystem};
-use http::{Response, StatusCode};
+use http::{Method, Response, StatusCode};
 use http_header::{HeaderMap, HeaderValue};
 use std::alloc::Global;
 
@@ -62,7 +63,7 @@ impl<'a, C: Drop, F: GuardedFileSystem<C>, L: DavLockSystem> DavInner<'a, C, F, 
         ensures step { IsServed F.seen L.seen (put_served request.entry.now) self.old request.entry.now (answer_of result) self.new }
         ensures same_locks { lent_locks self.new ≡ lent_locks self.old }
     {
-        let partial = is_patch(DavMethod::from_method(&request.method));
+        let partial = is_patch(&request.method);
         let (found, target) = self.judge_put(partial, request)?;
         self.write_file(partial, request, found, &target)
     }
@@ -200,10 +201,10 @@ impl<'a, C: Drop, F: GuardedFileSystem<C>, L: DavLockSystem> DavInner<'a, C, F, 
 }
 
 /// Returns whether the method is PATCH.
-fn is_patch(method: Option<DavMethod>) -> bool
-    ensures { result ≡ is_patch_method method }
+fn is_patch(method: &Method) -> bool
+    ensures { result ≡ is_patch_method (method_of method.now) }
 {
-    method == Some(DavMethod::Patch)
+    *method == Method::PATCH
 }
 
 /// Returns whether a body of this length has the stated one, if one is stated.

@@ -8,7 +8,7 @@ ghost use Rattle.dav_messages.specs.Reply.{reply_of};
 ghost use Rattle.dav_dates.specs.HttpDate.{http_date_text};
 ghost use Rattle.dav_engine.specs.PutReply.{put_reply as reply_to_put, put_headers as headers_of_put, quoted as quoted_tag, shown_tag, shown_change, empty_length};
 
-use dav_dates::{LAST_SHOWN, http_date};
+use dav_dates::{LAST_SHOWN, http_date_value};
 use dav_messages::{add_header, header_value};
 use dav_resource::{Body, DavResult, Meta};
 use http::{Response, StatusCode};
@@ -98,7 +98,7 @@ fn change_value(alloc: Global, meta: &Option<Meta>) -> DavResult<Option<HeaderVa
     };
     let changed = meta.modified;
     match changed {
-        Some(secs) if secs <= LAST_SHOWN => Ok(Some(header_value(http_date(alloc, secs)?)?)),
+        Some(secs) if secs <= LAST_SHOWN => Ok(Some(http_date_value(alloc, secs)?)),
         _ => Ok(None),
     }
 }
@@ -117,5 +117,9 @@ fn quoted(alloc: Global, tag: &str) -> DavResult<HeaderValue>
 fn in_quotes(alloc: Global, text: &str) -> Result<String, AllocError>
     ensures { IfOk result (λ quoted. string_bytes quoted ≡ quoted_tag text.now) }
 {
-    format!(in alloc; "\"{text}\"")
+    let mut quoted = String::new(alloc);
+    quoted.push('"')?;
+    quoted.push_str(text)?;
+    quoted.push('"')?;
+    Ok(quoted)
 }

@@ -95,8 +95,10 @@ fn is_update(content_type: Option<&str>) -> bool
 pub(crate) fn stated_length(headers: &HeaderMap<HeaderValue>) -> DavResult<Option<u64>>
     ensures { result ≡ Ok (length_stated_by headers.now) }
 {
-    let length = read_content_length(headers)?;
-    Ok(length.or(read_expected_entity_length(headers)?))
+    match read_content_length(headers)? {
+        Some(length) => Ok(Some(length)),
+        None => read_expected_entity_length(headers),
+    }
 }
 
 fn update_target(

@@ -7,3 +7,4 @@ pub mod ListLemmas
 pub mod TagListLemmas
 pub mod IfLemmas
 pub mod TagListGrammar
+pub mod FirstLemmas

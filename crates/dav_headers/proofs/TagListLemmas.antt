@@ -1,10 +1,12 @@
 -- Lists of entity tags.
-use Rattle.std.proofs.Common.{◌≡◌, ◌<◌, ◌≤◌, ◌==◌, ◌||◌, ℕ, Bool, true, false, List, [], ◌∷◌, length, get_or, Some, None, if◌then◌else◌, refl, ap, subst, arith}
+use Rattle.std.proofs.Common.{◌≡◌, ◌<◌, ◌≤◌, ◌==◌, ◌||◌, ℕ, Bool, true, false, List, [], ◌∷◌, length, get_or, Some, None, if◌then◌else◌, slice_get, refl, ap, subst, arith}
+use Rattle.http_header.specs.FieldValue.{FieldValue}
 use Rattle.dav_resource.specs.declared.etag.ETag.{ETag}
 use Rattle.dav_headers.specs.Values.{is_blank, drop_blanks}
 use Rattle.dav_headers.specs.Tag.{first_tag}
 use Rattle.dav_resource.specs.declared.etag.ETagList.TheVariants.{Tags}
-use Rattle.dav_headers.specs.TagList.{drop_separators, listed, first_listed, some_tags}
+use Rattle.dav_headers.specs.TagList.{drop_separators, listed, first_listed, some_tags, tag_list_of}
+use Rattle.dav_headers.proofs.FirstLemmas.{none-from_first}
 use Rattle.dav_headers.proofs.OptionLemmas.{by_test, option_and_then-some}
 use Rattle.dav_headers.proofs.TextLemmas.{length-drop_blanks}
 use Rattle.dav_headers.proofs.RepeatedLemmas.{IsShortening}
@@ -53,3 +55,7 @@ some_tags-none [] none = refl
 some_tags-none (tag ∷ tags) none = absurd (omega arith)
 
 pub ruleset some_tags_cases = (some_tags-found, some_tags-none)
+
+-- a header without a first value has no tags
+pub tag_list_of-none : (values : List FieldValue) → slice_get values 0 ≡ None → tag_list_of values ≡ None
+tag_list_of-none values none = rw (none-from_first values none) refl

@@ -4,7 +4,7 @@ ghost use Rattle.dav_headers.specs.Range.{of_bytes, both_numbers, range_between,
 
 use crate::number::read_number;
 use crate::text::cut_at;
-use crate::values::{first_text, readable_text};
+use crate::values::{first_text, first_value, readable_text};
 use dav_resource::{DavError, DavResult};
 use http::StatusCode;
 use http_header::{HeaderMap, HeaderValue};
@@ -95,7 +95,7 @@ fn range_between(first: &str, last: &str) -> Option<UpdateRange>
 pub fn read_content_range(headers: &HeaderMap<HeaderValue>) -> DavResult<Option<ContentRange>>
     ensures { result ≡ content_range_of headers.now }
 {
-    let Some(value) = headers.get("content-range") else {
+    let Some(value) = first_value(headers, "content-range") else {
         return Ok(None);
     };
     readable_text(value)

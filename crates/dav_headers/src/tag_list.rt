@@ -10,7 +10,7 @@ ghost use Rattle.dav_resource.specs.declared.etag.ETagList.{ETagList};
 
 use crate::tag::{BorrowedTag, first_tag};
 use crate::text::{after_first, drop_blanks};
-use crate::values::readable_text;
+use crate::values::{first_value, readable_text};
 use dav_resource::{DavResult, ETag, ETagList, Items};
 use http_header::{HeaderMap, HeaderValue};
 use std::alloc::{AllocError, Global};
@@ -109,6 +109,9 @@ fn tag_list_of(
 ) -> DavResult<Option<ETagList>>
     ensures { GivesBy (λ tags. tags) result (Ok (tag_list_of (get_all headers.now (lowercase name.now)))) }
 {
+    if first_value(headers, name).is_none() {
+        return Ok(None);
+    }
     if has_star(headers, name) {
         return Ok(Some(ETagList::Star));
     }

@@ -1,10 +1,32 @@
 //! Values of headers as strings.
 ghost use Rattle.std.specs.Prelude.{◌≡◌, option_copied};
 ghost use Rattle.http_header.specs.Token.{lowercase};
+ghost use Rattle.http_header.specs.HeaderMap.{get};
 ghost use Rattle.dav_headers.specs.Values.{readable_text, first_text, is_word};
 
 use crate::text::trim_blanks;
 use http_header::{HeaderMap, HeaderValue};
+
+/// The greatest number of names that are compared one by one. More are looked up by their hash.
+const FEW_NAMES: usize = 16;
+
+/// The first value of a header.
+pub(crate) fn first_value<'a>(
+    headers: &'a HeaderMap<HeaderValue>,
+    name: &'static str,
+) -> Option<&'a HeaderValue>
+    ensures { option_copied result ≡ get headers.now (lowercase name.now) }
+{
+    if headers.keys_len() > FEW_NAMES {
+        return headers.get(name);
+    }
+    for (own, value) in headers.iter() {
+        if own.eq_str(name) {
+            return Some(value);
+        }
+    }
+    None
+}
 
 /// The first value of a header, if it is readable, without the blanks at its ends.
 pub(crate) fn first_text<'a>(
@@ -13,7 +35,7 @@ pub(crate) fn first_text<'a>(
 ) -> Option<&'a str>
     ensures { option_copied result ≡ first_text headers.now (lowercase name.now) }
 {
-    readable_text(headers.get(name)?)
+    readable_text(first_value(headers, name)?)
 }
 
 /// The value without the blanks at its ends, if it is readable: only tabs and bytes 0x20 to 0x7E.

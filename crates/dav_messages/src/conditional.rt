@@ -2,7 +2,7 @@
 ghost use Rattle.std.specs.Prelude.{◌≡◌, if◌then◌else◌, Ok, Err, IfOk, option_copied};
 ghost use Rattle.dav_resource.specs.Gives.{GivesBy};
 ghost use Rattle.dav_resource.specs.declared.error.DavError.TheVariants.{Status};
-ghost use Rattle.dav_messages.specs.Conditions.{Evaluates, is_tagged, list_matches, current_tag, if_match_fails as fails_if_match, if_none_match_fails as fails_if_none_match, none_match_status as status_of_method, none_match_verdict as verdict_of_none_match, http_verdict, verdict_after as verdict_of_if, submitted_tokens as submitted_tokens_of, dav_if_match as dav_if_match_of, if_match as if_match_of, conditions};
+ghost use Rattle.dav_messages.specs.Conditions.{Evaluates, is_tagged, list_matches, current_tag, if_match_fails as fails_if_match, if_none_match_fails as fails_if_none_match, none_match_status as status_of_method, http_verdict, verdict_after as verdict_of_if, submitted_tokens as submitted_tokens_of, dav_if_match as dav_if_match_of, if_match as if_match_of, conditions};
 
 use crate::if_header::{if_holds, submitted_tokens};
 use dav_headers::{read_if, read_if_match, read_if_none_match};
@@ -53,12 +53,20 @@ pub fn http_if_match(
 ) -> DavResult<Option<StatusCode>>
     ensures { GivesBy (λ status. status) result (Ok (http_verdict req.entry.now (option_copied meta.entry))) }
 {
+    let if_match = read_if_match(alloc, &req.headers)?;
+    let if_none_match = read_if_none_match(alloc, &req.headers)?;
+    if if_match.is_none() && if_none_match.is_none() {
+        return Ok(None);
+    }
     let tag = current_tag(meta)?;
-    let tags = read_if_match(alloc, &req.headers)?;
-    if if_match_fails(tags.as_ref(), meta.is_some(), tag.as_ref()) {
+    if if_match_fails(if_match.as_ref(), meta.is_some(), tag.as_ref()) {
         return Ok(Some(StatusCode::PRECONDITION_FAILED));
     }
-    none_match_verdict(alloc, req, meta.is_some(), tag.as_ref())
+    if if_none_match_fails(if_none_match.as_ref(), meta.is_some(), tag.as_ref()) {
+        let method = DavMethod::from_method(&req.method);
+        return Ok(Some(none_match_status(method)));
+    }
+    Ok(None)
 }
 
 /// Returns the entity tag in the metadata, if there is one. Fails only if memory runs out.
@@ -69,22 +77,6 @@ pub(crate) fn current_tag(meta: Option<&Meta>) -> Result<Option<ETag>, AllocErro
         Some(meta) => ETag::from_meta(meta),
         None => Ok(None),
     }
-}
-
-fn none_match_verdict(
-    alloc: Global,
-    req: &DavRequest,
-    exists: bool,
-    tag: Option<&ETag>,
-) -> DavResult<Option<StatusCode>>
-    ensures { GivesBy (λ status. status) result (Ok (verdict_of_none_match req.entry.now exists (option_copied tag.entry))) }
-{
-    let tags = read_if_none_match(alloc, &req.headers)?;
-    if !if_none_match_fails(tags.as_ref(), exists, tag) {
-        return Ok(None);
-    }
-    let method = DavMethod::from_method(&req.method);
-    Ok(Some(none_match_status(method)))
 }
 
 /// Returns whether If-Match rejects the request: it is present and does not match.

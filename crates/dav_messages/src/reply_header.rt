@@ -4,6 +4,7 @@ ghost use Rattle.http_header.specs.FieldValue.{IsFieldValue, plain_value};
 ghost use Rattle.dav_resource.specs.declared.error.DavError.TheVariants.{Memory};
 ghost use Rattle.dav_messages.specs.ReplyHeader.{HasRoomFor, optional_field};
 
+use bytes::Bytes;
 use dav_resource::DavResult;
 use http_header::{HeaderMap, HeaderName, HeaderValue};
 
@@ -34,5 +35,5 @@ pub fn header_value(text: String) -> DavResult<HeaderValue>
     ensures ok { IfOk result (λ value. value ≡ plain_value (string_bytes text)) }
     ensures err { IfErr result (λ e. e ≡ Memory) }
 {
-    Ok(HeaderValue::from_string(text)?)
+    Ok(HeaderValue::from_known_valid(Bytes::from_string(text)?))
 }

@@ -18,6 +18,7 @@ pub mod PastTrees
 pub mod Below
 pub mod Starting
 pub mod Listings
+pub mod Hexadecimal
 pub mod Dumps
 pub mod Firsts
 mod Sweeping

@@ -1,6 +1,7 @@
 //! One resource of a store.
-ghost use Rattle.std.specs.Prelude.{◌≡◌, ◌<◌, ◌+◌, ◌^◌, ℕ, List, length, IfOk, IfErr, OnOk, OnErr, true, string_bytes};
+ghost use Rattle.std.specs.Prelude.{◌≡◌, ◌<◌, ◌+◌, ◌^◌, ℕ, List, length, IfOk, IfErr, OnOk, OnErr, true, false, ◌++◌, string_bytes};
 ghost use Rattle.std.specs.FinMap as map;
+ghost use Rattle.std.specs.Fmt.{digit_glyph};
 ghost use Rattle.dav_tree.specs.Memory.{is_directory, size_of, tag_text, meta_of};
 ghost use Rattle.dav_tree.specs.Bodies.{KeepsBodies, FailsFor};
 ghost use Rattle.dav_tree.specs.Entry.{node_by, stored_by, remade, IsWrittenTo, is_held, is_file};
@@ -183,5 +184,32 @@ pub(crate) fn write_body<M: Medium>(
 fn tag_text(alloc: Global, version: u64) -> Result<String, AllocError>
     ensures { IfOk result (λ text. string_bytes text ≡ tag_text version) }
 {
-    format!(in alloc; "{version:x}")
+    let mut text = String::new(alloc);
+    push_hexadecimal(&mut text, version)?;
+    Ok(text)
+}
+
+/// Appends a number in lower-case hexadecimal. Fails only if memory runs out.
+#[tactic(auto, using(crate::proofs::Hexadecimal::by_digits))]
+fn push_hexadecimal(text: &mut String, number: u64) -> Result<(), AllocError>
+    ensures { OnOk result (string_bytes text.new ≡ string_bytes text.old ++ tag_text number) }
+{
+    if number < 16 {
+        return text.push(hexadecimal_digit(number as u8));
+    }
+    push_hexadecimal(text, number / 16)?;
+    text.push(hexadecimal_digit((number % 16) as u8))
+}
+
+/// Returns the lower-case hexadecimal digit of a number below 16.
+fn hexadecimal_digit(number: u8) -> char
+    requires { number < 16 }
+    ensures digit { result ≡ digit_glyph false number }
+    ensures ascii { result < 128 }
+{
+    if number < 10 {
+        char::from(b'0' + number)
+    } else {
+        char::from(b'a' + (number - 10))
+    }
 }

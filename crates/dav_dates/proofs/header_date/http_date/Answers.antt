@@ -5,14 +5,12 @@ use Rattle.dav_dates.proofs.header_date.http_date.Goals as goal
 
 pub returns-clause-dated : goal.returns-clause-dated
 returns-clause-dated c =
-    let second = rw c.unwrap-date.ensures at c.from_unix_secs.ensures.value in
-    IfOk-weaker c.fmt_http_date.result _ _ (λ text shown. (c.unwrap-date.result, second, shown)) c.fmt_http_date.ensures
+    IfOk-weaker c.fmt_http_date.result _ _ (λ text shown. (c.date_of.result, c.date_of.ensures, shown)) c.fmt_http_date.ensures
 
 pub returns-clause-exact : goal.returns-clause-exact
 returns-clause-exact c =
-    let second = rw c.unwrap-date.ensures at c.from_unix_secs.ensures.value in
-    IfOk-weaker c.fmt_http_date.result _ _ (λ text shown. http_date_text_is c.args.secs _ (c.unwrap-date.result, second, shown)) c.fmt_http_date.ensures
+    IfOk-weaker c.fmt_http_date.result _ _ (λ text shown. http_date_text_is c.args.secs _ (c.date_of.result, c.date_of.ensures, shown)) c.fmt_http_date.ensures
 
 pub returns-clause-field : goal.returns-clause-field
 returns-clause-field c =
-    IfOk-weaker c.fmt_http_date.result _ _ (λ text shown. rw shown (IsFieldValue-date_text c.unwrap-date.result)) c.fmt_http_date.ensures
+    IfOk-weaker c.fmt_http_date.result _ _ (λ text shown. rw shown (IsFieldValue-date_text c.date_of.result)) c.fmt_http_date.ensures
