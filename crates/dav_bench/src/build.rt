@@ -1,6 +1,6 @@
 //! Builds requests from strings, as a server does that reads them from a connection.
 use anyhow::{Context, Result};
-use dav_engine::{DavPath, DavRequest, Element, Items, LockToken, ReqBody};
+use dav_engine::{DavPath, DavRequest, Element, Items, LockToken, ReqBody, StartTag, Text};
 use http::Method;
 use http_header::{HeaderMap, HeaderName, HeaderValue};
 use std::alloc::{AllocError, Global};
@@ -81,9 +81,9 @@ pub fn set_dead(alloc: Global, number: u64) -> Result<Element, AllocError> {
 
 /// Returns an empty element with the name of the dead property.
 fn dead_property(alloc: Global) -> Result<Element, AllocError> {
-    let mut property = Element::new2(alloc, "Z:color")?;
-    property.namespace = Some(String::from_str(alloc, "urn:z")?);
-    Ok(property)
+    let mut tag = StartTag::prefixed(alloc, "Z:color")?;
+    tag.namespace = Some(Text::from_str(alloc, "urn:z")?);
+    Element::from_tag(alloc, tag)
 }
 
 /// Returns an element of the namespace `DAV:` with this single child.
@@ -94,7 +94,7 @@ fn enclosing(alloc: Global, name: &str, child: Element) -> Result<Element, Alloc
 }
 
 fn dav_element(alloc: Global, name: &str) -> Result<Element, AllocError> {
-    let mut element = Element::new2(alloc, name)?;
-    element.namespace = Some(String::from_str(alloc, "DAV:")?);
-    Ok(element)
+    let mut tag = StartTag::prefixed(alloc, name)?;
+    tag.namespace = Some(Text::from_str(alloc, "DAV:")?);
+    Element::from_tag(alloc, tag)
 }

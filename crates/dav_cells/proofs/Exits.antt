@@ -1,6 +1,6 @@
 -- Why an encoding or a decoding fails.
-use Rattle.std.proofs.Common.{◌≡◌, ℕ, List, None, Result, Ok, Err, IfErr, IsErrAnd, subst, sym}
-use Rattle.dav_wire.specs.Codec.{Codec, decode}
+use Rattle.std.proofs.Common.{◌≡◌, ℕ, List, [], ◌∷◌, None, Some, refl, Result, Ok, Err, IfErr, IsErrAnd, subst, sym}
+use Rattle.dav_wire.specs.Codec.{Codec, decode, whole}
 use Rattle.dav_wire.specs.Reads.{FailsAllocating}
 use Rattle.dav_wire.specs.declared.error.WireError.{WireError}
 use Rattle.dav_wire.specs.declared.error.WireError.TheVariants.{Malformed, Memory}
@@ -28,3 +28,8 @@ pub exit_decoding :
 exit_decoding a b mid bytes (Ok x) e gives then_none h = absurd gives
 exit_decoding a b mid bytes (Err y) e gives then_none h =
     subst (λ z. NotDecoded b bytes z) (sym gives) (part_not_decoded a b mid bytes e then_none h)
+
+-- what bytes follow is no whole input
+pub not_whole : {A : Type 0} (x : A) (rest : List ℕ) → (rest ≡ [] → ⊥) → whole (Some (x, rest)) ≡ None
+not_whole x [] more = absurd (more refl)
+not_whole x (b ∷ bs) more = refl

@@ -78,7 +78,7 @@ fn read_lock(alloc: Global, reader: &mut Reader<'_>) -> Result<DavLock, WireErro
 {
     let token = reader.read_text()?;
     let path = read_path(alloc, reader)?;
-    let principal = read_optional_text(reader)?;
+    let principal = reader.read_optional_text()?;
     let timeout = read_optional_number(reader)?;
     let timeout_at = read_optional_number(reader)?;
     let shared = read_flag(reader)?;
@@ -94,16 +94,6 @@ fn read_lock(alloc: Global, reader: &mut Reader<'_>) -> Result<DavLock, WireErro
         shared,
         deep,
     })
-}
-
-/// Reads an optional string.
-fn read_optional_text(reader: &mut Reader<'_>) -> Result<Option<Text>, WireError>
-    ensures { ReadsAllocating (optional utf8_text) (λ x. x) reader.old result reader.new }
-{
-    match reader.read_optional_string()? {
-        Some(text) => Ok(Some(Text::from_string(text))),
-        None => Ok(None),
-    }
 }
 
 /// Reads an optional number.

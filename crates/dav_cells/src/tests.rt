@@ -38,7 +38,7 @@ fn an_element_is_decoded_again(rt: HostRuntime) -> Result<(), Fail> {
     element.push_element(Element::new(rt.alloc(), "b")?)?;
     let bytes = encode_element(rt.alloc(), &element)?;
     let decoded = decode_element(rt.alloc(), bytes.as_slice())?;
-    assert_eq!(rt; decoded.name.as_str(), "a");
+    assert_eq!(rt; decoded.name(), "a");
     assert_eq!(rt; decoded.children.len(), 2);
     Ok(())
 }

@@ -6,7 +6,7 @@ ghost use Rattle.dav_resource.specs.Tree.{elements_of};
 ghost use Rattle.dav_engine.specs.LockInfo.{begins_with as tree_begins_with, is_scope as is_scope_tree, is_write as is_write_tree, is_part as is_part_tree, is_lock_info as is_lock_info_tree, last_named as last_named_in, asks_shared as tree_asks_shared, under_dav as tree_under_dav, owner_in, lock_info_verdict};
 
 use dav_messages::is_named;
-use dav_resource::{DavError, DavResult, Element, ReqBody};
+use dav_resource::{DavError, DavResult, Element, ReqBody, Text};
 use std::alloc::{AllocError, Global};
 
 /// The lock that a request asks for.
@@ -30,7 +30,7 @@ pub(crate) fn read_lock_info(alloc: Global, body: &ReqBody) -> DavResult<LockInf
     match body {
         ReqBody::Tree(tree) if is_lock_info(tree) => Ok(LockInfo {
             shared: asks_shared(tree),
-            owner: owner(alloc, tree)?,
+            owner: owner(tree)?,
         }),
         _ => Err(DavError::XmlParseError),
     }
@@ -110,20 +110,20 @@ fn asks_shared(tree: &Element) -> bool
 }
 
 /// Returns the owner element, which says who holds the lock, if there is one.
-fn owner(alloc: Global, tree: &Element) -> Result<Option<Element>, AllocError>
+fn owner(tree: &Element) -> Result<Option<Element>, AllocError>
     ensures { IfOk result (λ owner. owner ≡ owner_in tree.now) }
 {
     match last_named(tree, "owner") {
-        Some(owner) => Ok(Some(under_dav(alloc, owner)?)),
+        Some(owner) => Ok(Some(under_dav(owner)?)),
         None => Ok(None),
     }
 }
 
 /// Returns a copy of the element with the prefix `D`, which the responses declare.
-fn under_dav(alloc: Global, element: &Element) -> Result<Element, AllocError>
+fn under_dav(element: &Element) -> Result<Element, AllocError>
     ensures { IfOk result (λ copy. copy ≡ tree_under_dav element.now) }
 {
-    let mut copy = element.clone()?;
-    copy.prefix = Some(String::from_str(alloc, "D")?);
-    Ok(copy)
+    let mut tag = element.start_tag()?;
+    tag.prefix = Some(Text::from_str(*element.children.allocator(), "D")?);
+    element.clone()?.with_tag(tag)
 }

@@ -23,7 +23,7 @@ use dav_find::{Finder, Search, declare_prefixes, read_search};
 use dav_headers::{read_depth, read_litmus, read_user_agent};
 use dav_messages::{add_header, add_xml_type, declaring_element};
 use dav_props::PropWriter;
-use dav_resource::{Body, DavRequest, DavResult, Depth, Element, Meta};
+use dav_resource::{Body, DavRequest, DavResult, Depth, Element, ElementName, Meta};
 use dav_store::{DavLockSystem, GuardedFileSystem};
 use dav_walks::Resource;
 use http::{Response, StatusCode};
@@ -158,8 +158,8 @@ fn finite_depth_reply(alloc: Global) -> DavResult<Response<Body>>
 fn finite_depth_error(alloc: Global) -> Result<Element, AllocError>
     ensures { IfOk result (λ tree. tree ≡ tree_of_finite_depth) }
 {
-    let mut tree = declaring_element(alloc, "D:error")?;
-    tree.push_element(Element::new2(alloc, "D:propfind-finite-depth")?)?;
+    let mut tree = declaring_element(alloc, ElementName::Error)?;
+    tree.push_element(Element::constant(alloc, ElementName::PropfindFiniteDepth))?;
     Ok(tree)
 }
 

@@ -8,7 +8,7 @@ use Rattle.dav_store.specs.Store.{Store, Contents}
 use Rattle.dav_messages.specs.Dialogue.{Dialogue, Asks, Refuses, Passed, ◌>>=◌, Judges}
 use Rattle.dav_messages.specs.Dialogues.{judges_exit, judges_then, judges_memory, judges_pure}
 use Rattle.dav_walks.specs.declared.listing.Resource.{Resource}
-use Rattle.dav_find.specs.declared.search.AskedProperty.{AskedProperty}
+use Rattle.dav_find.specs.Asked.{AskedProperty}
 use Rattle.dav_find.specs.declared.finding.Found.{Found}
 use Rattle.dav_find.specs.Finding.{Finding, View, QuotaAnswer, find_one, find_each, findings_in}
 

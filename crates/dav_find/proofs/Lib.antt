@@ -1,3 +1,4 @@
+pub mod AskedFields
 pub mod Answering
 pub mod NameSets
 pub mod Each

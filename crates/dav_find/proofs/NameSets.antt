@@ -18,7 +18,7 @@ use Rattle.dav_resource.specs.Tree.{Tree}
 use Rattle.dav_find.specs.Asked.{ask_once, is_among, is_same}
 use Rattle.dav_find.specs.Names.{text_cmp, name_cmp, is_named_by, elements_in, AreNamesOf}
 use Rattle.dav_find.specs.declared.names.PropertyName.{PropertyName}
-use Rattle.dav_find.specs.declared.search.AskedProperty.{AskedProperty}
+use Rattle.dav_find.specs.Asked.{AskedProperty}
 
 -- ---- which names are equal
 

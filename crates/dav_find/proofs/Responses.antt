@@ -10,7 +10,7 @@ use Rattle.dav_messages.specs.Dialogue.{Judges}
 use Rattle.dav_messages.specs.Dialogues.{judges_exit, judges_then, judges_pure, judges_memory}
 use Rattle.dav_props.specs.Propstat.{PropertyStatus}
 use Rattle.dav_walks.specs.declared.listing.Resource.{Resource}
-use Rattle.dav_find.specs.declared.search.AskedProperty.{AskedProperty}
+use Rattle.dav_find.specs.Asked.{AskedProperty}
 use Rattle.dav_find.specs.Finding.{View, QuotaAnswer, AreKept, find_each, find_stored}
 use Rattle.dav_find.specs.Response.{FindsStored, IsResponse}
 use Rattle.dav_find.specs.Reporting.{report_of}

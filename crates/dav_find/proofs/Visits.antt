@@ -18,7 +18,7 @@ use Rattle.dav_props.specs.Propstat.{PropertyStatus, grouped, property_response}
 use Rattle.dav_props.specs.declared.writer.PropWriter.{PropWriter}
 use Rattle.dav_walks.specs.Listing.{Shown, ListsAt, AddsMembers, StopsAdding, shown_in, in_turn}
 use Rattle.dav_walks.specs.declared.listing.Resource.{Resource}
-use Rattle.dav_find.specs.declared.search.AskedProperty.{AskedProperty}
+use Rattle.dav_find.specs.Asked.{AskedProperty}
 use Rattle.dav_find.specs.Finding.{View, QuotaAnswer}
 use Rattle.dav_find.specs.Response.{Responds, ComesTo, IsResponse}
 use Rattle.dav_find.specs.Visiting.{Visit, response_of, reporting, reported, finding, Shows, FindsMembers, VisitsAll, over, more, stops, begins, breaks, is_shown, is_listed, member_depth}

@@ -14,7 +14,6 @@ use Rattle.dav_messages.specs.RequestBody.{is_empty_body}
 use Rattle.dav_live.specs.Viewing.{names_microsoft}
 use Rattle.dav_find.specs.declared.search.FindKind.{FindKind}
 use Rattle.dav_find.specs.declared.search.FindKind.TheVariants.{AllProp, PropName, Prop}
-use Rattle.dav_find.specs.declared.search.AskedProperty.{AskedProperty}
 
 -- ---- properties by their names
 
@@ -29,6 +28,11 @@ is_of namespace element = option_eq bytes_eq element.tag.namespace (Some namespa
 -- one of the elements names the property
 abbrev pub is_among : Tree → List Tree → Bool
 is_among prop props = list_any (is_same prop) props
+
+-- a requested property: the element that names it, and whether only the server's own list names it
+pub record AskedProperty : Type 0 where
+  pub element : Tree
+  pub by_server : Bool
 
 -- a property that the request names, and one that the server adds
 abbrev pub asked_by_request : Tree → AskedProperty

@@ -16,7 +16,7 @@ use Rattle.dav_store.specs.Members.{IsIn, AreDistinct}
 use Rattle.dav_store.specs.Store.{Bodies, property_key, element_key}
 use Rattle.dav_messages.specs.DavElement.{is_named}
 use Rattle.dav_messages.specs.RequestBody.{is_empty_body}
-use Rattle.dav_find.specs.declared.search.AskedProperty.{AskedProperty}
+use Rattle.dav_find.specs.Asked.{AskedProperty}
 use Rattle.dav_find.specs.declared.search.FindKind.{FindKind}
 use Rattle.dav_find.specs.declared.search.FindKind.TheVariants.{AllProp, PropName, Prop}
 use Rattle.dav_find.specs.Asked.{Asking, is_same, ask_once, asked_by_request, asked_by_server, server_properties, asking, asking_or_not, asking_by_body, asking_of, says_kind, named_in, include_in, is_propfind}

@@ -3,7 +3,7 @@ use Rattle.std.specs.Prelude.{ℕ, List, if◌then◌else◌, codes}
 use Rattle.std.specs.List.{list_any}
 use Rattle.dav_resource.specs.Tree.{Tree, with_attribute, xmlns_name}
 use Rattle.dav_find.specs.Asked.{is_of}
-use Rattle.dav_find.specs.declared.search.AskedProperty.{AskedProperty}
+use Rattle.dav_find.specs.Asked.{AskedProperty}
 
 -- the prefix is declared if a requested property has its namespace
 abbrev pub with_prefix : List AskedProperty → List ℕ → List ℕ → Tree → Tree

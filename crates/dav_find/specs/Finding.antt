@@ -15,14 +15,16 @@ use Rattle.dav_store.specs.PropertyCalls.{get_prop_call, get_quota_call, propert
 use Rattle.dav_store.specs.Store.{Contents, Quota, property_key}
 use Rattle.dav_store.specs.declared.lock.DavLock.{DavLock}
 use Rattle.dav_messages.specs.Dialogue.{Dialogue, Asks, Passed, ◌>>=◌}
+use Rattle.dav_resource.specs.declared.property.DavProp.{DavProp}
 use Rattle.dav_props.specs.Live.{is_kept}
+use Rattle.dav_props.specs.Property.{prop_named}
 use Rattle.dav_live.specs.Viewing.{Asker}
 use Rattle.dav_live.specs.Names.{live_property_of, is_quota}
 use Rattle.dav_live.specs.Live.{live_value}
 use Rattle.dav_live.specs.declared.property.LiveProperty.{LiveProperty}
 use Rattle.dav_walks.specs.declared.listing.Resource.{Resource}
 use Rattle.dav_find.specs.declared.search.FindKind.{FindKind}
-use Rattle.dav_find.specs.declared.search.AskedProperty.{AskedProperty}
+use Rattle.dav_find.specs.Asked.{AskedProperty}
 use Rattle.dav_find.specs.declared.finding.Found.{Found}
 use Rattle.dav_find.specs.Asked.{names_only, named_only}
 
@@ -95,6 +97,10 @@ name_in element = property_key element.tag.namespace element.tag.name
 -- the property is looked up only for `prop`, if the store supports dead properties and can keep this one
 abbrev pub is_looked_up : View → Tree → Bool
 is_looked_up view element = view.keeps && named_only view.kind && is_kept element
+
+-- the name by which the store is asked for it, if it is
+abbrev pub looked_up : View → Tree → Option DavProp
+looked_up view element = if is_looked_up view element then Some (prop_named element None) else None
 
 abbrev pub find_kept : View → Contents → Resource → Tree → Dialogue (Result Tree ℕ)
 find_kept view contents here element =

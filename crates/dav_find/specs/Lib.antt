@@ -1,4 +1,5 @@
 pub mod Asked
+pub mod AskedFields
 pub mod Names
 pub mod Searching
 pub mod Declaring

@@ -29,7 +29,7 @@ use Rattle.dav_live.specs.Viewing.{Asker}
 use Rattle.dav_live.specs.declared.property.LiveProperty.{LiveProperty}
 use Rattle.dav_live.specs.declared.property.LiveProperty.TheVariants.{CreationDate, ContentLength, ContentType, ETag, LastModified, LockDiscovery, ResourceType, SupportedLock, CurrentUserPrincipal, QuotaAvailableBytes, QuotaUsedBytes, Executable, Win32CreationTime, Win32FileAttributes, Win32LastAccessTime, Win32LastModifiedTime}
 use Rattle.dav_walks.specs.declared.listing.Resource.{Resource}
-use Rattle.dav_find.specs.declared.search.AskedProperty.{AskedProperty}
+use Rattle.dav_find.specs.Asked.{AskedProperty}
 use Rattle.dav_find.specs.declared.search.FindKind.TheVariants.{Prop}
 use Rattle.dav_find.specs.Asked.{names_only, named_only}
 use Rattle.dav_find.specs.Finding.{View, QuotaAnswer, Finding, ask_quota, asker_with, quota_status, live_result, find_quota, find_live, find_kept, find_by, find_one, is_looked_up, is_all_sought, name_in, returned_by}

@@ -9,7 +9,7 @@ use Rattle.std.specs.BTreeSet.{BTreeSet, contains}
 use denote.Ref.{Bor}
 use Rattle.dav_resource.specs.Tree.{Tree}
 use Rattle.dav_find.specs.declared.names.PropertyName.{PropertyName}
-use Rattle.dav_find.specs.declared.search.AskedProperty.{AskedProperty}
+use Rattle.dav_find.specs.Asked.{AskedProperty}
 use Rattle.dav_find.specs.Asked.{is_among}
 
 -- strings compare byte by byte

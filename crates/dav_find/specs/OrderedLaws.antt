@@ -10,7 +10,7 @@ use Rattle.dav_store.specs.Members.{IsIn, member}
 use Rattle.dav_store.specs.Store.{Contents}
 use Rattle.dav_walks.specs.Listing.{Shown, shown_in}
 use Rattle.dav_walks.specs.declared.listing.Resource.{Resource}
-use Rattle.dav_find.specs.declared.search.AskedProperty.{AskedProperty}
+use Rattle.dav_find.specs.Asked.{AskedProperty}
 use Rattle.dav_find.specs.Finding.{View, QuotaAnswer}
 use Rattle.dav_find.specs.Ordered as order
 use Rattle.dav_find.specs.Ordered.{entry_names, IsListing, AreFound, AreInTurn, IsDepthFirst}

@@ -18,7 +18,7 @@ use Rattle.dav_store.specs.MemberLaws.{parent-member}
 use Rattle.dav_store.specs.Store.{Contents, Node, File, Directory, MetaFits, IsWellFormed}
 use Rattle.dav_walks.specs.Listing.{AreThere}
 use Rattle.dav_walks.specs.declared.listing.Resource.{Resource}
-use Rattle.dav_find.specs.declared.search.AskedProperty.{AskedProperty}
+use Rattle.dav_find.specs.Asked.{AskedProperty}
 use Rattle.dav_find.specs.Finding.{View, QuotaAnswer}
 use Rattle.dav_find.specs.Range.{WasDeclined, IsHidden, is_listing, AllShown, listed_key, listed_in, AreDownwards, Stands, IsDirectory, AreReached, ReportsRange, reaches, reaches_members}
 use Rattle.dav_find.specs.RangeKeys.{AreApart, AreAllApart, member_below, none_below, same_name, in_left, in_right, in_either, in_map, out_map, apart_members, distinct_downwards, IsFar, left_declined, hidden_more, hidden_less}

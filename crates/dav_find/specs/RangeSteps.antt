@@ -21,7 +21,7 @@ use Rattle.dav_live.specs.declared.property.LiveProperty.{LiveProperty}
 use Rattle.dav_messages.specs.Dialogue.{Dialogue, Asks, Refuses, Passed, ◌>>=◌, LeadsTo}
 use Rattle.dav_walks.specs.Listing.{Shown, ListsAt, listed, unlisted, shown_in, AreThere}
 use Rattle.dav_walks.specs.declared.listing.Resource.{Resource}
-use Rattle.dav_find.specs.declared.search.AskedProperty.{AskedProperty}
+use Rattle.dav_find.specs.Asked.{AskedProperty}
 use Rattle.dav_find.specs.Finding.{View, QuotaAnswer, ask_quota, live_result, find_quota, find_live, find_kept, is_looked_up, find_by, find_one, find_each, is_all_sought, find_stored}
 use Rattle.dav_find.specs.Range.{WasDeclined, Stands, is_listing, listed_by, listed_key, listed_in}
 use Rattle.dav_find.specs.RangeKeys.{in_either, more_declined}

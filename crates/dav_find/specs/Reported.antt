@@ -13,7 +13,7 @@ use Rattle.dav_store.specs.Store.{Contents, Node, Directory}
 use Rattle.dav_messages.specs.Dialogue.{LeadsTo, Passed}
 use Rattle.dav_props.specs.Propstat.{PropertyStatus}
 use Rattle.dav_walks.specs.declared.listing.Resource.{Resource}
-use Rattle.dav_find.specs.declared.search.AskedProperty.{AskedProperty}
+use Rattle.dav_find.specs.Asked.{AskedProperty}
 use Rattle.dav_find.specs.declared.search.FindKind.{FindKind}
 use Rattle.dav_find.specs.declared.search.FindKind.TheVariants.{Prop}
 use Rattle.dav_find.specs.Finding.{View, QuotaAnswer, Finding, AreKept, is_all_sought, returned_by, quota_pair, find_one}

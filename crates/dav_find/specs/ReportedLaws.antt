@@ -20,7 +20,7 @@ use Rattle.dav_live.specs.declared.property.LiveProperty.{LiveProperty}
 use Rattle.dav_walks.specs.Frames.{path_of_entry}
 use Rattle.dav_walks.specs.Listing.{Shown, shown_in, AreThere}
 use Rattle.dav_walks.specs.declared.listing.Resource.{Resource}
-use Rattle.dav_find.specs.declared.search.AskedProperty.{AskedProperty}
+use Rattle.dav_find.specs.Asked.{AskedProperty}
 use Rattle.dav_find.specs.Finding.{View, QuotaAnswer, Finding, AreKept, props_call, is_all_sought, returned_by, ask_quota, live_result, find_quota, find_live, find_kept, find_by, find_one, find_each, find_stored}
 use Rattle.dav_find.specs.RangeKeys.{in_either}
 use Rattle.dav_find.specs.RangeSteps.{visit_step}

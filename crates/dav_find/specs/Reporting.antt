@@ -7,7 +7,7 @@ use Rattle.dav_props.specs.Property.{bare}
 use Rattle.dav_props.specs.Propstat.{PropertyStatus}
 use Rattle.dav_find.specs.declared.search.FindKind.{FindKind}
 use Rattle.dav_find.specs.declared.search.FindKind.TheVariants.{AllProp, PropName, Prop}
-use Rattle.dav_find.specs.declared.search.AskedProperty.{AskedProperty}
+use Rattle.dav_find.specs.Asked.{AskedProperty}
 use Rattle.dav_find.specs.Asked.{is_among}
 use Rattle.dav_find.specs.Finding.{Finding}
 

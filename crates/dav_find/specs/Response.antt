@@ -8,7 +8,7 @@ use Rattle.dav_store.specs.Store.{Store, Contents}
 use Rattle.dav_messages.specs.Dialogue.{Dialogue, Passed, ◌>>=◌, LeadsTo, Judges}
 use Rattle.dav_props.specs.Propstat.{PropertyStatus}
 use Rattle.dav_walks.specs.declared.listing.Resource.{Resource}
-use Rattle.dav_find.specs.declared.search.AskedProperty.{AskedProperty}
+use Rattle.dav_find.specs.Asked.{AskedProperty}
 use Rattle.dav_find.specs.declared.finding.Found.{Found}
 use Rattle.dav_find.specs.Finding.{View, QuotaAnswer, AreKept, find_each, find_stored, findings_in}
 use Rattle.dav_find.specs.Reporting.{report_of}

@@ -11,7 +11,7 @@ use Rattle.dav_store.specs.Store.{Contents}
 use Rattle.dav_props.specs.Propstat.{PropertyStatus, grouped, property_response}
 use Rattle.dav_walks.specs.Listing.{Shown, ListsAt, shown_in}
 use Rattle.dav_walks.specs.declared.listing.Resource.{Resource}
-use Rattle.dav_find.specs.declared.search.AskedProperty.{AskedProperty}
+use Rattle.dav_find.specs.Asked.{AskedProperty}
 use Rattle.dav_find.specs.Finding.{View, QuotaAnswer}
 use Rattle.dav_find.specs.Response.{Responds}
 

@@ -12,7 +12,7 @@ use Rattle.dav_props.specs.declared.writer.PropWriter.{PropWriter}
 use Rattle.dav_walks.specs.Counting.{count_below}
 use Rattle.dav_walks.specs.Listing.{AreFewer, in_turn}
 use Rattle.dav_walks.specs.declared.listing.Resource.{Resource}
-use Rattle.dav_find.specs.declared.search.AskedProperty.{AskedProperty}
+use Rattle.dav_find.specs.Asked.{AskedProperty}
 use Rattle.dav_find.specs.Finding.{View, QuotaAnswer}
 use Rattle.dav_find.specs.Visiting.{Visit, response_of, Shows, Visits, VisitsInPart, VisitsAll, VisitsFrom, is_shown}
 

@@ -4,8 +4,8 @@ ghost use Rattle.std.proofs.Props.{props};
 ghost use Rattle.dav_find.specs.Asked.{ask_once as ask_once_more};
 ghost use Rattle.dav_find.specs.Names.{AreNamesOf, elements_in};
 
+use crate::asked::AskedProperty;
 use crate::names::PropertyNames;
-use crate::search::AskedProperty;
 use dav_resource::Element;
 use std::alloc::{AllocError, Global};
 
@@ -42,8 +42,7 @@ impl<'e> AskedList<'e> {
             mut names,
         } = self;
         if names.insert(element)? {
-            let element = element.clone()?;
-            asked.push(AskedProperty { element, by_server })?;
+            asked.push(AskedProperty::new(element.clone()?, by_server)?)?;
         }
         Ok(AskedList { asked, names })
     }

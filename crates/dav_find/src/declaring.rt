@@ -5,7 +5,8 @@ ghost use Rattle.dav_resource.specs.declared.error.DavError.TheVariants.{Memory}
 ghost use Rattle.dav_find.specs.Asked.{is_of};
 ghost use Rattle.dav_find.specs.Declaring.{with_prefix, with_prefixes};
 
-use crate::search::{AskedProperty, Search, is_of};
+use crate::asked::AskedProperty;
+use crate::search::{Search, is_of};
 use dav_props::PropWriter;
 use dav_resource::DavResult;
 
@@ -47,5 +48,5 @@ fn has_namespace(asked: &[AskedProperty], namespace: &str) -> bool
 {
     asked
         .iter()
-        .any(|property| is_of(&property.element, namespace))
+        .any(|property| is_of(property.element(), namespace))
 }

@@ -1,18 +1,18 @@
 //! Finding the requested properties of a resource.
-ghost use Rattle.std.specs.Prelude.{◌≡◌, ◌++◌, filter_map, IfOk, IfErr};
+ghost use Rattle.std.specs.Prelude.{◌≡◌, ◌++◌, filter_map, option_copied, IfOk, IfErr};
 ghost use Rattle.std.specs.Option.{option_to_list};
 ghost use Rattle.dav_resource.specs.declared.error.DavError.TheVariants.{Memory};
 ghost use Rattle.dav_store.specs.Store.{Facts};
 ghost use Rattle.dav_messages.specs.Dialogue.{Judges};
 ghost use Rattle.dav_find.specs.Finder.{view_of};
-ghost use Rattle.dav_find.specs.Finding.{ask_quota as rules_of_asking, is_looked_up as is_looked_up_in, is_all_sought as is_all_sought_in, quota_in as quota_in_answer, quota_status as status_of_quota};
+ghost use Rattle.dav_find.specs.Finding.{ask_quota as rules_of_asking, looked_up, is_all_sought as is_all_sought_in, quota_in as quota_in_answer, quota_status as status_of_quota};
 ghost use Rattle.dav_find.specs.Response.{FindsStored};
 ghost use Rattle.dav_find.specs.ByFinder.{FindsOne, FindsQuota, FindsKept, IsLiveResult, FindsAsked};
 
+use crate::asked::AskedProperty;
 use crate::refusal::returned_by;
-use crate::search::{AskedProperty, Search};
+use crate::search::Search;
 use dav_live::{LiveProperty, Viewer, live_element};
-use dav_props::{element_to_davprop, is_kept};
 use dav_resource::{DavPath, DavProp, DavResult, Element, Items, SharedElement};
 use dav_store::{DavLockSystem, GuardedFileSystem};
 use dav_walks::Resource;
@@ -61,18 +61,19 @@ impl<'r, C, L: DavLockSystem> Finder<'r, C, L> {
         &self,
         fs: &mut F,
         here: &Resource,
-        element: &Element,
+        asked: &AskedProperty,
         quota: Option<QuotaAnswer>,
     ) -> DavResult<(Result<Element, StatusCode>, Option<QuotaAnswer>)>
-        ensures rules { FindsOne L.seen self.now here.now element.now quota (F.seen fs.old) result (F.seen fs.new) }
+        ensures rules { FindsOne L.seen self.now here.now asked.now.element quota (F.seen fs.old) result (F.seen fs.new) }
         ensures err { IfErr result (λ e. e ≡ Memory) }
     {
-        match LiveProperty::of_element(element) {
+        let element = asked.element();
+        match asked.live {
             Some(property) if property.is_quota() => {
                 self.find_quota(fs, here, element, property, quota)
             }
             Some(property) => Ok((self.live_result(here, element, property, &None)?, quota)),
-            None => Ok((self.find_kept(fs, here, element)?, quota)),
+            None => Ok((self.find_kept(fs, here, asked)?, quota)),
         }
     }
 
@@ -135,7 +136,7 @@ impl<'r, C, L: DavLockSystem> Finder<'r, C, L> {
         Ok(value.ok_or(quota_status(quota)))
     }
 
-    /// Looks up a stored property with `get_prop`, if `is_looked_up` says so.
+    /// Looks up a stored property with `get_prop`, by the name that `looked_up` returns.
     ///
     /// If the store refused the call, the status is that of the refusal. It is 404 if the call was barred
     /// (the resource has no such property), and if no call was made.
@@ -143,16 +144,15 @@ impl<'r, C, L: DavLockSystem> Finder<'r, C, L> {
         &self,
         fs: &mut F,
         here: &Resource,
-        element: &Element,
+        asked: &AskedProperty,
     ) -> DavResult<Result<Element, StatusCode>>
-        ensures rules { FindsKept L.seen self.now here.now element.now (F.seen fs.old) result (F.seen fs.new) }
+        ensures rules { FindsKept L.seen self.now here.now asked.now.element (F.seen fs.old) result (F.seen fs.new) }
         ensures err { IfErr result (λ e. e ≡ Memory) }
     {
-        if !self.is_looked_up(fs.have_props(), element) {
+        let Some(name) = self.looked_up(fs.have_props(), asked) else {
             return Ok(Err(StatusCode::NOT_FOUND));
-        }
-        let prop = element_to_davprop(element)?;
-        let answer = fs.get_prop(&here.path, &prop, self.credentials);
+        };
+        let answer = fs.get_prop(&here.path, name, self.credentials);
         returned_by(fs, answer)
     }
 
@@ -169,7 +169,7 @@ impl<'r, C, L: DavLockSystem> Finder<'r, C, L> {
     {
         let mut found = Vec::new(self.alloc);
         for asked in &self.search.asked {
-            let (value, next) = self.find_one(fs, here, &asked.element, quota)?;
+            let (value, next) = self.find_one(fs, here, asked, quota)?;
             found.push(Found { asked, value })?;
             quota = next;
         }
@@ -207,12 +207,16 @@ impl<'r, C, L: DavLockSystem> Finder<'r, C, L> {
         keeps && !self.search.kind.named_only()
     }
 
-    /// Returns whether the store is asked for this property by its name: for `prop`, if the store can keep
-    /// it. `keeps` says whether the store supports dead properties.
-    fn is_looked_up(&self, keeps: bool, element: &Element) -> bool
-        ensures { (facts : Facts) → facts.keeps_properties ≡ keeps → result ≡ is_looked_up_in (view_of L.seen self.now facts) element.now }
+    /// Returns the name by which the store is asked for this property: for `prop`, if the store can keep it.
+    /// `keeps` says whether the store supports dead properties.
+    fn looked_up<'p>(&self, keeps: bool, asked: &'p AskedProperty) -> Option<&'p DavProp>
+        ensures { (facts : Facts) → facts.keeps_properties ≡ keeps → option_copied result ≡ looked_up (view_of L.seen self.now facts) asked.now.element }
     {
-        keeps && self.search.kind.named_only() && is_kept(element)
+        if keeps && self.search.kind.named_only() {
+            asked.kept.as_ref()
+        } else {
+            None
+        }
     }
 }
 

@@ -2,6 +2,7 @@
 //! 9.1).
 #![tactic(auto)]
 
+mod asked;
 mod asked_list;
 mod declaring;
 mod finding;
@@ -13,6 +14,7 @@ mod search;
 mod server_list;
 mod visiting;
 
+pub use asked::AskedProperty;
 pub use declaring::declare_prefixes;
 pub use finding::{Finder, Found};
-pub use search::{AskedProperty, FindKind, Search, read_search};
+pub use search::{FindKind, Search, read_search};

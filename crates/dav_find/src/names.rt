@@ -24,8 +24,8 @@ impl<'e> PropertyName<'e> {
         ensures name { result.name.now ≡ element.now.tag.name }
     {
         PropertyName {
-            namespace: element.namespace.as_deref(),
-            name: element.name.as_str(),
+            namespace: element.namespace(),
+            name: element.name(),
         }
     }
 }

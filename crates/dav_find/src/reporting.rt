@@ -23,27 +23,29 @@ pub(crate) type PropertyStatus = (StatusCode, Element);
 pub(crate) fn report(
     alloc: Global,
     kind: FindKind,
-    found: &[Found<'_>],
+    found: Vec<Found<'_>>,
     stored: &Result<Items<SharedElement>, StatusCode>,
 ) -> Result<Vec<PropertyStatus>, AllocError>
-    ensures { IfOk result (λ reported. reported.items ≡ report_of kind (map finding_of found.now) stored.now) }
+    ensures { IfOk result (λ reported. reported.items ≡ report_of kind (map finding_of found.entry.items) stored.now) }
 {
-    let reported = report_found(alloc, found, stored)?;
-    report_stored(alloc, reported, kind, found, kept_in(stored))
+    let mut more = report_stored(alloc, kind, found.as_slice(), kept_in(stored))?;
+    let mut reported = report_found(alloc, found, stored)?;
+    reported.append(&mut more)?;
+    Ok(reported)
 }
 
-/// Returns what is reported of the requested properties.
+/// Returns what is reported of the requested properties. The elements that were found are moved.
 fn report_found<'e>(
     alloc: Global,
-    found: &'e [Found<'_>],
+    found: Vec<Found<'e>>,
     stored: &'e Result<Items<SharedElement>, StatusCode>,
 ) -> Result<Vec<PropertyStatus>, AllocError>
-    ensures { IfOk result (λ reported. reported.items ≡ flat_map (report_of_one stored.now) (map finding_of found.now)) }
+    ensures { IfOk result (λ reported. reported.items ≡ flat_map (report_of_one stored.now) (map finding_of found.entry.items)) }
 {
     let kept = names_of(alloc, kept_in(stored))?;
-    let mut reported = Vec::new(alloc);
+    let mut reported = Vec::with_capacity(alloc, found.len())?;
     for one in found {
-        reported = report_one(alloc, reported, one, stored, &kept)?;
+        reported = report_one(reported, one, stored, &kept)?;
     }
     Ok(reported)
 }
@@ -54,28 +56,28 @@ fn report_found<'e>(
 /// A property that was found is reported with 200. One that was not is reported by its name, with the status
 /// of `missing_status`. It is left out if `kept` has its name, or if only the server's own list names it.
 fn report_one<'e>(
-    alloc: Global,
     mut reported: Vec<PropertyStatus>,
-    one: &'e Found<'_>,
+    one: Found<'e>,
     stored: &Result<Items<SharedElement>, StatusCode>,
     kept: &PropertyNames<'e>,
 ) -> Result<Vec<PropertyStatus>, AllocError>
     requires { AreNamesOf kept.now.names (kept_of stored.now) }
-    ensures { IfOk result (λ more. more.items ≡ reported.items ++ report_of_one stored.now (finding_of one.now)) }
+    ensures { IfOk result (λ more. more.items ≡ reported.items ++ report_of_one stored.now (finding_of one.entry)) }
 {
-    match &one.value {
+    let Found { asked, value } = one;
+    match value {
         Ok(element) => {
-            reported.push((StatusCode::OK, element.clone()?))?;
+            reported.push((StatusCode::OK, element))?;
             Ok(reported)
         }
-        Err(status) => {
-            if one.asked.by_server || kept.has(&one.asked.element) {
-                return Ok(reported);
+        Err(status) => match &asked.bare {
+            Some(bare) if !kept.has(asked.element()) => {
+                let status = missing_status(stored, asked.element(), status);
+                reported.push((status, bare.clone()?))?;
+                Ok(reported)
             }
-            let status = missing_status(stored, &one.asked.element, *status);
-            reported.push((status, bare_element(alloc, &one.asked.element)?))?;
-            Ok(reported)
-        }
+            _ => Ok(reported),
+        },
     }
 }
 
@@ -104,33 +106,35 @@ fn kept_in(stored: &Result<Items<SharedElement>, StatusCode>) -> &[SharedElement
     }
 }
 
-/// Appends what is reported of the stored properties.
+/// Returns what is reported of the stored properties.
 fn report_stored(
     alloc: Global,
-    reported: Vec<PropertyStatus>,
     kind: FindKind,
     found: &[Found<'_>],
     kept: &[SharedElement],
 ) -> Result<Vec<PropertyStatus>, AllocError>
-    ensures { IfOk result (λ more. more.items ≡ reported.items ++ report_of_stored kind (map finding_of found.now) kept.now) }
+    ensures { IfOk result (λ reported. reported.items ≡ report_of_stored kind (map finding_of found.now) kept.now) }
 {
     match kind {
-        FindKind::AllProp => report_values(alloc, reported, found, kept),
-        FindKind::PropName => report_names(alloc, reported, kept),
-        FindKind::Prop => Ok(reported),
+        FindKind::AllProp => report_values(alloc, found, kept),
+        FindKind::PropName => report_names(alloc, kept),
+        FindKind::Prop => Ok(Vec::new(alloc)),
     }
 }
 
-/// Appends each stored property with its value, except those of the name of a requested property that was
+/// Returns each stored property with its value, except those of the name of a requested property that was
 /// found.
 fn report_values<'e>(
     alloc: Global,
-    mut reported: Vec<PropertyStatus>,
     found: &'e [Found<'_>],
     kept: &'e [SharedElement],
 ) -> Result<Vec<PropertyStatus>, AllocError>
-    ensures { IfOk result (λ more. more.items ≡ reported.items ++ report_of_stored AllProp (map finding_of found.now) kept.now) }
+    ensures { IfOk result (λ reported. reported.items ≡ report_of_stored AllProp (map finding_of found.now) kept.now) }
 {
+    let mut reported = Vec::new(alloc);
+    if kept.is_empty() {
+        return Ok(reported);
+    }
     let given = names_given(alloc, found)?;
     for element in kept {
         if !given.has(element.as_element()) {
@@ -140,14 +144,11 @@ fn report_values<'e>(
     Ok(reported)
 }
 
-/// Appends the name of each stored property, also if a live property of that name is already reported.
-fn report_names(
-    alloc: Global,
-    mut reported: Vec<PropertyStatus>,
-    kept: &[SharedElement],
-) -> Result<Vec<PropertyStatus>, AllocError>
-    ensures { IfOk result (λ more. more.items ≡ reported.items ++ map (λ element. (200, bare element)) kept.now) }
+/// Returns the name of each stored property, also if a live property of that name is already reported.
+fn report_names(alloc: Global, kept: &[SharedElement]) -> Result<Vec<PropertyStatus>, AllocError>
+    ensures { IfOk result (λ reported. reported.items ≡ map (λ element. (200, bare element)) kept.now) }
 {
+    let mut reported = Vec::with_capacity(alloc, kept.len())?;
     for element in kept {
         reported.push((StatusCode::OK, bare_element(alloc, element.as_element())?))?;
     }
@@ -175,7 +176,7 @@ fn names_given<'e>(alloc: Global, found: &'e [Found<'_>]) -> Result<PropertyName
     let mut names = PropertyNames::new(alloc);
     for one in found {
         if one.value.is_ok() {
-            names.insert(&one.asked.element)?;
+            names.insert(one.asked.element())?;
         }
     }
     Ok(names)

@@ -23,7 +23,7 @@ impl<'r, C, L: DavLockSystem> Finder<'r, C, L> {
     {
         let (found, quota) = self.find_each(fs, here, quota)?;
         let stored = self.find_stored(fs, &here.path)?;
-        let reported = report(self.alloc, self.search.kind, found.as_slice(), &stored)?;
+        let reported = report(self.alloc, self.search.kind, found.into_vec(), &stored)?;
         Ok((Items::from_vec(reported), quota))
     }
 }

@@ -8,6 +8,7 @@ ghost use Rattle.dav_messages.specs.DavElement.{is_named as is_named_tree};
 ghost use Rattle.dav_find.specs.Asked.{is_of, names_only, named_only, ask_once, asked_by_request, asked_by_server, says_kind as says_kind_tree, is_propfind as is_propfind_tree, named_in, asking, asking_by, asking_in, asking_of};
 ghost use Rattle.dav_find.specs.Searching.{asking_for};
 
+use crate::asked::AskedProperty;
 use crate::asked_list::AskedList;
 use crate::server_list::server_properties;
 use dav_messages::{is_empty_body, is_named};
@@ -50,27 +51,6 @@ impl FindKind {
             FindKind::Prop => true,
             FindKind::AllProp | FindKind::PropName => false,
         }
-    }
-}
-
-/// A requested property. The request or the server's own list names it.
-#[derive(Drop, Debug)]
-pub struct AskedProperty {
-    /// The element that names it.
-    pub element: Element,
-    /// Whether only the server's own list names it, and not the request.
-    pub by_server: bool,
-}
-
-impl AskedProperty {
-    /// Returns a copy. Fails only if memory runs out.
-    pub fn clone(&self) -> Result<AskedProperty, AllocError>
-        ensures { IfOk result (λ copy. copy ≡ self.now) }
-    {
-        Ok(AskedProperty {
-            element: self.element.clone()?,
-            by_server: self.by_server,
-        })
     }
 }
 
@@ -119,8 +99,8 @@ fn is_propfind(root: &Element) -> bool
 pub(crate) fn is_of(element: &Element, namespace: &str) -> bool
     ensures { result ≡ is_of namespace.now element.now }
 {
-    match &element.namespace {
-        Some(own) => own.as_str() == namespace,
+    match element.namespace() {
+        Some(own) => own == namespace,
         None => false,
     }
 }
@@ -175,7 +155,7 @@ fn search_by(
 ) -> Result<Search, AllocError>
     ensures { IfOk result (λ search. asking_for search ≡ asking_by (option_copied user_agent.entry) root.now said.now) }
 {
-    match said.name.as_str() {
+    match said.name() {
         "propname" => search_for(alloc, FindKind::PropName, None, user_agent),
         "prop" => search_for(alloc, FindKind::Prop, Some(said), user_agent),
         _ => search_for(alloc, FindKind::AllProp, include_in(root), user_agent),

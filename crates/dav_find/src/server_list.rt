@@ -5,7 +5,7 @@ ghost use Rattle.dav_find.specs.Asked.{property as property_of, dav_properties a
 
 use crate::search::FindKind;
 use dav_live::is_microsoft;
-use dav_resource::Element;
+use dav_resource::{Element, StartTag, Text};
 use std::alloc::{AllocError, Global};
 
 /// Returns the server's own list of properties, by the kind of search and the client. Fails only if memory
@@ -100,8 +100,8 @@ fn microsoft_property(alloc: Global, name: &str) -> Result<Element, AllocError>
 fn property(alloc: Global, prefix: &str, namespace: &str, name: &str) -> Result<Element, AllocError>
     ensures { IfOk result (λ element. element ≡ property_of prefix.now namespace.now name.now) }
 {
-    let mut element = Element::new(alloc, name)?;
-    element.prefix = Some(String::from_str(alloc, prefix)?);
-    element.namespace = Some(String::from_str(alloc, namespace)?);
-    Ok(element)
+    let mut tag = StartTag::new(alloc, Text::from_str(alloc, name)?);
+    tag.prefix = Some(Text::from_str(alloc, prefix)?);
+    tag.namespace = Some(Text::from_str(alloc, namespace)?);
+    Element::from_tag(alloc, tag)
 }

@@ -10,7 +10,7 @@ use crate::tree::{
     current_user_principal, lock_discovery, resource_type, supported_lock, text_property,
 };
 use crate::viewer::Viewer;
-use dav_resource::{DavPath, DavResult, Element, Meta};
+use dav_resource::{DavPath, DavResult, Element, ElementName, Meta};
 use dav_store::DavLockSystem;
 use std::alloc::Global;
 
@@ -45,7 +45,12 @@ pub fn live_element<L: DavLockSystem>(
         }
         _ => {
             let text = live_text(alloc, property, viewer, path, meta)?;
-            Ok(text_property(alloc, property.shown_name(), names_only, text)?)
+            Ok(text_property(
+                alloc,
+                ElementName::Live(property.shown_name()),
+                names_only,
+                text,
+            )?)
         }
     }
 }

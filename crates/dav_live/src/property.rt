@@ -1,8 +1,9 @@
 //! Which properties are live, and how a response names them.
 ghost use Rattle.std.specs.Prelude.{◌≡◌};
+ghost use Rattle.dav_resource.specs.ElementNames.{live_text};
 ghost use Rattle.dav_live.specs.Names.{live_property_of, named_in_dav, named_in_apache, named_in_microsoft, is_quota, shown_name};
 
-use dav_resource::Element;
+use dav_resource::{Element, LiveName};
 
 /// A live property: its value comes from the server (RFC 4918, section 15; RFC 4331; RFC 5397; and those that
 /// clients of Apache's and Microsoft's namespaces ask for).
@@ -47,13 +48,10 @@ impl LiveProperty {
     pub fn of_element(prop: &Element) -> Option<LiveProperty>
         ensures { result ≡ live_property_of prop.now.tag.namespace prop.now.tag.name }
     {
-        let Some(namespace) = &prop.namespace else {
-            return None;
-        };
-        match namespace.as_str() {
-            "DAV:" => named_in_dav(prop.name.as_str()),
-            "http://apache.org/dav/props/" => named_in_apache(prop.name.as_str()),
-            "urn:schemas-microsoft-com:" => named_in_microsoft(prop.name.as_str()),
+        match prop.namespace()? {
+            "DAV:" => named_in_dav(prop.name()),
+            "http://apache.org/dav/props/" => named_in_apache(prop.name()),
+            "urn:schemas-microsoft-com:" => named_in_microsoft(prop.name()),
             _ => None,
         }
     }
@@ -69,26 +67,26 @@ impl LiveProperty {
     }
 
     /// Returns its prefix and name in a response whose root element declares the prefixes.
-    pub(crate) fn shown_name(self) -> &'static str
-        ensures { result.now ≡ shown_name self }
+    pub(crate) fn shown_name(self) -> LiveName
+        ensures { live_text result ≡ shown_name self }
     {
         match self {
-            LiveProperty::CreationDate => "D:creationdate",
-            LiveProperty::ContentLength => "D:getcontentlength",
-            LiveProperty::ContentType => "D:getcontenttype",
-            LiveProperty::ETag => "D:getetag",
-            LiveProperty::LastModified => "D:getlastmodified",
-            LiveProperty::LockDiscovery => "D:lockdiscovery",
-            LiveProperty::ResourceType => "D:resourcetype",
-            LiveProperty::SupportedLock => "D:supportedlock",
-            LiveProperty::CurrentUserPrincipal => "D:current-user-principal",
-            LiveProperty::QuotaAvailableBytes => "D:quota-available-bytes",
-            LiveProperty::QuotaUsedBytes => "D:quota-used-bytes",
-            LiveProperty::Executable => "A:executable",
-            LiveProperty::Win32CreationTime => "Z:Win32CreationTime",
-            LiveProperty::Win32FileAttributes => "Z:Win32FileAttributes",
-            LiveProperty::Win32LastAccessTime => "Z:Win32LastAccessTime",
-            LiveProperty::Win32LastModifiedTime => "Z:Win32LastModifiedTime",
+            LiveProperty::CreationDate => LiveName::CreationDate,
+            LiveProperty::ContentLength => LiveName::ContentLength,
+            LiveProperty::ContentType => LiveName::ContentType,
+            LiveProperty::ETag => LiveName::ETag,
+            LiveProperty::LastModified => LiveName::LastModified,
+            LiveProperty::LockDiscovery => LiveName::LockDiscovery,
+            LiveProperty::ResourceType => LiveName::ResourceType,
+            LiveProperty::SupportedLock => LiveName::SupportedLock,
+            LiveProperty::CurrentUserPrincipal => LiveName::CurrentUserPrincipal,
+            LiveProperty::QuotaAvailableBytes => LiveName::QuotaAvailableBytes,
+            LiveProperty::QuotaUsedBytes => LiveName::QuotaUsedBytes,
+            LiveProperty::Executable => LiveName::Executable,
+            LiveProperty::Win32CreationTime => LiveName::Win32CreationTime,
+            LiveProperty::Win32FileAttributes => LiveName::Win32FileAttributes,
+            LiveProperty::Win32LastAccessTime => LiveName::Win32LastAccessTime,
+            LiveProperty::Win32LastModifiedTime => LiveName::Win32LastModifiedTime,
         }
     }
 }

@@ -72,7 +72,7 @@ fn type_text(alloc: Global, path: &DavPath, meta: &Meta) -> Result<Option<Text>,
     } else {
         path.get_mime_type_str()
     };
-    Ok(Some(copied(alloc, media_type)?))
+    Ok(Some(Text::from_str(alloc, media_type)?))
 }
 
 /// Returns the entity tag in quotes, if there is one.
@@ -97,7 +97,10 @@ fn executable_text(alloc: Global, meta: &Meta) -> Result<Option<Text>, AllocErro
     ensures { IfOk result (λ text. text ≡ text_of_executable meta.now) }
 {
     match meta.executable {
-        Some(executable) => Ok(Some(copied(alloc, if executable { "T" } else { "F" })?)),
+        Some(executable) => {
+            let letter = if executable { "T" } else { "F" };
+            Ok(Some(Text::from_str(alloc, letter)?))
+        }
         None => Ok(None),
     }
 }
@@ -135,11 +138,4 @@ fn hexadecimal(alloc: Global, number: u64) -> Result<Text, AllocError>
     ensures { IfOk result (λ text. text ≡ zero_padded 8 (digits 16 false number)) }
 {
     Ok(Text::from_string(format!(in alloc; "{number:08x}")?))
-}
-
-/// Copies the string.
-fn copied(alloc: Global, text: &str) -> Result<Text, AllocError>
-    ensures { IfOk result (λ copy. copy ≡ text.now) }
-{
-    Ok(Text::from_string(String::from_str(alloc, text)?))
 }

@@ -3,12 +3,13 @@ ghost use Rattle.std.specs.Prelude.{◌≡◌, ◌∷◌, [], codes, IfOk, IfErr
 ghost use Rattle.std.specs.Option.{option_copied};
 ghost use Rattle.dav_resource.specs.declared.error.DavError.TheVariants.{Memory};
 ghost use Rattle.dav_resource.specs.Tree.{prefixed_element};
+ghost use Rattle.dav_resource.specs.ElementNames.{name_text};
 ghost use Rattle.dav_messages.specs.Conditions.{locks_in};
 ghost use Rattle.dav_messages.specs.DavElement.{with_elements};
 ghost use Rattle.dav_live.specs.Live.{resource_type as tree_of_type, current_user_principal as tree_of_principal, text_property as property_of_text, locks_of as tree_of_locks, lock_kinds as tree_of_kinds};
 
 use dav_messages::{list_lockdiscovery, list_supportedlock, text_element};
-use dav_resource::{DavPath, DavResult, Element, Text};
+use dav_resource::{DavPath, DavResult, Element, ElementName, LiveName, Text};
 use dav_store::DavLockSystem;
 use std::alloc::{AllocError, Global};
 
@@ -16,19 +17,19 @@ use std::alloc::{AllocError, Global};
 /// `names_only` the value is left out.
 pub(crate) fn text_property(
     alloc: Global,
-    name: &str,
+    name: ElementName,
     names_only: bool,
     text: Option<Text>,
 ) -> Result<Option<Element>, AllocError>
-    ensures { IfOk result (λ reported. reported ≡ property_of_text name.now names_only text) }
+    ensures { IfOk result (λ reported. reported ≡ property_of_text (name_text name) names_only text) }
 {
     let Some(text) = text else {
         return Ok(None);
     };
     if names_only {
-        Ok(Some(Element::new2(alloc, name)?))
+        Ok(Some(Element::constant(alloc, name)))
     } else {
-        Ok(Some(text_element(alloc, name, text.as_str())?))
+        Ok(Some(text_element(alloc, name, text)?))
     }
 }
 
@@ -53,7 +54,7 @@ pub(crate) fn resource_type(
 fn with_collection(alloc: Global, mut element: Element) -> Result<Element, AllocError>
     ensures { IfOk result (λ reported. reported ≡ with_elements element (prefixed_element (codes "D:collection") ∷ [])) }
 {
-    element.push_element(Element::new2(alloc, "D:collection")?)?;
+    element.push_element(Element::constant(alloc, ElementName::Collection))?;
     Ok(element)
 }
 
@@ -72,7 +73,8 @@ pub(crate) fn current_user_principal(
     };
     let mut reported = asked.clone()?;
     if !names_only {
-        reported.push_element(text_element(alloc, "D:href", principal)?)?;
+        let principal = Text::from_str(alloc, principal)?;
+        reported.push_element(text_element(alloc, ElementName::Href, principal)?)?;
     }
     Ok(Some(reported))
 }
@@ -89,7 +91,7 @@ pub(crate) fn lock_discovery<L: DavLockSystem>(
     ensures err { IfErr result (λ e. e ≡ Memory) }
 {
     if names_only {
-        Ok(Element::new2(alloc, "D:lockdiscovery")?)
+        Ok(Element::constant(alloc, ElementName::Live(LiveName::LockDiscovery)))
     } else {
         list_lockdiscovery(alloc, ls, path)
     }
@@ -102,7 +104,7 @@ pub(crate) fn supported_lock(alloc: Global, names_only: bool, present: bool) -> 
     ensures err { IfErr result (λ e. e ≡ Memory) }
 {
     if names_only {
-        Ok(Element::new2(alloc, "D:supportedlock")?)
+        Ok(Element::constant(alloc, ElementName::Live(LiveName::SupportedLock)))
     } else {
         list_supportedlock(alloc, present)
     }

@@ -24,6 +24,9 @@ first_status (item ∷ items) = Some item.1
 abbrev pub status_line : ℕ → List ℕ
 status_line status = codes "HTTP/1.1 " ++ code_digits status ++ option_map_or (λ phrase. 32 ∷ phrase) (reason_phrase status) []
 
+abbrev pub status_element : ℕ → Tree
+status_element status = text_element (codes "D:status") (status_line status)
+
 -- 204 is shown as 200, since an item has no content of its own
 abbrev pub shown_status : ℕ → ℕ
 shown_status status = if status == 204 then 200 else status
@@ -32,7 +35,7 @@ shown_status status = if status == 204 then 200 else status
 abbrev pub response_element : Item → Tree
 response_element item =
     with_elements (prefixed_element (codes "D:response"))
-    (href_element item.0 ∷ text_element (codes "D:status") (status_line (shown_status item.1)) ∷ [])
+    (href_element item.0 ∷ status_element (shown_status item.1) ∷ [])
 
 -- a response for each item, in order
 abbrev pub multistatus : List Item → Tree

@@ -19,6 +19,6 @@ pub use dav_element::{declaring_element, href_element, is_named, text_element};
 pub use lock_tree::{build_lock_prop, list_lockdiscovery, list_supportedlock, timeout_text};
 pub use lookup::look_up;
 pub use multierror::{MultiError, multi_error};
-pub use multistatus::{add_xml_type, status_line, xml_headers};
+pub use multistatus::{add_xml_type, status_element, status_line, xml_headers};
 pub use reply_header::{add_header, header_value};
 pub use request_body::{body_length, is_empty_body};

@@ -5,7 +5,7 @@ ghost use Rattle.dav_messages.specs.Conditions.{locks_in};
 ghost use Rattle.dav_messages.specs.LockTree.{lock_scope as scope_of_lock, lock_type as type_of_lock, depth_text as text_of_depth, timeout_text as text_of_timeout, token_element as element_of_token, lock_root as element_of_root, active_lock as tree_of_lock, lock_discovery as tree_of_locks, covering_in, lock_prop as shown_lock, lock_entry as entry_of_scope, supported_lock as tree_of_entries};
 
 use crate::dav_element::{declaring_element, href_element, outer_element, text_element};
-use dav_resource::{DavError, DavPath, DavResult, Element};
+use dav_resource::{DavError, DavPath, DavResult, Element, ElementName, LiveName, Text};
 use dav_store::{DavLock, DavLockSystem};
 use std::alloc::{AllocError, Global};
 
@@ -65,8 +65,8 @@ fn lock_prop(alloc: Global, lock: &DavLock, full: bool) -> Result<Element, Alloc
     if !full {
         return Ok(active);
     }
-    let mut prop = declaring_element(alloc, "D:prop")?;
-    prop.push_element(outer_element(alloc, "D:lockdiscovery", active)?)?;
+    let mut prop = declaring_element(alloc, ElementName::Prop)?;
+    prop.push_element(outer_element(alloc, ElementName::Live(LiveName::LockDiscovery), active)?)?;
     Ok(prop)
 }
 
@@ -74,7 +74,7 @@ fn lock_prop(alloc: Global, lock: &DavLock, full: bool) -> Result<Element, Alloc
 fn lock_discovery(alloc: Global, locks: &[DavLock]) -> Result<Element, AllocError>
     ensures { IfOk result (λ tree. tree ≡ tree_of_locks locks.now) }
 {
-    let mut tree = Element::new2(alloc, "D:lockdiscovery")?;
+    let mut tree = Element::constant(alloc, ElementName::Live(LiveName::LockDiscovery));
     for lock in locks {
         tree.push_element(active_lock(alloc, lock)?)?;
     }
@@ -85,13 +85,14 @@ fn lock_discovery(alloc: Global, locks: &[DavLock]) -> Result<Element, AllocErro
 fn active_lock(alloc: Global, lock: &DavLock) -> Result<Element, AllocError>
     ensures { IfOk result (λ tree. tree ≡ tree_of_lock lock.now) }
 {
-    let timeout = timeout_text(alloc, lock.timeout)?;
-    let mut tree = Element::new2(alloc, "D:activelock")?;
+    let depth = Text::from_str(alloc, depth_text(lock.deep))?;
+    let timeout = Text::from_string(timeout_text(alloc, lock.timeout)?);
+    let mut tree = Element::constant(alloc, ElementName::ActiveLock);
     tree.push_element(lock_scope(alloc, lock.shared)?)?;
     tree.push_element(lock_type(alloc)?)?;
-    tree.push_element(text_element(alloc, "D:depth", depth_text(lock.deep))?)?;
-    tree.push_element(text_element(alloc, "D:timeout", timeout.as_str())?)?;
-    tree.push_element(lock_token(alloc, lock.token.as_str())?)?;
+    tree.push_element(text_element(alloc, ElementName::Depth, depth)?)?;
+    tree.push_element(text_element(alloc, ElementName::Timeout, timeout)?)?;
+    tree.push_element(lock_token(alloc, lock.token.clone()?)?)?;
     tree.push_element(lock_root(alloc, &lock.path)?)?;
     if let Some(owner) = &lock.owner {
         tree.push_element(owner.clone()?)?;
@@ -103,15 +104,27 @@ fn active_lock(alloc: Global, lock: &DavLock) -> Result<Element, AllocError>
 fn lock_scope(alloc: Global, shared: bool) -> Result<Element, AllocError>
     ensures { IfOk result (λ scope. scope ≡ scope_of_lock shared) }
 {
-    let name = if shared { "D:shared" } else { "D:exclusive" };
-    outer_element(alloc, "D:lockscope", Element::new2(alloc, name)?)
+    let name = if shared {
+        ElementName::Shared
+    } else {
+        ElementName::Exclusive
+    };
+    outer_element(
+        alloc,
+        ElementName::LockScope,
+        Element::constant(alloc, name),
+    )
 }
 
 /// Returns the type of a lock: each is a write lock.
 fn lock_type(alloc: Global) -> Result<Element, AllocError>
     ensures { IfOk result (λ kind. kind ≡ type_of_lock) }
 {
-    outer_element(alloc, "D:locktype", Element::new2(alloc, "D:write")?)
+    outer_element(
+        alloc,
+        ElementName::LockType,
+        Element::constant(alloc, ElementName::Write),
+    )
 }
 
 /// Returns the depth of a lock: whether it covers everything below its path.
@@ -122,25 +135,25 @@ fn depth_text(deep: bool) -> &'static str
 }
 
 /// Returns the token, as it is.
-fn lock_token(alloc: Global, token: &str) -> Result<Element, AllocError>
-    ensures { IfOk result (λ element. element ≡ element_of_token token.now) }
+fn lock_token(alloc: Global, token: Text) -> Result<Element, AllocError>
+    ensures { IfOk result (λ element. element ≡ element_of_token token) }
 {
-    let href = text_element(alloc, "D:href", token)?;
-    outer_element(alloc, "D:locktoken", href)
+    let href = text_element(alloc, ElementName::Href, token)?;
+    outer_element(alloc, ElementName::LockToken, href)
 }
 
 /// Returns the path that was locked.
 fn lock_root(alloc: Global, path: &DavPath) -> Result<Element, AllocError>
     ensures { IfOk result (λ element. element ≡ element_of_root path.now) }
 {
-    outer_element(alloc, "D:lockroot", href_element(alloc, path)?)
+    outer_element(alloc, ElementName::LockRoot, href_element(alloc, path)?)
 }
 
 /// Returns a `D:supportedlock` with exclusive and then shared locks, if a lock system is present.
 fn supported_lock(alloc: Global, present: bool) -> Result<Element, AllocError>
     ensures { IfOk result (λ tree. tree ≡ tree_of_entries present) }
 {
-    let mut tree = Element::new2(alloc, "D:supportedlock")?;
+    let mut tree = Element::constant(alloc, ElementName::Live(LiveName::SupportedLock));
     if present {
         tree.push_element(lock_entry(alloc, false)?)?;
         tree.push_element(lock_entry(alloc, true)?)?;
@@ -152,7 +165,7 @@ fn supported_lock(alloc: Global, present: bool) -> Result<Element, AllocError>
 fn lock_entry(alloc: Global, shared: bool) -> Result<Element, AllocError>
     ensures { IfOk result (λ entry. entry ≡ entry_of_scope shared) }
 {
-    let mut entry = Element::new2(alloc, "D:lockentry")?;
+    let mut entry = Element::constant(alloc, ElementName::LockEntry);
     entry.push_element(lock_scope(alloc, shared)?)?;
     entry.push_element(lock_type(alloc)?)?;
     Ok(entry)

@@ -3,14 +3,17 @@ ghost use Rattle.std.specs.Prelude.{◌≡◌, ◌++◌, codes, [], ◌∷◌, I
 ghost use Rattle.dav_resource.specs.declared.error.DavError.TheVariants.{Memory};
 ghost use Rattle.dav_messages.specs.Reply.{reply_of, bare_reply as reply_without_body, field};
 ghost use Rattle.dav_messages.specs.ReplyHeader.{HasRoomFor};
-ghost use Rattle.dav_messages.specs.Multistatus.{status_line as line_of_status, shown_status as status_shown_for, response_element as element_of_item, multistatus as tree_of_items, xml_type, multistatus_reply as reply_of_items};
+ghost use Rattle.dav_messages.specs.Multistatus.{status_line as line_of_status, status_element as element_of_status, shown_status as status_shown_for, response_element as element_of_item, multistatus as tree_of_items, xml_type, multistatus_reply as reply_of_items};
 
 use crate::dav_element::{declaring_element, href_element, text_element};
 use crate::reply_header::add_header;
-use dav_resource::{Body, DavPath, DavResult, Element};
+use dav_resource::{Body, DavPath, DavResult, Element, ElementName, Text};
 use http::{Response, StatusCode};
 use http_header::{CONTENT_TYPE, HeaderMap, HeaderValue};
 use std::alloc::{AllocError, Global};
+
+/// The length of the usual status lines: those of 200, 404 and 424 have less.
+const USUAL_LINE: usize = 32;
 
 /// Returns a response with this status, no header fields and no body.
 pub(crate) fn bare_reply(alloc: Global, status: StatusCode) -> Response<Body>
@@ -64,7 +67,7 @@ pub fn add_xml_type(headers: &mut HeaderMap<HeaderValue>) -> DavResult<()>
 fn multistatus(alloc: Global, items: &[(DavPath, StatusCode)]) -> Result<Element, AllocError>
     ensures { IfOk result (λ tree. tree ≡ tree_of_items items.now) }
 {
-    let mut tree = declaring_element(alloc, "D:multistatus")?;
+    let mut tree = declaring_element(alloc, ElementName::Multistatus)?;
     for (path, status) in items {
         tree.push_element(response_element(alloc, path, *status)?)?;
     }
@@ -79,10 +82,9 @@ fn response_element(
 ) -> Result<Element, AllocError>
     ensures { IfOk result (λ response. response ≡ element_of_item (path.now, status)) }
 {
-    let line = status_line(alloc, shown_status(status))?;
-    let mut response = Element::new2(alloc, "D:response")?;
+    let mut response = Element::constant(alloc, ElementName::Response);
     response.push_element(href_element(alloc, path)?)?;
-    response.push_element(text_element(alloc, "D:status", line.as_str())?)?;
+    response.push_element(status_element(alloc, shown_status(status))?)?;
     Ok(response)
 }
 
@@ -91,11 +93,22 @@ fn response_element(
 pub fn status_line(alloc: Global, status: StatusCode) -> Result<String, AllocError>
     ensures { IfOk result (λ line. string_bytes line ≡ line_of_status status) }
 {
-    let digits = status.as_str();
-    match status.canonical_reason() {
-        Some(phrase) => format!(in alloc; "HTTP/1.1 {digits} {phrase}"),
-        None => format!(in alloc; "HTTP/1.1 {digits}"),
+    let mut line = String::with_capacity(alloc, USUAL_LINE)?;
+    line.push_str("HTTP/1.1 ")?;
+    line.push_str(status.as_str())?;
+    if let Some(phrase) = status.canonical_reason() {
+        line.push(' ')?;
+        line.push_str(phrase)?;
     }
+    Ok(line)
+}
+
+/// Returns the element `D:status` of a status (RFC 4918, section 14.28). Fails only if memory runs out.
+pub fn status_element(alloc: Global, status: StatusCode) -> Result<Element, AllocError>
+    ensures { IfOk result (λ element. element ≡ element_of_status status) }
+{
+    let line = Text::from_string(status_line(alloc, status)?);
+    text_element(alloc, ElementName::Status, line)
 }
 
 /// Returns the status that a multistatus shows: 200 in place of 204, since an item has no content of its own,

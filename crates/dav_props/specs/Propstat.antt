@@ -4,8 +4,8 @@ use Rattle.std.specs.Ordering.{nat_cmp}
 use Rattle.std.specs.FinMap.{keys, from_entries}
 use Rattle.dav_resource.specs.PathText.{PathValue}
 use Rattle.dav_resource.specs.Tree.{Tree, prefixed_element}
-use Rattle.dav_messages.specs.DavElement.{with_elements, declaring_element, text_element, href_element}
-use Rattle.dav_messages.specs.Multistatus.{status_line}
+use Rattle.dav_messages.specs.DavElement.{with_elements, declaring_element, href_element}
+use Rattle.dav_messages.specs.Multistatus.{status_element}
 
 -- ---- properties by their statuses
 
@@ -35,7 +35,7 @@ grouped reported = map (λ status. (status, of_status status reported)) (statuse
 abbrev pub propstat : Group → Tree
 propstat group =
     with_elements (prefixed_element (codes "D:propstat"))
-    (with_elements (prefixed_element (codes "D:prop")) group.1 ∷ text_element (codes "D:status") (status_line group.0) ∷ [])
+    (with_elements (prefixed_element (codes "D:prop")) group.1 ∷ status_element group.0 ∷ [])
 
 -- a resource's path, including its prefix, and its properties grouped by status
 abbrev pub property_response : PathValue → List Group → Tree

@@ -99,13 +99,13 @@ fn dead_status(can_deadprop: bool) -> StatusCode
 fn property_kind(prop: &Element) -> PropertyKind
     ensures { result ≡ kind_of prop.now.tag.namespace prop.now.tag.name }
 {
-    let Some(namespace) = &prop.namespace else {
+    let Some(namespace) = prop.namespace() else {
         return PropertyKind::Dead;
     };
-    match namespace.as_str() {
-        "DAV:" => kind_in_dav(prop.name.as_str()),
-        "http://apache.org/dav/props/" => kind_in_apache(prop.name.as_str()),
-        "urn:schemas-microsoft-com:" => kind_in_microsoft(prop.name.as_str()),
+    match namespace {
+        "DAV:" => kind_in_dav(prop.name()),
+        "http://apache.org/dav/props/" => kind_in_apache(prop.name()),
+        "urn:schemas-microsoft-com:" => kind_in_microsoft(prop.name()),
         _ => PropertyKind::Dead,
     }
 }

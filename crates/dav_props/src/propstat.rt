@@ -6,8 +6,8 @@ ghost use Rattle.dav_messages.specs.DavElement.{with_elements};
 ghost use Rattle.dav_props.specs.Propstat.{grouped, propstat as tree_of_group, property_response as response_of_groups};
 ghost use Rattle.dav_props.specs.Groups.{groups_of, AddsProperty, AreStatuses};
 
-use dav_messages::{href_element, status_line, text_element};
-use dav_resource::{DavPath, Element};
+use dav_messages::{href_element, status_element};
+use dav_resource::{DavPath, Element, ElementName};
 use http::StatusCode;
 use std::alloc::{AllocError, Global};
 use std::collections::BTreeMap;
@@ -56,7 +56,8 @@ pub(crate) fn property_response(
     requires { AreStatuses groups }
     ensures { IfOk result (λ response. response ≡ response_of_groups path.now (groups_of groups)) }
 {
-    let mut response = Element::new2(alloc, "D:response")?;
+    let mut response = Element::constant(alloc, ElementName::Response);
+    response.children.reserve_exact(1 + groups.len())?;
     response.push_element(href_element(alloc, path)?)?;
     for (status, elements) in groups {
         let status = StatusCode::from_u16(status).unwrap();
@@ -73,10 +74,10 @@ fn propstat(
 ) -> Result<Element, AllocError>
     ensures { IfOk result (λ tree. tree ≡ tree_of_group (status, elements.items)) }
 {
-    let line = status_line(alloc, status)?;
-    let mut propstat = Element::new2(alloc, "D:propstat")?;
+    let mut propstat = Element::constant(alloc, ElementName::Propstat);
+    propstat.children.reserve_exact(2)?;
     propstat.push_element(prop(alloc, elements)?)?;
-    propstat.push_element(text_element(alloc, "D:status", line.as_str())?)?;
+    propstat.push_element(status_element(alloc, status)?)?;
     Ok(propstat)
 }
 
@@ -84,7 +85,8 @@ fn propstat(
 fn prop(alloc: Global, elements: Vec<Element>) -> Result<Element, AllocError>
     ensures { IfOk result (λ tree. tree ≡ with_elements (prefixed_element (codes "D:prop")) elements.items) }
 {
-    let mut prop = Element::new2(alloc, "D:prop")?;
+    let mut prop = Element::constant(alloc, ElementName::Prop);
+    prop.children.reserve_exact(elements.len())?;
     for element in elements {
         prop.push_element(element)?;
     }

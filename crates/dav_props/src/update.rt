@@ -65,7 +65,7 @@ fn read_part<'r>(
 ) -> Result<Vec<PropertyChange<'r>>, AllocError>
     ensures { IfOk result (λ more. map change_of more.items ≡ map change_of changes.entry.items ++ changes_in can_deadprop part.now) }
 {
-    match part.name.as_str() {
+    match part.name() {
         "set" => read_properties(part, true, can_deadprop, changes),
         "remove" => read_properties(part, false, can_deadprop, changes),
         _ => Ok(changes),

@@ -11,7 +11,7 @@ ghost use Rattle.dav_props.specs.Propstat.{property_response as response_of_grou
 
 use crate::propstat::property_response;
 use dav_messages::{add_xml_type, declaring_element};
-use dav_resource::{Body, DavPath, DavResult, Element};
+use dav_resource::{Body, DavPath, DavResult, Element, ElementName};
 use http::{Response, StatusCode};
 use std::alloc::Global;
 use std::collections::BTreeMap;
@@ -33,7 +33,7 @@ impl PropWriter {
         ensures unwritten { OnErr result (reply_of res.new ≡ reply_of res.old) }
         ensures err { IfErr result (λ e. e ≡ Memory) }
     {
-        let tree = declaring_element(alloc, "D:multistatus")?;
+        let tree = declaring_element(alloc, ElementName::Multistatus)?;
         add_xml_type(res.headers_mut())?;
         *res.status_mut() = StatusCode::MULTI_STATUS;
         Ok(PropWriter { tree })
@@ -63,7 +63,7 @@ impl PropWriter {
         ensures unwritten { OnErr result (self.new.tree ≡ self.old.tree) }
         ensures err { IfErr result (λ e. e ≡ Memory) }
     {
-        let alloc = *self.tree.name.allocator();
+        let alloc = *self.tree.children.allocator();
         let response = property_response(alloc, path, props)?;
         self.tree.push_element(response)?;
         Ok(())

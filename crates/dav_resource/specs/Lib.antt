@@ -10,6 +10,7 @@ pub mod Mime
 pub mod Tree
 pub mod TreeLaws
 pub mod TreeCode
+pub mod ElementNames
 pub mod Element
 pub mod ElementFalls
 pub mod Methods

@@ -66,13 +66,15 @@ texts_of ns = joined (texts ns)
 
 -- ---- elements that the calls build
 
--- an element without namespace, attributes and content
+-- a tag without namespace and attributes, an element without content, and one without all of them
+abbrev pub named_tag : List ℕ → Option (List ℕ) → Tag
+named_tag name prefix = record { name = name; prefix = prefix; namespace = None; attributes = [] }
+
+abbrev pub tagged : Tag → Tree
+tagged tag = record { tag = tag; children = no_nodes }
+
 abbrev pub empty_element : List ℕ → Option (List ℕ) → Tree
-empty_element name prefix =
-    record {
-      tag = record { name = name; prefix = prefix; namespace = None; attributes = [] };
-      children = no_nodes;
-    }
+empty_element name prefix = tagged (named_tag name prefix)
 
 -- a string with `:` is a prefix and a name, split at the first `:`: `D:x` is the prefix D and the name x
 abbrev pub has_colon : List ℕ → Bool

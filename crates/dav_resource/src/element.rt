@@ -1,28 +1,32 @@
 //! Element trees, as in the XML body of a WebDAV request (RFC 4918, section 14; Namespaces in XML 1.0).
-ghost use Rattle.std.specs.Prelude.{◌≡◌, ◌↔◌, ◌<◌, ◌++◌, length, [], None, map, position, unwrap_or, IsTrue, IfOk, OnOk, OnErr, option_map, option_copied, string_bytes};
-ghost use Rattle.dav_resource.specs.Tree.{empty_element, prefixed_element, with_attribute, xmlns_name, with_children, one_text, one_element, texts_of, elements_of, first_named, without_first_named};
-ghost use Rattle.dav_resource.specs.Element.{nodes_of, text_pair, node_is_named, child_elements};
+ghost use Rattle.std.specs.Prelude.{◌≡◌, ◌↔◌, ◌<◌, ◌++◌, ◌∷◌, length, [], None, Some, position, unwrap_or, IsTrue, IfOk, OnOk, OnErr, option_map, option_copied, string_bytes};
+ghost use Rattle.dav_resource.specs.Tree.{tagged, empty_element, prefixed_element, with_attribute, xmlns_name, with_children, append_nodes, one_text, one_element, texts_of, elements_of, first_named, without_first_named};
+ghost use Rattle.dav_resource.specs.ElementNames.{name_text};
+ghost use Rattle.dav_resource.specs.Element.{nodes_of, node_is_named, child_elements, tag_of, attributes_in};
 ghost use Rattle.std.specs.Iterator.{YieldsFirstRef, item_count};
 
-use crate::Text;
+use crate::{ElementName, StartTag, Text};
 use std::alloc::{AllocError, Global};
 use std::collections::BTreeMap;
 use std::marker::Model;
+use std::rc::Rc;
 
 /// An element with its attributes and content. In contracts its value is a tree.
 #[derive(Drop, Debug)]
 #[cycle(element)]
 pub struct Element {
-    /// The local name (Namespaces in XML 1.0, section 4).
-    pub name: String,
-    /// The namespace prefix of the name, if it has one.
-    pub prefix: Option<String>,
-    /// The namespace of the name, if it is known.
-    pub namespace: Option<String>,
-    /// The attributes by name, including namespace declarations.
-    pub attributes: BTreeMap<String, String>,
+    tag: SharedTag,
     /// The content of the element, in order.
     pub children: Vec<XMLNode>,
+}
+
+/// A start tag that is not copied with its element.
+#[derive(Drop, Debug)]
+pub(crate) enum SharedTag {
+    /// A name that the server itself writes, without a namespace and attributes.
+    Constant(ElementName),
+    /// A tag with several owners.
+    Shared(Rc<StartTag>),
 }
 
 /// A node in the content of an element.
@@ -56,55 +60,140 @@ impl Model for Element {
 }
 
 impl Element {
+    /// Creates an element that the server itself writes. It takes no memory.
+    pub fn constant(alloc: Global, name: ElementName) -> Element
+        ensures { result ≡ prefixed_element (name_text name) }
+    {
+        Element {
+            tag: SharedTag::Constant(name),
+            children: Vec::new(alloc),
+        }
+    }
+
+    /// Creates an element with this start tag and no content. Fails only if memory runs out.
+    pub fn from_tag(alloc: Global, tag: StartTag) -> Result<Element, AllocError>
+        ensures { IfOk result (λ e. e ≡ tagged tag) }
+    {
+        Ok(Element {
+            tag: SharedTag::Shared(Rc::new(alloc, tag)?),
+            children: Vec::new(alloc),
+        })
+    }
+
     /// Creates an element with this name. It has no prefix, namespace, attributes or content. Fails only if
     /// memory runs out.
     pub fn new(alloc: Global, name: &str) -> Result<Element, AllocError>
         ensures { IfOk result (λ e. e ≡ empty_element name.now None) }
     {
-        Ok(Element {
-            name: String::from_str(alloc, name)?,
-            prefix: None,
-            namespace: None,
-            attributes: BTreeMap::new(alloc),
-            children: Vec::new(alloc),
-        })
+        let name = Text::from_str(alloc, name)?;
+        Element::from_tag(alloc, StartTag::new(alloc, name))
     }
 
-    /// Creates an element from a prefixed name (Namespaces in XML 1.0, section 4). The string is split at the
-    /// first `:` into prefix and name. Without a `:` the whole string is the name, and there is no prefix. No
-    /// namespace is set. Fails only if memory runs out.
+    /// Creates an element from a prefixed name, which is read as by `StartTag::prefixed`. Fails only if memory
+    /// runs out.
     pub fn new2(alloc: Global, text: &str) -> Result<Element, AllocError>
         ensures { IfOk result (λ e. e ≡ prefixed_element text.now) }
     {
-        let Some((prefix, name)) = text.split_once(':') else {
-            return Element::new(alloc, text);
-        };
-        let mut element = Element::new(alloc, name)?;
-        element.prefix = Some(String::from_str(alloc, prefix)?);
-        Ok(element)
+        Element::from_tag(alloc, StartTag::prefixed(alloc, text)?)
+    }
+
+    /// The local name (Namespaces in XML 1.0, section 4).
+    pub fn name(&self) -> &str
+        ensures { result.now ≡ self.now.tag.name }
+    {
+        match &self.tag {
+            SharedTag::Constant(name) => local_name(name.as_str()),
+            SharedTag::Shared(tag) => tag.name.as_str(),
+        }
+    }
+
+    /// The namespace prefix of the name, if it has one.
+    pub fn prefix(&self) -> Option<&str>
+        ensures { option_copied result ≡ self.now.tag.prefix }
+    {
+        match &self.tag {
+            SharedTag::Constant(name) => prefix_in(name.as_str()),
+            SharedTag::Shared(tag) => borrowed(&tag.prefix),
+        }
+    }
+
+    /// The namespace of the name, if it is known.
+    pub fn namespace(&self) -> Option<&str>
+        ensures { option_copied result ≡ self.now.tag.namespace }
+    {
+        match &self.tag {
+            SharedTag::Constant(_) => None,
+            SharedTag::Shared(tag) => borrowed(&tag.namespace),
+        }
+    }
+
+    /// The attributes by name, including namespace declarations. `None` means that there are none.
+    pub fn attributes(&self) -> Option<&BTreeMap<String, String>>
+        ensures { attributes_in (option_copied result) ≡ self.now.tag.attributes }
+    {
+        match &self.tag {
+            SharedTag::Constant(_) => None,
+            SharedTag::Shared(tag) => Some(&tag.attributes),
+        }
+    }
+
+    /// Returns a copy of the start tag. Fails only if memory runs out.
+    pub fn start_tag(&self) -> Result<StartTag, AllocError>
+        ensures { IfOk result (λ tag. tag ≡ self.now.tag) }
+    {
+        let alloc = *self.children.allocator();
+        match &self.tag {
+            SharedTag::Constant(name) => StartTag::prefixed(alloc, name.as_str()),
+            SharedTag::Shared(tag) => StartTag::clone(tag),
+        }
     }
 
     /// Declares a namespace under a prefix, or the default namespace for an empty prefix (Namespaces in XML
     /// 1.0, section 3). An existing declaration of the same prefix is replaced. Nothing else changes. Fails
     /// only if memory runs out, and the element is then dropped.
-    #[tactic(auto, using(crate::proofs::ElementLemmas::building))]
-    pub fn ns(mut self, prefix: &str, uri: &str) -> Result<Element, AllocError>
+    pub fn ns(self, prefix: &str, uri: &str) -> Result<Element, AllocError>
         ensures { IfOk result (λ e. e ≡ with_attribute self (xmlns_name prefix.now) uri.now) }
     {
-        let alloc = *self.name.allocator();
-        let name = xmlns_name(alloc, prefix)?;
-        let value = String::from_str(alloc, uri)?;
-        self.attributes.insert(name, value)?;
-        Ok(self)
+        let mut tag = self.start_tag()?;
+        tag.declare(*self.children.allocator(), prefix, uri)?;
+        self.with_tag(tag)
+    }
+
+    /// Returns the element with another start tag. Its content stays the same. Fails only if memory runs out,
+    /// and the element is then dropped.
+    pub fn with_tag(self, tag: StartTag) -> Result<Element, AllocError>
+        ensures { IfOk result (λ e. e ≡ record self { tag = tag }) }
+    {
+        Ok(Element {
+            tag: SharedTag::Shared(Rc::new(*self.children.allocator(), tag)?),
+            children: self.children,
+        })
+    }
+
+    /// Returns the element with this namespace, which its attributes need not declare. Fails only if memory
+    /// runs out, and the element is then dropped.
+    pub fn with_namespace(self, uri: &str) -> Result<Element, AllocError>
+        ensures { IfOk result (λ e. e ≡ record self { tag = record self.tag { namespace = Some uri.now } }) }
+    {
+        let mut tag = self.start_tag()?;
+        tag.namespace = Some(Text::from_str(*self.children.allocator(), uri)?);
+        self.with_tag(tag)
     }
 
     /// Appends a text node. Fails only if memory runs out, and the element is then dropped.
-    #[tactic(auto, using(crate::proofs::ElementLemmas::building))]
-    pub fn text(mut self, text: &str) -> Result<Element, AllocError>
+    pub fn text(self, text: &str) -> Result<Element, AllocError>
         ensures { IfOk result (λ e. e ≡ with_children self (one_text text.now)) }
     {
-        let text = Text::from_string(String::from_str(*self.name.allocator(), text)?);
-        self.children.push(XMLNode::Text(text))?;
+        let text = Text::from_str(*self.children.allocator(), text)?;
+        self.with_text(text)
+    }
+
+    /// Appends a text node, without copying the string. Fails only if memory runs out, and the element and the
+    /// string are then dropped.
+    pub fn with_text(mut self, text: Text) -> Result<Element, AllocError>
+        ensures { IfOk result (λ e. e ≡ with_children self (one_text text)) }
+    {
+        push_node(&mut self.children, XMLNode::Text(text))?;
         Ok(self)
     }
 
@@ -113,7 +202,7 @@ impl Element {
     pub fn get_text(&self) -> Result<Option<String>, AllocError>
         ensures { IfOk result (λ text. option_map string_bytes text ≡ texts_of self.now.children) }
     {
-        let alloc = *self.name.allocator();
+        let alloc = *self.children.allocator();
         let mut joined = None;
         for child in &self.children {
             if let XMLNode::Text(text) = child {
@@ -154,28 +243,35 @@ impl Element {
     pub fn clone(&self) -> Result<Element, AllocError>
         ensures { IfOk result (λ copy. copy ≡ self.now) }
     {
-        let mut children = Vec::new(*self.name.allocator());
+        let mut children = Vec::with_capacity(*self.children.allocator(), self.children.len())?;
         for child in &self.children {
             children.push(child.clone()?)?;
         }
         Ok(Element {
-            name: self.name.clone()?,
-            prefix: clone_text(self.prefix.as_ref())?,
-            namespace: clone_text(self.namespace.as_ref())?,
-            attributes: clone_attributes(&self.attributes)?,
+            tag: self.tag.clone()?,
             children,
         })
     }
 
     /// Appends a child element. Fails only if memory runs out. `self` is then unchanged, and the child is
     /// dropped.
-    #[tactic(auto, using(crate::proofs::ElementLemmas::building))]
     pub fn push_element(&mut self, element: Element) -> Result<(), AllocError>
         ensures ok { OnOk result (self.new ≡ with_children self.old (one_element element)) }
         ensures err { OnErr result (self.new ≡ self.old) }
     {
-        self.children.push(XMLNode::Element(element))?;
-        Ok(())
+        push_node(&mut self.children, XMLNode::Element(element))
+    }
+}
+
+impl SharedTag {
+    /// Returns another owner of the tag. Fails only if the count of owners overflows.
+    fn clone(&self) -> Result<SharedTag, AllocError>
+        ensures { IfOk result (λ copy. tag_of copy ≡ tag_of self.now) }
+    {
+        match self {
+            SharedTag::Constant(name) => Ok(SharedTag::Constant(*name)),
+            SharedTag::Shared(tag) => Ok(SharedTag::Shared(tag.clone()?)),
+        }
     }
 }
 
@@ -185,7 +281,7 @@ impl XMLNode {
         ensures { result ≡ node_is_named name.now self.now }
     {
         match self {
-            XMLNode::Element(element) => element.name.as_str() == name,
+            XMLNode::Element(element) => element.name() == name,
             XMLNode::Text(_) => false,
         }
     }
@@ -245,36 +341,45 @@ fn take_named(nodes: &mut Vec<XMLNode>, name: &str) -> Option<Element>
     }
 }
 
-/// Copies an optional string.
-fn clone_text(text: Option<&String>) -> Result<Option<String>, AllocError>
-    ensures { IfOk result (λ copy. option_map string_bytes copy ≡ option_map string_bytes (option_copied text.entry)) }
+/// Appends a node. The first one gets memory for itself alone, since most elements of a response have one.
+#[tactic(auto, using(crate::proofs::ElementLemmas::building))]
+fn push_node(children: &mut Vec<XMLNode>, node: XMLNode) -> Result<(), AllocError>
+    ensures ok { OnOk result (nodes_of children.new.items ≡ append_nodes (nodes_of children.old.items) (nodes_of (node ∷ []))) }
+    ensures err { OnErr result (nodes_of children.new.items ≡ nodes_of children.old.items) }
+{
+    if children.is_empty() {
+        children.reserve_exact(1)?;
+    }
+    children.push(node)?;
+    Ok(())
+}
+
+/// The local name in a prefixed name.
+fn local_name(text: &'static str) -> &'static str
+    ensures { result.now ≡ (prefixed_element text.now).tag.name }
+{
+    match text.split_once(':') {
+        Some((_, name)) => name,
+        None => text,
+    }
+}
+
+/// The prefix in a prefixed name, if it has one.
+fn prefix_in(text: &'static str) -> Option<&'static str>
+    ensures { option_copied result ≡ (prefixed_element text.now).tag.prefix }
+{
+    let (prefix, _) = text.split_once(':')?;
+    Some(prefix)
+}
+
+/// The string, if there is one.
+fn borrowed(text: &Option<Text>) -> Option<&str>
+    ensures { option_copied result ≡ text.now }
 {
     match text {
-        Some(text) => Ok(Some(text.clone()?)),
-        None => Ok(None),
+        Some(text) => Some(text.as_str()),
+        None => None,
     }
-}
-
-/// Copies the attributes.
-#[tactic(auto, using(crate::proofs::ElementLemmas::walking))]
-fn clone_attributes(
-    attributes: &BTreeMap<String, String>,
-) -> Result<BTreeMap<String, String>, AllocError>
-    ensures { IfOk result (λ copy. map text_pair copy.entries ≡ map text_pair attributes.now.entries) }
-{
-    attributes.clone()
-}
-
-/// The name of the attribute that declares a namespace under this prefix.
-fn xmlns_name(alloc: Global, prefix: &str) -> Result<String, AllocError>
-    ensures { IfOk result (λ name. string_bytes name ≡ xmlns_name prefix.now) }
-{
-    let mut name = String::from_str(alloc, "xmlns")?;
-    if !prefix.is_empty() {
-        name.push(':')?;
-        name.push_str(prefix)?;
-    }
-    Ok(name)
 }
 
 /// Appends a string to the text so far, or starts with it.

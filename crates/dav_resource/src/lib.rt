@@ -3,6 +3,7 @@
 
 mod body_number;
 mod element;
+mod element_name;
 mod error;
 mod etag;
 mod lock_token;
@@ -14,10 +15,12 @@ mod property;
 mod record;
 mod request;
 mod shared_element;
+mod start_tag;
 mod text;
 
 pub use body_number::BodyNumber;
 pub use element::{ChildElements, Element, XMLNode};
+pub use element_name::{ElementName, LiveName};
 pub use error::{DavError, DavResult, FsError, FsResult};
 pub use etag::{ETag, ETagList, IfRange};
 pub use lock_token::LockToken;
@@ -29,4 +32,5 @@ pub use property::DavProp;
 pub use record::{Op, Outcome, Record};
 pub use request::{Body, DavRequest, Depth, ReqBody};
 pub use shared_element::SharedElement;
+pub use start_tag::StartTag;
 pub use text::{Items, Text};

@@ -1,5 +1,5 @@
 //! Strings and lists whose value in contracts is their contents.
-ghost use Rattle.std.specs.Prelude.{◌≡◌, IfOk, string_bytes};
+ghost use Rattle.std.specs.Prelude.{◌≡◌, IfOk, option_copied, string_bytes};
 
 use std::alloc::{AllocError, Global};
 use std::marker::Model;
@@ -24,6 +24,23 @@ impl Text {
         ensures { result ≡ string_bytes text }
     {
         Text { text }
+    }
+
+    /// Copies a string. Fails only if memory runs out.
+    pub fn from_str(alloc: Global, text: &str) -> Result<Text, AllocError>
+        ensures { IfOk result (λ copy. copy ≡ text.now) }
+    {
+        Ok(Text::from_string(String::from_str(alloc, text)?))
+    }
+
+    /// Copies a string, if there is one. Fails only if memory runs out.
+    pub fn copied(alloc: Global, text: Option<&str>) -> Result<Option<Text>, AllocError>
+        ensures { IfOk result (λ copy. copy ≡ option_copied text.entry) }
+    {
+        match text {
+            Some(text) => Ok(Some(Text::from_str(alloc, text)?)),
+            None => Ok(None),
+        }
     }
 
     /// Returns the string.

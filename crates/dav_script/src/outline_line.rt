@@ -7,7 +7,7 @@ ghost use Rattle.dav_script.specs.Errors.{IsOutlineError};
 ghost use Rattle.dav_script.specs.Outline.{is_space, spaces, split_level, level_of, is_name_byte, is_name, is_qualified_name, split_namespace, escaped_letter, quoted};
 
 use crate::faults::{Fault, LineError};
-use dav_resource::{Element, Text, XMLNode};
+use dav_resource::{Element, StartTag, Text, XMLNode};
 use std::alloc::Global;
 
 /// Reads a line: its level, and a text or an element without children. The only fault is `BadOutline`.
@@ -62,15 +62,13 @@ fn read_element(alloc: Global, text: &str) -> Result<Element, LineError>
     ensures { IfErr result IsOutlineError }
 {
     let (name, rest) = split_word(text);
-    let mut element = read_name(alloc, name)?;
+    let mut tag = read_name(alloc, name)?;
     let (namespace, mut rest) = split_namespace(rest).ok_or(Fault::BadOutline)?;
-    if let Some(namespace) = namespace {
-        element.namespace = Some(String::from_str(alloc, namespace)?);
-    }
+    tag.namespace = Text::copied(alloc, namespace)?;
     while !rest.is_empty() {
-        rest = read_attribute(alloc, &mut element, rest)?;
+        rest = read_attribute(alloc, &mut tag, rest)?;
     }
-    Ok(element)
+    Ok(Element::from_tag(alloc, tag)?)
 }
 
 /// Splits a text before its first space.
@@ -89,16 +87,16 @@ fn word_len(text: &[u8]) -> usize
     text.iter().take_while(|byte| **byte != b' ').count()
 }
 
-/// Returns an element with this name, `prefix:name` or `name`, and nothing else.
-fn read_name(alloc: Global, text: &str) -> Result<Element, LineError>
+/// Returns a tag with this name, `prefix:name` or `name`, and nothing else.
+fn read_name(alloc: Global, text: &str) -> Result<StartTag, LineError>
     ensures { MatchResult result
-        (λ element. (element ≡ prefixed_element text.now) × IsTrue (is_qualified_name text.now))
+        (λ tag. (tag ≡ (prefixed_element text.now).tag) × IsTrue (is_qualified_name text.now))
         (λ e. (e ≡ LineError.Memory) ⊎ ((e ≡ LineError.Fault Fault.BadOutline) × IsFalse (is_qualified_name text.now))) }
 {
     if !is_qualified_name(text) {
         return Err(Fault::BadOutline.into());
     }
-    Ok(Element::new2(alloc, text)?)
+    Ok(StartTag::prefixed(alloc, text)?)
 }
 
 /// Returns whether a text is a name, or two names separated by its first `:`.
@@ -152,11 +150,11 @@ fn cut_at_brace(text: &str) -> Option<(&str, &str)>
     text.split_once('}')
 }
 
-/// Reads an attribute ` key="value"` into its element, and returns the rest of the text. The element must not
-/// have an attribute with this key yet.
+/// Reads an attribute ` key="value"` into its tag, and returns the rest of the text. The tag must not have an
+/// attribute with this key yet.
 fn read_attribute<'a>(
     alloc: Global,
-    element: &mut Element,
+    tag: &mut StartTag,
     text: &'a str,
 ) -> Result<&'a str, LineError>
     ensures shorter { IfOk result (λ rest. length rest.now < length text.now) }
@@ -169,7 +167,7 @@ fn read_attribute<'a>(
     }
     let (value, rest) = read_quoted(alloc, text)?;
     let key = String::from_str(alloc, key)?;
-    if element.attributes.insert(key, value)?.is_some() {
+    if tag.attributes.insert(key, value)?.is_some() {
         return Err(Fault::BadOutline.into());
     }
     Ok(rest)

@@ -2,6 +2,7 @@
 use crate::quote::push_quoted;
 use dav_resource::{Element, XMLNode};
 use std::alloc::{AllocError, Global};
+use std::collections::BTreeMap;
 
 /// Returns the outline of a tree. Each level is indented by two spaces, and each line ends with a line feed.
 pub fn outline(alloc: Global, tree: &Element) -> Result<String, AllocError> {
@@ -38,21 +39,32 @@ fn indent(lines: &mut String, level: usize) -> Result<(), AllocError> {
 
 /// Appends an element's own line: its name, its namespace, and its attributes in the order of their names.
 fn push_tag(element: &Element, lines: &mut String) -> Result<(), AllocError> {
-    if let Some(prefix) = &element.prefix {
-        lines.push_str(prefix.as_str())?;
+    if let Some(prefix) = element.prefix() {
+        lines.push_str(prefix)?;
         lines.push(':')?;
     }
-    lines.push_str(element.name.as_str())?;
-    if let Some(namespace) = &element.namespace {
+    lines.push_str(element.name())?;
+    if let Some(namespace) = element.namespace() {
         lines.push_str(" {")?;
-        lines.push_str(namespace.as_str())?;
+        lines.push_str(namespace)?;
         lines.push('}')?;
     }
-    for (name, value) in element.attributes.iter() {
+    if let Some(attributes) = element.attributes() {
+        push_attributes(attributes, lines)?;
+    }
+    lines.push('\n')
+}
+
+/// Appends attributes in the order of their names.
+fn push_attributes(
+    attributes: &BTreeMap<String, String>,
+    lines: &mut String,
+) -> Result<(), AllocError> {
+    for (name, value) in attributes.iter() {
         lines.push(' ')?;
         lines.push_str(name.as_str())?;
         lines.push('=')?;
         push_quoted(lines, value.as_str())?;
     }
-    lines.push('\n')
+    Ok(())
 }

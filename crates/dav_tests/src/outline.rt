@@ -1,5 +1,5 @@
 //! Element trees from strings.
-use dav_resource::{DavError, DavResult, Element};
+use dav_resource::{DavError, DavResult, Element, XMLNode};
 use std::alloc::{AllocError, Global};
 
 /// Returns the tree that these words describe. `(name` begins an element, and `)` ends it. Every other word
@@ -27,5 +27,15 @@ pub fn tree(alloc: Global, words: &str) -> DavResult<Element> {
 
 /// Shows an element with everything in it, at every level.
 pub fn show(alloc: Global, element: &Element) -> Result<String, AllocError> {
-    format!(in alloc; "{element:?}")
+    let tag = element.start_tag()?;
+    let mut shown = format!(in alloc; "({tag:?}")?;
+    for child in &element.children {
+        let child = match child {
+            XMLNode::Element(element) => show(alloc, element)?,
+            XMLNode::Text(text) => format!(in alloc; "{text:?}")?,
+        };
+        shown.push_str(child.as_str())?;
+    }
+    shown.push(')')?;
+    Ok(shown)
 }

@@ -19,7 +19,8 @@ use std::test::Fail;
 fn show_declaring(alloc: Global) -> Result<String, AllocError> {
     let element = Element::new(alloc, "a:b")?;
     let element = element.ns("", "urn:old")?.ns("", "urn:new")?;
-    format!(in alloc; "{} {:?}", element.name.as_str(), element.attributes)
+    let tag = element.start_tag()?;
+    format!(in alloc; "{} {:?}", element.name(), tag.attributes)
 }
 
 #[test]

@@ -71,7 +71,7 @@ impl Properties {
     pub fn get(&self, prop: &DavProp) -> Result<Option<&SharedElement>, AllocError>
         ensures { IfOk result (λ element. option_copied element ≡ map.get self.now (name_of prop.now)) }
     {
-        let name = PropertyName::of(prop)?;
+        let name = PropertyName::of(self.alloc, prop)?;
         Ok(self.map.get(&name))
     }
 
@@ -93,7 +93,7 @@ impl Properties {
     {
         let mut props = Vec::new(alloc);
         for (name, element) in &self.map {
-            props.push(name.with_element(element)?)?;
+            props.push(name.with_element(alloc, element)?)?;
         }
         Ok(props)
     }
@@ -154,12 +154,12 @@ impl Properties {
 
 impl PropertyName {
     /// Returns the name of a property. Fails only if memory runs out.
-    fn of(prop: &DavProp) -> Result<PropertyName, AllocError>
+    fn of(alloc: Global, prop: &DavProp) -> Result<PropertyName, AllocError>
         ensures { IfOk result (λ name. key_of name ≡ name_of prop.now) }
     {
         Ok(PropertyName {
-            namespace: string_of(prop.namespace.as_ref())?,
-            name: prop.name.clone()?.into_string(),
+            namespace: string_of(alloc, prop.namespace.as_ref())?,
+            name: String::from_str(alloc, prop.name.as_str())?,
         })
     }
 
@@ -175,13 +175,13 @@ impl PropertyName {
 
     /// Returns the property with this name, this element and the element's prefix. Fails only if memory runs
     /// out.
-    fn with_element(&self, element: &SharedElement) -> Result<DavProp, AllocError>
+    fn with_element(&self, alloc: Global, element: &SharedElement) -> Result<DavProp, AllocError>
         ensures named { IfOk result (λ prop. named_element prop ≡ (key_of self.now, Some element.now)) }
         ensures prefix { IfOk result (λ prop. prop.prefix ≡ element.now.tag.prefix) }
     {
         Ok(DavProp {
             name: Text::from_string(self.name.clone()?),
-            prefix: text_of(element.as_element().prefix.as_ref())?,
+            prefix: Text::copied(alloc, element.as_element().prefix())?,
             namespace: text_of(self.namespace.as_ref())?,
             element: Some(element.clone()?),
         })
@@ -189,11 +189,11 @@ impl PropertyName {
 }
 
 /// Copies a `Text` to a `String`, if there is one.
-fn string_of(text: Option<&Text>) -> Result<Option<String>, AllocError>
+fn string_of(alloc: Global, text: Option<&Text>) -> Result<Option<String>, AllocError>
     ensures { IfOk result (λ copy. option_map string_bytes copy ≡ option_copied text.entry) }
 {
     match text {
-        Some(text) => Ok(Some(text.clone()?.into_string())),
+        Some(text) => Ok(Some(String::from_str(alloc, text.as_str())?)),
         None => Ok(None),
     }
 }

@@ -11,12 +11,12 @@ use Rattle.std.specs.String.{string_cmp}
 use Rattle.std.specs.Map.{keys_of}
 use Rattle.std.specs.Ordering.{is_lt}
 use Rattle.std.proofs.lemmas.Map.Keys.{sorted_head, sorted_tail}
-use Rattle.std.proofs.lemmas.List.{append_assoc, length-map}
+use Rattle.std.proofs.lemmas.List.{append-nil, append_assoc, length-map}
 use Rattle.dav_resource.specs.Element.{text_pair}
 use Rattle.dav_wire.specs.Codec.{Codec}
 use Rattle.dav_wire.specs.Numbers.{byte, number}
 use Rattle.dav_wire.specs.Writes.{Writes, Appends}
-use Rattle.dav_wire.proofs.WriteLemmas.{Run, writes_after, list_written}
+use Rattle.dav_wire.proofs.WriteLemmas.{Run, writes_after, writes_as, list_written}
 use Rattle.dav_wire.specs.Values.{utf8_text, list, optional}
 use Rattle.dav_wire.specs.Trees.{attribute, attributes, is_ascending, is_key_before, one_node, node_list-of, nodes, tag, tree, element_over}
 use Rattle.dav_wire.specs.TreeLaws.{levels_of}
@@ -91,6 +91,11 @@ attributes_written es n old mid new count sorted h g =
     let pairs : List (List ℕ × List ℕ) = map text_pair es in
     let all = list_written attribute pairs n old mid new (count ∙ sym (length-map es text_pair)) h g in
     record { valid = and_from ((list attribute).is_valid pairs) (is_ascending pairs) all.valid (string_pairs_ascend es sorted); is = all.is }
+
+pub no_attributes : {U E : Type 0} (old new : List ℕ) (r : Result U E) → Writes number 0 old r new → Writes attributes [] old r new
+unfolding attributes
+no_attributes old new r h =
+    writes_as number attributes 0 [] old new r (λ ok. and_from ((list attribute).is_valid []) true (and_from (number.is_valid 0) true ok refl) refl) (append-nil (number.encode 0)) h
 
 -- ---- what was written part by part
 

@@ -126,14 +126,12 @@ impl<'a> Reader<'a> {
         }
     }
 
-    /// Reads an optional string and copies it. Returns `Malformed` as `read_optional_str` does, and `Memory`
-    /// if memory runs out.
-    pub fn read_optional_string(&mut self) -> Result<Option<String>, WireError>
-        ensures { ReadsAllocating (optional utf8_text) (λ x. option_map string_bytes x) self.old result self.new }
+    /// Reads an optional string as a `Text`. Returns `Malformed` as `read_optional_str` does, and `Memory` if
+    /// memory runs out.
+    pub fn read_optional_text(&mut self) -> Result<Option<Text>, WireError>
+        ensures { ReadsAllocating (optional utf8_text) (λ x. x) self.old result self.new }
     {
-        match self.read_optional_str()? {
-            Some(text) => Ok(Some(String::from_str(self.alloc, text)?)),
-            None => Ok(None),
-        }
+        let text = self.read_optional_str()?;
+        Ok(Text::copied(self.alloc, text)?)
     }
 }

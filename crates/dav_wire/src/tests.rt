@@ -1,6 +1,6 @@
 //! Tests each public call once, with the bytes that the grammar gives.
 use crate::{Reader, WireError, Writer};
-use dav_resource::Element;
+use dav_resource::{Element, Text};
 use std::alloc::Global;
 use std::test::Fail;
 
@@ -43,7 +43,9 @@ fn read_back(alloc: Global, bytes: &[u8]) -> Result<String, WireError> {
     let string = reader.read_string()?;
     let text = reader.read_text()?;
     let none = reader.read_optional_str()?.is_none();
-    let some = reader.read_optional_string()?.unwrap_or(String::new(alloc));
+    let some = reader
+        .read_optional_text()?
+        .unwrap_or(Text::from_str(alloc, "")?);
     let end = reader.is_at_end();
     let (string, text, some) = (string.as_str(), text.as_str(), some.as_str());
     Ok(format!(in alloc; "{byte} {number} {bytes} {borrowed} {string} {text} {none} {some} {end}")?)

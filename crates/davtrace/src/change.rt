@@ -1,9 +1,8 @@
 //! Changes of properties, as an outline gives them.
-ghost use Rattle.std.specs.Prelude.{◌≡◌, All, IfOk, option_copied, option_map, string_bytes};
+ghost use Rattle.std.specs.Prelude.{◌≡◌, All, IfOk};
 ghost use Rattle.dav_store.specs.PropertyCalls.{IsWhole, name_of};
 ghost use Rattle.dav_store.specs.Store.{element_key};
 
-use crate::property::text_of;
 use dav_resource::{DavProp, Element, SharedElement, Text, XMLNode};
 use dav_script::{Fault, LineError};
 use std::alloc::{AllocError, Global};
@@ -22,11 +21,12 @@ pub fn read_changes(alloc: Global, tree: Element) -> Result<Vec<Change>, LineErr
     let mut changes = Vec::new(alloc);
     for part in tree.children {
         let part = element_of(part)?;
-        match part.name.as_str() {
-            "set" => add_changes(&mut changes, part.children, true)?,
-            "remove" => add_changes(&mut changes, part.children, false)?,
+        let set = match part.name() {
+            "set" => true,
+            "remove" => false,
             _ => return Err(Fault::BadOutline.into()),
-        }
+        };
+        add_changes(&mut changes, part.children, set)?;
     }
     Ok(changes)
 }
@@ -88,19 +88,9 @@ fn property_of(alloc: Global, element: &Element) -> Result<DavProp, AllocError>
     ensures { IfOk result (λ property. name_of property ≡ element_key element.now) }
 {
     Ok(DavProp {
-        name: text_of(alloc, element.name.as_str())?,
-        prefix: copy_of(alloc, element.prefix.as_ref())?,
-        namespace: copy_of(alloc, element.namespace.as_ref())?,
+        name: Text::from_str(alloc, element.name())?,
+        prefix: Text::copied(alloc, element.prefix())?,
+        namespace: Text::copied(alloc, element.namespace())?,
         element: None,
     })
-}
-
-/// Copies the string, if there is one.
-fn copy_of(alloc: Global, text: Option<&String>) -> Result<Option<Text>, AllocError>
-    ensures { IfOk result (λ copy. copy ≡ option_map string_bytes (option_copied text.entry)) }
-{
-    match text {
-        Some(text) => Ok(Some(text_of(alloc, text.as_str())?)),
-        None => Ok(None),
-    }
 }

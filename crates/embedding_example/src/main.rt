@@ -81,7 +81,5 @@ fn lock_body(alloc: Global) -> Result<ReqBody> {
 
 /// Creates an element of the namespace `DAV:`.
 fn dav(alloc: Global, name: &str) -> Result<Element> {
-    let mut element = Element::new(alloc, name)?;
-    element.namespace = Some(String::from_str(alloc, "DAV:")?);
-    Ok(element)
+    Ok(Element::new(alloc, name)?.with_namespace("DAV:")?)
 }

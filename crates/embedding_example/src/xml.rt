@@ -47,11 +47,11 @@ fn write_element<'t>(
 }
 
 fn write_name(text: &mut String, element: &Element) -> Result<(), AllocError> {
-    if let Some(prefix) = &element.prefix {
-        text.push_str(prefix.as_str())?;
+    if let Some(prefix) = element.prefix() {
+        text.push_str(prefix)?;
         text.push(':')?;
     }
-    text.push_str(element.name.as_str())
+    text.push_str(element.name())
 }
 
 /// Writes the attributes, and adds the namespaces that they declare to the scope.
@@ -60,7 +60,10 @@ fn write_attributes<'t>(
     element: &'t Element,
     scope: &mut Vec<Binding<'t>>,
 ) -> Result<(), AllocError> {
-    for (name, value) in element.attributes.iter() {
+    let Some(attributes) = element.attributes() else {
+        return Ok(());
+    };
+    for (name, value) in attributes.iter() {
         write_attribute(text, name.as_str(), value.as_str())?;
         let declared = if name.as_str() == "xmlns" {
             Some("")
@@ -83,17 +86,11 @@ fn declare_own<'t>(
     element: &'t Element,
     scope: &mut Vec<Binding<'t>>,
 ) -> Result<(), AllocError> {
-    let Some(namespace) = &element.namespace else {
+    let Some(namespace) = element.namespace() else {
         return Ok(());
     };
-    let prefix = match &element.prefix {
-        Some(prefix) => prefix.as_str(),
-        None => "",
-    };
-    let own = Binding {
-        prefix,
-        namespace: namespace.as_str(),
-    };
+    let prefix = element.prefix().unwrap_or("");
+    let own = Binding { prefix, namespace };
     let bound = scope.iter().rev().find(|it| it.prefix == prefix);
     if bound != Some(&own) {
         text.push_str(if prefix.is_empty() {

@@ -72,7 +72,7 @@ fn print_reply(rt: &HostRuntime, reply: &Response<Body>) -> Result<()> {
         println!(rt; "lock-token: {}", token.to_str()?)?;
     }
     if let Body::Tree(tree) = reply.body() {
-        println!(rt; "the root of its tree: {}", tree.name)?;
+        println!(rt; "the root of its tree: {}", tree.name())?;
     }
     Ok(())
 }

@@ -1,5 +1,5 @@
 //! One resource made from its rows.
-ghost use Rattle.std.specs.Prelude.{◌≡◌, ℕ, pos, List, option_map, option_copied, string_bytes, IfOk};
+ghost use Rattle.std.specs.Prelude.{◌≡◌, ℕ, pos, List, IfOk};
 ghost use Rattle.dav_store.specs.Store.{PropertyMap, element_key};
 ghost use Rattle.dav_store.specs.PropertyCalls.{named_element};
 ghost use Rattle.dav_tree.specs.declared.entry.Content.{Content};
@@ -70,25 +70,15 @@ fn decode_properties(
 fn property_of(alloc: Global, element: Element) -> Result<DavProp, AllocError>
     ensures { IfOk result (λ prop. named_element prop ≡ (element_key element, Some element)) }
 {
-    let name = Text::from_string(element.name.clone()?);
-    let prefix = text_of(element.prefix.as_ref())?;
-    let namespace = text_of(element.namespace.as_ref())?;
+    let name = Text::from_str(alloc, element.name())?;
+    let prefix = Text::copied(alloc, element.prefix())?;
+    let namespace = Text::copied(alloc, element.namespace())?;
     Ok(DavProp {
         name,
         prefix,
         namespace,
         element: Some(SharedElement::new(alloc, element)?),
     })
-}
-
-/// Copies a string, if there is one.
-fn text_of(text: Option<&String>) -> Result<Option<Text>, AllocError>
-    ensures { IfOk result (λ copy. copy ≡ option_map string_bytes (option_copied text.entry)) }
-{
-    match text {
-        Some(text) => Ok(Some(Text::from_string(text.clone()?))),
-        None => Ok(None),
-    }
 }
 
 /// Returns what a resource contains: a file with these pieces, or a directory, which has none.

@@ -93,20 +93,10 @@ pub(super) fn property_row(
     Ok(PropertyRow {
         number: key_of_part(number, index)?,
         resource: i64::try_from(number)?,
-        namespace: copied_or_empty(alloc, element.namespace.as_ref())?,
-        name: element.name.clone()?,
+        namespace: String::from_str(alloc, element.namespace().unwrap_or(""))?,
+        name: String::from_str(alloc, element.name())?,
         element: encoded(alloc, element)?,
     })
-}
-
-/// Copies a string, or returns an empty one. Fails only if memory runs out.
-fn copied_or_empty(alloc: Global, text: Option<&String>) -> Result<String, AllocError>
-    ensures { IfOk result (λ copy. string_bytes copy ≡ unwrap_or (option_map string_bytes (option_copied text.entry)) []) }
-{
-    match text {
-        Some(text) => Ok(text.clone()?),
-        None => Ok(String::new(alloc)),
-    }
 }
 
 /// Encodes an element as a cell. Returns `TooDeep` if it has more levels than a cell holds, and `Memory` if

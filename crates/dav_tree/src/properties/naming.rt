@@ -27,11 +27,11 @@ impl PropertyName {
         ensures named { result ≡ true → element_key element.now ≡ key_of self.now }
         ensures passes { element_key element.now ≡ key_of self.now → result ≡ true }
     {
-        match (&self.namespace, &element.namespace) {
+        match (&self.namespace, element.namespace()) {
             (Some(own), Some(other)) => {
-                own.as_str() == other.as_str() && self.name.as_str() == element.name.as_str()
+                own.as_str() == other && self.name.as_str() == element.name()
             }
-            (None, None) => self.name.as_str() == element.name.as_str(),
+            (None, None) => self.name.as_str() == element.name(),
             _ => false,
         }
     }

@@ -43,7 +43,7 @@ impl Properties {
             changed: BTreeMap::new(self.alloc),
         };
         for (set, prop) in patches {
-            let name = PropertyName::of(prop)?;
+            let name = PropertyName::of(self.alloc, prop)?;
             let element = wanted(*set, prop)?;
             if self.has(&name) {
                 plan.change(name, element)?;

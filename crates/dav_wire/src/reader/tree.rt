@@ -1,12 +1,11 @@
 //! Reads of XML trees.
-ghost use Rattle.std.specs.Prelude.{◌≡◌, map, IfOk, string_bytes, option_map};
-ghost use Rattle.dav_resource.specs.Tree.{no_nodes};
+ghost use Rattle.std.specs.Prelude.{◌≡◌, map, string_bytes, option_map};
 ghost use Rattle.dav_resource.specs.Element.{text_pair, nodes_of};
 ghost use Rattle.dav_wire.specs.Trees.{attribute, attributes, tag, nodes, tree, may_follow};
 ghost use Rattle.dav_wire.specs.Reads.{Reads, ReadsAllocating};
 
 use crate::{Reader, WireError};
-use dav_resource::{Element, XMLNode};
+use dav_resource::{Element, StartTag, XMLNode};
 use std::collections::BTreeMap;
 
 impl<'a> Reader<'a> {
@@ -25,8 +24,9 @@ impl<'a> Reader<'a> {
         if levels == 0 {
             return Err(WireError::Malformed);
         }
-        let mut element = self.read_tag()?;
+        let tag = self.read_tag()?;
         let children = self.read_nodes(levels - 1)?;
+        let mut element = Element::from_tag(self.alloc, tag)?;
         element.children = children;
         Ok(element)
     }
@@ -47,21 +47,19 @@ impl<'a> Reader<'a> {
         }
     }
 
-    /// Reads a tag, as an element without content.
-    fn read_tag(&mut self) -> Result<Element, WireError>
-        ensures read { ReadsAllocating tag (λ e. e.tag) self.old result self.new }
-        ensures empty { IfOk result (λ e. e.children ≡ no_nodes) }
+    /// Reads the tag of an element.
+    fn read_tag(&mut self) -> Result<StartTag, WireError>
+        ensures { ReadsAllocating tag (λ t. t) self.old result self.new }
     {
-        let name = self.read_string()?;
-        let prefix = self.read_optional_string()?;
-        let namespace = self.read_optional_string()?;
+        let name = self.read_text()?;
+        let prefix = self.read_optional_text()?;
+        let namespace = self.read_optional_text()?;
         let attributes = self.read_attributes()?;
-        Ok(Element {
+        Ok(StartTag {
             name,
             prefix,
             namespace,
             attributes,
-            children: Vec::new(self.alloc),
         })
     }
 

@@ -1,6 +1,6 @@
 //! Writes of XML trees.
-ghost use Rattle.std.specs.Prelude.{◌<◌, [], ◌∷◌, map};
-ghost use Rattle.dav_resource.specs.Element.{text_pair, nodes_of};
+ghost use Rattle.std.specs.Prelude.{◌<◌, [], ◌∷◌, map, option_copied};
+ghost use Rattle.dav_resource.specs.Element.{text_pair, nodes_of, attributes_in};
 ghost use Rattle.dav_wire.specs.Trees.{attribute, attributes, tag, one_node, nodes, tree};
 ghost use Rattle.dav_wire.specs.TreeLaws.{levels_of, tree_levels};
 ghost use Rattle.dav_wire.specs.Writes.{Writes, WritesUnless};
@@ -63,14 +63,27 @@ impl Writer {
     fn write_tag(&mut self, element: &Element) -> Result<(), AllocError>
         ensures { Writes tag element.now.tag self.old result self.new }
     {
-        self.write_str(&element.name)?;
-        self.write_optional_str(element.prefix.as_deref())?;
-        self.write_optional_str(element.namespace.as_deref())?;
-        self.write_attributes(&element.attributes)
+        self.write_str(element.name())?;
+        self.write_optional_str(element.prefix())?;
+        self.write_optional_str(element.namespace())?;
+        self.write_attributes(element.attributes())
     }
 
-    /// Writes attributes in ascending order of keys.
-    fn write_attributes(&mut self, pairs: &BTreeMap<String, String>) -> Result<(), AllocError>
+    /// Writes attributes in ascending order of keys. `None` stands for no attributes.
+    fn write_attributes(
+        &mut self,
+        pairs: Option<&BTreeMap<String, String>>,
+    ) -> Result<(), AllocError>
+        ensures { Writes attributes (attributes_in (option_copied pairs.entry)) self.old result self.new }
+    {
+        match pairs {
+            Some(pairs) => self.write_pairs(pairs),
+            None => self.write_number(0),
+        }
+    }
+
+    /// Writes the attributes of a map.
+    fn write_pairs(&mut self, pairs: &BTreeMap<String, String>) -> Result<(), AllocError>
         ensures { Writes attributes (map text_pair pairs.now.entries) self.old result self.new }
     {
         self.write_number(pairs.len() as u64)?;

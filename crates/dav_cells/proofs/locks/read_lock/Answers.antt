@@ -28,8 +28,8 @@ returns-in_err-principal c =
 pub returns-in_err-timeout : goal.returns-in_err-timeout
 unfolding lock_codec
 returns-in_err-timeout c =
-    stops_allocating (optional number) lock_codec (λ l. l) c.args.reader.now c.read_optional_text.new.reader _ c.from_residual-in_err-timeout.result c.in_err-timeout.field-0.0 c.from_residual-in_err-timeout.ensures.1
-    (λ none. rw (c.in_ok-token.ensures, c.in_ok-path.ensures, c.in_ok-principal.ensures, none) refl) (may_allocate (optional number) c.read_optional_text.new.reader _ c.in_err-timeout.ensures)
+    stops_allocating (optional number) lock_codec (λ l. l) c.args.reader.now c.read_optional_text.new.self _ c.from_residual-in_err-timeout.result c.in_err-timeout.field-0.0 c.from_residual-in_err-timeout.ensures.1
+    (λ none. rw (c.in_ok-token.ensures, c.in_ok-path.ensures, c.in_ok-principal.ensures, none) refl) (may_allocate (optional number) c.read_optional_text.new.self _ c.in_err-timeout.ensures)
 
 pub returns-in_err-timeout_at : goal.returns-in_err-timeout_at
 unfolding lock_codec

@@ -18,7 +18,7 @@ loop-one-preserved c =
       | then-is_ok+in_ok-insert w ↦
           subst (λ (names : PropertyNames). AreNamesOf names.names (given_in (map finding_of (take (i + 1) found)))) (sym w.names-is)
           (subst (λ (elements : List Tree). AreNamesOf w.insert.new.self.names elements) (sym (one_given found i one c.loop-one-test.true c.one-item.is (sym c.is_ok.ensures.value ∙ w.if-is_ok.true)))
-          (w.in_ok-insert.ensures.names (given_in (map finding_of (take i found))) c.loop-one.invariant))
+          (rw w.element.ensures at (w.in_ok-insert.ensures.names (given_in (map finding_of (take i found))) c.loop-one.invariant)))
       | else-is_ok w ↦
           subst (λ (names : PropertyNames). AreNamesOf names.names (given_in (map finding_of (take (i + 1) found)))) (sym w.names-is)
           (subst (λ (elements : List Tree). AreNamesOf c.loop-one.names.names elements) (sym (none_given found i one c.loop-one-test.true c.one-item.is (sym c.is_ok.ensures.value ∙ w.if-is_ok.false))) c.loop-one.invariant)

@@ -7,8 +7,8 @@ use Rattle.dav_find.proofs.reporting.report_found.Goals as goal
 -- one more is reported behind those so far
 pub loop-one-preserved : goal.loop-one-preserved
 loop-one-preserved c =
-    let one = c.one-item.result in
+    let one = c.in-Some.one in
     let stored = c.args.stored.now in
-    c.in_ok-reported.ensures
+    c.in_ok-reported-2.ensures
     ∙ ap (λ reported. reported ++ report_one stored (finding_of one)) c.loop-one.invariant
-    ∙ sym (one_reported c.args.found.now c.loop-one.one-index one c.loop-one-test.true c.one-item.is stored)
+    ∙ sym (one_reported c.loop-one.yielded one stored)

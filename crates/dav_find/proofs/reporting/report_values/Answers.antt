@@ -17,7 +17,7 @@ loop-element-preserved c =
     elim c.if-not-has.branch [
       | then-not-has+in_ok-clone+in_ok-push w ↦
           ap (λ v. v.items) w.reported-is ∙ w.in_ok-push.ensures.items ∙ ap (λ copy. reported ++ (200, copy) ∷ []) (w.in_ok-clone.ensures ∙ w.as_element-then-not-has.ensures)
-          ∙ is_reported (λ copy. (200, copy)) _ kept i element c.loop-element-test.true c.element-item.is c.args.reported.items reported c.loop-element.invariant (ap not (sym given) ∙ ap not w.if-not-has.true)
+          ∙ is_reported (λ copy. (200, copy)) _ kept i element c.loop-element-test.true c.element-item.is reported c.loop-element.invariant (ap not (sym given) ∙ ap not w.if-not-has.true)
       | else-not-has w ↦
-          ap (λ v. v.items) w.reported-is ∙ is_passed_over (λ copy. (200, copy)) _ kept i element c.loop-element-test.true c.element-item.is c.args.reported.items reported c.loop-element.invariant (ap not (sym given) ∙ ap not w.if-not-has.false)
+          ap (λ v. v.items) w.reported-is ∙ is_passed_over (λ copy. (200, copy)) _ kept i element c.loop-element-test.true c.element-item.is reported c.loop-element.invariant (ap not (sym given) ∙ ap not w.if-not-has.false)
     ]

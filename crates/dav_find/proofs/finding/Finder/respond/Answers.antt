@@ -17,4 +17,4 @@ returns-in_err-reported-clause-response g c =
 pub returns-clause-response : goal.returns-clause-response
 returns-clause-response g c =
     let found = c.in_ok-found.ensures.rules in
-    rw (c.from_vec.ensures, c.in_ok-reported.ensures, c.as_slice.ensures) (response_reported _ _ c.args.here.now c.args.quota _ _ _ _ found _ (rw found.fixed at c.in_ok-stored.ensures.stored))
+    rw (c.from_vec.ensures, c.in_ok-reported.ensures, c.into_vec.ensures) (response_reported _ _ c.args.here.now c.args.quota _ _ _ _ found _ (rw found.fixed at c.in_ok-stored.ensures.stored))

@@ -11,24 +11,25 @@ use Rattle.dav_wire.proofs.reader.Reader.+tree.Goals as goal
 pub read_element-returns-then-levels-eq0 : goal.read_element-returns-then-levels-eq0
 read_element-returns-then-levels-eq0 t c = no_levels c.args.levels c.args.self.now c.if-levels-eq0.true
 
-pub read_element-returns-in_err-element : goal.read_element-returns-in_err-element
-read_element-returns-in_err-element t c =
+pub read_element-returns-in_err-tag : goal.read_element-returns-in_err-tag
+read_element-returns-in_err-tag t c =
     exit_allocating (tree c.args.levels) (λ x. x) _ _ c.from_residual.result _ c.from_residual.ensures.1
-    (fails_allocating_because tag (tree c.args.levels) c.args.self.now _ c.in_err-element.field-0.0
-    (element_no_tag c.args.levels c.args.self.now c.if-levels-eq0.false) c.in_err-element.ensures.read)
+    (fails_allocating_because tag (tree c.args.levels) c.args.self.now _ c.in_err-tag.field-0.0
+    (element_no_tag c.args.levels c.args.self.now c.if-levels-eq0.false) c.in_err-tag.ensures)
 
 pub read_element-returns-in_err-children : goal.read_element-returns-in_err-children
 read_element-returns-in_err-children t c =
     exit_allocating (tree c.args.levels) (λ x. x) _ _ c.from_residual-in_err-children.result _ c.from_residual-in_err-children.ensures.1
     (fails_allocating_because (nodes (tree (c.args.levels - 1))) (tree c.args.levels) c.read_tag.new.self c.args.self.now c.in_err-children.field-0.0
-    (element_no_nodes c.args.levels c.args.self.now c.read_tag.new.self c.in_ok-element.element.tag c.if-levels-eq0.false c.in_ok-element.ensures.read)
+    (element_no_nodes c.args.levels c.args.self.now c.read_tag.new.self c.in_ok-tag.tag c.if-levels-eq0.false c.in_ok-tag.ensures)
     c.in_err-children.ensures)
 
 pub read_element-returns : goal.read_element-returns
 read_element-returns t c =
-    element_reads c.args.levels c.args.self.now c.read_tag.new.self c.read_nodes.new.self c.in_ok-element.element.tag (nodes_of c.in_ok-children.children.items)
-    c.if-levels-eq0.false c.in_ok-element.ensures.read c.in_ok-children.ensures
-    ∙ ap (λ (x : Tag). Some (record { tag = x; children = nodes_of c.in_ok-children.children.items }, c.read_nodes.new.self)) (ap (λ (u : Tree). u.tag) (sym c.element.view_is))
+    element_reads c.args.levels c.args.self.now c.read_tag.new.self c.read_nodes.new.self c.in_ok-tag.tag (nodes_of c.in_ok-children.children.items)
+    c.if-levels-eq0.false c.in_ok-tag.ensures c.in_ok-children.ensures
+    ∙ ap (λ (x : Tag). Some (record { tag = x; children = nodes_of c.in_ok-children.children.items }, c.read_nodes.new.self))
+    (ap (λ (u : Tree). u.tag) (sym (c.element.view_is ∙ c.in_ok-element.ensures)))
 
 pub read_nodes-returns-in_err-read_u8 : goal.read_nodes-returns-in_err-read_u8
 read_nodes-returns-in_err-read_u8 t c =
