@@ -1,8 +1,7 @@
 -- Keys and paths as bytes: this project's own choice.
 use Rattle.std.specs.Prelude.{◌≡◌, ℕ, Bool, false, not, ◌&&◌, ◌||◌, ◌==◌, List, length, refl}
-use Rattle.std.specs.List.{list_all}
 use Rattle.dav_key.specs.Key.{Key}
-use Rattle.dav_resource.specs.PathText.{PathValue, is_plain_byte, is_dropped, is_parent}
+use Rattle.dav_resource.specs.PathText.{PathValue, is_segment}
 use Rattle.dav_resource.specs.PathForms.{is_collection}
 use Rattle.dav_wire.specs.Codec.{Codec}
 use Rattle.dav_wire.specs.Combine.{pair, as_type, only}
@@ -11,10 +10,6 @@ use Rattle.dav_wire.specs.declared.error.WireError.{WireError}
 use Rattle.dav_wire.specs.declared.error.WireError.TheVariants.{Malformed, Memory}
 
 -- ---- keys
-
--- the string is neither empty, `.` nor `..`, and has neither NUL nor `/`
-abbrev pub is_segment : List ℕ → Bool
-is_segment s = not (is_dropped s) && not (is_parent s) && list_all is_plain_byte s
 
 -- a segment as a string
 unfoldable pub segment_codec : Codec (List ℕ)

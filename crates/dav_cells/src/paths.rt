@@ -1,14 +1,13 @@
 //! Keys and paths.
-ghost use Rattle.std.specs.Prelude.{◌≡◌, ◌≢◌, ◌||◌, ◌==◌, [], true, false, length, IsTrue, IfOk, OnOk, IfErr};
-ghost use Rattle.std.specs.List.{list_all};
-ghost use Rattle.dav_resource.specs.PathText.{star_path, is_plain_byte, IsKey, IsSegment};
+ghost use Rattle.std.specs.Prelude.{◌≡◌, ◌≢◌, ◌||◌, ◌==◌, [], true, false, length, IfOk, OnOk, IfErr};
+ghost use Rattle.dav_resource.specs.PathText.{star_path, IsKey, IsSegment};
 ghost use Rattle.dav_wire.specs.Writes.{Writes};
 ghost use Rattle.dav_wire.specs.Reads.{Reads, ReadsAllocating};
-ghost use Rattle.dav_cells.specs.Paths.{is_segment, segment_codec, key_codec, path_of_parts, is_whole_path, path_codec, kept_path, NotPath};
+ghost use Rattle.dav_cells.specs.Paths.{segment_codec, key_codec, path_of_parts, is_whole_path, path_codec, kept_path, NotPath};
 
 use crate::locks::read_flag;
 use dav_key::{FlatKey, KeyBuilder};
-use dav_resource::{DavError, DavPath};
+use dav_resource::{DavError, DavPath, is_segment};
 use dav_wire::{Reader, WireError, Writer};
 use std::alloc::{AllocError, Global};
 
@@ -86,24 +85,6 @@ fn read_segment<'a>(reader: &mut Reader<'a>) -> Result<&'a str, WireError>
     } else {
         Err(WireError::Malformed)
     }
-}
-
-/// Whether the string may be a segment of a path.
-fn is_segment(segment: &str) -> bool
-    ensures value { result ≡ is_segment segment.now }
-    ensures segment { IsTrue result → IsSegment segment.now }
-{
-    match segment {
-        "" | "." | ".." => false,
-        _ => is_plain(segment.as_bytes()),
-    }
-}
-
-/// Whether the bytes contain neither NUL nor `/`.
-fn is_plain(bytes: &[u8]) -> bool
-    ensures { result ≡ list_all is_plain_byte bytes.now }
-{
-    bytes.iter().all(|b| *b != 0 && *b != b'/')
 }
 
 /// Returns the path with these parts. It is `Malformed` if the root has no trailing slash, or if the star path

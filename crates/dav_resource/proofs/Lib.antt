@@ -1,5 +1,7 @@
 pub mod Utf8Lemmas
 pub mod EscapeLemmas
+pub mod LiteralLemmas
+pub mod SegmentLemmas
 pub mod RoundTrip
 pub mod ReadsBack
 pub mod KeyLemmas

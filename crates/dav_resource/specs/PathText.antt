@@ -30,6 +30,10 @@ has_whole_escapes (b ∷ bs) = (not (b == 37) || starts_with_two_digits bs) && h
 abbrev pub is_plain_byte : ℕ → Bool
 is_plain_byte b = not (b == 0) && not (b == 47)
 
+-- a byte that stands for itself in a part: neither NUL, `/` nor `%`
+abbrev pub is_literal_byte : ℕ → Bool
+is_literal_byte b = is_plain_byte b && not (b == 37)
+
 -- the decoded bytes of a part may occur in a segment: UTF-8 without NUL and `/`
 abbrev pub is_segment_text : List ℕ → Bool
 is_segment_text bytes = is_utf8 bytes && list_all is_plain_byte bytes
@@ -52,6 +56,10 @@ is_parent [] = false
 is_parent (b ∷ []) = false
 is_parent (b ∷ c ∷ []) = b == 46 && c == 46
 is_parent (b ∷ c ∷ d ∷ bs) = false
+
+-- the string may be a segment: it is neither empty, `.` nor `..`, and has neither NUL nor `/`
+abbrev pub is_segment : List ℕ → Bool
+is_segment text = not (is_dropped text) && not (is_parent text) && list_all is_plain_byte text
 
 -- the key after one more decoded segment, as `cd` does; `ForbiddenPath` if `..` leaves the root
 abbrev pub enter : Key → List ℕ → Result Key DavError

@@ -26,7 +26,7 @@ pub use etag::{ETag, ETagList, IfRange};
 pub use lock_token::LockToken;
 pub use meta::{DavFile, DirEntry, Meta, OpenOptions};
 pub use method::{DavMethod, DavMethodSet};
-pub use path::DavPath;
+pub use path::{DavPath, is_segment};
 pub use paths::Paths;
 pub use property::DavProp;
 pub use record::{Op, Outcome, Record};

@@ -16,6 +16,8 @@ mod mime;
 mod read;
 mod write;
 
+pub use read::is_segment;
+
 /// The path of a resource, below the prefix of a server.
 ///
 /// Its key has a list of segments. A segment is a non-empty string that contains neither `/` nor NUL, and is

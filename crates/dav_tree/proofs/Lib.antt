@@ -26,5 +26,4 @@ mod Saving
 mod EachEntry
 mod Soundness
 mod Naming
-mod Segments
 mod Loaded

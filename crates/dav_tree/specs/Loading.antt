@@ -1,12 +1,11 @@
 -- What is checked of a tree of entries that is loaded: this project's own choice.
 use Rattle.std.specs.Prelude.{◌≡◌, ◌&&◌, ℕ, Bool, false, List, not, Option, Some}
-use Rattle.std.specs.List.{list_all}
 use Rattle.std.specs.Option.{ForSome}
 use Rattle.std.specs.Coded.{Coded}
 use Rattle.std.specs.FinMap.{get}
 use base.Stored.{gnil}
 use Rattle.dav_key.specs.Key.{Key, parent}
-use Rattle.dav_resource.specs.PathText.{IsSegment, is_plain_byte, is_dropped, is_parent}
+use Rattle.dav_resource.specs.PathText.{IsSegment}
 use Rattle.dav_store.specs.Store.{AreNamed}
 use Rattle.dav_nodes.specs.Tree.{Tree}
 use Rattle.dav_nodes.specs.Rows.{own_name}
@@ -15,10 +14,6 @@ use Rattle.dav_tree.specs.Entry.{is_file}
 use Rattle.dav_tree.specs.Kept.{Kept, held_of, resources_by}
 use Rattle.dav_tree.specs.Before.{entries_code, saved_code}
 use Rattle.dav_tree.specs.declared.entry.Entry.{Entry}
-
--- the text may be a segment: it is neither empty, `.` nor `..`, and has neither NUL nor `/`
-abbrev pub is_segment : List ℕ → Bool
-is_segment s = not (is_dropped s) && not (is_parent s) && list_all is_plain_byte s
 
 module _ {B : Type 0} (tree : Tree (Entry B)) where
   -- the key's last segment is valid, its parent is a directory, and the elements of its properties have the properties' names

@@ -1,12 +1,12 @@
 //! Parses the path of a URL.
-ghost use Rattle.std.specs.Prelude.{◌≡◌, ◌<◌, ◌⊎◌, All, Ok, Err, IfOk, OnOk, IfErr, if◌then◌else◌};
+ghost use Rattle.std.specs.Prelude.{◌≡◌, ◌<◌, ◌⊎◌, true, All, Ok, Err, IfOk, OnOk, IfErr, if◌then◌else◌};
 ghost use Rattle.std.specs.Str.{is_utf8};
 ghost use Rattle.std.specs.List.{list_all};
 ghost use Rattle.std.specs.Cow.{cow_str_bytes};
 ghost use Rattle.percent_encoding.specs.Percent.{percent_decode};
 ghost use Rattle.dav_key.specs.Flat.{IsFlatSegment};
 ghost use Rattle.dav_resource.specs.Gives.{GivesBy};
-ghost use Rattle.dav_resource.specs.PathText.{starts_with_two_digits, has_whole_escapes, is_plain_byte, enter, enter_part, read_part, read_key, read_prefix, path_part, below_prefix, IsKey, IsSegmentText};
+ghost use Rattle.dav_resource.specs.PathText.{starts_with_two_digits, has_whole_escapes, is_literal_byte, is_plain_byte, is_segment, enter, enter_part, read_part, read_key, read_prefix, path_part, below_prefix, IsKey, IsSegment, IsSegmentText};
 
 use super::{DavPath, is_collection};
 use crate::error::{DavError, DavResult};
@@ -76,11 +76,30 @@ fn has_whole_escapes(part: &[u8]) -> bool
     true
 }
 
+/// Whether a string may be a segment of a path. It is neither empty, `.` nor `..`, and contains neither NUL
+/// nor `/`.
+pub fn is_segment(text: &str) -> bool
+    ensures value { result ≡ is_segment text.now }
+    ensures segment { result ≡ true → IsSegment text.now }
+{
+    match text {
+        "" | "." | ".." => false,
+        _ => is_plain(text.as_bytes()),
+    }
+}
+
 /// Whether the bytes contain neither NUL nor `/`.
 fn is_plain(bytes: &[u8]) -> bool
     ensures { result ≡ list_all is_plain_byte bytes.now }
 {
     bytes.iter().all(|b| *b != 0 && *b != b'/')
+}
+
+/// Whether each byte stands for itself in a part of a path: none is NUL, `/` or `%`.
+fn is_literal(bytes: &[u8]) -> bool
+    ensures { result ≡ list_all is_literal_byte bytes.now }
+{
+    bytes.iter().all(|b| *b != 0 && *b != b'/' && *b != b'%')
 }
 
 /// Percent-decodes one part of a path. A part without a `%` is not copied. Errors: `InvalidPath` if the part
@@ -89,6 +108,9 @@ fn decode_part(alloc: Global, part: &str) -> DavResult<CowStr<'_>>
     ensures value { GivesBy cow_str_bytes result (read_part part.now) }
     ensures text { IfOk result (λ text. IsSegmentText (cow_str_bytes text)) }
 {
+    if is_literal(part.as_bytes()) {
+        return Ok(CowStr::Borrowed(part));
+    }
     if !has_whole_escapes(part.as_bytes()) {
         return Err(DavError::InvalidPath);
     }

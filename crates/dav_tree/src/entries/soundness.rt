@@ -1,17 +1,17 @@
 //! What is checked of a tree that was loaded.
 ghost use Rattle.std.specs.Prelude.{◌≡◌, List, ℕ, true, false, Some};
 ghost use Rattle.std.specs.Option.{option_copied, ForSome};
-ghost use Rattle.std.specs.List.{list_all};
 ghost use Rattle.std.specs.FinMap as map;
 ghost use Rattle.dav_key.specs.Key.{Key};
-ghost use Rattle.dav_resource.specs.PathText.{IsSegment, is_plain_byte};
+ghost use Rattle.dav_resource.specs.PathText.{IsSegment};
 ghost use Rattle.dav_tree.specs.Entry.{is_file};
 ghost use Rattle.dav_tree.specs.Kept.{resources_by};
-ghost use Rattle.dav_tree.specs.Loading.{is_segment, IsSoundAt, AreSoundKeys};
+ghost use Rattle.dav_tree.specs.Loading.{IsSoundAt, AreSoundKeys};
 ghost use Rattle.dav_tree.specs.Memory.{IsSound};
 
 use crate::entry::Entry;
 use dav_nodes::Nodes;
+use dav_resource::is_segment;
 
 /// Returns whether a store can have these resources: the root and each parent is a directory, each name may be a
 /// segment of a path, and each property's element has the property's name.
@@ -75,22 +75,4 @@ fn is_name(name: Option<&str>) -> bool
         Some(name) => is_segment(name),
         None => true,
     }
-}
-
-/// Returns whether a string may be a segment of a path.
-fn is_segment(name: &str) -> bool
-    ensures value { result ≡ is_segment name.now }
-    ensures segment { result ≡ true → IsSegment name.now }
-{
-    match name {
-        "" | "." | ".." => false,
-        _ => is_plain(name.as_bytes()),
-    }
-}
-
-/// Returns whether the bytes contain neither NUL nor `/`.
-fn is_plain(bytes: &[u8]) -> bool
-    ensures { result ≡ list_all is_plain_byte bytes.now }
-{
-    bytes.iter().all(|b| *b != 0 && *b != b'/')
 }

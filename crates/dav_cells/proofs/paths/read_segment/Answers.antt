@@ -1,7 +1,8 @@
 use Rattle.std.proofs.Common.{◌≡◌, ◌∙◌, true, false, refl, sym}
 use Rattle.dav_wire.specs.Values.{utf8_text}
 use Rattle.dav_wire.proofs.ReadLemmas.{stops}
-use Rattle.dav_cells.specs.Paths.{is_segment, segment_codec}
+use Rattle.dav_resource.specs.PathText.{is_segment}
+use Rattle.dav_cells.specs.Paths.{segment_codec}
 use Rattle.dav_cells.proofs.paths.read_segment.Goals as goal
 
 pub returns-in_err-segment-clause-read : goal.returns-in_err-segment-clause-read

@@ -2,8 +2,9 @@ use Rattle.std.proofs.Common.{refl}
 use Rattle.std.proofs.lemmas.Bool.{and_from}
 use Rattle.dav_wire.specs.Values.{utf8_text}
 use Rattle.dav_wire.proofs.WriteLemmas.{writes_as}
-use Rattle.dav_cells.specs.Paths.{is_segment, segment_codec}
-use Rattle.dav_cells.proofs.KeyLemmas.{is_segment-of}
+use Rattle.dav_resource.specs.PathText.{is_segment}
+use Rattle.dav_cells.specs.Paths.{segment_codec}
+use Rattle.dav_resource.proofs.SegmentLemmas.{is_segment-of}
 use Rattle.dav_cells.proofs.paths.write_segment.Goals as goal
 
 pub returns : goal.returns

@@ -1,12 +1,10 @@
 -- Strings that may be segments.
-use Rattle.std.proofs.Common.{◌≡◌, ◌<◌, ℕ, Bool, true, false, not, ◌&&◌, refl, subst, List, Some, All, Fits, w8, get_or, arith}
+use Rattle.std.proofs.Common.{◌≡◌, ◌<◌, ℕ, Bool, true, false, not, ◌&&◌, refl, List, All, Fits, w8, get_or, arith}
 use Rattle.std.specs.List.{list_all}
-use Rattle.std.specs.Option.{ForSome}
 use Rattle.std.specs.Str.{is_utf8}
 use Rattle.std.proofs.lemmas.Bool.{and_parts, and_from}
 use Rattle.std.proofs.lemmas.List.Elements.{All-from_get_or}
-use Rattle.dav_resource.specs.PathText.{IsSegment, is_plain_byte, is_dropped, is_parent}
-use Rattle.dav_tree.specs.Loading.{is_segment}
+use Rattle.dav_resource.specs.PathText.{IsSegment, is_segment, is_plain_byte, is_dropped, is_parent}
 
 pub is_segment-of : (s : List ℕ) → IsSegment s → is_segment s ≡ true
 is_segment-of s is = rw (is.kept, is.child) (and_parts (is_utf8 s) (list_all is_plain_byte s) is.written.text).1
@@ -28,10 +26,3 @@ IsSegment-of s utf8 bytes is =
 -- each element of a string is a byte
 pub All-bytes : (s : List ℕ) → ((k : ℕ) → Fits w8 (get_or s k 0)) → All (λ b. b < 256) s
 All-bytes s fits = All-from_get_or (λ b. b < 256) s 0 (λ k h. omega (arith, fits k))
-
-some_text : (s t : List ℕ) → Some s ≡ Some t → s ≡ t
-some_text s t e = cc
-
--- a name that is there is a segment
-pub some-segment : (s : List ℕ) → IsSegment s → ForSome (Some s) IsSegment
-some-segment s is t same = subst IsSegment (some_text s t same) is
