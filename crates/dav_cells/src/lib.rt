@@ -26,6 +26,3 @@ pub use elements::{ELEMENT_LEVELS, decode_element, encode_element};
 pub use error::CellError;
 pub use locks::{decode_lock, encode_lock};
 pub use pieces::{decode_pieces, encode_pieces};
-
-#[cfg(test)]
-mod tests;

@@ -5,8 +5,5 @@ mod data_file;
 mod hash;
 mod medium;
 mod sip;
-#[cfg(test)]
-mod tests;
-
 pub use data_file::DataFile;
 pub use dav_pieces::{Block, Body, Piece};

@@ -10,9 +10,6 @@ mod node;
 mod nodes;
 mod noted;
 mod place;
-#[cfg(test)]
-mod tests;
-
 pub use changes::Changes;
 pub use members::Members;
 pub use nodes::{Nodes, NumberedValue, PlacedValue, RowsError};

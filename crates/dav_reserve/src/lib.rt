@@ -13,9 +13,6 @@ mod fill;
 mod reserve;
 mod reserved;
 mod roomy;
-#[cfg(test)]
-mod tests;
-
 pub use reserve::ROOM;
 pub use reserved::Reserved;
 pub use roomy::Roomy;

@@ -6,6 +6,3 @@ mod stopping;
 
 pub use starting::start;
 pub use stopping::{into_files, save_to_the_end};
-
-#[cfg(test)]
-mod tests;

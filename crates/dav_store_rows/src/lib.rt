@@ -9,6 +9,3 @@ mod saving;
 pub use loading::{LoadError, load_resources};
 pub use locks::{SavedLocks, load_locks};
 pub use saving::{Counts, SaveError, SavedCounts, save_changes};
-
-#[cfg(test)]
-mod tests;

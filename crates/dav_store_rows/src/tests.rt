@@ -1,4 +1,0 @@
-//! Tests each public call once, with ample memory.
-mod loading;
-mod locks;
-mod saving;
