@@ -10,6 +10,7 @@ mod node;
 mod nodes;
 mod noted;
 mod place;
+
 pub use changes::Changes;
 pub use members::Members;
 pub use nodes::{Nodes, NumberedValue, PlacedValue, RowsError};

@@ -13,6 +13,7 @@ mod fill;
 mod reserve;
 mod reserved;
 mod roomy;
+
 pub use reserve::ROOM;
 pub use reserved::Reserved;
 pub use roomy::Roomy;

@@ -23,8 +23,8 @@ literal (b ∷ bs) is =
     let own = and_parts (is_plain_byte b) (not (b == 37)) parts.0 in
     let rest = literal bs parts.1 in
     let whole : (not (b == 37) || starts_with_two_digits bs) ≡ true = rw own.1 in
-    record
-        { whole = and_from _ _ whole rest.whole
-        ; decoded = rw (percent_decode_not_percent b bs (not_percent b own.1), rest.decoded)
-        ; plain = and_from _ _ own.0 rest.plain
-        }
+    record {
+      whole = and_from _ _ whole rest.whole;
+      decoded = rw (percent_decode_not_percent b bs (not_percent b own.1), rest.decoded);
+      plain = and_from _ _ own.0 rest.plain;
+    }
