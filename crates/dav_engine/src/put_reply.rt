@@ -15,6 +15,9 @@ use http::{Response, StatusCode};
 use http_header::{ACCEPT_RANGES, CONTENT_LENGTH, ETAG, HeaderMap, HeaderValue, LAST_MODIFIED};
 use std::alloc::{AllocError, Global};
 
+/// How many header fields the response has at most.
+const MOST_FIELDS: usize = 4;
+
 /// Makes the response, from what was found before and what is known of the file now (RFC 9110, section
 /// 9.3.4): 204 or 201, with `Accept-Ranges`, `Content-Length` if the file is new, and `ETag` and
 /// `Last-Modified` if known (sections 8.8.2 and 8.8.3). The only error is `Memory`.
@@ -54,7 +57,7 @@ fn put_headers(
     ensures ok { IfOk result (λ headers. headers ≡ headers_of_put found.now meta.now) }
     ensures err { IfErr result (λ e. e ≡ Memory) }
 {
-    let mut headers = HeaderMap::new(alloc);
+    let mut headers = HeaderMap::with_capacity(alloc, MOST_FIELDS)?;
     let ranges = HeaderValue::from_static("bytes");
     add_header(&mut headers, ACCEPT_RANGES, Some(ranges))?;
     add_header(&mut headers, CONTENT_LENGTH, length_value(found))?;
@@ -117,7 +120,7 @@ fn quoted(alloc: Global, tag: &str) -> DavResult<HeaderValue>
 fn in_quotes(alloc: Global, text: &str) -> Result<String, AllocError>
     ensures { IfOk result (λ quoted. string_bytes quoted ≡ quoted_tag text.now) }
 {
-    let mut quoted = String::new(alloc);
+    let mut quoted = String::with_capacity(alloc, text.len().saturating_add(2))?;
     quoted.push('"')?;
     quoted.push_str(text)?;
     quoted.push('"')?;
