@@ -1,21 +1,8 @@
 //! Each public call once.
-ghost use Rattle.std.specs.Prelude.{◌≡◌, IfOk};
-
 use crate::{FlatKey, KeyBuilder};
 use std::alloc::{AllocError, Global};
 use std::process::Abort;
 use std::test::Fail;
-
-/// Builds a key segment by segment, as a caller that reads one key to make another.
-fn rebuilt(alloc: Global, key: &FlatKey) -> Result<FlatKey, AllocError>
-    ensures { IfOk result (λ copy. copy ≡ key.now) }
-{
-    let mut builder = KeyBuilder::new(alloc);
-    for segment in key.segments() {
-        builder.push(segment)?;
-    }
-    builder.finish()
-}
 
 /// Returns a key with these segments.
 fn key_of(rt: &impl Abort, alloc: Global, segments: &[&str]) -> Result<FlatKey, AllocError> {
@@ -27,71 +14,112 @@ fn key_of(rt: &impl Abort, alloc: Global, segments: &[&str]) -> Result<FlatKey, 
     Ok(key)
 }
 
+/// Shows a key's text and its length, the text of its parent, its name, its parent, and how many segments it has.
+fn show_parts(rt: &impl Abort, alloc: Global, segments: &[&str]) -> Result<String, AllocError> {
+    let key = key_of(rt, alloc, segments)?.clone()?;
+    let (text, len, above, name) = (key.as_str(), key.len(), key.parent_str(), key.name());
+    let (parent, count) = (key.parent()?, key.segments().count());
+    let parent = parent.as_str();
+    format!(in alloc; "{text:?} {len} {above:?} {name:?} {parent:?} {count}")
+}
+
 #[test]
 fn a_key_is_its_segments(rt: HostRuntime) -> Result<(), Fail> {
-    let root = FlatKey::root(rt.alloc())?;
-    assert!(rt; root.is_root());
-    assert_eq!(rt; root.as_str(), "");
-    assert_eq!(rt; root.parent_str(), "");
-    assert!(rt; root.name().is_none());
-    let key = key_of(&rt, rt.alloc(), &["a", "ö", ""])?;
-    assert!(rt; !key.is_root());
-    assert_eq!(rt; key.as_str(), "\0a\0ö\0");
-    assert_eq!(rt; key.len(), 6);
-    assert_eq!(rt; key.parent_str(), "\0a\0ö");
-    assert_eq!(rt; key.name().ok_or("no name")?, "");
-    assert_eq!(rt; key.parent()?.as_str(), "\0a\0ö");
-    assert_eq!(rt; root.parent()?.as_str(), "");
-    assert_eq!(rt; key.segments().count(), 3);
-    assert!(rt; rebuilt(rt.alloc(), &key)?.same(&key));
-    assert!(rt; key.clone()?.same(&key));
+    let shown = show_parts(&rt, rt.alloc(), &[])?;
+    assert_eq!(rt; shown.as_str(), r#""" 0 "" None "" 0"#);
+    let shown = show_parts(&rt, rt.alloc(), &["a", "ö", ""])?;
+    assert_eq!(rt;
+        shown.as_str(),
+        r#""\0a\0ö\0" 6 "\0a\0ö" Some("") "\0a\0ö" 3"#
+    );
     Ok(())
+}
+
+/// Shows whether a key is at or below another, the same, and how it compares.
+fn show_both(
+    rt: &impl Abort,
+    alloc: Global,
+    one: &[&str],
+    other: &[&str],
+) -> Result<String, AllocError> {
+    let (one, other) = (key_of(rt, alloc, one)?, key_of(rt, alloc, other)?);
+    let (below, same, order) = (
+        one.is_at_or_below(&other),
+        one.same(&other),
+        one.cmp(&other),
+    );
+    format!(in alloc; "{below} {same} {order:?}")
 }
 
 #[test]
 fn keys_are_compared_by_segments(rt: HostRuntime) -> Result<(), Fail> {
-    let above = key_of(&rt, rt.alloc(), &["a"])?;
-    let below = key_of(&rt, rt.alloc(), &["a", "b"])?;
-    let beside = key_of(&rt, rt.alloc(), &["a\u{1}"])?;
-    assert!(rt; below.is_at_or_below(&above));
-    assert!(rt; below.is_at_or_below(&below));
-    assert!(rt; !above.is_at_or_below(&below));
-    assert!(rt; !beside.is_at_or_below(&above));
-    assert!(rt; above < below);
-    assert!(rt; below < beside);
-    assert!(rt; above != beside);
-    assert!(rt; !above.same(&below));
+    let (above, below): (&[&str], &[&str]) = (&["a"], &["a", "b"]);
+    assert_eq!(rt;
+        show_both(&rt, rt.alloc(), below, above)?.as_str(),
+        "true false Greater"
+    );
+    assert_eq!(rt;
+        show_both(&rt, rt.alloc(), below, below)?.as_str(),
+        "true true Equal"
+    );
+    assert_eq!(rt;
+        show_both(&rt, rt.alloc(), &["a\u{1}"], below)?.as_str(),
+        "false false Greater"
+    );
     Ok(())
+}
+
+/// Shows the key without a prefix, and whether the two together are the key again.
+fn show_cut(
+    rt: &impl Abort,
+    alloc: Global,
+    key: &[&str],
+    prefix: &[&str],
+) -> Result<String, AllocError> {
+    let (key, prefix) = (key_of(rt, alloc, key)?, key_of(rt, alloc, prefix)?);
+    match key.strip(&prefix)? {
+        Some(rest) => {
+            let (text, again) = (rest.shared_text().as_str(), prefix.join(&rest)?.same(&key));
+            format!(in alloc; "{text:?} {again}")
+        }
+        None => String::from_str(alloc, "none"),
+    }
 }
 
 #[test]
 fn keys_are_cut_and_joined(rt: HostRuntime) -> Result<(), Fail> {
-    let root = FlatKey::root(rt.alloc())?;
-    let prefix = key_of(&rt, rt.alloc(), &["a"])?;
-    let key = key_of(&rt, rt.alloc(), &["a", "b", "c"])?;
-    let rest = key.strip(&prefix)?.ok_or("not below")?;
-    assert_eq!(rt; rest.as_str(), "\0b\0c");
-    assert_eq!(rt; rest.shared_text().as_str(), "\0b\0c");
-    assert_eq!(rt; rest.parent_str(), "\0b");
-    assert!(rt; key.strip(&key)?.ok_or("not below")?.is_root());
-    assert!(rt; key.strip(&root)?.ok_or("not below")?.same(&key));
-    assert!(rt; prefix.strip(&key)?.is_none());
-    assert_eq!(rt; prefix.join(&rest)?.as_str(), "\0a\0b\0c");
-    assert_eq!(rt; root.join(&rest)?.as_str(), "\0b\0c");
+    let key: &[&str] = &["a", "b", "c"];
+    assert_eq!(rt;
+        show_cut(&rt, rt.alloc(), key, &["a"])?.as_str(),
+        r#""\0b\0c" true"#
+    );
+    assert_eq!(rt; show_cut(&rt, rt.alloc(), key, key)?.as_str(), r#""" true"#);
+    assert_eq!(rt; show_cut(&rt, rt.alloc(), &["a"], key)?.as_str(), "none");
     Ok(())
+}
+
+/// Builds a key, takes its last segment away, and shows how long it is and what is left.
+fn show_built(rt: &impl Abort, alloc: Global, segments: &[&str]) -> Result<String, AllocError> {
+    let mut builder = KeyBuilder::with_capacity(alloc, 4)?;
+    for segment in segments {
+        assert!(rt; crate::is_flat_segment(segment));
+        builder.push(segment)?;
+    }
+    let (popped, len, count) = (builder.pop(), builder.len(), builder.segments().count());
+    let key = builder.finish()?;
+    let text = key.as_str();
+    format!(in alloc; "{popped} {len} {count} {text:?}")
 }
 
 #[test]
 fn a_builder_grows_and_shrinks(rt: HostRuntime) -> Result<(), Fail> {
-    let mut builder = KeyBuilder::with_capacity(rt.alloc(), 4)?;
-    assert!(rt; !builder.pop());
-    for segment in ["a", "b", "c"] {
-        assert!(rt; crate::is_flat_segment(segment));
-        builder.push(segment)?;
-    }
-    assert!(rt; builder.pop());
-    assert_eq!(rt; builder.len(), 4);
-    assert_eq!(rt; builder.segments().count(), 2);
-    assert_eq!(rt; builder.finish()?.as_str(), "\0a\0b");
+    assert_eq!(rt;
+        show_built(&rt, rt.alloc(), &[])?.as_str(),
+        r#"false 0 0 """#
+    );
+    assert_eq!(rt;
+        show_built(&rt, rt.alloc(), &["a", "b", "c"])?.as_str(),
+        r#"true 4 2 "\0a\0b""#
+    );
     Ok(())
 }

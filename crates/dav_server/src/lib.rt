@@ -27,8 +27,3 @@ pub use batch::BatchReply;
 pub use keeper::Keeper;
 pub use served::{ExpiringLocks, TimedStore};
 pub use server::{Options, Server};
-
-#[cfg(test)]
-mod keeping_tests;
-#[cfg(test)]
-mod tests;

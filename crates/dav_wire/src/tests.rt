@@ -1,85 +1,118 @@
-//! Tests each public call once, with the bytes that the grammar gives.
-use crate::{Reader, WireError, Writer};
-use dav_resource::{Element, Text};
-use std::alloc::Global;
+//! What a host calls, with the bytes that the grammar gives. What `davd` calls is tried with its bytes by
+//! `tools/replay`.
+use crate::{BatchHeader, Frame, ReadFrame, ReplyHeader, RequestFrame, WireError};
+use dav_resource::{Element, Items, ReqBody};
+use std::alloc::{AllocError, Global};
 use std::test::Fail;
 
-mod batch;
-mod frame;
-mod reply;
+/// A read of at most 3 bytes from the byte 258 on of `/a`, by the principal `p`, at the version `v`.
+const READ: [u8; 47] = [
+    4, 1, 0, 0, 0, 0, 0, 0, 0, 1, 112, 0, 0, 0, 0, 0, 0, 0, 2, 47, 97, 0, 0, 0, 0, 0, 0, 1, 2, 0,
+    0, 0, 0, 0, 0, 0, 3, 1, 0, 0, 0, 0, 0, 0, 0, 1, 118,
+];
 
-/// Writes a value of each kind.
-fn written(alloc: Global) -> Result<Vec<u8>, WireError> {
-    let mut writer = Writer::new(alloc);
-    writer.write_u8(7)?;
-    writer.write_number(258)?;
-    writer.write_bytes(&[255, 0])?;
-    writer.write_str("k")?;
-    writer.write_str("v")?;
-    writer.write_str("w")?;
-    writer.write_optional_str(None)?;
-    writer.write_optional_str(Some("p"))?;
-    Ok(writer.into_bytes())
+/// `PUT /` with the token `t`, the field `A: b` and the body `x`, by nobody.
+const PUT: [u8; 67] = [
+    0, 0, 0, 0, 0, 0, 0, 0, 3, 80, 85, 84, 0, 0, 0, 0, 0, 0, 0, 1, 47, 0, 0, 0, 0, 0, 0, 0, 0, 1,
+    116, 0, 0, 0, 0, 0, 0, 0, 1, 0, 0, 0, 0, 0, 0, 0, 1, 65, 0, 0, 0, 0, 0, 0, 0, 1, 98, 1, 0, 0,
+    0, 0, 0, 0, 0, 1, 120,
+];
+
+/// `LOCK /` with an empty token, no fields and the body `<a/>`, by the principal `p`.
+const LOCK: [u8; 69] = [
+    0, 0, 0, 0, 0, 0, 0, 0, 4, 76, 79, 67, 75, 0, 0, 0, 0, 0, 0, 0, 1, 47, 1, 0, 0, 0, 0, 0, 0, 0,
+    1, 112, 0, 0, 0, 0, 0, 0, 0, 0, 0, 0, 0, 0, 0, 0, 0, 0, 3, 0, 0, 0, 0, 0, 0, 0, 1, 97, 0, 0, 0,
+    0, 0, 0, 0, 0, 0, 0, 0,
+];
+
+/// Whether the frame is written as these bytes, and they are read as a frame that is written as the same.
+fn is_written_as(alloc: Global, frame: &Frame, bytes: &[u8]) -> Result<bool, WireError> {
+    let written = frame.encode(alloc)?;
+    let read = Frame::decode(alloc, bytes)?;
+    let again = read.encode(alloc)?;
+    Ok(written.as_slice() == bytes && again.as_slice() == bytes)
 }
 
 #[test]
-fn values_are_written_as_the_grammar_says(rt: HostRuntime) -> Result<(), Fail> {
-    let wanted: [u8; 57] = [
-        7, 0, 0, 0, 0, 0, 0, 1, 2, 0, 0, 0, 0, 0, 0, 0, 2, 255, 0, 0, 0, 0, 0, 0, 0, 0, 1, 107, 0,
-        0, 0, 0, 0, 0, 0, 1, 118, 0, 0, 0, 0, 0, 0, 0, 1, 119, 0, 1, 0, 0, 0, 0, 0, 0, 0, 1, 112,
+fn a_read_is_written_as_the_grammar_says(rt: HostRuntime) -> Result<(), Fail> {
+    let frame = Frame::Read(ReadFrame {
+        principal: Some("p"),
+        path: "/a",
+        place: 258,
+        length: 3,
+        version: Some("v"),
+    });
+    assert!(rt; is_written_as(rt.alloc(), &frame, &READ)?);
+    Ok(())
+}
+
+/// A request with one field and these bytes as its body.
+fn put<'a>(alloc: Global, body: &[u8]) -> Result<Frame<'a>, AllocError> {
+    let mut fields: Vec<(&'a [u8], &'a [u8])> = Vec::new(alloc);
+    fields.push((b"A", b"b"))?;
+    let body = ReqBody::Bytes(Items::from_vec(body.to_vec(alloc)?));
+    Ok(Frame::Request(RequestFrame {
+        method: b"PUT",
+        path: "/",
+        principal: None,
+        token: "t",
+        fields,
+        body,
+    }))
+}
+
+/// A request with this body.
+fn lock<'a>(alloc: Global, body: ReqBody) -> Frame<'a> {
+    Frame::Request(RequestFrame {
+        method: b"LOCK",
+        path: "/",
+        principal: Some("p"),
+        token: "",
+        fields: Vec::new(alloc),
+        body,
+    })
+}
+
+#[test]
+fn requests_are_written_as_the_grammar_says(rt: HostRuntime) -> Result<(), Fail> {
+    let alloc = rt.alloc();
+    let put = put(alloc, b"x")?;
+    assert!(rt; is_written_as(alloc, &put, &PUT)?);
+    let lock = lock(alloc, ReqBody::Tree(Element::new(alloc, "a")?));
+    assert!(rt; is_written_as(alloc, &lock, &LOCK)?);
+    Ok(())
+}
+
+// ---- headers
+
+#[test]
+fn headers_are_written_as_the_grammar_says(rt: HostRuntime) {
+    let header = BatchHeader {
+        number: 258,
+        now: 7,
+        length: 65536,
+    };
+    let bytes = [
+        0, 0, 0, 0, 0, 0, 1, 2, 0, 0, 0, 0, 0, 0, 0, 7, 0, 0, 0, 0, 0, 1, 0, 0,
     ];
-    let bytes = written(rt.alloc())?;
-    assert!(rt; bytes.as_slice() == &wanted[..]);
-    Ok(())
-}
-
-/// Reads the values back, and shows them.
-fn read_back(alloc: Global, bytes: &[u8]) -> Result<String, WireError> {
-    let mut reader = Reader::new(alloc, bytes);
-    let byte = reader.read_u8()?;
-    let number = reader.read_number()?;
-    let bytes = reader.read_bytes()?.len();
-    let borrowed = reader.read_str()?;
-    let string = reader.read_string()?;
-    let text = reader.read_text()?;
-    let none = reader.read_optional_str()?.is_none();
-    let some = reader
-        .read_optional_text()?
-        .unwrap_or(Text::from_str(alloc, "")?);
-    let end = reader.is_at_end();
-    let (string, text, some) = (string.as_str(), text.as_str(), some.as_str());
-    Ok(format!(in alloc; "{byte} {number} {bytes} {borrowed} {string} {text} {none} {some} {end}")?)
+    assert!(rt; header.to_bytes() == bytes);
+    assert!(rt; BatchHeader::from_bytes(&bytes) == header);
 }
 
 #[test]
-fn values_are_read_back(rt: HostRuntime) -> Result<(), Fail> {
-    let bytes = written(rt.alloc())?;
-    let shown = read_back(rt.alloc(), bytes.as_slice())?;
-    assert_eq!(rt; shown.as_str(), "7 258 2 k v w true p true");
-    Ok(())
-}
-
-/// Writes an element in an element, with room for `levels` levels.
-fn tree_written(alloc: Global, levels: usize) -> Result<Vec<u8>, WireError> {
-    let inner = Element::new(alloc, "b")?;
-    let mut element = Element::new(alloc, "a")?.text("t")?;
-    element.push_element(inner)?;
-    let mut writer = Writer::new(alloc);
-    writer.write_element(&element, levels)?;
-    Ok(writer.into_bytes())
-}
-
-/// Returns how many nodes the element has that is read back.
-fn nodes_read(alloc: Global, bytes: &[u8], levels: usize) -> Result<usize, WireError> {
-    let mut reader = Reader::new(alloc, bytes);
-    Ok(reader.read_element(levels)?.children.len())
-}
-
-#[test]
-fn a_tree_is_read_back_within_its_levels(rt: HostRuntime) -> Result<(), Fail> {
-    let bytes = tree_written(rt.alloc(), 2)?;
-    assert!(rt; nodes_read(rt.alloc(), bytes.as_slice(), 2) == Ok(2));
-    assert!(rt; nodes_read(rt.alloc(), bytes.as_slice(), 1) == Err(WireError::Malformed));
-    assert!(rt; tree_written(rt.alloc(), 1).is_err());
-    Ok(())
+fn headers_of_replies_are_written_as_the_grammar_says(rt: HostRuntime) {
+    let header = ReplyHeader {
+        number: 258,
+        status: 503,
+        count: 3,
+    };
+    let bytes = [
+        0, 0, 0, 0, 0, 0, 1, 2, 0, 0, 0, 0, 0, 0, 1, 247, 0, 0, 0, 0, 0, 0, 0, 3,
+    ];
+    let too_large = [
+        0, 0, 0, 0, 0, 0, 1, 2, 0, 0, 0, 0, 0, 1, 0, 0, 0, 0, 0, 0, 0, 0, 0, 3,
+    ];
+    assert!(rt; header.to_bytes() == bytes);
+    assert!(rt; ReplyHeader::from_bytes(&bytes) == Ok(header));
+    assert!(rt; ReplyHeader::from_bytes(&too_large) == Err(WireError::Malformed));
 }
