@@ -1,9 +1,8 @@
-//! Tests what no script shows of the engine: handlers called directly without a lock system, the connections
-//! to be closed, also after a stored body that is gone, several requests in one run, and blanks at the ends of
-//! a header's value.
+//! Tests what no script shows of the engine: handlers called directly without a lock system, and several requests
+//! in one run. Which connections are to be closed is tried on `davd` by `tools/replay`.
 use crate::fixture::{Field, request, share, status};
 use crate::serve_over;
-use dav_engine::{Body, BodyNumber, DavInner, DavRequest, DavResult, GuardedFileSystem, ReqBody};
+use dav_engine::{Body, DavInner, DavRequest, DavResult, GuardedFileSystem};
 use dav_memls::MemLs;
 use dav_tree::MemFs;
 use http::Response;
@@ -78,14 +77,13 @@ fn a_handler_serves_any_method_as_its_own(rt: HostRuntime) -> Result<(), Fail> {
 
 // ---- one run
 
-/// A method, a path, headers, the expected status of such a request with a body of one byte, and whether the
-/// connection is then to be closed.
-type Asked = (&'static str, &'static str, &'static [Field], u16, bool);
+/// A method, a path, headers, and the expected status of such a request with a body of one byte.
+type Asked = (&'static str, &'static str, &'static [Field], u16);
 
 /// Returns the requests of these rows.
 fn requests(alloc: Global, rows: &[Asked]) -> Result<Vec<DavRequest>, Fail> {
     let mut requests = Vec::new(alloc);
-    for &(method, path, headers, _, _) in rows {
+    for &(method, path, headers, _) in rows {
         requests.push(request(alloc, method, path, headers, "!")?)?;
     }
     Ok(requests)
@@ -100,134 +98,22 @@ fn replies(alloc: Global, rows: &[Asked]) -> Result<Vec<DavResult<Response<Body>
     Ok(replies?)
 }
 
-fn closes(reply: &DavResult<Response<Body>>) -> bool {
-    match reply {
-        Ok(_) => false,
-        Err(error) => error.must_close(),
-    }
-}
-
 /// Serves all rows in one run, and expects their statuses.
 fn expect_answers(rt: &impl Abort, alloc: Global, rows: &[Asked]) -> Result<(), Fail> {
     let replies = replies(alloc, rows)?;
-    for (reply, (method, path, _, want, wanted)) in replies.iter().zip(rows) {
-        let answer = (status(reply), closes(reply));
-        assert!(rt; answer == (*want, *wanted), "{method} {path}: {answer:?}");
+    for (reply, (method, path, _, want)) in replies.iter().zip(rows) {
+        let status = status(reply);
+        assert!(rt; status == *want, "{method} {path}: {status}");
     }
     Ok(())
-}
-
-#[test]
-fn a_refused_put_closes_the_connection(rt: HostRuntime) -> Result<(), Fail> {
-    let rows: &[Asked] = &[
-        ("PUT", "/a", &[], 201, false),
-        ("PUT", "/a", &[("Content-Length", "\t2 ")], 400, true),
-        (
-            "PUT",
-            "/a",
-            &[("X-Expected-Entity-Length", " 2\t")],
-            400,
-            true,
-        ),
-        ("PUT", "/a", &[("Content-Range", "x")], 400, true),
-        (
-            "PUT",
-            "/a",
-            &[("Content-Range", "\tbytes 2-1/5 ")],
-            416,
-            true,
-        ),
-        ("PUT", "/a", &[("If-Match", "\"9\"")], 412, true),
-        ("PUT", "/x/y", &[("If-None-Match", "*")], 412, true),
-        ("PUT", "/x/y", &[], 409, true),
-        ("PUT", "/l", &[], 423, true),
-        // The store returns an error.
-        ("PUT", "/", &[], 403, false),
-    ];
-    expect_answers(&rt, rt.alloc(), rows)
-}
-
-/// The type of a body that updates a part of a file.
-const UPDATE: Field = ("Content-Type", "application/x-sabredav-partialupdate");
-
-/// The same with blanks around it.
-const BLANKS: Field = ("Content-Type", " application/x-sabredav-partialupdate\t");
-
-const LENGTH: Field = ("Content-Length", "1");
-
-const APPEND: Field = ("X-Update-Range", "\tappend ");
-
-const NINE: Field = ("X-Update-Range", "bytes=-9");
-
-const FAR: Field = ("X-Update-Range", "bytes=18446744073709551614-");
-
-const OTHER: Field = ("If-Match", "\"9\"");
-
-#[test]
-fn a_refused_patch_closes_the_connection(rt: HostRuntime) -> Result<(), Fail> {
-    let rows: &[Asked] = &[
-        ("PATCH", "/a", &[BLANKS, LENGTH, APPEND], 201, false),
-        ("PATCH", "/a", &[], 415, true),
-        ("PATCH", "/a", &[UPDATE], 411, true),
-        ("PATCH", "/a", &[UPDATE, LENGTH], 400, true),
-        ("PATCH", "/a", &[UPDATE, LENGTH, NINE], 416, true),
-        ("PATCH", "/a", &[UPDATE, LENGTH, APPEND, OTHER], 412, true),
-        ("PATCH", "/x/y", &[UPDATE, LENGTH, APPEND], 409, true),
-        ("PATCH", "/l", &[UPDATE, LENGTH, APPEND], 423, true),
-        // The store returns an error: Forbidden, and then out of memory.
-        ("PATCH", "/", &[UPDATE, LENGTH, APPEND], 403, false),
-        ("PATCH", "/a", &[UPDATE, LENGTH, FAR], 507, false),
-    ];
-    expect_answers(&rt, rt.alloc(), rows)
-}
-
-#[test]
-fn other_refusals_keep_the_connection(rt: HostRuntime) -> Result<(), Fail> {
-    let rows: &[Asked] = &[
-        ("MKCOL", "/", &[], 405, false),
-        ("MKCOL", "/x/y", &[], 409, false),
-        ("MKCOL", "/n", &[("If-Match", "*")], 412, false),
-        ("DELETE", "/", &[("Depth", " 1\t")], 400, false),
-        ("DELETE", "/", &[("If-Match", "\"9\"")], 412, false),
-        ("DELETE", "/n", &[], 404, false),
-        ("DELETE", "/", &[], 423, false),
-        ("GET", "/", &[], 501, false),
-    ];
-    expect_answers(&rt, rt.alloc(), rows)
 }
 
 #[test]
 fn a_run_hands_the_locks_on(rt: HostRuntime) -> Result<(), Fail> {
     let rows: &[Asked] = &[
-        ("PUT", "/l", &[], 423, true),
-        ("UNLOCK", "/l", &[("Lock-Token", "\t<t> ")], 204, false),
-        ("PUT", "/l", &[], 201, false),
+        ("PUT", "/l", &[], 423),
+        ("UNLOCK", "/l", &[("Lock-Token", "\t<t> ")], 204),
+        ("PUT", "/l", &[], 201),
     ];
     expect_answers(&rt, rt.alloc(), rows)
-}
-
-// ---- stored bodies
-
-/// Returns the status of a request, and whether the connection is then to be closed.
-fn answered<'a>(alloc: Global, store: &'a mut MemFs, request: &DavRequest) -> (u16, bool) {
-    let mut engine = DavInner::new(store, None::<&mut MemLs>, String::new(alloc), None, ());
-    let reply = engine.serve(request);
-    (status(&reply), closes(&reply))
-}
-
-/// Returns the same of a PUT of the body that the store holds under this number.
-fn put_stored(alloc: Global, store: &mut MemFs, number: BodyNumber) -> Result<(u16, bool), Fail> {
-    let mut request = request(alloc, "PUT", "/f", &[], "")?;
-    request.body = ReqBody::Stored(number);
-    Ok(answered(alloc, store, &request))
-}
-
-#[test]
-fn a_put_of_a_body_that_is_gone_closes_the_connection(rt: HostRuntime) -> Result<(), Fail> {
-    let mut store = MemFs::new(rt.alloc())?;
-    let number = GuardedFileSystem::<()>::start_body(&mut store)?;
-    assert!(rt; put_stored(rt.alloc(), &mut store, number)? == (201, false));
-    GuardedFileSystem::<()>::drop_body(&mut store, number);
-    assert!(rt; put_stored(rt.alloc(), &mut store, number)? == (400, true));
-    Ok(())
 }
