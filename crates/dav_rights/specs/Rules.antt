@@ -1,0 +1,50 @@
+-- Rules as they are written, and those that apply to a caller: this project's own choice.
+use Rattle.std.specs.Prelude.{ℕ, Bool, true, false, List, [], ◌∷◌, bytes_eq, codes, filter_map, if◌then◌else◌, Option, Some, None, option_map}
+use Rattle.std.specs.List.{list_any}
+use Rattle.dav_key.specs.Key.{Key}
+use Rattle.dav_resource.specs.PathText.{is_segment}
+use Rattle.dav_rights.specs.declared.rule.Rule.{Rule}
+use Rattle.dav_rights.specs.declared.rules.Who.{Who}
+use Rattle.dav_rights.specs.declared.rules.Who.TheVariants.{Everyone, OneOf}
+use Rattle.dav_rights.specs.declared.rules.WrittenRule.{WrittenRule}
+
+-- the name of a caller, if it has one
+abbrev pub Caller : Type 0
+Caller = Option (List ℕ)
+
+-- the rule is made for this caller
+abbrev pub is_for : Caller → Who → Bool
+is_for caller Everyone = true
+is_for None (OneOf names) = false
+is_for (Some name) (OneOf names) = list_any (bytes_eq name) names.items
+
+-- the caller's name, if it may be a segment
+abbrev pub own_segment : Caller → Caller
+own_segment None = None
+own_segment (Some name) = if is_segment name then Some name else None
+
+-- a segment of a rule's path, where `{user}` stands for the caller's name
+abbrev pub segment_for : Caller → List ℕ → Option (List ℕ)
+segment_for caller segment = if bytes_eq segment (codes "{user}") then own_segment caller else Some segment
+
+-- both, one before the other
+abbrev pub joined : Option (List ℕ) → Option Key → Option Key
+joined None rest = None
+joined (Some segment) None = None
+joined (Some segment) (Some rest) = Some (segment ∷ rest)
+
+-- a rule's path for a caller
+abbrev pub key_for : Caller → Key → Option Key
+key_for caller [] = Some []
+key_for caller (segment ∷ rest) = joined (segment_for caller segment) (key_for caller rest)
+
+-- the rule for a caller, if it applies to it
+abbrev pub rule_for : Caller → WrittenRule → Option Rule
+rule_for caller written =
+    if is_for caller written.who
+    then option_map (λ key. record { key = key; below = written.below; allowed = written.allowed }) (key_for caller written.key)
+    else None
+
+-- the rules that apply to a caller, in order
+abbrev pub rules_for : Caller → List WrittenRule → List Rule
+rules_for caller rules = filter_map (rule_for caller) rules

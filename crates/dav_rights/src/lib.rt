@@ -1,0 +1,10 @@
+//! Access rights: which resources a caller may list, read and write.
+#![tactic(auto)]
+
+mod rights;
+mod rule;
+mod rules;
+
+pub use rights::Rights;
+pub use rule::{Allowed, Rule};
+pub use rules::{Rules, Who, WrittenRule};
