@@ -65,7 +65,7 @@ named_part_measured target Append found t measured is = let same : record target
 update_measured : (stated : Option ℕ) (range : Option UpdateRange) (found : Result Meta FsError) (t : Target) → update_target stated range found ≡ Ok t → IsMeasured t
 update_measured None range found t is = absurd cc
 update_measured (Some n) None found t is = absurd cc
-update_measured (Some n) (Some range) found t is = named_part_measured (record { start = 0; append = false; part = true; length = Some n }) range found t (λ _. (n, refl)) is
+update_measured (Some n) (Some range) found t is = named_part_measured (record { start = 0; append = false; part = true; length = Some n; stated = Some n }) range found t (λ _. (n, refl)) is
 
 first_measured : (partial : Bool) (headers : Entries FieldValue) (found : Result Meta FsError) (t : Target) → first_target partial headers found ≡ Ok t → IsMeasured t
 first_measured true headers found t is = go (is_update (content_type_of headers)) is
@@ -118,7 +118,7 @@ first_looked true headers e t is = by_type (is_update (content_type_of headers))
     by_range (Some n) None is = absurd cc
     by_range (Some n) (Some (FromTo first last)) is = is
     by_range (Some n) (Some (AllFrom first)) is = is
-    by_range (Some n) (Some (Last count)) is = ap Ok (last_bytes_looked (record { start = 0; append = false; part = true; length = Some n }) count e t is)
+    by_range (Some n) (Some (Last count)) is = ap Ok (last_bytes_looked (record { start = 0; append = false; part = true; length = Some n; stated = Some n }) count e t is)
     by_range (Some n) (Some Append) is = is
 
     by_type : (b : Bool) → (if b then update_target (stated_length headers) (update_range_of headers) (Err e) else Err (StatusClose 415)) ≡ Ok t

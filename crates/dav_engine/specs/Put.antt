@@ -31,7 +31,7 @@ use Rattle.dav_messages.specs.RequestBody.{body_bytes}
 use Rattle.dav_engine.specs.PutReply.{put_reply}
 use Rattle.dav_engine.specs.State.{State}
 use Rattle.dav_engine.specs.Rules.{look_up_result, path_rules, judged, closing}
-use Rattle.dav_engine.specs.Target.{stated_length, target_of}
+use Rattle.dav_engine.specs.Target.{target_of}
 use Rattle.dav_engine.specs.declared.target.Target.{Target}
 use Rattle.dav_messages.specs.Dialogue.{Dialogue, Asks, Passed, GoesOn, needs, refusing, if_granted, ◌>>=◌, LeadsTo, WasGranted}
 use Rattle.dav_engine.specs.Answered.{IsAnswered}
@@ -82,7 +82,7 @@ put_options request target =
     record (making_options request) {
       truncate = not target.part;
       append = target.append;
-      size = stated_length request.headers;
+      size = target.stated;
       checksum = checksum_of request.headers;
     }
 

@@ -51,7 +51,7 @@ named_part target Append found = Ok (record target { append = true })
 abbrev pub update_target : Option ℕ → Option UpdateRange → Result Meta FsError → Result Target DavError
 update_target None range found = Err (StatusClose 411)
 update_target (Some length) None found = Err (StatusClose 400)
-update_target (Some length) (Some range) found = named_part (record { start = 0; append = false; part = true; length = Some length }) range found
+update_target (Some length) (Some range) found = named_part (record { start = 0; append = false; part = true; length = Some length; stated = Some length }) range found
 
 -- the Content-Type is that of SabreDAV's partial update
 abbrev pub is_update : Option (List ℕ) → Bool
@@ -66,7 +66,7 @@ patch_target headers found =
 
 -- the whole file, which a PUT replaces
 abbrev pub whole : Entries FieldValue → Target
-whole headers = record { start = 0; append = false; part = false; length = stated_length headers }
+whole headers = record { start = 0; append = false; part = false; length = stated_length headers; stated = stated_length headers }
 
 -- the part that `Content-Range` selects, if it has a range; if the header cannot be read, its error
 abbrev pub in_range : Target → Result (Option ContentRange) DavError → Result Target DavError

@@ -16,7 +16,7 @@ use crate::DavInner;
 use crate::judge::closed;
 use crate::opening::{making_options, misplaced_status};
 use crate::put_reply::put_reply;
-use crate::target::{Target, find_target, stated_length};
+use crate::target::{Target, find_target};
 use dav_headers::read_checksum;
 use dav_messages::body_length;
 use dav_resource::{
@@ -227,7 +227,7 @@ fn put_options(alloc: Global, request: &DavRequest, target: &Target) -> DavResul
     Ok(OpenOptions {
         truncate: !target.part,
         append: target.append,
-        size: stated_length(&request.headers)?,
+        size: target.stated,
         checksum: checksum(alloc, &request.headers)?,
         ..options
     })

@@ -19,8 +19,10 @@ pub(crate) struct Target {
     pub(crate) append: bool,
     /// Whether the rest of the file is kept.
     pub(crate) part: bool,
-    /// The length in bytes that the body must have, if one is stated.
+    /// The length in bytes that the body must have, if a header or a range says one.
     pub(crate) length: Option<u64>,
+    /// The length in bytes that a header states for the body, if one does.
+    pub(crate) stated: Option<u64>,
 }
 
 /// Finds where a PUT, or a PATCH if `partial`, writes, by its headers and the lookup of its path.
@@ -62,11 +64,13 @@ fn first_target(
 fn whole(headers: &HeaderMap<HeaderValue>) -> DavResult<Target>
     ensures { result ≡ Ok (whole_by headers.now) }
 {
+    let stated = stated_length(headers)?;
     Ok(Target {
         start: 0,
         append: false,
         part: false,
-        length: stated_length(headers)?,
+        length: stated,
+        stated,
     })
 }
 
@@ -92,7 +96,7 @@ fn is_update(content_type: Option<&str>) -> bool
 
 /// Returns the length that a header states for the body: that of Content-Length, else of
 /// X-Expected-Entity-Length.
-pub(crate) fn stated_length(headers: &HeaderMap<HeaderValue>) -> DavResult<Option<u64>>
+fn stated_length(headers: &HeaderMap<HeaderValue>) -> DavResult<Option<u64>>
     ensures { result ≡ Ok (length_stated_by headers.now) }
 {
     match read_content_length(headers)? {
@@ -119,6 +123,7 @@ fn update_target(
         append: false,
         part: true,
         length: Some(length),
+        stated: Some(length),
     };
     named_part(target, range, found)
 }

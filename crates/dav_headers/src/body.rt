@@ -11,9 +11,10 @@ use crate::values::first_text;
 use dav_resource::DavResult;
 use http_header::{HeaderMap, HeaderValue};
 
-/// Parses the first value of a header as a number.
+/// Parses the first value of a header, by its name in lower case, as a number.
 fn first_number(headers: &HeaderMap<HeaderValue>, name: &'static str) -> Option<u64>
-    ensures { result ≡ option_and_then number_in (first_text headers.now (lowercase name.now)) }
+    requires { lowercase name.now ≡ name.now }
+    ensures { result ≡ option_and_then number_in (first_text headers.now name.now) }
 {
     read_number(first_text(headers, name)?)
 }

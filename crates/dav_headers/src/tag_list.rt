@@ -99,14 +99,15 @@ fn all_tags(
     Ok(tags)
 }
 
-/// `*` if one of the header's values is `*`, otherwise the tags of all its values. Returns `None` if there
-/// are none.
+/// `*` if one of the values of a header, by its name in lower case, is `*`, otherwise the tags of all its
+/// values. Returns `None` if there are none.
 #[tactic(auto, using(crate::proofs::TagListLemmas::some_tags_cases))]
 fn tag_list_of(
     alloc: Global,
     headers: &HeaderMap<HeaderValue>,
     name: &'static str,
 ) -> DavResult<Option<ETagList>>
+    requires { lowercase name.now ≡ name.now }
     ensures { GivesBy (λ tags. tags) result (Ok (tag_list_of (get_all headers.now (lowercase name.now)))) }
 {
     if first_value(headers, name).is_none() {

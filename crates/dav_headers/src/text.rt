@@ -42,7 +42,7 @@ pub(crate) fn drop_blanks(text: &str) -> &str
     ensures { result.now ≡ drop_blanks text.now }
 {
     let mut rest = text;
-    while rest.starts_with(' ') || rest.starts_with('\t') {
+    while rest.as_bytes().first().copied().is_some_and(is_blank) {
         rest = after_first(rest);
     }
     rest
@@ -53,7 +53,7 @@ pub(crate) fn trim_blanks(text: &str) -> &str
     ensures { result.now ≡ trim_blanks text.now }
 {
     let mut rest = drop_blanks(text);
-    while rest.ends_with(' ') || rest.ends_with('\t') {
+    while rest.as_bytes().last().copied().is_some_and(is_blank) {
         rest = before_last(rest);
     }
     rest

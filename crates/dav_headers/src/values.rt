@@ -10,30 +10,32 @@ use http_header::{HeaderMap, HeaderValue};
 /// The greatest number of names that are compared one by one. More are looked up by their hash.
 const FEW_NAMES: usize = 16;
 
-/// The first value of a header.
+/// The first value of a header, by its name in lower case.
 pub(crate) fn first_value<'a>(
     headers: &'a HeaderMap<HeaderValue>,
     name: &'static str,
 ) -> Option<&'a HeaderValue>
-    ensures { option_copied result ≡ get headers.now (lowercase name.now) }
+    requires { lowercase name.now ≡ name.now }
+    ensures { option_copied result ≡ get headers.now name.now }
 {
     if headers.keys_len() > FEW_NAMES {
         return headers.get(name);
     }
     for (own, value) in headers.iter() {
-        if own.eq_str(name) {
+        if own.as_str() == name {
             return Some(value);
         }
     }
     None
 }
 
-/// The first value of a header, if it is readable, without the blanks at its ends.
+/// The first value of a header, by its name in lower case, if it is readable, without the blanks at its ends.
 pub(crate) fn first_text<'a>(
     headers: &'a HeaderMap<HeaderValue>,
     name: &'static str,
 ) -> Option<&'a str>
-    ensures { option_copied result ≡ first_text headers.now (lowercase name.now) }
+    requires { lowercase name.now ≡ name.now }
+    ensures { option_copied result ≡ first_text headers.now name.now }
 {
     readable_text(first_value(headers, name)?)
 }
