@@ -1,131 +1,45 @@
 -- Listings of a store that refuses by plan or by number.
-use Rattle.std.proofs.Common.{◌≡◌, ◌≢◌, ◌∙◌, ℕ, Option, Some, None, Result, Ok, Err, Vec, refl, sym, ap, subst, ◌⊎◌, inl, inr, List, [], ◌∷◌, ◌++◌, ◌+◌, ◌-◌, ◌≤◌, Bool, map, filter_map, length, take, drop, suc, zero, arith, length-append}
-use Rattle.std.specs.declared.alloc.Global.{Global}
-use Rattle.std.proofs.lemmas.List.{map-append, drop_at, append_assoc, take_all, length-drop}
+use Rattle.std.proofs.Common.{◌≡◌, ◌≢◌, ◌∙◌, Option, Some, None, Result, Ok, Err, sym, ap, subst, ◌⊎◌, inl, inr, List, [], ◌∷◌, ◌++◌, ◌+◌, ◌-◌, map, filter_map, length, take, drop, arith}
+use Rattle.std.proofs.lemmas.List.{map-append, take_all, length-drop}
 use Rattle.std.specs.FinMap.{get}
-use Rattle.dav_key.specs.Key.{Key}
 use Rattle.dav_resource.specs.PathText.{PathValue}
 use Rattle.dav_resource.specs.declared.meta.DirEntry.{DirEntry}
 use Rattle.dav_resource.specs.declared.record.Op.TheVariants.{ReadDir, Entry}
-use Rattle.dav_resource.specs.declared.record.Outcome.TheVariants.{Granted, Refused}
+use Rattle.dav_resource.specs.declared.record.Outcome.TheVariants.{Granted}
 use Rattle.dav_resource.specs.declared.record.Record.{Record}
 use Rattle.dav_resource.specs.declared.error.FsError.{FsError}
 use Rattle.dav_resource.specs.declared.error.FsError.TheVariants.{Memory}
-use Rattle.dav_store.specs.Logged.{Logged, logged, logged_of}
-use Rattle.dav_store.specs.Store.{Store, Contents}
-use Rattle.dav_store.specs.Members.{Child, IsIn, AreChildren, IsShownAs, Lists, ReadsDir, member, names_of, read_dir_bar, unseen_record}
+use Rattle.dav_store.specs.Logged.{logged, logged_of}
+use Rattle.dav_store.specs.Store.{Store}
+use Rattle.dav_store.specs.Members.{Child, AreChildren, Lists, ReadsDir, read_dir_bar, unseen_record}
 use Rattle.dav_store.specs.Logged.{record_on}
-use Rattle.dav_refusing.specs.Plans.{Plan, Call, refusal_for, shown_as, shown_by, refused_record, hidden_by, left_by, without_firsts, IsNamed, IsListingOf, IsLetBy}
+use Rattle.dav_wrapping.specs.Wrapping.{with_leave}
+use Rattle.dav_wrapping.specs.Hiding.{shown_by, hidden_by, IsListingOf}
+use Rattle.dav_wrapping.specs.HidingLaws.{names-shown, still_shown, named, recorded-keys, hidden_are}
+use Rattle.dav_wrapping.specs.Declining.{Listing, Declining, declining_call, declined}
+use Rattle.dav_refusing.specs.Plans.{Call, why_by, left_by, without_firsts, IsLetBy}
 use Rattle.dav_refusing.specs.Pending.{Pending, due, passed_by}
 use Rattle.dav_refusing.specs.Refusing.{all_allowed, inner_of, pending_of, plan_of, records_of, seen_behind, IsWhollyKept, Passes, GoesByPlan, Follows, PassesListing, PassesReadDir, HasListed, KeepsReading, FollowsReading}
 use Rattle.dav_refusing.specs.declared.refusing.Refusing.{Refusing}
 use Rattle.dav_refusing.proofs.Queues.{own_planned}
-use Rattle.dav_refusing.proofs.Refusals.{CallBehind, IsOwnPlan, seen_kept, IsCall, answers_call, no_statuses, lawful}
-
-abbrev pub Listing : Type 0
-Listing = Vec (Result DirEntry FsError) Global
-
--- ---- members that the plan lets be seen
-
-names-shown : (plan : Plan) (directory : Key) (children : List Child) → names_of (shown_by plan directory children) ≡ names_of children
-names-shown plan directory [] = refl
-names-shown plan directory ((name, Ok entry) ∷ children) = ap (λ ns. name ∷ ns) (names-shown plan directory children)
-names-shown plan directory ((name, Err e) ∷ children) = ap (λ ns. name ∷ ns) (names-shown plan directory children)
-
-still_shown : (shows : Key → Bool) (old : Contents) (directory : Key) (plan : Plan) (children : List Child) → IsOwnPlan plan → ((c : Child) → IsIn c children → IsShownAs shows old directory c) → (c : Child) → IsIn c (shown_by plan directory children) → IsShownAs shows old directory c
-still_shown shows old directory plan [] own are c within = absurd within
-still_shown shows old directory plan ((name, Err e) ∷ children) own are c (inl is) = subst (IsShownAs shows old directory) is (are (name, Err e) (inl refl))
-still_shown shows old directory plan ((name, Err e) ∷ children) own are c (inr within) = still_shown shows old directory plan children own (λ c' w. are c' (inr w)) c within
-still_shown shows old directory plan ((name, Ok entry) ∷ children) own are c (inl is) =
-    subst (IsShownAs shows old directory) is (by_error (refusal_for Entry (member directory name) plan) refl)
-  where
-    by_error : (o : Option FsError) → refusal_for Entry (member directory name) plan ≡ o → IsShownAs shows old directory (name, shown_as o entry)
-    by_error None e = are (name, Ok entry) (inl refl)
-    by_error (Some e) found = own Entry (member directory name) e found
-still_shown shows old directory plan ((name, Ok entry) ∷ children) own are c (inr within) =
-    still_shown shows old directory plan children own (λ c' w. are c' (inr w)) c within
-
-named : (shows : Key → Bool) (old : Contents) (directory : Key) (c : Child) → IsShownAs shows old directory c → IsNamed c
-named shows old directory (name, Ok entry) is = is.0
-named shows old directory (name, Err e) is = tt
-
--- ---- the records of members that the store behind doesn't show
-
--- the keys of the records are those of the members that aren't shown
-recorded-keys : (plan : Plan) (directory : PathValue) (children : List Child) (hidden : List Record) → map logged_of hidden ≡ filter_map (unseen_record directory.key) children
-    → map logged_of (hidden_by plan directory children hidden) ≡ filter_map (unseen_record directory.key) (shown_by plan directory.key children)
-recorded-keys plan directory [] hidden are = refl
-recorded-keys plan directory ((name, Ok entry) ∷ children) hidden are =
-    by_error (refusal_for Entry (member directory.key name) plan) _ (shown_by plan directory.key children) (recorded-keys plan directory children hidden are)
-  where
-    by_error : (o : Option FsError) (recorded : List Record) (shown : List Child) → map logged_of recorded ≡ filter_map (unseen_record directory.key) shown
-        → map logged_of (refused_record directory name o ++ recorded) ≡ filter_map (unseen_record directory.key) ((name, shown_as o entry) ∷ shown)
-    by_error None recorded shown is = is
-    by_error (Some e) recorded shown is = ap (λ l. logged Entry (member directory.key name ∷ []) (Refused e) ∷ l) is
-recorded-keys plan directory ((name, Err e) ∷ children) [] are = absurd cc
-recorded-keys plan directory ((name, Err e) ∷ children) (r ∷ hidden) are =
-    let first : logged_of r ≡ logged Entry (member directory.key name ∷ []) (Refused e) = cc in
-    let more : map logged_of hidden ≡ filter_map (unseen_record directory.key) children = cc in
-    λ i. first i ∷ recorded-keys plan directory children hidden more i
-
-map-drop : (n : ℕ) (xs : List Record) → map logged_of (drop n xs) ≡ drop n (map logged_of xs)
-map-drop zero xs = refl
-map-drop (suc n) [] = refl
-map-drop (suc n) (x ∷ xs) = map-drop n xs
-
-length-map : (xs : List Record) → length (map logged_of xs) ≡ length xs
-length-map [] = refl
-length-map (x ∷ xs) = ap suc (length-map xs)
-
--- the log has the record of the call
-pub one_more_recorded : (before after : List Record) (old_log new_log : List Logged) (r : Logged) (others : List Logged) → map logged_of before ≡ old_log → map logged_of after ≡ new_log → new_log ≡ old_log ++ r ∷ others
-    → length before + 1 ≤ length after
-one_more_recorded before after old_log new_log r others b a recorded =
-    let count : length (map logged_of after) ≡ length (map logged_of before ++ r ∷ others) = ap length (a ∙ recorded ∙ ap (λ l. l ++ r ∷ others) (sym b)) in
-    omega (arith, count, length-map before, length-map after, length-append (map logged_of before) (r ∷ others))
-
--- what stands behind the record of the call
-pub hidden_are : (before after hidden : List Record) (old_log new_log : List Logged) (r : Logged) (others : List Logged) → map logged_of before ≡ old_log → map logged_of after ≡ new_log → new_log ≡ old_log ++ r ∷ others
-    → hidden ≡ drop (length before + 1) after → map logged_of hidden ≡ others
-hidden_are before after hidden old_log new_log r others b a recorded is =
-    let count : length (map logged_of before ++ r ∷ []) ≡ length before + 1 = omega (arith, length-append (map logged_of before) (r ∷ []), length-map before) in
-    ap (map logged_of) is ∙ map-drop (length before + 1) after ∙ ap (drop (length before + 1)) (a ∙ recorded ∙ ap (λ l. l ++ r ∷ others) (sym b) ∙ sym (append_assoc (map logged_of before) (r ∷ []) others))
-    ∙ drop_at (map logged_of before ++ r ∷ []) others (length before + 1) count
+use Rattle.dav_refusing.proofs.Refusals.{seen_kept, lawful}
 
 module _ {F : Type 0} (see : F → Store) (path : PathValue) where
   abbrev pub HadMemory : Result Listing FsError → Type 0
   HadMemory answer = answer ≢ Err Memory
 
-  -- ---- a listing that is declined
-
-  abbrev pub NoEffect : Listing → Contents → Contents → Type 0
-  NoEffect listing old new = ⊥
-
-  abbrev pub bar_of : Bool → Contents → Option FsError
-  bar_of keeps old = read_dir_bar (get old.tree path.key)
-
-  -- as a call that lists nothing
-  abbrev pub Declining : Store → Result Listing FsError → Store → Type 0
-  Declining = CallBehind ReadDir (path.key ∷ []) bar_of NoEffect
-
-  pub declining_call : IsCall ReadDir (path.key ∷ []) no_statuses Declining
-  declining_call = answers_call ReadDir (path.key ∷ []) bar_of NoEffect
-
-  declined : (old new : Store) (e : FsError) → Declining old (Err e) new → ReadsDir old path.key (Err e) new
-  declined old new e h = record { granted = tt; declined = h.declined }
-
-  pub as_listing : (old new : Refusing F) (e : FsError) → Follows see ReadDir (path ∷ []) Declining old (Err e) new → FollowsReading see path old (Err e) new
+  pub as_listing : (old new : Refusing F) (e : FsError) → Follows see ReadDir (path ∷ []) (Declining path.key) old (Err e) new → FollowsReading see path old (Err e) new
   as_listing old new e (inl h) = inl (h.0, record { inner = inl h.1.inner; pending = h.1.pending; records = h.1.records })
   as_listing old new e (inr h) = inr (h.0, by_due (due ReadDir path.key (pending_of old)) h.1)
     where
-      by_due : (r : Option FsError) → GoesByPlan ReadDir (path ∷ []) (Passes see ReadDir (path ∷ []) Declining) r old (Err e) new → GoesByPlan ReadDir (path ∷ []) (PassesReadDir see path) r old (Err e) new
+      by_due : (r : Option FsError) → GoesByPlan ReadDir (path ∷ []) (Passes see ReadDir (path ∷ []) (Declining path.key)) r old (Err e) new → GoesByPlan ReadDir (path ∷ []) (PassesReadDir see path) r old (Err e) new
       by_due (Some e') h = h
-      by_due None h = record { behind = declined _ _ e h.behind; left = h.left; outcome = h.outcome; statuses = h.statuses; recorded = h.recorded; records = h.records }
+      by_due None h = record { behind = declined path.key _ _ e h.behind; left = h.left; outcome = h.outcome; statuses = h.statuses; recorded = h.recorded; records = h.records }
 
-  as_call : (old new : Refusing F) (e : FsError) → HadMemory (Err e) → GoesByPlan ReadDir (path ∷ []) (PassesReadDir see path) (due ReadDir path.key (pending_of old)) old (Err e) new → Follows see ReadDir (path ∷ []) Declining old (Err e) new
+  as_call : (old new : Refusing F) (e : FsError) → HadMemory (Err e) → GoesByPlan ReadDir (path ∷ []) (PassesReadDir see path) (due ReadDir path.key (pending_of old)) old (Err e) new → Follows see ReadDir (path ∷ []) (Declining path.key) old (Err e) new
   as_call old new e not_memory goes = inr (not_memory, by_due (due ReadDir path.key (pending_of old)) goes)
     where
-      by_due : (r : Option FsError) → GoesByPlan ReadDir (path ∷ []) (PassesReadDir see path) r old (Err e) new → GoesByPlan ReadDir (path ∷ []) (Passes see ReadDir (path ∷ []) Declining) r old (Err e) new
+      by_due : (r : Option FsError) → GoesByPlan ReadDir (path ∷ []) (PassesReadDir see path) r old (Err e) new → GoesByPlan ReadDir (path ∷ []) (Passes see ReadDir (path ∷ []) (Declining path.key)) r old (Err e) new
       by_due (Some e') h = h
       by_due None h = record { behind = record { granted = tt; declined = h.behind.declined }; left = h.left; outcome = h.outcome; statuses = h.statuses; recorded = h.recorded; records = h.records }
 
@@ -136,7 +50,7 @@ module _ {F : Type 0} (see : F → Store) (path : PathValue) where
     where
       by_inner : (see (inner_of new) ≡ see (inner_of old)) ⊎ HasListed see path old new → seen_behind see new ≡ seen_behind see old
       by_inner (inl same) = seen_kept see old new same kept.records
-      by_inner (inr h) = λ i. record { contents = h.behind.same i; facts = all_allowed (h.behind.fixed i); log = map logged_of (kept.records i) }
+      by_inner (inr h) = λ i. record { contents = h.behind.same i; facts = with_leave all_allowed (h.behind.fixed i); log = map logged_of (kept.records i) }
 
   -- ---- a listing that is granted
 
@@ -162,26 +76,26 @@ module _ {F : Type 0} (see : F → Store) (path : PathValue) where
           recorded = ap (λ (s : Store). s.log) (sym is) ∙ g.recorded ∙ ap (λ (s : Store). s.log ++ logged ReadDir (path.key ∷ []) Granted ∷ filter_map (unseen_record path.key) g.children) was;
           fixed = ap (λ (s : Store). s.facts) (sym is) ∙ g.fixed ∙ ap (λ (s : Store). s.facts) was;
         };
-        shown = let_by.shown ∙ ap (λ (p : Pending). map (λ c. c.1) (shown_by p.plan path.key g.children)) kept.pending;
+        shown = let_by.shown ∙ ap (λ (p : Pending). map (λ c. c.1) (shown_by (why_by p.plan) path.key g.children)) kept.pending;
         left = pending ∙ (λ i. record (passed_by (pending_of begun)) { plan = without_firsts (let_by.refused_are i) (plan_of begun) }) ∙ ap (λ (p : Pending). record (passed_by p) { plan = left_by p.plan path.key g.children }) kept.pending;
         hidden = hidden;
         recorded = hide;
-        records = records ∙ (λ i. kept.records i ++ call_is i ∷ let_by.recorded i) ∙ ap (λ (p : Pending). records_of old ++ record_on ReadDir (path ∷ []) Granted ∷ hidden_by p.plan path g.children hidden) kept.pending;
+        records = records ∙ (λ i. kept.records i ++ call_is i ∷ let_by.recorded i) ∙ ap (λ (p : Pending). records_of old ++ record_on ReadDir (path ∷ []) Granted ∷ hidden_by (why_by p.plan) path g.children hidden) kept.pending;
       }
 
   pub lawful_listing : (old new : Refusing F) (shown : List (Result DirEntry FsError)) → PassesListing see path old shown new → Lists path.key (seen_behind see old) shown (seen_behind see new)
   lawful_listing old new shown h = record {
     allowed = h.behind.allowed;
-    children = shown_by (plan_of old) path.key h.behind.children;
+    children = shown_by (why_by (plan_of old)) path.key h.behind.children;
     are = record {
-      each_once = rw (names-shown (plan_of old) path.key h.behind.children) h.behind.are.each_once;
-      shown = still_shown (see (inner_of old)).facts.shows (see (inner_of old)).contents path.key (plan_of old) h.behind.children (own_planned old.pending.plan.queues) h.behind.are.shown;
+      each_once = rw (names-shown (why_by (plan_of old)) path.key h.behind.children) h.behind.are.each_once;
+      shown = still_shown (see (inner_of old)).facts.shows (see (inner_of old)).facts.shows (see (inner_of old)).contents path.key (why_by (plan_of old)) h.behind.children (λ key e found. own_planned old.pending.plan.queues Entry key e found) (λ key free shows. shows) h.behind.are.shown;
     };
     listed = h.shown;
     same = h.behind.same;
-    recorded = ap (map logged_of) h.records ∙ map-append logged_of (records_of old) (record_on ReadDir (path ∷ []) Granted ∷ hidden_by (plan_of old) path h.behind.children h.hidden)
-        ∙ ap (λ l. map logged_of (records_of old) ++ logged ReadDir (path.key ∷ []) Granted ∷ l) (recorded-keys (plan_of old) path h.behind.children h.hidden h.recorded);
-    fixed = ap all_allowed h.behind.fixed;
+    recorded = ap (map logged_of) h.records ∙ map-append logged_of (records_of old) (record_on ReadDir (path ∷ []) Granted ∷ hidden_by (why_by (plan_of old)) path h.behind.children h.hidden)
+        ∙ ap (λ l. map logged_of (records_of old) ++ logged ReadDir (path.key ∷ []) Granted ∷ l) (recorded-keys (why_by (plan_of old)) path h.behind.children h.hidden h.recorded);
+    fixed = ap (with_leave all_allowed) h.behind.fixed;
   }
 
   pub follows_listing : (old new : Refusing F) (listing : Listing) (shown : List (Result DirEntry FsError)) → due ReadDir path.key (pending_of old) ≡ None → listing.items ≡ shown → PassesListing see path old shown new
@@ -194,8 +108,8 @@ module _ {F : Type 0} (see : F → Store) (path : PathValue) where
   pub lawful_reading : (old new : Refusing F) (answer : Result Listing FsError) → FollowsReading see path old answer new → ReadsDir (seen_behind see old) path.key answer (seen_behind see new)
   lawful_reading old new (Err e) (inl h) = record { granted = tt; declined = inl ((let same : e ≡ Memory = (let both = h.0 in cc) in same), reading_kept old new h.1) }
   lawful_reading old new (Err e) (inr h) =
-      declined (seen_behind see old) (seen_behind see new) e
-      (lawful see ReadDir (path ∷ []) declining_call old new (Err e) (as_call old new e h.0 h.1))
+      declined path.key (seen_behind see old) (seen_behind see new) e
+      (lawful see ReadDir (path ∷ []) (declining_call path.key) old new (Err e) (as_call old new e h.0 h.1))
   lawful_reading old new (Ok listing) (inl h) = absurd (let no : Ok listing ≡ Err Memory = h.0 in cc)
   lawful_reading old new (Ok listing) (inr h) = by_due (due ReadDir path.key (pending_of old)) h.1
     where

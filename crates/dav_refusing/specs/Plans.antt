@@ -1,18 +1,15 @@
 -- Plans of refusals, and how a plan changes a listing of members: this project's own choice.
-use Rattle.std.specs.Prelude.{◌≡◌, ℕ, nat_eq, Bool, ◌&&◌, if◌then◌else◌, List, [], ◌∷◌, ◌++◌, map, drop, slice_get, filter_map, All, IfOk, Option, Some, None, Ok, Err, Result}
+use Rattle.std.specs.Prelude.{◌≡◌, ℕ, nat_eq, Bool, ◌&&◌, if◌then◌else◌, List, [], ◌∷◌, ◌++◌, map, drop, slice_get, Option, Some, None, Ok, Err, Result}
 use Rattle.std.specs.Ordering.{eq_by_cmp}
 use Rattle.dav_key.specs.Key.{Key, key_cmp}
 use Rattle.dav_resource.specs.declared.meta.DirEntry.{DirEntry}
 use Rattle.dav_resource.specs.declared.record.Op.{Op}
 use Rattle.dav_resource.specs.declared.record.Op.TheVariants.{Metadata, ReadDir, ReadBytes, CreateDir, OpenFile, RemoveFile, RemoveDir, Copy, Rename, Seek, WriteBytes, Flush, FileMetadata, GetProp, GetProps, PatchProps, GetQuota, Entry}
-use Rattle.dav_resource.specs.declared.record.Outcome.TheVariants.{Refused}
 use Rattle.dav_resource.specs.declared.record.Record.{Record}
 use Rattle.dav_resource.specs.declared.error.FsError.{FsError}
-use Rattle.dav_resource.specs.PathText.{IsSegment, PathValue}
-use Rattle.dav_resource.specs.PathForms.{member_path}
-use Rattle.dav_store.specs.Logged.{logged_of}
-use Rattle.dav_store.specs.Members.{Child, member, IsIn, unseen_record}
-use Rattle.dav_store.specs.Logged.{record_on}
+use Rattle.dav_resource.specs.PathText.{PathValue}
+use Rattle.dav_store.specs.Members.{Child, member}
+use Rattle.dav_wrapping.specs.Hiding.{Why, shown_by, hidden_by, IsListingOf}
 
 -- the number of a kind of call
 abbrev pub place_of_op : Op → ℕ
@@ -79,16 +76,9 @@ without_first op key plan = with_errors op key (drop 1 (plan op key)) plan
 
 -- ---- listings
 
--- an entry, or the error in its place
-abbrev pub shown_as : Option FsError → DirEntry → Result DirEntry FsError
-shown_as None entry = Ok entry
-shown_as (Some e) entry = Err e
-
--- the members as listed under the plan; a member that was not listed before stays as it is
-abbrev pub shown_by : Plan → Key → List Child → List Child
-shown_by plan directory [] = []
-shown_by plan directory ((name, Ok entry) ∷ children) = (name, shown_as (refusal_for Entry (member directory name) plan) entry) ∷ shown_by plan directory children
-shown_by plan directory ((name, Err e) ∷ children) = (name, Err e) ∷ shown_by plan directory children
+-- why a member is hidden: the error with which the plan refuses to list it
+abbrev pub why_by : Plan → Why
+why_by plan key = refusal_for Entry key plan
 
 -- a call, given by its kind and its key
 abbrev pub Call : Type 0
@@ -114,40 +104,10 @@ without_firsts (call ∷ calls) plan = without_firsts calls (without_first call.
 abbrev pub left_by : Plan → Key → List Child → Plan
 left_by plan directory children = without_firsts (refused_calls plan directory children) plan
 
--- the record of a member that the plan refuses; its path is that of the directory with the member's name
-abbrev pub refused_record : PathValue → List ℕ → Option FsError → List Record
-refused_record directory name None = []
-refused_record directory name (Some e) = record_on Entry (member_path directory name ∷ []) (Refused e) ∷ []
-
--- the records of the members that are not listed, in the order of the listing; a member that was not listed before keeps its record
-abbrev pub hidden_by : Plan → PathValue → List Child → List Record → List Record
-hidden_by plan directory [] hidden = []
-hidden_by plan directory ((name, Ok entry) ∷ children) hidden = refused_record directory name (refusal_for Entry (member directory.key name) plan) ++ hidden_by plan directory children hidden
-hidden_by plan directory ((name, Err e) ∷ children) [] = []
-hidden_by plan directory ((name, Err e) ∷ children) (r ∷ hidden) = r ∷ hidden_by plan directory children hidden
-
--- the name of each entry may be a segment of a key
-abbrev pub HaveSegmentNames : List (Result DirEntry FsError) → Type 0
-HaveSegmentNames listing = All (λ shown. IfOk shown (λ entry. IsSegment entry.name)) listing
-
--- an entry has the member's name
-abbrev pub IsNamed : Child → Type 0
-IsNamed (name, Ok entry) = entry.name ≡ name
-IsNamed (name, Err e) = Unit {0}
-
-abbrev pub AreNamed : List Child → Type 0
-AreNamed children = (c : Child) → IsIn c children → IsNamed c
-
--- the listing has these members, and these are the records of those that it does not list
-pub record IsListingOf (directory : Key) (children : List Child) (listing : List (Result DirEntry FsError)) (hidden : List Record) : Type 0 where
-  pub named : AreNamed children
-  pub listed : listing ≡ map (λ c. c.1) children
-  pub recorded : map logged_of hidden ≡ filter_map (unseen_record directory) children
-
 -- the listing is as the plan leaves it; these are the records of the members that are not listed now, and the calls that the plan refuses
 pub record IsLetBy (plan : Plan) (directory : PathValue) (children : List Child) (hidden : List Record) (listing : List (Result DirEntry FsError)) (unseen : List Record) (refused : List Call) : Type 0 where
-  pub shown : listing ≡ map (λ c. c.1) (shown_by plan directory.key children)
-  pub recorded : unseen ≡ hidden_by plan directory children hidden
+  pub shown : listing ≡ map (λ c. c.1) (shown_by (why_by plan) directory.key children)
+  pub recorded : unseen ≡ hidden_by (why_by plan) directory children hidden
   pub refused_are : refused ≡ refused_calls plan directory.key children
 
 -- the plan is followed for the members of the listing, whichever they are

@@ -10,29 +10,21 @@ use Rattle.dav_resource.specs.declared.record.Outcome.TheVariants.{Granted, Refu
 use Rattle.dav_resource.specs.declared.record.Record.{Record}
 use Rattle.dav_resource.specs.declared.error.FsError.{FsError}
 use Rattle.dav_resource.specs.declared.error.FsError.TheVariants.{Memory}
-use Rattle.dav_store.specs.Logged.{Logged, logged_of}
-use Rattle.dav_store.specs.Store.{Store, Facts}
+use Rattle.dav_store.specs.Logged.{logged_of}
+use Rattle.dav_store.specs.Store.{Store}
 use Rattle.dav_store.specs.BodyCalls.{stored_bytes}
 use Rattle.dav_store.specs.Members.{Lists, ReadsDir, unseen_record}
 use Rattle.dav_store.specs.Logged.{record_with, record_on}
-use Rattle.dav_refusing.specs.Plans.{Plan, first_key, shown_by, hidden_by, left_by}
+use Rattle.dav_wrapping.specs.Wrapping.{Leave, seen_with}
+use Rattle.dav_wrapping.specs.Hiding.{shown_by, hidden_by}
+use Rattle.dav_refusing.specs.Plans.{Plan, first_key, why_by, left_by}
 use Rattle.dav_refusing.specs.Pending as pendings
 use Rattle.dav_refusing.specs.Pending.{Pending, due, after_call}
 use Rattle.dav_refusing.specs.declared.refusing.Refusing.{Refusing}
 
--- the outcome of the last record; granted if there is none
-abbrev pub last_outcome : List Logged → Outcome
-last_outcome [] = Granted
-last_outcome (r ∷ []) = r.outcome
-last_outcome (r ∷ next ∷ rs) = last_outcome (next ∷ rs)
-
--- the facts of a store, but all calls are allowed
-abbrev pub all_allowed : Facts → Facts
-all_allowed facts = record facts { allows = λ _. true }
-
--- a store, but all calls are allowed, and the log is this one
-abbrev pub seen_with : Store → List Logged → Store
-seen_with store log = record { contents = store.contents; facts = all_allowed store.facts; log = log }
+-- all calls are allowed, and the members that the wrapped store may show
+abbrev pub all_allowed : Leave
+all_allowed = record { allows = λ _ _. true; shows = λ facts. facts.shows }
 
 module _ {F : Type 0} where
   -- the wrapped store
@@ -53,7 +45,7 @@ module _ {F : Type 0} where
 
   -- what contracts see: what they see of the wrapped store, but all calls are allowed, and the log is its own
   abbrev pub seen_behind : (F → Store) → Refusing F → Store
-  seen_behind see store = seen_with (see store.inner) (map logged_of store.log.items)
+  seen_behind see store = seen_with all_allowed (see store.inner) (map logged_of store.log.items)
 
   -- the bytes of a body, which the wrapped store holds under a number
   abbrev pub body_behind : (F → Store) → Refusing F → ℕ → List ℕ
@@ -112,11 +104,11 @@ module _ {F : Type 0} where
   pub record PassesListing (see : F → Store) (path : PathValue) (old : Refusing F) (answer : List (Result DirEntry FsError)) (new : Refusing F) : Type 0 where
     pub listed : List (Result DirEntry FsError)
     pub behind : Lists path.key (see (inner_of old)) listed (see (inner_of new))
-    pub shown : answer ≡ map (λ c. c.1) (shown_by (plan_of old) path.key behind.children)
+    pub shown : answer ≡ map (λ c. c.1) (shown_by (why_by (plan_of old)) path.key behind.children)
     pub left : pending_of new ≡ record (after_call ReadDir path.key (pending_of old)) { plan = left_by (plan_of old) path.key behind.children }
     pub hidden : List Record
     pub recorded : map logged_of hidden ≡ filter_map (unseen_record path.key) behind.children
-    pub records : records_of new ≡ records_of old ++ record_on ReadDir (path ∷ []) Granted ∷ hidden_by (plan_of old) path behind.children hidden
+    pub records : records_of new ≡ records_of old ++ record_on ReadDir (path ∷ []) Granted ∷ hidden_by (why_by (plan_of old)) path behind.children hidden
 
   abbrev pub PassesReadDir : (F → Store) → PathValue → Refusing F → Result (Vec (Result DirEntry FsError) Global) FsError → Refusing F → Type 0
   PassesReadDir see path old (Ok listing) new = PassesListing see path old listing.items new

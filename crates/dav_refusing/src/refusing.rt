@@ -10,7 +10,6 @@ ghost use Rattle.dav_store.specs.PropertyCalls.{GetsProp, GetsProps, PatchesProp
 ghost use Rattle.dav_store.specs.Logged.{record_on};
 ghost use Rattle.dav_refusing.specs.Plans.{first_key, no_refusals, planned_key, with_last, without_firsts};
 ghost use Rattle.dav_refusing.specs.Slots.{slot_call};
-ghost use Rattle.dav_refusing.specs.Refusing.{last_outcome as outcome_of_last};
 
 mod listing;
 mod own_error;
@@ -23,6 +22,7 @@ use dav_resource::{
     OpenOptions, Outcome, Paths, Record,
 };
 use dav_store::{GuardedFileSystem, one_path, two_paths};
+use dav_wrapping::{last_outcome, with_statuses};
 use http::StatusCode;
 use listing::{Unseen, refuse_members};
 use pending::Pending;
@@ -404,14 +404,10 @@ impl<C, F: GuardedFileSystem<C>> GuardedFileSystem<C> for Refusing<F> {
     {
         let paths = one_path(path)?;
         let mut call = self.begin(Op::PatchProps, paths)?;
-        let mut statuses = Vec::with_capacity(self.allocator(), patches.len())?;
+        let statuses = Vec::with_capacity(self.allocator(), patches.len())?;
         let answer = self.inner.patch_props(path, patches, credentials);
         call.outcome = last_outcome(self.inner.records());
-        if let Ok(answered) = &answer {
-            statuses.extend_from_slice(answered).unwrap();
-            call.statuses = Items::from_vec(statuses);
-        }
-        self.finish(call, answer)
+        self.finish(with_statuses(call, statuses, &answer), answer)
     }
 
     fn get_quota(&mut self, credentials: &C) -> FsResult<(u64, Option<u64>)>
@@ -479,15 +475,5 @@ impl<C, F: GuardedFileSystem<C>> GuardedFileSystem<C> for Refusing<F> {
     {
         self.inner.clear_log();
         self.log.clear();
-    }
-}
-
-/// Returns the outcome of the last record, or `Granted` if there is none.
-fn last_outcome(records: &[Record]) -> Outcome
-    ensures { result ≡ outcome_of_last (map logged_of records.now) }
-{
-    match records.last() {
-        Some(record) => record.outcome,
-        None => Outcome::Granted,
     }
 }

@@ -2,7 +2,8 @@
 ghost use Rattle.std.specs.Prelude.{◌≡◌, [], ◌++◌, map, IfOk, IfErr};
 ghost use Rattle.dav_resource.specs.PathText.{IsSegment};
 ghost use Rattle.dav_store.specs.Members.{member};
-ghost use Rattle.dav_refusing.specs.Plans.{refusal_for, refused_call, refused_record, HaveSegmentNames, LetsThrough};
+ghost use Rattle.dav_wrapping.specs.Hiding.{hidden_record, HaveSegmentNames};
+ghost use Rattle.dav_refusing.specs.Plans.{refusal_for, refused_call, LetsThrough};
 ghost use Rattle.dav_refusing.specs.Slots.{plan_in, slot_call};
 
 use super::plan::Plan;
@@ -77,7 +78,7 @@ fn refuse_member(
 ) -> FsResult<Option<FsError>>
     requires { IsSegment entry.now.name }
     ensures error { IfOk result (λ error. error ≡ refusal_for Op.Entry (member path.now.key entry.now.name) (plan_in plan.now.queues)) }
-    ensures recorded { IfOk result (λ error. unseen.new.records.items ≡ unseen.old.records.items ++ refused_record path.now entry.now.name error) }
+    ensures recorded { IfOk result (λ error. unseen.new.records.items ≡ unseen.old.records.items ++ hidden_record path.now entry.now.name error) }
     ensures refused { IfOk result (λ error. map slot_call unseen.new.refused.items ≡ map slot_call unseen.old.refused.items ++ refused_call path.now.key entry.now.name error) }
     ensures err { IfErr result (λ e. e ≡ FsError.Memory) }
 {

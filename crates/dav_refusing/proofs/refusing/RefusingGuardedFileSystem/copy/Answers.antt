@@ -2,7 +2,7 @@ use Rattle.std.proofs.Common.{[], ◌∷◌, ap}
 use Rattle.std.proofs.lemmas.Result.{err_from_is_err_and}
 use Rattle.dav_resource.specs.declared.record.Record.{Record}
 use Rattle.dav_resource.specs.declared.record.Op.TheVariants.{Copy}
-use Rattle.dav_refusing.proofs.CallsBehind.{copies_call}
+use Rattle.dav_wrapping.specs.StoreCalls.{copies_call}
 use Rattle.dav_refusing.proofs.Refusals.{passes, lawful, turned_away}
 use Rattle.dav_refusing.proofs.refusing.RefusingGuardedFileSystem.copy.Goals as goal
 

@@ -1,7 +1,7 @@
 use Rattle.std.proofs.Common.{[], ◌∷◌, ap}
 use Rattle.dav_resource.specs.declared.record.Record.{Record}
 use Rattle.dav_resource.specs.declared.record.Op.TheVariants.{CreateDir}
-use Rattle.dav_refusing.proofs.CallsBehind.{makes_directory_call}
+use Rattle.dav_wrapping.specs.StoreCalls.{makes_directory_call}
 use Rattle.dav_refusing.proofs.Refusals.{passes, lawful}
 use Rattle.dav_refusing.proofs.refusing.RefusingGuardedFileSystem.create_dir.Goals as goal
 

@@ -1,7 +1,7 @@
 use Rattle.std.proofs.Common.{[], ◌∷◌, ap}
 use Rattle.dav_resource.specs.declared.record.Record.{Record}
 use Rattle.dav_resource.specs.declared.record.Op.TheVariants.{Flush}
-use Rattle.dav_refusing.proofs.CallsBehind.{flushes_call}
+use Rattle.dav_wrapping.specs.StoreCalls.{flushes_call}
 use Rattle.dav_refusing.proofs.Refusals.{passes, lawful}
 use Rattle.dav_refusing.proofs.refusing.RefusingGuardedFileSystem.flush.Goals as goal
 

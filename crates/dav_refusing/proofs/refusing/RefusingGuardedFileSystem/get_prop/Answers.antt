@@ -2,7 +2,7 @@ use Rattle.std.proofs.Common.{[], ◌∷◌, ap}
 use Rattle.dav_resource.specs.declared.record.Record.{Record}
 use Rattle.dav_resource.specs.declared.record.Op.TheVariants.{GetProp}
 use Rattle.dav_store.specs.PropertyCalls.{name_of}
-use Rattle.dav_refusing.proofs.CallsBehind.{gets_prop_call}
+use Rattle.dav_wrapping.specs.StoreCalls.{gets_prop_call}
 use Rattle.dav_refusing.proofs.Refusals.{passes, lawful}
 use Rattle.dav_refusing.proofs.refusing.RefusingGuardedFileSystem.get_prop.Goals as goal
 

@@ -1,7 +1,7 @@
 use Rattle.std.proofs.Common.{[], ◌∷◌, ap}
 use Rattle.dav_resource.specs.declared.record.Record.{Record}
 use Rattle.dav_resource.specs.declared.record.Op.TheVariants.{GetProps}
-use Rattle.dav_refusing.proofs.CallsBehind.{gets_props_call}
+use Rattle.dav_wrapping.specs.StoreCalls.{gets_props_call}
 use Rattle.dav_refusing.proofs.Refusals.{passes, lawful}
 use Rattle.dav_refusing.proofs.refusing.RefusingGuardedFileSystem.get_props.Goals as goal
 

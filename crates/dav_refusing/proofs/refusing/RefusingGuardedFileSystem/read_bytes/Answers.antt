@@ -1,7 +1,7 @@
 use Rattle.std.proofs.Common.{[], ◌∷◌, ap}
 use Rattle.dav_resource.specs.declared.record.Record.{Record}
 use Rattle.dav_resource.specs.declared.record.Op.TheVariants.{ReadBytes}
-use Rattle.dav_refusing.proofs.CallsBehind.{reads_bytes_call}
+use Rattle.dav_wrapping.specs.StoreCalls.{reads_bytes_call}
 use Rattle.dav_refusing.proofs.Refusals.{passes, lawful}
 use Rattle.dav_refusing.proofs.refusing.RefusingGuardedFileSystem.read_bytes.Goals as goal
 

@@ -5,13 +5,16 @@ use Rattle.dav_resource.specs.declared.record.Record.{Record}
 use Rattle.dav_resource.specs.declared.record.Op.TheVariants.{ReadDir}
 use Rattle.dav_resource.specs.declared.record.Outcome.TheVariants.{Granted}
 use Rattle.dav_store.specs.Logged.{record_on}
-use Rattle.dav_refusing.specs.Plans.{first_key, HaveSegmentNames, IsLetBy}
+use Rattle.dav_wrapping.specs.Declining.{declining_call}
+use Rattle.dav_wrapping.specs.Hiding.{HaveSegmentNames}
+use Rattle.dav_wrapping.specs.HidingLaws.{one_more_recorded}
+use Rattle.dav_refusing.specs.Plans.{first_key, IsLetBy}
 use Rattle.dav_refusing.specs.Slots.{plan_in, slot_call}
 use Rattle.dav_refusing.specs.Pending.{due}
 use Rattle.dav_refusing.specs.Refusing.{pending_of, FollowsReading}
 use Rattle.dav_refusing.proofs.Refusals.{passes}
-use Rattle.dav_refusing.proofs.Listed.{listed_names}
-use Rattle.dav_refusing.proofs.ListingCalls.{one_more_recorded, lists, follows_listing, lawful_reading, as_listing, declining_call}
+use Rattle.dav_wrapping.specs.Listed.{listed_names}
+use Rattle.dav_refusing.proofs.ListingCalls.{lists, follows_listing, lawful_reading, as_listing}
 use Rattle.dav_refusing.proofs.refusing.RefusingGuardedFileSystem.read_dir.Goals as goal
 
 pub slice_bounds-hidden-count : goal.slice_bounds-hidden-count
@@ -46,7 +49,7 @@ pub returns-in-Err-clause-plan : goal.returns-in-Err-clause-plan
 returns-in-Err-clause-plan g c =
     subst (λ r. FollowsReading g.F.GuardedFileSystem.seen c.args.path.now c.args.self.now r c.finish.new.self) (sym c.finish.ensures.answer)
     (as_listing g.F.GuardedFileSystem.seen c.args.path.now c.args.self.now c.finish.new.self c.in-Err.error
-    (passes g.F.GuardedFileSystem.seen ReadDir (c.args.path.now ∷ []) (declining_call g.F.GuardedFileSystem.seen c.args.path.now)
+    (passes g.F.GuardedFileSystem.seen ReadDir (c.args.path.now ∷ []) (declining_call c.args.path.now.key)
     c.args.self.now c.begin.new.self c.finish.new.self c.read_dir.new.self c.in_ok-paths.paths (record c.in_ok-call.call { outcome = c.last_outcome-call.result }) c.last_outcome-call.result c.records-in-Err.result.now (Err c.in-Err.error) (Err c.in-Err.error)
     c.in_ok-paths.ensures c.in_ok-call.ensures.free c.in_ok-call.ensures.kept (record { granted = tt; declined = c.in-Err.ensures.declined })
     (ap (λ (r : Record). record r { outcome = c.last_outcome-call.result }) c.in_ok-call.ensures.call) c.records-in-Err.ensures c.last_outcome-call.ensures

@@ -1,7 +1,7 @@
 use Rattle.std.proofs.Common.{[], ◌∷◌, ap}
 use Rattle.dav_resource.specs.declared.record.Record.{Record}
 use Rattle.dav_resource.specs.declared.record.Op.TheVariants.{RemoveDir}
-use Rattle.dav_refusing.proofs.CallsBehind.{removes_dir_call}
+use Rattle.dav_wrapping.specs.StoreCalls.{removes_dir_call}
 use Rattle.dav_refusing.proofs.Refusals.{passes, lawful}
 use Rattle.dav_refusing.proofs.refusing.RefusingGuardedFileSystem.remove_dir.Goals as goal
 

@@ -2,7 +2,7 @@ use Rattle.std.proofs.Common.{[], ◌∷◌, ap}
 use Rattle.std.proofs.lemmas.Result.{err_from_is_err_and}
 use Rattle.dav_resource.specs.declared.record.Record.{Record}
 use Rattle.dav_resource.specs.declared.record.Op.TheVariants.{Rename}
-use Rattle.dav_refusing.proofs.CallsBehind.{renames_call}
+use Rattle.dav_wrapping.specs.StoreCalls.{renames_call}
 use Rattle.dav_refusing.proofs.Refusals.{passes, lawful, turned_away}
 use Rattle.dav_refusing.proofs.refusing.RefusingGuardedFileSystem.rename.Goals as goal
 

@@ -4,7 +4,7 @@ use Rattle.dav_resource.specs.declared.record.Op.TheVariants.{WriteBytes}
 use Rattle.dav_store.specs.Calls.{Writes}
 use Rattle.dav_store.specs.BodyCalls.{stored_bytes}
 use Rattle.dav_refusing.specs.Refusing.{body_behind}
-use Rattle.dav_refusing.proofs.CallsBehind.{writes_call}
+use Rattle.dav_wrapping.specs.StoreCalls.{writes_call}
 use Rattle.dav_refusing.proofs.Refusals.{passes, lawful}
 use Rattle.dav_refusing.proofs.refusing.RefusingGuardedFileSystem.write_body.Goals as goal
 

@@ -1,9 +1,10 @@
 use Rattle.std.proofs.Common.{◌∙◌, ◌∷◌, ◌<◌, ◌≤◌, length, map, arith, Err, Ok, ap, sym, subst, get_or}
 use Rattle.std.specs.Prelude.{IfOk}
 use Rattle.dav_resource.specs.PathText.{IsSegment}
-use Rattle.dav_refusing.specs.Plans.{shown_as}
+use Rattle.dav_wrapping.specs.Hiding.{shown_as}
+use Rattle.dav_wrapping.specs.Underway.{names_stay, no_records}
 use Rattle.dav_refusing.specs.Slots.{plan_in, slot_call}
-use Rattle.dav_refusing.proofs.Listings.{ends, let_be_seen, still_hidden, never_unrecorded, names_stay, no_records}
+use Rattle.dav_refusing.proofs.Listings.{ends, let_be_seen, still_hidden, never_unrecorded}
 use Rattle.dav_refusing.proofs.refusing.listing.refuse_members.Goals.{in-Ok+in_ok-error-in-Ok+in-Some+in-Ok+in-Some-1, in-Ok+in_ok-error-in-Ok+in-Some+in-Ok+in-None-1, in-Ok+in_ok-error-in-Ok+in-Some+in-Err-1, in-Ok+in_ok-error-in-Ok+in_default, in-Err+in-Some-split_first+in_ok-clone-in-Err+in_ok-push-in-Err, in-Err+in_default-split_first}
 use Rattle.dav_refusing.proofs.refusing.listing.refuse_members.Goals as goal
 

@@ -1,6 +1,6 @@
 use Rattle.std.proofs.Common.{List, map}
 use Rattle.dav_store.specs.Members.{Child}
-use Rattle.dav_refusing.specs.Plans.{HaveSegmentNames, IsListingOf}
+use Rattle.dav_wrapping.specs.Hiding.{HaveSegmentNames, IsListingOf}
 use Rattle.dav_refusing.specs.Slots.{plan_in, slot_call}
 use Rattle.dav_refusing.proofs.Listings.{Underway}
 use Rattle.dav_refusing.proofs.refusing.listing.refuse_members.Given as goal

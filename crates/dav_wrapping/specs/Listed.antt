@@ -12,7 +12,7 @@ use Rattle.dav_resource.specs.declared.meta.DirEntry.{DirEntry}
 use Rattle.dav_resource.specs.declared.error.FsError.{FsError}
 use Rattle.dav_store.specs.Store.{Store, Tree, IsWellFormed}
 use Rattle.dav_store.specs.Members.{Child, IsIn, name_in, members, names_of, IsShownAs, Lists}
-use Rattle.dav_refusing.specs.Plans.{HaveSegmentNames}
+use Rattle.dav_wrapping.specs.Hiding.{HaveSegmentNames}
 
 any_at : (test : Key → Bool) (xs : List Key) (k : ℕ) (d : Key) → k < length xs → test (get_or xs k d) ≡ true → list_any test xs ≡ true
 any_at test [] k d less e = absurd (omega arith)

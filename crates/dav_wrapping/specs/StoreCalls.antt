@@ -10,7 +10,7 @@ use Rattle.dav_store.specs.Calls.{metadata_bar, IsMetaAt, LooksUp, create_dir_ba
 use Rattle.dav_store.specs.Members.{members, IsRemovedAt, RemovesFile, remove_dir_bar, RemovesDir}
 use Rattle.dav_store.specs.Transfers.{copy_bar, IsCopiedTo, Copies, rename_bar, IsRenamedTo, Renames}
 use Rattle.dav_store.specs.PropertyCalls.{properties_at, get_prop_bar, IsPropertyAt, GetsProp, properties_bar, ArePropertiesAt, GetsProps, get_quota_bar, IsQuota, GetsQuota}
-use Rattle.dav_refusing.proofs.Refusals.{IsCall, no_statuses, answers_call}
+use Rattle.dav_wrapping.specs.Recorded.{IsCall, no_statuses, answers_call}
 
 pub looks_call : (key : Key) → IsCall Metadata (key ∷ []) no_statuses (λ s. LooksUp s key)
 looks_call key = answers_call Metadata (key ∷ []) (λ keeps old. metadata_bar (get old.tree key)) (IsMetaAt key)
