@@ -1,9 +1,10 @@
 //! What the rules of a caller allow.
-ghost use Rattle.std.specs.Prelude.{◌≡◌, Some, map, option_copied};
+ghost use Rattle.std.specs.Prelude.{◌≡◌, not, Some, map, option_copied};
 ghost use Rattle.std.specs.List.{list_all, list_any};
 ghost use Rattle.dav_rights.specs.Rights.{deciding, longer_of, decide, may_list, leads_to, lets, lets_at, lets_if_below, lets_below, is_free, permits_on, permits_between, permits};
 
 use crate::rule::{Allowed, Rule};
+use dav_guarding::Policy;
 use dav_key::FlatKey;
 use dav_resource::{DavPath, Op};
 
@@ -137,6 +138,15 @@ impl Rights {
             }
         }
         best
+    }
+}
+
+impl Policy for Rights {
+    ghost refusals = { λ rights op keys. not (permits rights.rules.items op keys) };
+
+    /// Whether a call on these paths is not allowed.
+    fn refuses(&self, op: Op, paths: &[DavPath]) -> bool {
+        !self.permits(op, paths)
     }
 }
 

@@ -1,0 +1,3 @@
+pub mod Allowing
+pub mod Guards
+pub mod Reading

@@ -1,0 +1,25 @@
+use Rattle.std.proofs.Common.{[], ap}
+use Rattle.dav_resource.specs.declared.record.Record.{Record}
+use Rattle.dav_resource.specs.declared.record.Op.TheVariants.{GetQuota}
+use Rattle.dav_wrapping.specs.StoreCalls.{gets_quota_call}
+use Rattle.dav_guarding.proofs.Guards.{allowed_one, passes, lawful}
+use Rattle.dav_guarding.proofs.guarding.GuardingGuardedFileSystem.get_quota.Goals as goal
+
+pub finish-requires : goal.finish-requires
+finish-requires g c = record {
+  room = c.in_ok-call.ensures.room;
+  allowed = allowed_one c.args.self.now.guard c.begin.new.self GetQuota c.none-paths.result c.last_outcome-call.result [] (record c.in_ok-call.call { outcome = c.last_outcome-call.result })
+      c.in_ok-call.ensures.free c.in_ok-call.ensures.kept (ap (λ (r : Record). record r { outcome = c.last_outcome-call.result }) c.in_ok-call.ensures.call);
+}
+
+pub returns-clause-guarded : goal.returns-clause-guarded
+returns-clause-guarded g c =
+    passes g.F.GuardedFileSystem.seen GetQuota [] gets_quota_call
+    c.args.self.now c.begin.new.self c.finish.new.self c.get_quota-answer.new.self c.none-paths.result (record c.in_ok-call.call { outcome = c.last_outcome-call.result }) c.last_outcome-call.result c.records.result.now c.get_quota-answer.result c.finish.result
+    c.none-paths.ensures c.in_ok-call.ensures.free c.in_ok-call.ensures.kept c.get_quota-answer.ensures
+    (ap (λ (r : Record). record r { outcome = c.last_outcome-call.result }) c.in_ok-call.ensures.call) c.records.ensures c.last_outcome-call.ensures
+    c.finish.ensures.answer c.finish.ensures.policy c.finish.ensures.memory c.finish.ensures.recorded
+
+pub returns-clause-seen : goal.returns-clause-seen
+returns-clause-seen g c =
+    lawful g.F.GuardedFileSystem.seen GetQuota [] gets_quota_call c.args.self.now _ c.finish.result (returns-clause-guarded g c)

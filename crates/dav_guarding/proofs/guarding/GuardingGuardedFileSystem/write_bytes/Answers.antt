@@ -1,0 +1,25 @@
+use Rattle.std.proofs.Common.{[], ◌∷◌, ap}
+use Rattle.dav_resource.specs.declared.record.Record.{Record}
+use Rattle.dav_resource.specs.declared.record.Op.TheVariants.{WriteBytes}
+use Rattle.dav_wrapping.specs.StoreCalls.{writes_call}
+use Rattle.dav_guarding.proofs.Guards.{allowed_one, passes, lawful}
+use Rattle.dav_guarding.proofs.guarding.GuardingGuardedFileSystem.write_bytes.Goals as goal
+
+pub finish-requires : goal.finish-requires
+finish-requires g c = record {
+  room = c.in_ok-call.ensures.room;
+  allowed = allowed_one c.args.self.now.guard c.begin.new.self WriteBytes c.in_ok-paths.paths c.last_outcome-call.result [] (record c.in_ok-call.call { outcome = c.last_outcome-call.result })
+      c.in_ok-call.ensures.free c.in_ok-call.ensures.kept (ap (λ (r : Record). record r { outcome = c.last_outcome-call.result }) c.in_ok-call.ensures.call);
+}
+
+pub returns-clause-guarded : goal.returns-clause-guarded
+returns-clause-guarded g c =
+    passes g.F.GuardedFileSystem.seen WriteBytes (c.args.file.now.path ∷ []) (writes_call c.args.file.now c.args.bytes.now)
+    c.args.self.now c.begin.new.self c.finish.new.self c.write_bytes-answer.new.self c.in_ok-paths.paths (record c.in_ok-call.call { outcome = c.last_outcome-call.result }) c.last_outcome-call.result c.records.result.now c.write_bytes-answer.result c.finish.result
+    c.in_ok-paths.ensures c.in_ok-call.ensures.free c.in_ok-call.ensures.kept c.write_bytes-answer.ensures.written
+    (ap (λ (r : Record). record r { outcome = c.last_outcome-call.result }) c.in_ok-call.ensures.call) c.records.ensures c.last_outcome-call.ensures
+    c.finish.ensures.answer c.finish.ensures.policy c.finish.ensures.memory c.finish.ensures.recorded
+
+pub returns-clause-written : goal.returns-clause-written
+returns-clause-written g c =
+    lawful g.F.GuardedFileSystem.seen WriteBytes (c.args.file.now.path ∷ []) (writes_call c.args.file.now c.args.bytes.now) c.args.self.now _ c.finish.result (returns-clause-guarded g c)

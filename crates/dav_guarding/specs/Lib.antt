@@ -1,0 +1,4 @@
+pub mod Policy
+pub mod Guard
+pub mod Guarding
+pub mod InnerLends

@@ -1,0 +1,28 @@
+-- What a policy refuses, and what that leaves to a caller: this project's own choice.
+use Rattle.std.specs.Prelude.{◌≡◌, Bool, true, not, List, [], ◌∷◌, map, if◌then◌else◌, Some, None}
+use Rattle.dav_key.specs.Key.{Key}
+use Rattle.dav_resource.specs.declared.record.Op.{Op}
+use Rattle.dav_resource.specs.declared.record.Op.TheVariants.{Entry}
+use Rattle.dav_resource.specs.declared.record.Outcome.TheVariants.{Granted}
+use Rattle.dav_resource.specs.declared.record.Record.{Record}
+use Rattle.dav_resource.specs.declared.error.FsError.TheVariants.{Forbidden}
+use Rattle.dav_store.specs.Logged.{Logged, logged_of}
+use Rattle.dav_store.specs.Members.{IsIn}
+use Rattle.dav_wrapping.specs.Wrapping.{Leave}
+use Rattle.dav_wrapping.specs.Hiding.{Why}
+
+-- which calls are refused, by their kind and the keys of their paths
+abbrev pub Refusals : Type 0
+Refusals = Op → List Key → Bool
+
+-- a call is allowed if it is not refused, and a member may be shown if its entry is not
+abbrev pub leave_by : Refusals → Leave
+leave_by refuses = record { allows = λ facts call. not (refuses call.op call.keys); shows = λ facts key. not (refuses Entry (key ∷ [])) }
+
+-- why a member is hidden: its entry is refused
+abbrev pub why_by : Refusals → Why
+why_by refuses key = if refuses Entry (key ∷ []) then Some Forbidden else None
+
+-- each record of a granted call is allowed
+abbrev pub AreAllowed : Refusals → List Record → Type 0
+AreAllowed refuses records = (call : Logged) → IsIn call (map logged_of records) → call.outcome ≡ Granted → not (refuses call.op call.keys) ≡ true
