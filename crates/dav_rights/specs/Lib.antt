@@ -1,2 +1,5 @@
 pub mod Rights
 pub mod Rules
+pub mod Prefixes
+pub mod Decisions
+pub mod Moves

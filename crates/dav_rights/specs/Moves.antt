@@ -8,10 +8,12 @@ use Rattle.dav_key.specs.Key.{Key}
 use Rattle.dav_key.specs.Below.{is_at_or_below}
 use Rattle.dav_key.specs.Flat.{flat}
 use Rattle.dav_rights.specs.declared.rule.Rule.{Rule}
+use Rattle.dav_resource.specs.declared.record.Op.TheVariants.{Rename}
 use Rattle.dav_rights.specs.declared.rights.Need.{Need}
-use Rattle.dav_rights.specs.Rights.{covers, deciding, decide, allowed_by, lets, lets_at, lets_if_below, lets_below}
-use Rattle.dav_rights.proofs.Prefixes.{Begins, begins, below_of, begins-trans, longer_begins, flat_le, not_longer}
-use Rattle.dav_rights.proofs.Decisions.{IsAmong, all_at, agree, DecidesAs, decides}
+use Rattle.dav_rights.specs.declared.rights.Need.TheVariants.{Take, Make}
+use Rattle.dav_rights.specs.Rights.{covers, deciding, decide, allowed_by, may_read, may_write, lets, lets_at, lets_if_below, lets_below, permits_between}
+use Rattle.dav_rights.specs.Prefixes.{Begins, begins, below_of, begins-trans, longer_begins, flat_le, not_longer}
+use Rattle.dav_rights.specs.Decisions.{IsAmong, all_at, agree, DecidesAs, decides}
 
 same_bool : (a b : Bool) → (a ≡ true → b ≡ true) → (b ≡ true → a ≡ true) → a ≡ b
 same_bool true true f g = refl
@@ -95,3 +97,24 @@ module _ (need : Need) (rules : List Rule) (k : Key) where
               let here : lets_at need rules r.key ≡ true = subst (λ b. (not b || lets_at need rules r.key) ≡ true) is asked in
               at_place r.key above d.longest (both r.key here).0 (both r.key here).1
           by_place false bare = at_key (λ rule within yes. let most = d.longest rule within yes in let less = by_length (nat_lt (length (flat key)) (length (flat r.key))) refl bare in omega (arith, most, less))
+
+-- ---- renames
+
+module _ (rules : List Rule) (from to key : Key) (ok : permits_between rules Rename from to ≡ true) where
+  sides : (lets_below Take rules from ≡ true) × (lets_below Make rules to ≡ true)
+  sides = and_parts (lets_below Take rules from) (lets_below Make rules to) ok
+
+  moved : is_at_or_below key from ≡ true → (may_read key rules ≡ true) × (may_write key rules ≡ true)
+  moved below = and_parts (may_read key rules) (may_write key rules) (lets_below-each Take rules key from sides.0 below)
+
+  -- a caller may read all that it moves away
+  pub renames-read : is_at_or_below key from ≡ true → may_read key rules ≡ true
+  renames-read below = (moved below).0
+
+  -- a caller may write at all that it moves away, and at all that it makes
+  pub renames-write : (is_at_or_below key from || is_at_or_below key to) ≡ true → may_write key rules ≡ true
+  renames-write is = by_side (is_at_or_below key from) refl is
+    where
+      by_side : (b : Bool) → is_at_or_below key from ≡ b → (b || is_at_or_below key to) ≡ true → may_write key rules ≡ true
+      by_side true below is = (moved below).1
+      by_side false below is = lets_below-each Make rules key to sides.1 is

@@ -1,0 +1,41 @@
+//! What the requests of a caller change, if the store allows it only some calls.
+#![tactic(auto)]
+
+ghost use Rattle.std.specs.Prelude.{IfOk};
+ghost use Rattle.dav_engine.specs.DavInner.{lent, state_by};
+ghost use Rattle.dav_access.specs.Changes.{ChangesByAllowed, ChangesWhereWritten};
+ghost use Rattle.dav_guarding.specs.Guarding.{policy_of};
+
+use dav_engine::{Body, DavInner, DavRequest, DavResult};
+use dav_guarding::Guarding;
+use dav_rights::Rights;
+use dav_store::{DavLockSystem, GuardedFileSystem};
+use http::Response;
+
+/// Executes the requests in order. What is at a key changes only by a call that the store allows the caller.
+///
+/// The only error is `Memory`, and then no request was executed.
+pub fn run_allowed<'a, C: Drop, F: GuardedFileSystem<C>, L: DavLockSystem>(
+    engine: &mut DavInner<'a, C, F, L>,
+    requests: &[DavRequest],
+) -> DavResult<Vec<DavResult<Response<Body>>>>
+    ensures changed { IfOk result (λ _. ChangesByAllowed (F.seen (lent engine.old)).facts.allows
+        (state_by F.seen L.seen engine.old) (state_by F.seen L.seen engine.new)) }
+{
+    engine.run(requests)
+}
+
+/// Executes the requests of a caller in order, over a store that its rights guard. What is at a key changes only if the
+/// rules let the caller write there.
+///
+/// The only error is `Memory`, and then no request was executed.
+pub fn run_with_rights<'a, C: Drop, F: GuardedFileSystem<C>, L: DavLockSystem>(
+    engine: &mut DavInner<'a, C, Guarding<F, Rights>, L>,
+    requests: &[DavRequest],
+) -> DavResult<Vec<DavResult<Response<Body>>>>
+    ensures changed { IfOk result (λ _. ChangesWhereWritten (policy_of (lent engine.old)).rules.items
+        (state_by ⟦<Guarding<F, Rights> as GuardedFileSystem<C>>⟧.seen L.seen engine.old)
+        (state_by ⟦<Guarding<F, Rights> as GuardedFileSystem<C>>⟧.seen L.seen engine.new)) }
+{
+    run_allowed(engine, requests)
+}

@@ -1,3 +1,0 @@
-pub mod Prefixes
-pub mod Decisions
-pub mod Moves
