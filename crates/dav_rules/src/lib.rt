@@ -1,0 +1,26 @@
+//! Reads the rules of access rights from a text in TOML.
+//!
+//! ```toml
+//! [groups]
+//! editors = ["ada", "grace"]
+//!
+//! [[rule]]
+//! group = "editors"
+//! at_and_below = "/projects"
+//! allow = ["list", "read", "write"]
+//! ```
+//!
+//! A rule is for one caller (`user`), for those of a group (`group`), or for everyone (`everyone = true`). It is made for
+//! one resource (`at`), or for it and all below it (`at_and_below`). The path is that of a URL, so `%`, `?` and `#` of a
+//! name are escaped. It allows what it lists: `list`, `read` and `write`, or nothing.
+#![tactic(auto)]
+
+mod allow;
+mod error;
+mod place;
+mod rule;
+mod text;
+mod who;
+
+pub use error::{RuleFault, RulesError};
+pub use text::read_rules;
