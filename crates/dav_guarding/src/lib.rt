@@ -11,4 +11,4 @@ mod listing;
 mod policy;
 
 pub use guarding::Guarding;
-pub use policy::Policy;
+pub use policy::{CallerPolicy, Policy};

@@ -1,5 +1,6 @@
 pub mod Rights
 pub mod Rules
+pub mod Access
 pub mod Prefixes
 pub mod Decisions
 pub mod Moves
