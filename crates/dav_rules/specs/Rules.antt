@@ -1,5 +1,5 @@
 -- The rules of access rights, as a text in TOML 1.0 has them: this project's own choice.
-use Rattle.std.specs.Prelude.{◌≡◌, ◌⊎◌, ℕ, ◌+◌, ◌==◌, Bool, true, false, ◌||◌, List, [], ◌∷◌, codes, bytes_eq, is_some, if◌then◌else◌, Option, Some, None, option_map, option_and_then, Result, MatchResult}
+use Rattle.std.specs.Prelude.{◌≡◌, ◌⊎◌, ℕ, ◌+◌, ◌==◌, Bool, true, false, ◌&&◌, ◌||◌, List, [], ◌∷◌, codes, bytes_eq, is_some, if◌then◌else◌, Option, Some, None, option_map, option_and_then, Result, MatchResult}
 use Rattle.std.specs.List.{list_all, list_any}
 use Rattle.std.specs.Result.{result_ok}
 use Rattle.toml.specs.Data.{Data, Items, no_items, item, Members, no_members, member, get, get_member, as_str, as_bool, as_array, as_table}
@@ -147,7 +147,12 @@ abbrev pub rules_in : Option Data → Option Data → Option (List RuleValue)
 rules_in groups None = Some []
 rules_in groups (Some rules) = option_and_then (λ items. each_of (rule_of groups) (list_of items)) (as_array rules)
 
+-- the groups, if there are some, are a table
+abbrev pub are_groups : Option Data → Bool
+are_groups None = true
+are_groups (Some groups) = is_some (as_table groups)
+
 -- the rules of a document
 abbrev pub rules_of : Members → Option (List RuleValue)
 rules_of document =
-    if has_only (codes "groups" ∷ codes "rule" ∷ []) document then rules_in (get_member (codes "groups") document) (get_member (codes "rule") document) else None
+    if has_only (codes "groups" ∷ codes "rule" ∷ []) document && are_groups (get_member (codes "groups") document) then rules_in (get_member (codes "groups") document) (get_member (codes "rule") document) else None

@@ -59,7 +59,7 @@ pub enum RulesError {
     Memory,
     /// It is not TOML.
     Toml(toml::de::Error),
-    /// It has other keys than `groups` and `rule`, or `rule` is no list.
+    /// It has other keys than `groups` and `rule`, `groups` is no table, or `rule` is no list.
     Keys,
     /// A rule, counted from 1, and what is wrong with it.
     Rule(usize, RuleFault),

@@ -2,7 +2,7 @@
 ghost use Rattle.std.specs.Prelude.{◌≡◌, ◌⊎◌, map, IfOk, IfErr, Some, None, option_map, option_and_then};
 ghost use Rattle.toml.specs.Parse.{parse_document};
 ghost use Rattle.toml.specs.View.{view, items_view};
-ghost use Rattle.dav_rules.specs.Rules.{rule_value, rules_of, rules_in, rule_of, each_of, list_of};
+ghost use Rattle.dav_rules.specs.Rules.{rule_value, rules_of, rules_in, are_groups, rule_of, each_of, list_of};
 
 use crate::error::{RuleFault, RulesError};
 use crate::rule::{has_only, member, read_rule};
@@ -12,8 +12,8 @@ use toml::Value;
 
 /// Reads the rules of a text in TOML.
 ///
-/// Errors: `Toml` if it is not TOML; `Keys` if it has other keys than `groups` and `rule`, or `rule` is no list; `Rule` if a
-/// rule does not say for whom, where and what, or says more; `Memory` at any time.
+/// Errors: `Toml` if it is not TOML; `Keys` if it has other keys than `groups` and `rule`, `groups` is no table, or `rule` is
+/// no list; `Rule` if a rule does not say for whom, where and what, or says more; `Memory` at any time.
 pub fn read_rules(alloc: Global, text: &str) -> Result<Rules, RulesError>
     ensures ok { IfOk result (λ rules. option_and_then rules_of (parse_document text.now) ≡ Some (map rule_value rules.rules.items)) }
     ensures err { IfErr result (λ e. (e ≡ RulesError.Memory) ⊎ (option_and_then rules_of (parse_document text.now) ≡ None)) }
@@ -23,15 +23,25 @@ pub fn read_rules(alloc: Global, text: &str) -> Result<Rules, RulesError>
         Err(error) if error.is_memory() => return Err(RulesError::Memory),
         Err(error) => return Err(RulesError::Toml(error)),
     };
-    if !has_only(&document, &["groups", "rule"]) {
+    let groups = member(&document, "groups");
+    if !has_only(&document, &["groups", "rule"]) || !are_groups(groups) {
         return Err(RulesError::Keys);
     }
-    let groups = member(&document, "groups");
     match member(&document, "rule") {
         Some(rules) => read_list(alloc, groups, rules),
         None => Ok(Rules {
             rules: Vec::new(alloc),
         }),
+    }
+}
+
+/// Whether the groups, if there are some, are a table.
+fn are_groups(groups: Option<&Value>) -> bool
+    ensures { result ≡ are_groups (option_map (λ v. view v.now) groups.entry) }
+{
+    match groups {
+        Some(groups) => groups.is_table(),
+        None => true,
     }
 }
 
