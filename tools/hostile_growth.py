@@ -200,7 +200,7 @@ LOADS = [request_loads, lock_loads, condition_loads, property_loads, nesting_loa
 # The least time that is measured, and how much longer than in the least size a byte may take in the greatest.
 ENOUGH = 0.1
 GROWTH = 2.5
-GROWTH_SECONDS = 60
+GROWTH_SECONDS = 120
 
 Measured = collections.namedtuple("Measured", "size seconds bytes memory wrong")
 
