@@ -1,10 +1,11 @@
 -- What a guard lets pass, and records: this project's own choice.
-use Rattle.std.specs.Prelude.{◌≡◌, Bool, true, List, [], ◌∷◌, ◌++◌, map}
+use Rattle.std.specs.Prelude.{◌≡◌, ◌⊎◌, Bool, true, List, [], ◌∷◌, ◌++◌, map}
 use Rattle.dav_resource.specs.PathText.{PathValue}
 use Rattle.dav_resource.specs.declared.record.Op.{Op}
 use Rattle.dav_resource.specs.declared.record.Outcome.TheVariants.{Refused}
 use Rattle.dav_resource.specs.declared.record.Record.{Record}
-use Rattle.dav_resource.specs.declared.error.FsError.TheVariants.{Forbidden}
+use Rattle.dav_resource.specs.declared.error.FsError.{FsError}
+use Rattle.dav_resource.specs.declared.error.FsError.TheVariants.{Memory, Forbidden}
 use Rattle.dav_store.specs.Logged.{record_on}
 use Rattle.dav_guarding.specs.declared.policy.Policy.{Ghosts}
 use Rattle.dav_guarding.specs.declared.guard.Guard.{Guard}
@@ -30,3 +31,7 @@ module _ {P : Type 0} {g : Ghosts P} where
     pub refused : is_refused old op paths ≡ true
     pub policy : policy_in new ≡ policy_in old
     pub records : records_in new ≡ records_in old ++ record_on op paths (Refused Forbidden) ∷ []
+
+  -- the call is not passed on: it is refused, or memory runs out and nothing changes
+  abbrev pub TurnsAway : Op → List PathValue → FsError → Guard P g → Guard P g → Type 0
+  TurnsAway op paths e old new = ((e ≡ Memory) × IsKept old new) ⊎ ((e ≡ Forbidden) × Refuses op paths old new)

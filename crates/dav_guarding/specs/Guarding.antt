@@ -1,10 +1,12 @@
 -- What each call does in a store that a policy guards: this project's own choice.
-use Rattle.std.specs.Prelude.{◌≡◌, ◌≢◌, ℕ, Bool, false, List, [], ◌∷◌, ◌++◌, map, filter_map, Result, Ok, Err, Vec, ◌⊎◌}
+use Rattle.std.specs.Prelude.{◌≡◌, ◌≢◌, ℕ, Bool, false, List, [], ◌∷◌, ◌++◌, map, filter_map, Result, Ok, Err, Vec, ◌⊎◌, ◌+◌, length, MatchResult}
 use Rattle.std.specs.declared.alloc.Global.{Global}
+use Rattle.dav_key.specs.Key.{Key}
 use Rattle.dav_resource.specs.PathText.{PathValue}
 use Rattle.dav_resource.specs.declared.meta.DirEntry.{DirEntry}
+use Rattle.dav_resource.specs.declared.meta.DavFile.{DavFile}
 use Rattle.dav_resource.specs.declared.record.Op.{Op}
-use Rattle.dav_resource.specs.declared.record.Op.TheVariants.{ReadDir}
+use Rattle.dav_resource.specs.declared.record.Op.TheVariants.{ReadDir, ReadBytes, WriteBytes}
 use Rattle.dav_resource.specs.declared.record.Outcome.{Outcome}
 use Rattle.dav_resource.specs.declared.record.Outcome.TheVariants.{Granted}
 use Rattle.dav_resource.specs.declared.record.Record.{Record}
@@ -12,6 +14,7 @@ use Rattle.dav_resource.specs.declared.error.FsError.{FsError}
 use Rattle.dav_resource.specs.declared.error.FsError.TheVariants.{Memory, Forbidden}
 use Rattle.dav_store.specs.Logged.{logged_of, record_with, record_on}
 use Rattle.dav_store.specs.Store.{Store}
+use Rattle.dav_store.specs.Calls.{ReadsBytes, Writes, place_of}
 use Rattle.dav_store.specs.BodyCalls.{stored_bytes}
 use Rattle.dav_store.specs.Members.{Lists, ReadsDir, unseen_record}
 use Rattle.dav_wrapping.specs.Wrapping.{seen_with}
@@ -81,6 +84,23 @@ module _ {F P : Type 0} {g : Ghosts P} where
   -- a call of the wrapped store is guarded; if memory runs out, nothing changes that contracts see
   abbrev pub Guards : {A : Type 0} → (F → Store) → Op → List PathValue → (Store → Result A FsError → Store → Type 0) → Guarding F P g → Result A FsError → Guarding F P g → Type 0
   Guards see op paths Behind = GuardsKeeping (IsSeenKept see) op paths (Passes see op paths Behind)
+
+  -- ---- bytes
+
+  -- a read, as contracts see it, and as it is guarded; `is_honest` says whether the wrapped store's medium is
+  abbrev pub ReadsBehind : (F → Bool) → (F → Store) → Key → ℕ → ℕ → Guarding F P g → Result (Vec ℕ Global) FsError → Guarding F P g → Type 0
+  ReadsBehind is_honest see key place count old answer new = ReadsBytes (is_honest (inner_of new)) (seen_behind see old) key place count answer (seen_behind see new)
+
+  abbrev pub GuardsRead : (F → Bool) → (F → Store) → PathValue → ℕ → ℕ → Guarding F P g → Result (Vec ℕ Global) FsError → Guarding F P g → Type 0
+  GuardsRead is_honest see path place count old answer new = Guards see ReadBytes (path ∷ []) (λ s. ReadsBytes (is_honest (inner_of new)) s path.key place count) old answer new
+
+  -- a write of these bytes to an open file, as it is guarded
+  abbrev pub GuardsWrite : (F → Store) → DavFile → List ℕ → Guarding F P g → Result (Unit {0}) FsError → Guarding F P g → Type 0
+  GuardsWrite see file bytes = Guards see WriteBytes (file.path ∷ []) (λ s. Writes s file bytes)
+
+  -- the handle after it: its offset is behind the bytes, or as it was if they are not written
+  abbrev pub MovesHandle : (F → Store) → Guarding F P g → DavFile → List ℕ → Result (Unit {0}) FsError → DavFile → Type 0
+  MovesHandle see store old bytes answer new = MatchResult answer (λ _. new ≡ record old { pos = place_of old (seen_behind see store).contents + length bytes }) (λ _. new ≡ old)
 
   -- ---- read_dir
 

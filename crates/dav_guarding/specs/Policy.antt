@@ -1,5 +1,5 @@
 -- What a policy refuses, and what that leaves to a caller: this project's own choice.
-use Rattle.std.specs.Prelude.{◌≡◌, ℕ, Bool, true, not, List, [], ◌∷◌, map, if◌then◌else◌, Option, Some, None}
+use Rattle.std.specs.Prelude.{◌≡◌, ℕ, Bool, true, not, List, [], ◌∷◌, map, if◌then◌else◌, Option, Some, None, Result}
 use Rattle.dav_key.specs.Key.{Key}
 use Rattle.dav_resource.specs.declared.record.Op.{Op}
 use Rattle.dav_resource.specs.declared.record.Op.TheVariants.{Entry}
@@ -7,9 +7,13 @@ use Rattle.dav_resource.specs.declared.record.Outcome.TheVariants.{Granted}
 use Rattle.dav_resource.specs.declared.record.Record.{Record}
 use Rattle.dav_resource.specs.declared.error.FsError.TheVariants.{Forbidden}
 use Rattle.dav_store.specs.Logged.{Logged, logged_of}
-use Rattle.dav_store.specs.Members.{IsIn}
+use Rattle.dav_resource.specs.PathText.{PathValue}
+use Rattle.dav_resource.specs.declared.meta.DirEntry.{DirEntry}
+use Rattle.dav_resource.specs.declared.error.FsError.{FsError}
+use Rattle.dav_store.specs.Members.{Child, IsIn}
 use Rattle.dav_wrapping.specs.Wrapping.{Leave}
-use Rattle.dav_wrapping.specs.Hiding.{Why}
+use Rattle.dav_wrapping.specs.Hiding.{Why, IsListingOf}
+use Rattle.dav_wrapping.specs.Underway.{IsHidden}
 
 -- which calls are refused, by their kind and the keys of their paths
 abbrev pub Refusals : Type 0
@@ -30,3 +34,7 @@ why_by refuses key = if refuses Entry (key ∷ []) then Some Forbidden else None
 -- each record of a granted call is allowed
 abbrev pub AreAllowed : Refusals → List Record → Type 0
 AreAllowed refuses records = (call : Logged) → IsIn call (map logged_of records) → call.outcome ≡ Granted → not (refuses call.op call.keys) ≡ true
+
+-- the members whose entries are refused are hidden, whichever members the listing has; `hidden` has the records of those that it did not list before
+abbrev pub HidesRefused : Refusals → PathValue → List (Result DirEntry FsError) → List Record → List (Result DirEntry FsError) → List Record → Type 0
+HidesRefused refuses directory listing hidden shown unseen = (children : List Child) → IsListingOf directory.key children listing hidden → IsHidden (why_by refuses) directory children hidden shown unseen

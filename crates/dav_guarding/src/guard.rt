@@ -1,5 +1,5 @@
 //! What a policy lets pass, and the records of that.
-ghost use Rattle.std.specs.Prelude.{◌≡◌, ◌≢◌, ◌⊎◌, ◌<◌, [], ◌∷◌, ◌++◌, false, vec_len, vec_capacity, IfOk, IfErr, OnOk, OnErr, Err, option_copied};
+ghost use Rattle.std.specs.Prelude.{◌≡◌, ◌≢◌, ◌<◌, [], ◌∷◌, ◌++◌, false, vec_len, vec_capacity, IfOk, IfErr, OnOk, OnErr, Err, option_copied};
 ghost use Rattle.std.proofs.Props.{props};
 ghost use Rattle.dav_store.specs.Logged.{record_on};
 ghost use Rattle.dav_guarding.specs.Policy.{AreAllowed};
@@ -17,7 +17,7 @@ pub(crate) struct Guard<P: Policy> {
 }
 
 impl<P: Policy> Guard<P> {
-    ghost use Rattle.dav_guarding.specs.Guard.{policy_in, records_in, is_refused, IsKept, Refuses};
+    ghost use Rattle.dav_guarding.specs.Guard.{policy_in, records_in, is_refused, IsKept, TurnsAway};
 
     /// Creates a value without records.
     pub(crate) fn new(alloc: Global, policy: P) -> Guard<P>
@@ -88,7 +88,7 @@ impl<P: Policy> Guard<P> {
         ensures room { OnOk result (vec_len self.new.records < vec_capacity self.new.records) }
         ensures free { OnOk result (is_refused self.old op paths ≡ false) }
         ensures kept { OnOk result (IsKept self.old self.new) }
-        ensures refused { IfErr result (λ e. ((e ≡ FsError.Memory) × IsKept self.old self.new) ⊎ ((e ≡ FsError.Forbidden) × Refuses op paths self.old self.new)) }
+        ensures refused { IfErr result (λ e. TurnsAway op paths e self.old self.new) }
     {
         self.records.reserve(1)?;
         let mut call = Record {

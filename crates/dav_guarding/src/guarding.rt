@@ -2,7 +2,7 @@
 ghost use Rattle.std.specs.Prelude.{◌≡◌, ◌≢◌, ◌<◌, ◌+◌, ◌^◌, [], ◌∷◌, All, false, map, length, MatchResult, OnOk, OnErr, None, option_copied};
 ghost use Rattle.std.specs.Borrow.{sem};
 ghost use Rattle.dav_store.specs.Logged.{logged_of};
-ghost use Rattle.dav_store.specs.Calls.{LooksUp, MakesDirectory, Opens, ReadsBytes, Seeks, Writes, Flushes, LooksUpFile, place_of};
+ghost use Rattle.dav_store.specs.Calls.{LooksUp, MakesDirectory, Opens, Seeks, Writes, Flushes, LooksUpFile};
 ghost use Rattle.dav_store.specs.Members.{ReadsDir, RemovesFile, RemovesDir};
 ghost use Rattle.dav_store.specs.BodyCalls.{StartsBody, AddsToBody, with_body};
 ghost use Rattle.dav_store.specs.Transfers.{Copies, Renames};
@@ -102,7 +102,7 @@ impl<F, P: Policy> Guarding<F, P> {
 }
 
 impl<C, F: GuardedFileSystem<C>, P: Policy> GuardedFileSystem<C> for Guarding<F, P> {
-    ghost use Rattle.dav_guarding.specs.Guarding.{seen_behind, inner_of, body_behind, policy_of, records_of, Guards, GuardsReading};
+    ghost use Rattle.dav_guarding.specs.Guarding.{seen_behind, inner_of, body_behind, policy_of, records_of, Guards, GuardsReading, ReadsBehind, GuardsRead, GuardsWrite, MovesHandle};
 
     ghost seen = { seen_behind F.seen };
 
@@ -218,8 +218,8 @@ impl<C, F: GuardedFileSystem<C>, P: Policy> GuardedFileSystem<C> for Guarding<F,
         count: usize,
         credentials: &C,
     ) -> FsResult<Vec<u8>>
-        ensures seen { ReadsBytes (F.is_honest (inner_of self.new)) (seen_behind F.seen self.old) path.now.key place count result (seen_behind F.seen self.new) }
-        ensures guarded { Guards F.seen Op.ReadBytes (path.now ∷ []) (λ s. ReadsBytes (F.is_honest (inner_of self.new)) s path.now.key place count) self.old result self.new }
+        ensures seen { ReadsBehind F.is_honest F.seen path.now.key place count self.old result self.new }
+        ensures guarded { GuardsRead F.is_honest F.seen path.now place count self.old result self.new }
     {
         let paths = one_path(path)?;
         let mut call = self.guard.begin(Op::ReadBytes, paths)?;
@@ -243,8 +243,8 @@ impl<C, F: GuardedFileSystem<C>, P: Policy> GuardedFileSystem<C> for Guarding<F,
     fn write_bytes(&mut self, file: &mut DavFile, bytes: &[u8], credentials: &C) -> FsResult<()>
         requires { file.old.append ≡ false → file.old.pos + length bytes.now < 2 ^ 64 }
         ensures written { Writes (seen_behind F.seen self.old) file.old bytes.now result (seen_behind F.seen self.new) }
-        ensures place { MatchResult result (λ _. file.new ≡ record file.old { pos = place_of file.old (seen_behind F.seen self.old).contents + length bytes.now }) (λ _. file.new ≡ file.old) }
-        ensures guarded { Guards F.seen Op.WriteBytes (file.old.path ∷ []) (λ s. Writes s file.old bytes.now) self.old result self.new }
+        ensures place { MovesHandle F.seen self.old file.old bytes.now result file.new }
+        ensures guarded { GuardsWrite F.seen file.old bytes.now self.old result self.new }
     {
         let paths = one_path(&file.path)?;
         let mut call = self.guard.begin(Op::WriteBytes, paths)?;
@@ -261,8 +261,8 @@ impl<C, F: GuardedFileSystem<C>, P: Policy> GuardedFileSystem<C> for Guarding<F,
     ) -> FsResult<()>
         requires { file.old.append ≡ false → file.old.pos + length (body_behind F.seen self.old number) < 2 ^ 64 }
         ensures written { Writes (seen_behind F.seen self.old) file.old (body_behind F.seen self.old number) result (seen_behind F.seen self.new) }
-        ensures place { MatchResult result (λ _. file.new ≡ record file.old { pos = place_of file.old (seen_behind F.seen self.old).contents + length (body_behind F.seen self.old number) }) (λ _. file.new ≡ file.old) }
-        ensures guarded { Guards F.seen Op.WriteBytes (file.old.path ∷ []) (λ s. Writes s file.old (body_behind F.seen self.old number)) self.old result self.new }
+        ensures place { MovesHandle F.seen self.old file.old (body_behind F.seen self.old number) result file.new }
+        ensures guarded { GuardsWrite F.seen file.old (body_behind F.seen self.old number) self.old result self.new }
     {
         let paths = one_path(&file.path)?;
         let mut call = self.guard.begin(Op::WriteBytes, paths)?;

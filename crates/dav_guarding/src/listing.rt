@@ -1,10 +1,9 @@
 //! How a policy changes a listing.
-ghost use Rattle.std.specs.Prelude.{◌≡◌, List, [], ◌++◌, map, IfOk, IfErr};
+ghost use Rattle.std.specs.Prelude.{◌≡◌, [], ◌++◌, map, IfOk, IfErr};
 ghost use Rattle.dav_resource.specs.PathText.{IsSegment};
-ghost use Rattle.dav_store.specs.Members.{Child, member};
-ghost use Rattle.dav_wrapping.specs.Hiding.{hidden_record, HaveSegmentNames, IsListingOf};
-ghost use Rattle.dav_wrapping.specs.Underway.{IsHidden};
-ghost use Rattle.dav_guarding.specs.Policy.{why_by};
+ghost use Rattle.dav_store.specs.Members.{member};
+ghost use Rattle.dav_wrapping.specs.Hiding.{hidden_record, HaveSegmentNames};
+ghost use Rattle.dav_guarding.specs.Policy.{why_by, HidesRefused};
 
 use crate::policy::Policy;
 use dav_resource::{DavPath, DirEntry, FsError, FsResult, Items, Op, Outcome, Paths, Record};
@@ -22,7 +21,7 @@ pub(crate) fn hide_members<P: Policy>(
     hidden: &[Record],
 ) -> FsResult<Vec<Record>>
     requires { HaveSegmentNames listing.old }
-    ensures hidden { IfOk result (λ unseen. (children : List Child) → IsListingOf path.now.key children listing.old hidden.now → IsHidden (why_by (P.refusals policy.now)) path.now children hidden.now listing.new unseen.items) }
+    ensures hidden { IfOk result (λ unseen. HidesRefused (P.refusals policy.now) path.now listing.old hidden.now listing.new unseen.items) }
     ensures err { IfErr result (λ e. e ≡ FsError.Memory) }
 {
     let mut rest = hidden;
