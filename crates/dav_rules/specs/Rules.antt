@@ -1,8 +1,11 @@
 -- The rules of access rights, as a text in TOML 1.0 has them: this project's own choice.
 use Rattle.std.specs.Prelude.{◌≡◌, ◌⊎◌, ℕ, ◌+◌, ◌==◌, Bool, true, false, ◌&&◌, ◌||◌, List, [], ◌∷◌, codes, bytes_eq, is_some, if◌then◌else◌, Option, Some, None, option_map, option_and_then, Result, MatchResult}
+use Rattle.std.specs.Borrow.{Bor}
 use Rattle.std.specs.List.{list_all, list_any}
 use Rattle.std.specs.Result.{result_ok}
 use Rattle.toml.specs.Data.{Data, Items, no_items, item, Members, no_members, member, get, get_member, as_str, as_bool, as_array, as_table}
+use Rattle.toml.specs.View.{view, items_view}
+use Rattle.toml.specs.declared.value.Value.{Value}
 use Rattle.dav_key.specs.Key.{Key}
 use Rattle.dav_resource.specs.PathText.{PathValue, read_path}
 use Rattle.dav_rights.specs.declared.rule.Allowed.{Allowed}
@@ -146,6 +149,14 @@ rule_of groups rule =
 abbrev pub rules_in : Option Data → Option Data → Option (List RuleValue)
 rules_in groups None = Some []
 rules_in groups (Some rules) = option_and_then (λ items. each_of (rule_of groups) (list_of items)) (as_array rules)
+
+-- the data of a value that may be there
+abbrev pub data_of : Option (Bor Value) → Option Data
+data_of = option_map (λ v. view v.now)
+
+-- the rules of these values
+abbrev pub rules_at : Option Data → List Value → Option (List RuleValue)
+rules_at groups values = each_of (rule_of groups) (list_of (items_view values))
 
 -- the groups, if there are some, are a table
 abbrev pub are_groups : Option Data → Bool

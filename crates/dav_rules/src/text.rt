@@ -1,8 +1,8 @@
 //! The rules of a text.
 ghost use Rattle.std.specs.Prelude.{◌≡◌, ◌⊎◌, map, IfOk, IfErr, Some, None, option_map, option_and_then};
 ghost use Rattle.toml.specs.Parse.{parse_document};
-ghost use Rattle.toml.specs.View.{view, items_view};
-ghost use Rattle.dav_rules.specs.Rules.{rule_value, rules_of, rules_in, are_groups, rule_of, each_of, list_of};
+ghost use Rattle.toml.specs.View.{view};
+ghost use Rattle.dav_rules.specs.Rules.{rule_value, rules_of, rules_in, are_groups, rules_at, data_of};
 
 use crate::error::{RuleFault, RulesError};
 use crate::rule::{has_only, member, read_rule};
@@ -37,7 +37,7 @@ pub fn read_rules(alloc: Global, text: &str) -> Result<Rules, RulesError>
 
 /// Whether the groups, if there are some, are a table.
 fn are_groups(groups: Option<&Value>) -> bool
-    ensures { result ≡ are_groups (option_map (λ v. view v.now) groups.entry) }
+    ensures { result ≡ are_groups (data_of groups.entry) }
 {
     match groups {
         Some(groups) => groups.is_table(),
@@ -47,8 +47,8 @@ fn are_groups(groups: Option<&Value>) -> bool
 
 /// Reads a list of rules, with these groups.
 fn read_list(alloc: Global, groups: Option<&Value>, rules: &Value) -> Result<Rules, RulesError>
-    ensures ok { IfOk result (λ own. rules_in (option_map (λ v. view v.now) groups.entry) (Some (view rules.now)) ≡ Some (map rule_value own.rules.items)) }
-    ensures err { IfErr result (λ e. (rules_in (option_map (λ v. view v.now) groups.entry) (Some (view rules.now)) ≡ None) ⊎ (e ≡ RulesError.Memory)) }
+    ensures ok { IfOk result (λ own. rules_in (data_of groups.entry) (Some (view rules.now)) ≡ Some (map rule_value own.rules.items)) }
+    ensures err { IfErr result (λ e. (rules_in (data_of groups.entry) (Some (view rules.now)) ≡ None) ⊎ (e ≡ RulesError.Memory)) }
 {
     let Some(rules) = rules.as_array() else {
         return Err(RulesError::Keys);
@@ -64,8 +64,8 @@ fn read_each(
     groups: Option<&Value>,
     values: &[Value],
 ) -> Result<Vec<WrittenRule>, RulesError>
-    ensures ok { IfOk result (λ rules. each_of (rule_of (option_map (λ v. view v.now) groups.entry)) (list_of (items_view values.now)) ≡ Some (map rule_value rules.items)) }
-    ensures err { IfErr result (λ e. (each_of (rule_of (option_map (λ v. view v.now) groups.entry)) (list_of (items_view values.now)) ≡ None) ⊎ (e ≡ RulesError.Memory)) }
+    ensures ok { IfOk result (λ rules. rules_at (data_of groups.entry) values.now ≡ Some (map rule_value rules.items)) }
+    ensures err { IfErr result (λ e. (rules_at (data_of groups.entry) values.now ≡ None) ⊎ (e ≡ RulesError.Memory)) }
 {
     let mut rules = Vec::new(alloc);
     for value in values {
