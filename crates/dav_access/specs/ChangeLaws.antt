@@ -22,7 +22,7 @@ use Rattle.dav_engine.specs.Bounds.{changes, changes_at, was_granted}
 use Rattle.dav_engine.specs.Settings.{Settings}
 use Rattle.dav_engine.specs.State.{State, Seen, state_of}
 use Rattle.dav_engine.specs.Step.{Run, Runs}
-use Rattle.dav_access.specs.Changes.{ChangesByAllowed, ChangesWhereWritten}
+use Rattle.dav_access.specs.Changes.{HasChanged, ChangesByAllowed, ChangesWhereWritten}
 
 -- ---- records
 
@@ -67,17 +67,22 @@ unrecorded settings key (request ∷ requests) old new records (answer ∷ answe
 
 -- ---- and that call is allowed
 
-pub changes_by_allowed : (settings : Settings) (old new : Seen) (requests : List DavRequest) (answers : List Answer) → Runs settings old requests answers new → IsAllowed new.store → ChangesByAllowed old.store.facts.allows (state_of old) (state_of new)
-changes_by_allowed settings old new requests answers runs allowed key changed = by_records (list_any (changes_at key) runs.records) refl
+pub changes_by_allowed : (settings : Settings) (old new : Seen) (requests : List DavRequest) (answers : List Answer) → Runs settings old requests answers new → IsAllowed new.store → ChangesByAllowed old new
+changes_by_allowed settings old new requests answers runs allowed = record {
+  records = runs.records;
+  recorded = runs.recorded;
+  by = λ key changed. by_records key changed (list_any (changes_at key) runs.records) refl;
+}
   where
-    by_records : (b : Bool) → list_any (changes_at key) runs.records ≡ b → (call : Logged) × (changes_at key call ≡ true) × (old.store.facts.allows call ≡ true)
-    by_records false none = absurd (changed (unrecorded settings key requests (state_of old) (state_of new) runs.records answers runs.run none))
-    by_records true some =
+    by_records : (key : Key) → HasChanged key (state_of old) (state_of new) → (b : Bool) → list_any (changes_at key) runs.records ≡ b
+        → (call : Logged) × IsIn call runs.records × (changes_at key call ≡ true) × (old.store.facts.allows call ≡ true)
+    by_records key changed false none = absurd (changed (unrecorded settings key requests (state_of old) (state_of new) runs.records answers runs.run none))
+    by_records key changed true some =
         let call = found (changes_at key) runs.records some in
         let parts = and_parts (was_granted call.0.outcome) (changes call.0.op call.0.keys key) call.2 in
         let within : IsIn call.0 new.store.log = subst (IsIn call.0) (sym runs.recorded) (later call.0 old.store.log runs.records call.1) in
         let same : new.store.facts ≡ old.store.facts = ap (λ facts. facts.0) runs.fixed in
-        (call.0, call.2, ap (λ (f : Facts). f.allows call.0) (sym same) ∙ allowed call.0 within (granted call.0.outcome parts.0))
+        (call.0, call.1, call.2, ap (λ (f : Facts). f.allows call.0) (sym same) ∙ allowed call.0 within (granted call.0.outcome parts.0))
 
 -- ---- so the caller may write there
 
@@ -101,7 +106,7 @@ twice true is = refl
 twice false is = absurd cc
 
 -- where what is allowed is what the rules do not refuse
-pub changes_where_written : (rules : List Rule) (old new : State) → ChangesByAllowed (λ call. not (not (permits rules call.op call.keys))) old new → ChangesWhereWritten rules old new
-changes_where_written rules old new by key changed =
-    let call = by key changed in
-    writes rules key call.0.op call.0.keys (and_parts (was_granted call.0.outcome) (changes call.0.op call.0.keys key) call.1).1 (twice (permits rules call.0.op call.0.keys) call.2)
+pub changes_where_written : (rules : List Rule) (old new : Seen) → ((call : Logged) → old.store.facts.allows call ≡ not (not (permits rules call.op call.keys))) → ChangesByAllowed old new → ChangesWhereWritten rules (state_of old) (state_of new)
+changes_where_written rules old new allows changes_by key changed =
+    let call = changes_by.by key changed in
+    writes rules key call.0.op call.0.keys (and_parts (was_granted call.0.outcome) (changes call.0.op call.0.keys key) call.2).1 (twice (permits rules call.0.op call.0.keys) (sym (allows call.0) ∙ call.3))

@@ -2,7 +2,7 @@
 #![tactic(auto)]
 
 ghost use Rattle.std.specs.Prelude.{IfOk};
-ghost use Rattle.dav_engine.specs.DavInner.{lent, state_by};
+ghost use Rattle.dav_engine.specs.DavInner.{lent, seen_by, state_by};
 ghost use Rattle.dav_access.specs.Changes.{ChangesByAllowed, ChangesWhereWritten};
 ghost use Rattle.dav_guarding.specs.Guarding.{policy_of};
 
@@ -19,8 +19,7 @@ pub fn run_allowed<'a, C: Drop, F: GuardedFileSystem<C>, L: DavLockSystem>(
     engine: &mut DavInner<'a, C, F, L>,
     requests: &[DavRequest],
 ) -> DavResult<Vec<DavResult<Response<Body>>>>
-    ensures changed { IfOk result (λ _. ChangesByAllowed (F.seen (lent engine.old)).facts.allows
-        (state_by F.seen L.seen engine.old) (state_by F.seen L.seen engine.new)) }
+    ensures changed { IfOk result (λ _. ChangesByAllowed (seen_by F.seen L.seen engine.old) (seen_by F.seen L.seen engine.new)) }
 {
     engine.run(requests)
 }
