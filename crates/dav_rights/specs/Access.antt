@@ -1,5 +1,5 @@
 -- What a server allows its present caller: this project's own choice.
-use Rattle.std.specs.Prelude.{false, not, Option, Some, None}
+use Rattle.std.specs.Prelude.{false, not, Option, Some, None, []}
 use Rattle.dav_guarding.specs.Policy.{Refusals, Caller}
 use Rattle.dav_rights.specs.Rights.{permits}
 use Rattle.dav_rights.specs.Rules.{rules_for}
@@ -14,6 +14,11 @@ rules_in access = access.rules
 abbrev pub refuses_by : Option Rights → Refusals
 refuses_by None op keys = false
 refuses_by (Some rights) op keys = not (permits rights.rules.items op keys)
+
+-- before the first caller, rules permit nothing; without rules nothing is refused
+abbrev pub refuses_first : Option Rules → Refusals
+refuses_first None op keys = false
+refuses_first (Some rules) op keys = not (permits [] op keys)
 
 -- to the present caller
 abbrev pub refuses : Access → Refusals

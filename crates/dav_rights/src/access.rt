@@ -1,6 +1,6 @@
 //! The rules of a server, by the present caller.
-ghost use Rattle.std.specs.Prelude.{◌≡◌, map, None, option_copied};
-ghost use Rattle.dav_rights.specs.Access.{refuses, refuses_to};
+ghost use Rattle.std.specs.Prelude.{◌≡◌, map, None, option_copied, List};
+ghost use Rattle.dav_key.specs.Key.{Key};
 
 use crate::rights::Rights;
 use crate::rules::Rules;
@@ -18,11 +18,12 @@ pub struct Access {
 }
 
 impl Access {
-    ghost use Rattle.dav_rights.specs.Access.{rules_in};
+    ghost use Rattle.dav_rights.specs.Access.{rules_in, refuses, refuses_first};
 
     /// Goes by these rules, or allows everything.
     pub fn new(alloc: Global, rules: Option<Rules>) -> Access
-        ensures { rules_in result ≡ rules }
+        ensures rules { rules_in result ≡ rules }
+        ensures first { (op : Op) (keys : List Key) → refuses result op keys ≡ refuses_first rules op keys }
     {
         let rights = match &rules {
             Some(_) => Some(Rights {
@@ -39,6 +40,8 @@ impl Access {
 }
 
 impl Policy for Access {
+    ghost use Rattle.dav_rights.specs.Access.{refuses};
+
     ghost refusals = { refuses };
 
     fn refuses(&self, op: Op, paths: &[DavPath]) -> bool {
@@ -50,6 +53,8 @@ impl Policy for Access {
 }
 
 impl CallerPolicy for Access {
+    ghost use Rattle.dav_rights.specs.Access.{refuses_to};
+
     ghost refusals_to = { refuses_to };
 
     fn set_caller(&mut self, caller: Option<&str>) -> Result<(), AllocError> {

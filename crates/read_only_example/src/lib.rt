@@ -1,7 +1,8 @@
 //! A policy of one's own: a store that may be read and not changed. It is there to be copied.
 #![tactic(auto)]
 
-ghost use Rattle.std.specs.Prelude.{◌≡◌, IfOk};
+ghost use Rattle.std.specs.Prelude.{◌≡◌, IfOk, []};
+ghost use Rattle.dav_guarding.specs.Guarding.{inner_of, records_of};
 ghost use Rattle.dav_engine.specs.DavInner.{state_by};
 
 use dav_engine::{Body, DavInner, DavRequest, DavResult};
@@ -29,7 +30,10 @@ impl Policy for ReadOnly {
 }
 
 /// Wraps a store, so that it may be read and not changed.
-pub fn read_only<F>(alloc: Global, store: F) -> Guarding<F, ReadOnly> {
+pub fn read_only<F>(alloc: Global, store: F) -> Guarding<F, ReadOnly>
+    ensures inner { inner_of result ≡ store }
+    ensures records { records_of result ≡ [] }
+{
     Guarding::new(alloc, store, ReadOnly)
 }
 
