@@ -1,5 +1,5 @@
 -- What a policy refuses, and what that leaves to a caller: this project's own choice.
-use Rattle.std.specs.Prelude.{◌≡◌, ℕ, Bool, true, not, List, [], ◌∷◌, map, if◌then◌else◌, Option, Some, None, Result}
+use Rattle.std.specs.Prelude.{◌≡◌, Bool, true, not, List, [], ◌∷◌, map, if◌then◌else◌, Some, None, Result}
 use Rattle.dav_key.specs.Key.{Key}
 use Rattle.dav_resource.specs.declared.record.Op.{Op}
 use Rattle.dav_resource.specs.declared.record.Op.TheVariants.{Entry}
@@ -18,10 +18,6 @@ use Rattle.dav_wrapping.specs.Underway.{IsHidden}
 -- which calls are refused, by their kind and the keys of their paths
 abbrev pub Refusals : Type 0
 Refusals = Op → List Key → Bool
-
--- the name of a caller, if it has one
-abbrev pub Caller : Type 0
-Caller = Option (List ℕ)
 
 -- a call is allowed if it is not refused, and a member may be shown if its entry is not
 abbrev pub leave_by : Refusals → Leave

@@ -1,12 +1,12 @@
 //! What a policy lets pass, and the records of that.
-ghost use Rattle.std.specs.Prelude.{◌≡◌, ◌≢◌, ◌<◌, [], ◌∷◌, ◌++◌, false, vec_len, vec_capacity, IfOk, IfErr, OnOk, OnErr, Err, option_copied};
+ghost use Rattle.std.specs.Prelude.{◌≡◌, ◌≢◌, ◌<◌, [], ◌∷◌, ◌++◌, false, vec_len, vec_capacity, IfOk, IfErr, OnOk, OnErr, Err};
 ghost use Rattle.std.proofs.Props.{props};
 ghost use Rattle.dav_store.specs.Logged.{record_on};
 ghost use Rattle.dav_guarding.specs.Policy.{AreAllowed};
 
-use crate::policy::{CallerPolicy, Policy};
+use crate::policy::Policy;
 use dav_resource::{FsError, FsResult, Items, Op, Outcome, Paths, Record};
-use std::alloc::{AllocError, Global};
+use std::alloc::Global;
 
 /// A policy, with the records of the calls that it let pass or refused.
 #[derive(Drop)]
@@ -46,19 +46,6 @@ impl<P: Policy> Guard<P> {
     {
         self.records.clear();
         self.policy = policy;
-    }
-
-    /// Has the policy go by this caller, and removes all records. Fails only if memory runs out.
-    pub(crate) fn set_caller(&mut self, caller: Option<&str>) -> Result<(), AllocError>
-    where
-        P: CallerPolicy,
-        ensures ok { OnOk result (P.refusals (policy_in self.new) ≡ P.refusals_to (policy_in self.old) (option_copied caller.entry)) }
-        ensures err { OnErr result (P.refusals (policy_in self.new) ≡ P.refusals (policy_in self.old)) }
-        ensures same { P.refusals_to (policy_in self.new) ≡ P.refusals_to (policy_in self.old) }
-        ensures records { records_in self.new ≡ [] }
-    {
-        self.records.clear();
-        self.policy.set_caller(caller)
     }
 
     /// Returns the records, the oldest first.

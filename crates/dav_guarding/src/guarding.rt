@@ -1,5 +1,5 @@
 //! A store that a policy guards.
-ghost use Rattle.std.specs.Prelude.{◌≡◌, ◌≢◌, ◌<◌, ◌+◌, ◌^◌, [], ◌∷◌, All, false, map, length, MatchResult, OnOk, OnErr, None, option_copied};
+ghost use Rattle.std.specs.Prelude.{◌≡◌, ◌≢◌, ◌<◌, ◌+◌, ◌^◌, [], ◌∷◌, All, false, map, length, MatchResult, None};
 ghost use Rattle.std.specs.Borrow.{sem};
 ghost use Rattle.dav_store.specs.Logged.{logged_of};
 ghost use Rattle.dav_store.specs.Calls.{LooksUp, MakesDirectory, Opens, Seeks, Writes, Flushes, LooksUpFile};
@@ -10,7 +10,7 @@ ghost use Rattle.dav_store.specs.PropertyCalls.{GetsProp, GetsProps, PatchesProp
 
 use crate::guard::Guard;
 use crate::listing::hide_members;
-use crate::policy::{CallerPolicy, Policy};
+use crate::policy::Policy;
 use dav_resource::{
     BodyNumber, DavFile, DavPath, DavProp, DirEntry, Element, FsResult, Meta, Op, OpenOptions,
     Paths, Record,
@@ -18,7 +18,7 @@ use dav_resource::{
 use dav_store::{GuardedFileSystem, one_path, two_paths};
 use dav_wrapping::{last_outcome, with_statuses};
 use http::StatusCode;
-use std::alloc::{AllocError, Global};
+use std::alloc::Global;
 
 /// A store that wraps another store and passes on the calls that a policy does not refuse.
 ///
@@ -69,27 +69,20 @@ impl<F, P: Policy> Guarding<F, P> {
         self.guard.set_policy(policy);
     }
 
-    /// Has the policy go by the caller of this name, or by one without a name, and empties the log. The log of the
-    /// wrapped store stays as it is.
-    ///
-    /// Fails only if memory runs out, and then the policy goes by the same caller as before.
-    pub fn set_caller(&mut self, caller: Option<&str>) -> Result<(), AllocError>
-    where
-        P: CallerPolicy,
-        ensures inner { inner_of self.new ≡ inner_of self.old }
-        ensures ok { OnOk result (P.refusals (policy_of self.new) ≡ P.refusals_to (policy_of self.old) (option_copied caller.entry)) }
-        ensures err { OnErr result (P.refusals (policy_of self.new) ≡ P.refusals (policy_of self.old)) }
-        ensures same { P.refusals_to (policy_of self.new) ≡ P.refusals_to (policy_of self.old) }
-        ensures records { records_of self.new ≡ [] }
-    {
-        self.guard.set_caller(caller)
-    }
-
     /// Returns the wrapped store.
     pub fn inner(&self) -> &F
         ensures { result.now ≡ inner_of self.now }
     {
         &self.inner
+    }
+
+    /// Returns the wrapped store, and drops the policy and the log.
+    pub fn into_inner(self) -> F
+    where
+        P: Drop,
+        ensures { result ≡ inner_of self }
+    {
+        self.inner
     }
 
     /// Borrows the wrapped store.

@@ -11,4 +11,4 @@ mod listing;
 mod policy;
 
 pub use guarding::Guarding;
-pub use policy::{CallerPolicy, Policy};
+pub use policy::Policy;

@@ -1,11 +1,12 @@
 -- Access rights: which rule decides for a resource, and what each call needs. This project's own choice.
-use Rattle.std.specs.Prelude.{Bool, true, false, not, ◌&&◌, ◌||◌, List, [], ◌∷◌, length, nat_lt, if◌then◌else◌, Option, Some, None}
+use Rattle.std.specs.Prelude.{Bool, true, false, not, ◌&&◌, ◌||◌, List, [], ◌∷◌, length, nat_lt, if◌then◌else◌, Option, Some, None, option_map}
 use Rattle.std.specs.List.{list_all, list_any}
 use Rattle.dav_key.specs.Key.{Key}
 use Rattle.dav_key.specs.Below.{is_at_or_below}
 use Rattle.dav_key.specs.Flat.{flat}
 use Rattle.dav_resource.specs.declared.record.Op.{Op}
 use Rattle.dav_resource.specs.declared.record.Op.TheVariants.{Metadata, ReadDir, Entry, ReadBytes, Copy, Rename, Seek, Flush, FileMetadata, GetProp, GetProps, GetQuota}
+use Rattle.dav_rights.specs.declared.rights.Explanation.{Explanation}
 use Rattle.dav_rights.specs.declared.rights.Need.{Need}
 use Rattle.dav_rights.specs.declared.rights.Need.TheVariants.{Take, Make}
 use Rattle.dav_rights.specs.declared.rule.Allowed.{Allowed}
@@ -64,6 +65,14 @@ may_read key rules = (decide false key rules).read
 abbrev pub may_write : Key → List Rule → Bool
 may_write key rules = (decide false key rules).write
 
+-- what is allowed with a resource, and the number of the rule that decides
+abbrev pub explanation : Key → List Rule → Explanation
+explanation key rules =
+    record {
+      rule = option_map (λ (r : Rule). r.number) (deciding false key rules);
+      allowed = record { list = may_list key rules; read = may_read key rules; write = may_write key rules };
+    }
+
 -- what a move asks of all that it moves away, and of all that it makes
 abbrev pub lets : Need → Allowed → Bool
 lets Take allowed = allowed.read && allowed.write
@@ -81,6 +90,10 @@ lets_if_below need rules key rule = not (is_at_or_below rule.key key) || lets_at
 abbrev pub lets_below : Need → List Rule → Key → Bool
 lets_below need rules key =
     lets_at need rules key && list_all (lets_if_below need rules key) rules
+
+-- a lock is for who may write at the resource and, if it is deep, at each one that may be below it
+abbrev pub may_lock : Key → Bool → List Rule → Bool
+may_lock key deep rules = if deep then lets_below Make rules key else may_write key rules
 
 -- ---- calls
 

@@ -1,6 +1,7 @@
 -- Rules as they are written, and those that apply to a caller: this project's own choice.
-use Rattle.std.specs.Prelude.{ℕ, Bool, true, false, List, [], ◌∷◌, bytes_eq, codes, filter_map, if◌then◌else◌, Option, Some, None, option_map}
+use Rattle.std.specs.Prelude.{ℕ, suc, Bool, true, false, List, [], ◌∷◌, ◌++◌, bytes_eq, codes, if◌then◌else◌, Option, Some, None, option_map}
 use Rattle.std.specs.List.{list_any}
+use Rattle.std.specs.Option.{option_to_list}
 use Rattle.dav_key.specs.Key.{Key}
 use Rattle.dav_resource.specs.PathText.{is_segment}
 use Rattle.dav_rights.specs.declared.rule.Rule.{Rule}
@@ -38,13 +39,18 @@ abbrev pub key_for : Caller → Key → Option Key
 key_for caller [] = Some []
 key_for caller (segment ∷ rest) = joined (segment_for caller segment) (key_for caller rest)
 
--- the rule for a caller, if it applies to it
-abbrev pub rule_for : Caller → WrittenRule → Option Rule
-rule_for caller written =
+-- the rule of this number for a caller, if it applies to it
+abbrev pub rule_for : ℕ → Caller → WrittenRule → Option Rule
+rule_for number caller written =
     if is_for caller written.who
-    then option_map (λ key. record { key = key; below = written.below; allowed = written.allowed }) (key_for caller written.key)
+    then option_map (λ key. record { number = number; key = key; below = written.below; allowed = written.allowed }) (key_for caller written.key)
     else None
+
+-- those of these rules that apply to a caller, in order; the first one has this number
+abbrev pub rules_from : ℕ → Caller → List WrittenRule → List Rule
+rules_from number caller [] = []
+rules_from number caller (written ∷ rest) = option_to_list (rule_for number caller written) ++ rules_from (suc number) caller rest
 
 -- the rules that apply to a caller, in order
 abbrev pub rules_for : Caller → List WrittenRule → List Rule
-rules_for caller rules = filter_map (rule_for caller) rules
+rules_for caller rules = rules_from 1 caller rules

@@ -1,40 +1,65 @@
-//! The rules of a server, by the present caller.
-ghost use Rattle.std.specs.Prelude.{◌≡◌, map, None, option_copied, List};
-ghost use Rattle.dav_key.specs.Key.{Key};
+//! What a server allows a caller.
+ghost use Rattle.std.specs.Prelude.{◌≡◌, IfOk, map, option_copied};
 
-use crate::rights::Rights;
+use crate::rights::{Explanation, Rights};
+use crate::rule::Allowed;
 use crate::rules::Rules;
-use dav_guarding::{CallerPolicy, Policy};
+use dav_guarding::Policy;
+use dav_key::FlatKey;
 use dav_resource::{DavPath, Op};
 use std::alloc::{AllocError, Global};
 
-/// What a server allows the present caller: by its rules, if it has some, or everything. Before the first caller its
-/// rules allow nothing.
-#[derive(Drop)]
-pub struct Access {
-    alloc: Global,
-    rules: Option<Rules>,
-    rights: Option<Rights>,
+/// What a server allows a caller: what its rights permit, or everything.
+#[derive(Debug, Drop)]
+pub enum Access {
+    /// Everything.
+    Full,
+    /// What these rights permit.
+    Limited(Rights),
 }
 
 impl Access {
-    ghost use Rattle.dav_rights.specs.Access.{rules_in, refuses, refuses_first};
+    ghost use Rattle.dav_rights.specs.Access.{written_rules, rights_in, rights_under, explanation_by, may_lock_by};
 
-    /// Goes by these rules, or allows everything.
-    pub fn new(alloc: Global, rules: Option<Rules>) -> Access
-        ensures rules { rules_in result ≡ rules }
-        ensures first { (op : Op) (keys : List Key) → refuses result op keys ≡ refuses_first rules op keys }
+    /// Returns what a caller with this name, or one without a name, may do: what the rules that apply to it permit.
+    /// Without rules that is everything. Fails only if memory runs out.
+    pub fn of(
+        alloc: Global,
+        rules: Option<&Rules>,
+        caller: Option<&str>,
+    ) -> Result<Access, AllocError>
+        ensures { IfOk result (λ access. rights_in access ≡ rights_under (written_rules (option_copied rules.entry)) (option_copied caller.entry)) }
     {
-        let rights = match &rules {
-            Some(_) => Some(Rights {
-                rules: Vec::new(alloc),
-            }),
-            None => None,
-        };
-        Access {
-            alloc,
-            rules,
-            rights,
+        match rules {
+            Some(rules) => Ok(Access::Limited(rules.rights_of(alloc, caller)?)),
+            None => Ok(Access::Full),
+        }
+    }
+
+    /// Returns what is allowed with the resource with this key. Without rules none decides.
+    pub fn explain(&self, key: &FlatKey) -> Explanation
+        ensures { result ≡ explanation_by (rights_in self.now) key.now }
+    {
+        match self {
+            Access::Full => Explanation {
+                rule: None,
+                allowed: Allowed {
+                    list: true,
+                    read: true,
+                    write: true,
+                },
+            },
+            Access::Limited(rights) => rights.explain(key),
+        }
+    }
+
+    /// Whether the caller may lock the resource with this key, as `Rights::may_lock` says.
+    pub fn may_lock(&self, key: &FlatKey, deep: bool) -> bool
+        ensures { result ≡ may_lock_by (rights_in self.now) key.now deep }
+    {
+        match self {
+            Access::Full => true,
+            Access::Limited(rights) => rights.may_lock(key, deep),
         }
     }
 }
@@ -45,23 +70,9 @@ impl Policy for Access {
     ghost refusals = { refuses };
 
     fn refuses(&self, op: Op, paths: &[DavPath]) -> bool {
-        match &self.rights {
-            Some(rights) => !rights.permits(op, paths),
-            None => false,
+        match self {
+            Access::Full => false,
+            Access::Limited(rights) => !rights.permits(op, paths),
         }
-    }
-}
-
-impl CallerPolicy for Access {
-    ghost use Rattle.dav_rights.specs.Access.{refuses_to};
-
-    ghost refusals_to = { refuses_to };
-
-    fn set_caller(&mut self, caller: Option<&str>) -> Result<(), AllocError> {
-        self.rights = match &self.rules {
-            Some(rules) => Some(rules.rights_of(self.alloc, caller)?),
-            None => None,
-        };
-        Ok(())
     }
 }

@@ -7,6 +7,6 @@ mod rule;
 mod rules;
 
 pub use access::Access;
-pub use rights::Rights;
+pub use rights::{Explanation, Rights};
 pub use rule::{Allowed, Rule};
 pub use rules::{Rules, Who, WrittenRule};

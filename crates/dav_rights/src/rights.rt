@@ -1,7 +1,7 @@
 //! What the rules of a caller allow.
 ghost use Rattle.std.specs.Prelude.{◌≡◌, not, Some, map, option_copied};
 ghost use Rattle.std.specs.List.{list_all, list_any};
-ghost use Rattle.dav_rights.specs.Rights.{deciding, longer_of, decide, may_list, leads_to, lets, lets_at, lets_if_below, lets_below, is_free, permits_on, permits_between, permits};
+ghost use Rattle.dav_rights.specs.Rights.{deciding, longer_of, decide, may_list, leads_to, lets, lets_at, lets_if_below, lets_below, is_free, permits_on, permits_between, permits, may_lock, explanation};
 
 use crate::rule::{Allowed, Rule};
 use dav_guarding::Policy;
@@ -16,6 +16,15 @@ use dav_resource::{DavPath, Op};
 #[derive(Debug, Drop)]
 pub struct Rights {
     pub rules: Vec<Rule>,
+}
+
+/// What is allowed with a resource.
+#[derive(Clone, Copy, Debug)]
+pub struct Explanation {
+    /// The number of the rule that decides, if one does: its place among all rules as they are written, from 1.
+    pub rule: Option<usize>,
+    /// What one may do. One may list also what is above a resource of which a rule allows something.
+    pub allowed: Allowed,
 }
 
 /// What a resource has to allow, and all below it.
@@ -48,6 +57,34 @@ impl Rights {
             [] => is_free(op),
             [path] => self.permits_on(op, path.key()),
             [from, to, ..] => self.permits_between(op, from.key(), to.key()),
+        }
+    }
+
+    /// Returns what is allowed with the resource with this key.
+    pub fn explain(&self, key: &FlatKey) -> Explanation
+        ensures { result ≡ explanation key.now self.now.rules.items }
+    {
+        Explanation {
+            rule: match self.deciding(false, key) {
+                Some(rule) => Some(rule.number),
+                None => None,
+            },
+            allowed: Allowed {
+                list: self.may_list(key),
+                ..self.decide(false, key)
+            },
+        }
+    }
+
+    /// Whether a lock on the resource with this key is allowed: the caller may write there and, if the lock is `deep`,
+    /// wherever something may be below it.
+    pub fn may_lock(&self, key: &FlatKey, deep: bool) -> bool
+        ensures { result ≡ may_lock key.now deep self.now.rules.items }
+    {
+        if deep {
+            self.lets_below(Need::Make, key)
+        } else {
+            self.decide(false, key).write
         }
     }
 

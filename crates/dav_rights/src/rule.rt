@@ -34,6 +34,8 @@ impl Allowed {
 /// A rule that applies to a caller.
 #[derive(Debug, Drop)]
 pub struct Rule {
+    /// Its number among all rules as they are written, from 1.
+    pub number: usize,
     /// The key of the resource for which it is made.
     pub key: FlatKey,
     /// Whether it is made for all resources below that one too.

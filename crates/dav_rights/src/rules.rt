@@ -54,9 +54,15 @@ pub struct WrittenRule {
 }
 
 impl WrittenRule {
-    /// Returns the rule for a caller with this name, or one without a name, if it applies to it.
-    fn rule_for(&self, alloc: Global, caller: Option<&str>) -> Result<Option<Rule>, AllocError>
-        ensures { IfOk result (λ rule. rule ≡ rule_for (option_copied caller.entry) self.now) }
+    /// Returns the rule for a caller with this name, or one without a name, if it applies to it. `number` is its number
+    /// among all rules.
+    fn rule_for(
+        &self,
+        alloc: Global,
+        number: usize,
+        caller: Option<&str>,
+    ) -> Result<Option<Rule>, AllocError>
+        ensures { IfOk result (λ rule. rule ≡ rule_for number (option_copied caller.entry) self.now) }
     {
         if !self.who.is_for(caller) {
             return Ok(None);
@@ -65,6 +71,7 @@ impl WrittenRule {
             return Ok(None);
         };
         Ok(Some(Rule {
+            number,
             key,
             below: self.below,
             allowed: self.allowed,
@@ -85,8 +92,8 @@ impl Rules {
         ensures { IfOk result (λ rights. rights.rules.items ≡ rules_for (option_copied caller.entry) self.now.rules.items) }
     {
         let mut own = Vec::new(alloc);
-        for rule in &self.rules {
-            if let Some(rule) = rule.rule_for(alloc, caller)? {
+        for (index, rule) in self.rules.iter().enumerate() {
+            if let Some(rule) = rule.rule_for(alloc, index + 1, caller)? {
                 own.push(rule)?;
             }
         }
