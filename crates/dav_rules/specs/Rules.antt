@@ -1,9 +1,10 @@
 -- The rules of access rights, as a text in TOML 1.0 has them: this project's own choice.
-use Rattle.std.specs.Prelude.{◌≡◌, ◌⊎◌, ℕ, ◌+◌, ◌==◌, Bool, true, false, ◌&&◌, ◌||◌, List, [], ◌∷◌, codes, bytes_eq, is_some, if◌then◌else◌, Option, Some, None, option_map, option_and_then, Result, MatchResult}
+use Rattle.std.specs.Prelude.{◌≡◌, ◌⊎◌, ℕ, ◌+◌, ◌==◌, Bool, true, false, ◌&&◌, ◌||◌, List, [], ◌∷◌, codes, bytes_eq, is_some, map, if◌then◌else◌, Option, Some, None, option_map, option_and_then, Result, MatchResult}
 use Rattle.std.specs.Borrow.{Bor}
 use Rattle.std.specs.List.{list_all, list_any}
 use Rattle.std.specs.Result.{result_ok}
 use Rattle.toml.specs.Data.{Data, Items, no_items, item, Members, no_members, member, get, get_member, as_str, as_bool, as_array, as_table}
+use Rattle.toml.specs.Parse.{parse_document}
 use Rattle.toml.specs.View.{view, items_view}
 use Rattle.toml.specs.declared.value.Value.{Value}
 use Rattle.dav_key.specs.Key.{Key}
@@ -167,3 +168,11 @@ are_groups (Some groups) = is_some (as_table groups)
 abbrev pub rules_of : Members → Option (List RuleValue)
 rules_of document =
     if has_only (codes "groups" ∷ codes "rule" ∷ []) document && are_groups (get_member (codes "groups") document) then rules_in (get_member (codes "groups") document) (get_member (codes "rule") document) else None
+
+-- a text in TOML has these rules
+abbrev pub HasRules : List ℕ → List WrittenRule → Type 0
+HasRules text rules = option_and_then rules_of (parse_document text) ≡ Some (map rule_value rules)
+
+-- a text is not TOML, or has something else than rules
+abbrev pub HasNoRules : List ℕ → Type 0
+HasNoRules text = option_and_then rules_of (parse_document text) ≡ None

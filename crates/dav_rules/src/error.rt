@@ -53,15 +53,19 @@ impl<T: Drop> From<AllocFailed<T>> for RuleFault {
 }
 
 /// Why a text holds no rules.
-#[derive(Debug, Drop)]
+#[derive(Debug, Drop, Error)]
 pub enum RulesError {
     /// Memory ran out.
+    #[error("out of memory")]
     Memory,
     /// It is not TOML.
+    #[error("{0}")]
     Toml(toml::de::Error),
     /// It has other keys than `groups` and `rule`, `groups` is no table, or `rule` is no list.
+    #[error("there is a table of groups and a list of rules (rule), and nothing else")]
     Keys,
     /// A rule, counted from 1, and what is wrong with it.
+    #[error("rule {0}: {1}")]
     Rule(usize, RuleFault),
 }
 

@@ -1,8 +1,7 @@
 //! The rules of a text.
-ghost use Rattle.std.specs.Prelude.{◌≡◌, ◌⊎◌, map, IfOk, IfErr, Some, None, option_map, option_and_then};
-ghost use Rattle.toml.specs.Parse.{parse_document};
+ghost use Rattle.std.specs.Prelude.{◌≡◌, ◌⊎◌, map, IfOk, IfErr, Some, None};
 ghost use Rattle.toml.specs.View.{view};
-ghost use Rattle.dav_rules.specs.Rules.{rule_value, rules_of, rules_in, are_groups, rules_at, data_of};
+ghost use Rattle.dav_rules.specs.Rules.{rule_value, rules_in, are_groups, rules_at, data_of, HasRules, HasNoRules};
 
 use crate::error::{RuleFault, RulesError};
 use crate::rule::{has_only, member, read_rule};
@@ -15,8 +14,8 @@ use toml::Value;
 /// Errors: `Toml` if it is not TOML; `Keys` if it has other keys than `groups` and `rule`, `groups` is no table, or `rule` is
 /// no list; `Rule` if a rule does not say for whom, where and what, or says more; `Memory` at any time.
 pub fn read_rules(alloc: Global, text: &str) -> Result<Rules, RulesError>
-    ensures ok { IfOk result (λ rules. option_and_then rules_of (parse_document text.now) ≡ Some (map rule_value rules.rules.items)) }
-    ensures err { IfErr result (λ e. (e ≡ RulesError.Memory) ⊎ (option_and_then rules_of (parse_document text.now) ≡ None)) }
+    ensures ok { IfOk result (λ rules. HasRules text.now rules.rules.items) }
+    ensures err { IfErr result (λ e. (e ≡ RulesError.Memory) ⊎ HasNoRules text.now) }
 {
     let document = match toml::table_from_str(alloc, text) {
         Ok(document) => document,
