@@ -1,5 +1,5 @@
 -- Encodings and refusals, written out.
-use Rattle.std.proofs.Common.{◌≡◌, ℕ, true, List, [], ◌∷◌, ◌++◌, Some, None, refl, codes}
+use Rattle.std.proofs.Common.{◌≡◌, ℕ, true, List, [], ◌∷◌, ◌++◌, Some, None, refl, codes, false}
 use Rattle.dav_resource.specs.Tree.{Tree, no_nodes, text_then, element_then}
 use Rattle.std.specs.Str.{is_utf8, chars}
 use lib.Utf8.{encode}
@@ -11,7 +11,7 @@ use Rattle.dav_wire.specs.Fields.{field, fields}
 use Rattle.dav_wire.specs.Bodies.{request_body}
 use Rattle.dav_wire.specs.Frames.{frame, request, read, add}
 use Rattle.dav_wire.specs.Frames as frames
-use Rattle.dav_wire.specs.Replies.{reply, response, held, quota}
+use Rattle.dav_wire.specs.Replies.{reply, response, held, quota, explained}
 use Rattle.dav_wire.specs.Replies as replies
 use Rattle.dav_wire.specs.Batches.{batch, reply_header, batch_header}
 use Rattle.dav_wire.specs.Trees.{attribute, attributes, tag, one_node, nodes, element_over, tree}
@@ -94,8 +94,12 @@ end_8 : decode frame (8 ∷ []) ≡ Some frames.EndBackup
 unfolding frame
 end_8 = refl
 
+rules_9 : decode frame (9 ∷ small 1 ++ codes "x") ≡ Some (frames.SetRights (codes "x"))
+unfolding frame utf8_text text number is_utf8 chars encode
+rules_9 = refl
+
 -- a byte of no variant, and a byte after a frame
-unknown : decode frame (9 ∷ []) ≡ None
+unknown : decode frame (11 ∷ []) ≡ None
 unfolding frame
 unknown = refl
 
@@ -110,6 +114,10 @@ multi_status : reply.encode
     ≡ 0 ∷ small 207 ++ 1 ∷ small 0 ++ 1 ∷ small 1 ++ codes "b" ++ 0 ∷ 0 ∷ small 0 ++ 0 ∷ []
 unfolding reply response fields flag tree element_over nodes tag attributes utf8_text text number
 multi_status = refl
+
+explained_3 : reply.encode (replies.Explained (record { rule = Some 3; list = true; read = false; write = true })) ≡ 9 ∷ 1 ∷ small 3 ++ 1 ∷ 0 ∷ 1 ∷ []
+unfolding reply explained flag number
+explained_3 = refl
 
 held_2 : reply.encode (replies.Held (record { locks = 2; quota = Some (3, None) })) ≡ 6 ∷ small 2 ++ 1 ∷ small 3 ++ 0 ∷ []
 unfolding reply held quota number

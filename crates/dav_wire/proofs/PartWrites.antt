@@ -6,8 +6,8 @@ use Rattle.dav_wire.specs.Values.{text, utf8_text, flag, optional}
 use Rattle.dav_wire.specs.Trees.{tree}
 use Rattle.dav_wire.specs.Fields.{fields}
 use Rattle.dav_wire.specs.Bodies.{request_body}
-use Rattle.dav_wire.specs.Frames.{RequestValue, request, parts_of_request, ReadValue, read, parts_of_read}
-use Rattle.dav_wire.specs.Replies.{ResponseValue, response, parts_of_response, reply_levels, PartValue, part, parts_of_part}
+use Rattle.dav_wire.specs.Frames.{RequestValue, request, parts_of_request, ReadValue, read, parts_of_read, ExplainValue, explain, parts_of_explain}
+use Rattle.dav_wire.specs.Replies.{ResponseValue, response, parts_of_response, reply_levels, PartValue, part, parts_of_part, ExplainedValue, explained, parts_of_explained}
 use Rattle.dav_wire.specs.Levels.{IsBodyTooDeep, IsTreeTooDeep}
 use Rattle.dav_wire.specs.Writes.{Appends, Writes, WritesUnless}
 use Rattle.dav_wire.specs.declared.error.WireError.{WireError}
@@ -81,3 +81,24 @@ part_written x old b c d e new r length modified version media_type bytes =
     let second = writes_pair (optional number) from_version x.modified p.1.1 b c new r modified third in
     let first = writes_pair number from_modified x.length p.1 old b new r length second in
     writes_as (pair number from_modified) part p x old new r (λ ok. ok) refl first
+
+pub question_written :
+    {U E : Type 0} (x : ExplainValue) (old b new : List ℕ) (r : Result U E)
+    → Appends (optional utf8_text) x.principal old b → Writes utf8_text x.path b r new → Writes explain x old r new
+unfolding explain
+question_written x old b new r principal path =
+    let first = writes_pair (optional utf8_text) utf8_text x.principal x.path old b new r principal path in
+    writes_as (pair (optional utf8_text) utf8_text) explain (parts_of_explain x) x old new r (λ ok. ok) refl first
+
+pub explained_written :
+    {U E : Type 0} (x : ExplainedValue) (old b c d new : List ℕ) (r : Result U E)
+    → Appends (optional number) x.rule old b → Appends flag x.list b c → Appends flag x.read c d → Writes flag x.write d r new → Writes explained x old r new
+unfolding explained
+explained_written x old b c d new r rule list read write =
+    let p = parts_of_explained x in
+    let from_read = pair flag flag in
+    let from_list = pair flag from_read in
+    let third = writes_pair flag flag x.read x.write c d new r read write in
+    let second = writes_pair flag from_read x.list p.1.1 b c new r list third in
+    let first = writes_pair (optional number) from_list x.rule p.1 old b new r rule second in
+    writes_as (pair (optional number) from_list) explained p x old new r (λ ok. ok) refl first

@@ -27,6 +27,11 @@ pub record ReadValue : Type 0 where
   pub length : ℕ
   pub version : Option (List ℕ)
 
+-- a question what the access rules allow a principal at a path
+pub record ExplainValue : Type 0 where
+  pub principal : Option (List ℕ)
+  pub path : List ℕ
+
 pub data FrameValue : Type 0 where
   Request : RequestValue → FrameValue
   -- begin a body that the store holds
@@ -44,6 +49,10 @@ pub data FrameValue : Type 0 where
   BeginBackup : FrameValue
   -- end the backup
   EndBackup : FrameValue
+  -- serve by the access rules of this text
+  SetRights : List ℕ → FrameValue
+  -- what the access rules allow
+  Explain : ExplainValue → FrameValue
 
 -- ---- requests
 
@@ -80,6 +89,18 @@ read =
     as_type (pair (optional utf8_text) (pair utf8_text (pair number (pair number (optional utf8_text)))))
     read_of parts_of_read (λ p. refl) (λ r. refl)
 
+-- ---- questions
+
+abbrev pub explain_of : Option (List ℕ) × List ℕ → ExplainValue
+explain_of p = record { principal = p.0; path = p.1 }
+
+abbrev pub parts_of_explain : ExplainValue → Option (List ℕ) × List ℕ
+parts_of_explain r = (r.principal, r.path)
+
+-- the parts in this order
+unfoldable pub explain : Codec ExplainValue
+explain = as_type (pair (optional utf8_text) utf8_text) explain_of parts_of_explain (λ p. refl) (λ r. refl)
+
 -- ---- additions to bodies
 
 -- the number of the body and the bytes to add
@@ -98,6 +119,8 @@ frame_position NextExpiry = 5
 frame_position Held = 6
 frame_position BeginBackup = 7
 frame_position EndBackup = 8
+frame_position (SetRights rules) = 9
+frame_position (Explain r) = 10
 
 abbrev pub from_request : FrameValue → Option RequestValue
 from_request (Request r) = Some r
@@ -134,6 +157,14 @@ from_begin x = None
 abbrev pub from_end : FrameValue → Option (Unit {0})
 from_end EndBackup = Some tt
 from_end x = None
+
+abbrev pub from_rights : FrameValue → Option (List ℕ)
+from_rights (SetRights rules) = Some rules
+from_rights x = None
+
+abbrev pub from_explain : FrameValue → Option ExplainValue
+from_explain (Explain r) = Some r
+from_explain x = None
 
 abbrev pub add_of : ℕ × List ℕ → FrameValue
 add_of p = AddToBody p.0 p.1
@@ -174,6 +205,14 @@ pub end_exact : (x : FrameValue) (u : Unit {0}) → from_end x ≡ Some u → En
 end_exact EndBackup u e = refl
 end_exact x u e = cc
 
+pub rights_exact : (x : FrameValue) (rules : List ℕ) → from_rights x ≡ Some rules → SetRights rules ≡ x
+rights_exact (SetRights rules) r e = cc
+rights_exact x r e = cc
+
+pub explain_exact : (x : FrameValue) (r : ExplainValue) → from_explain x ≡ Some r → Explain r ≡ x
+explain_exact (Explain s) r e = cc
+explain_exact x r e = cc
+
 abbrev pub request_frame : Codec FrameValue
 request_frame = variant request Request from_request (λ r. refl) (λ x r e. request_exact x r e)
 
@@ -201,10 +240,17 @@ begin_frame = variant nothing (λ u. BeginBackup) from_begin (λ u. refl) (λ x 
 abbrev pub end_frame : Codec FrameValue
 end_frame = variant nothing (λ u. EndBackup) from_end (λ u. refl) (λ x u e. end_exact x u e)
 
+abbrev pub rights_frame : Codec FrameValue
+rights_frame = variant utf8_text SetRights from_rights (λ rules. refl) (λ x rules e. rights_exact x rules e)
+
+abbrev pub explain_frame : Codec FrameValue
+explain_frame = variant explain Explain from_explain (λ r. refl) (λ x r e. explain_exact x r e)
+
 -- ---- frames
 
 abbrev pub frame_variants : List (Codec FrameValue)
-frame_variants = request_frame ∷ start_frame ∷ add_frame ∷ drop_frame ∷ part_frame ∷ expiry_frame ∷ held_frame ∷ begin_frame ∷ end_frame ∷ []
+frame_variants =
+    request_frame ∷ start_frame ∷ add_frame ∷ drop_frame ∷ part_frame ∷ expiry_frame ∷ held_frame ∷ begin_frame ∷ end_frame ∷ rights_frame ∷ explain_frame ∷ []
 
 -- the byte of the variant, then its content
 unfoldable pub frame : Codec FrameValue

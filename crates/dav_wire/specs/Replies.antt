@@ -34,6 +34,13 @@ pub record HeldValue : Type 0 where
   pub locks : ℕ
   pub quota : Option (ℕ × Option ℕ)
 
+-- what the access rules allow: the number of the rule that decides, if one does, and whether one may list, read and write
+pub record ExplainedValue : Type 0 where
+  pub rule : Option ℕ
+  pub list : Bool
+  pub read : Bool
+  pub write : Bool
+
 pub data ReplyValue : Type 0 where
   Response : ResponseValue → ReplyValue
   -- the number of the body that was begun
@@ -48,6 +55,10 @@ pub data ReplyValue : Type 0 where
   Held : HeldValue → ReplyValue
   -- failed with this status
   Failed : ℕ → ReplyValue
+  -- a text refused for this reason
+  Refused : List ℕ → ReplyValue
+  -- what the access rules allow
+  Explained : ExplainedValue → ReplyValue
 
 -- ---- responses
 
@@ -98,6 +109,21 @@ parts_of_held h = (h.locks, h.quota)
 unfoldable pub held : Codec HeldValue
 held = as_type (pair number (optional quota)) held_of parts_of_held (λ p. refl) (λ h. refl)
 
+-- ---- what is allowed
+
+abbrev pub ExplainedParts : Type 0
+ExplainedParts = Option ℕ × (Bool × (Bool × Bool))
+
+abbrev pub explained_of : ExplainedParts → ExplainedValue
+explained_of p = record { rule = p.0; list = p.1.0; read = p.1.1.0; write = p.1.1.1 }
+
+abbrev pub parts_of_explained : ExplainedValue → ExplainedParts
+parts_of_explained x = (x.rule, (x.list, (x.read, x.write)))
+
+-- the parts in this order
+unfoldable pub explained : Codec ExplainedValue
+explained = as_type (pair (optional number) (pair flag (pair flag flag))) explained_of parts_of_explained (λ p. refl) (λ x. refl)
+
 -- ---- variants
 
 abbrev pub reply_position : ReplyValue → ℕ
@@ -109,6 +135,8 @@ reply_position Collection = 4
 reply_position (NextExpiry t) = 5
 reply_position (Held h) = 6
 reply_position (Failed status) = 7
+reply_position (Refused reason) = 8
+reply_position (Explained x) = 9
 
 abbrev pub from_response : ReplyValue → Option ResponseValue
 from_response (Response r) = Some r
@@ -142,6 +170,14 @@ abbrev pub from_failed : ReplyValue → Option ℕ
 from_failed (Failed status) = Some status
 from_failed x = None
 
+abbrev pub from_refused : ReplyValue → Option (List ℕ)
+from_refused (Refused reason) = Some reason
+from_refused x = None
+
+abbrev pub from_explained : ReplyValue → Option ExplainedValue
+from_explained (Explained x) = Some x
+from_explained x = None
+
 pub response_exact : (x : ReplyValue) (r : ResponseValue) → from_response x ≡ Some r → Response r ≡ x
 response_exact (Response s) r e = cc
 response_exact x r e = cc
@@ -174,6 +210,14 @@ pub failed_exact : (x : ReplyValue) (n : ℕ) → from_failed x ≡ Some n → F
 failed_exact (Failed m) n e = cc
 failed_exact x n e = cc
 
+pub refused_exact : (x : ReplyValue) (reason : List ℕ) → from_refused x ≡ Some reason → Refused reason ≡ x
+refused_exact (Refused other) reason e = cc
+refused_exact x reason e = cc
+
+pub explained_exact : (x : ReplyValue) (y : ExplainedValue) → from_explained x ≡ Some y → Explained y ≡ x
+explained_exact (Explained z) y e = cc
+explained_exact x y e = cc
+
 abbrev pub response_reply : Codec ReplyValue
 response_reply = variant response Response from_response (λ r. refl) (λ x r e. response_exact x r e)
 
@@ -198,11 +242,18 @@ held_reply = variant held Held from_held (λ h. refl) (λ x h e. held_exact x h 
 abbrev pub failed_reply : Codec ReplyValue
 failed_reply = variant number Failed from_failed (λ n. refl) (λ x n e. failed_exact x n e)
 
+abbrev pub refused_reply : Codec ReplyValue
+refused_reply = variant utf8_text Refused from_refused (λ reason. refl) (λ x reason e. refused_exact x reason e)
+
+abbrev pub explained_reply : Codec ReplyValue
+explained_reply = variant explained Explained from_explained (λ x. refl) (λ x y e. explained_exact x y e)
+
 -- ---- replies
 
 abbrev pub reply_variants : List (Codec ReplyValue)
 reply_variants =
-    response_reply ∷ started_reply ∷ done_reply ∷ part_reply ∷ collection_reply ∷ expiry_reply ∷ held_reply ∷ failed_reply ∷ []
+    response_reply ∷ started_reply ∷ done_reply ∷ part_reply ∷ collection_reply ∷ expiry_reply ∷ held_reply ∷ failed_reply ∷ refused_reply
+    ∷ explained_reply ∷ []
 
 -- the byte of the variant, then its content
 unfoldable pub reply : Codec ReplyValue

@@ -3,16 +3,18 @@ use Rattle.std.specs.Prelude.{ℕ, List, Option, map, option_map}
 use denote.Ref.{Bor}
 use Rattle.dav_wire.specs.declared.frame.RequestFrame.{RequestFrame}
 use Rattle.dav_wire.specs.declared.frame.ReadFrame.{ReadFrame}
+use Rattle.dav_wire.specs.declared.frame.ExplainFrame.{ExplainFrame}
 use Rattle.dav_wire.specs.declared.frame.Frame.{Frame}
 use Rattle.dav_wire.specs.declared.frame.Frame.TheVariants as given
 use Rattle.dav_wire.specs.declared.reply.ResponseFrame.{ResponseFrame}
 use Rattle.dav_wire.specs.declared.reply.FilePart.{FilePart}
 use Rattle.dav_wire.specs.declared.reply.HeldFrame.{HeldFrame}
+use Rattle.dav_wire.specs.declared.reply.ExplainedFrame.{ExplainedFrame}
 use Rattle.dav_wire.specs.declared.reply.Reply.{Reply}
 use Rattle.dav_wire.specs.declared.reply.Reply.TheVariants as answer
-use Rattle.dav_wire.specs.Frames.{RequestValue, ReadValue, FrameValue}
+use Rattle.dav_wire.specs.Frames.{RequestValue, ReadValue, ExplainValue, FrameValue}
 use Rattle.dav_wire.specs.Frames as frames
-use Rattle.dav_wire.specs.Replies.{ResponseValue, PartValue, HeldValue, ReplyValue}
+use Rattle.dav_wire.specs.Replies.{ResponseValue, PartValue, HeldValue, ExplainedValue, ReplyValue}
 use Rattle.dav_wire.specs.Replies as replies
 
 -- what an optional reference points to
@@ -48,6 +50,9 @@ read_frame_of r =
       version = behind r.version;
     }
 
+abbrev pub explain_frame_of : ExplainFrame → ExplainValue
+explain_frame_of r = record { principal = behind r.principal; path = r.path.now }
+
 abbrev pub frame_of : Frame → FrameValue
 frame_of (given.Request r) = frames.Request (request_frame_of r)
 frame_of given.StartBody = frames.StartBody
@@ -58,6 +63,8 @@ frame_of given.NextExpiry = frames.NextExpiry
 frame_of given.Held = frames.Held
 frame_of given.BeginBackup = frames.BeginBackup
 frame_of given.EndBackup = frames.EndBackup
+frame_of (given.SetRights rules) = frames.SetRights rules.now
+frame_of (given.Explain r) = frames.Explain (explain_frame_of r)
 
 abbrev pub response_frame_of : ResponseFrame → ResponseValue
 response_frame_of r =
@@ -81,6 +88,9 @@ file_part_of p =
 abbrev pub held_frame_of : HeldFrame → HeldValue
 held_frame_of h = record { locks = h.locks; quota = h.quota }
 
+abbrev pub explained_frame_of : ExplainedFrame → ExplainedValue
+explained_frame_of x = record { rule = x.rule; list = x.list; read = x.read; write = x.write }
+
 abbrev pub reply_of : Reply → ReplyValue
 reply_of (answer.Response r) = replies.Response (response_frame_of r)
 reply_of (answer.BodyStarted n) = replies.BodyStarted n
@@ -90,3 +100,5 @@ reply_of answer.Collection = replies.Collection
 reply_of (answer.NextExpiry t) = replies.NextExpiry t
 reply_of (answer.Held h) = replies.Held (held_frame_of h)
 reply_of (answer.Failed status) = replies.Failed status
+reply_of (answer.Refused reason) = replies.Refused reason.now
+reply_of (answer.Explained x) = replies.Explained (explained_frame_of x)

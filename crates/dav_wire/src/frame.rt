@@ -33,6 +33,10 @@ pub enum Frame<'a> {
     BeginBackup,
     /// End the backup.
     EndBackup,
+    /// From now on, serve by the access rules of this text, in TOML.
+    SetRights(&'a str),
+    /// What the access rules allow somebody.
+    Explain(ExplainFrame<'a>),
 }
 
 impl<'a> Frame<'a> {
@@ -80,6 +84,15 @@ pub struct RequestFrame<'a> {
     pub fields: Vec<(&'a [u8], &'a [u8])>,
     /// The body.
     pub body: ReqBody,
+}
+
+/// A question what the access rules allow a principal at a path.
+#[derive(Drop, Debug)]
+pub struct ExplainFrame<'a> {
+    /// The principal, if known.
+    pub principal: Option<&'a str>,
+    /// The path.
+    pub path: &'a str,
 }
 
 /// A read of a part of a file.

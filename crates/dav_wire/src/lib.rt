@@ -30,6 +30,10 @@
 //!   string.
 //! - 5, when the next lock expires: nothing.
 //! - 6, how much is held: nothing.
+//! - 7, begin a backup: nothing.
+//! - 8, end the backup: nothing.
+//! - 9, serve by other access rules from now on: their text, a string.
+//! - 10, what the access rules allow: the principal, an optional string; and the path, a string.
 //!
 //! The body of a request is the byte 0 for none, the byte 1 and a byte string, the byte 2 and the number of a
 //! body that the store holds, the byte 3 and an element of at most `REQUEST_LEVELS` levels, or the byte 4 for
@@ -50,6 +54,9 @@
 //! - 6, how much is held: how many locks, a number; and an optional quota, which is the bytes used, a number,
 //!   and the bytes that there may be, an optional number.
 //! - 7, the frame failed: the status, a number.
+//! - 8, the text of the frame was refused: the reason, a string.
+//! - 9, what the access rules allow: the number of the rule that decides, an optional number; and whether one may list,
+//!   read and write, three flags.
 //!
 //! # Batches
 //!
@@ -68,9 +75,9 @@ mod writer;
 
 pub use batch::{BatchHeader, ReplyHeader, read_batch};
 pub use error::WireError;
-pub use frame::{Frame, REQUEST_LEVELS, ReadFrame, RequestFrame};
+pub use frame::{ExplainFrame, Frame, REQUEST_LEVELS, ReadFrame, RequestFrame};
 pub use reader::Reader;
-pub use reply::{FilePart, HeldFrame, REPLY_LEVELS, Reply, ResponseFrame};
+pub use reply::{ExplainedFrame, FilePart, HeldFrame, REPLY_LEVELS, Reply, ResponseFrame};
 pub use writer::Writer;
 
 #[cfg(test)]

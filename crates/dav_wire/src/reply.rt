@@ -30,6 +30,10 @@ pub enum Reply<'a> {
     Held(HeldFrame),
     /// The frame failed, with this HTTP status.
     Failed(u16),
+    /// The text of a frame was refused, for this reason.
+    Refused(&'a str),
+    /// What the access rules allow.
+    Explained(ExplainedFrame),
 }
 
 impl Reply<'_> {
@@ -81,4 +85,17 @@ pub struct HeldFrame {
     pub locks: u64,
     /// How many bytes are used and, if there is a limit, how many there may be. `None` if this is unknown.
     pub quota: Option<(u64, Option<u64>)>,
+}
+
+/// What the access rules allow a principal at a path.
+#[derive(Clone, Copy, Debug)]
+pub struct ExplainedFrame {
+    /// The number of the rule that decides, from 1. `None` if none does.
+    pub rule: Option<u64>,
+    /// Whether it may list what is there.
+    pub list: bool,
+    /// Whether it may read it.
+    pub read: bool,
+    /// Whether it may write it.
+    pub write: bool,
 }

@@ -4,11 +4,11 @@ ghost use Rattle.dav_wire.specs.Numbers.{number};
 ghost use Rattle.dav_wire.specs.Values.{text};
 ghost use Rattle.dav_wire.specs.Fields.{field, fields};
 ghost use Rattle.dav_wire.specs.Bodies.{request_body};
-ghost use Rattle.dav_wire.specs.Frames.{frame, request, read, add};
-ghost use Rattle.dav_wire.specs.Views.{field_of, addition_of, request_frame_of, read_frame_of, frame_of};
+ghost use Rattle.dav_wire.specs.Frames.{frame, request, read, explain, add};
+ghost use Rattle.dav_wire.specs.Views.{field_of, addition_of, request_frame_of, read_frame_of, explain_frame_of, frame_of};
 ghost use Rattle.dav_wire.specs.Reads.{Reads, ReadsAllocating};
 
-use crate::{Frame, REQUEST_LEVELS, ReadFrame, Reader, RequestFrame, WireError};
+use crate::{ExplainFrame, Frame, REQUEST_LEVELS, ReadFrame, Reader, RequestFrame, WireError};
 use dav_resource::{BodyNumber, Items, ReqBody};
 
 impl<'a> Reader<'a> {
@@ -29,6 +29,8 @@ impl<'a> Reader<'a> {
             6 => Ok(Frame::Held),
             7 => Ok(Frame::BeginBackup),
             8 => Ok(Frame::EndBackup),
+            9 => Ok(Frame::SetRights(self.read_str()?)),
+            10 => Ok(Frame::Explain(self.read_question()?)),
             _ => Err(WireError::Malformed),
         }
     }
@@ -112,6 +114,15 @@ impl<'a> Reader<'a> {
         let number = self.read_number()?;
         let bytes = self.read_bytes()?;
         Ok((number, bytes))
+    }
+
+    /// Reads a question what the access rules allow.
+    fn read_question(&mut self) -> Result<ExplainFrame<'a>, WireError>
+        ensures { Reads explain explain_frame_of self.old result self.new }
+    {
+        let principal = self.read_optional_str()?;
+        let path = self.read_str()?;
+        Ok(ExplainFrame { principal, path })
     }
 
     /// Reads the content of a read of a part of a file.

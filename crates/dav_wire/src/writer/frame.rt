@@ -1,11 +1,11 @@
 //! Writes of frames.
 ghost use Rattle.dav_wire.specs.Bodies.{request_body};
-ghost use Rattle.dav_wire.specs.Frames.{frame, request, read, add};
+ghost use Rattle.dav_wire.specs.Frames.{frame, request, read, explain, add};
 ghost use Rattle.dav_wire.specs.Levels.{IsBodyTooDeep, IsFrameTooDeep};
-ghost use Rattle.dav_wire.specs.Views.{request_frame_of, read_frame_of, frame_of};
+ghost use Rattle.dav_wire.specs.Views.{request_frame_of, read_frame_of, explain_frame_of, frame_of};
 ghost use Rattle.dav_wire.specs.Writes.{Writes, WritesUnless};
 
-use crate::{Frame, REQUEST_LEVELS, ReadFrame, RequestFrame, WireError, Writer};
+use crate::{ExplainFrame, Frame, REQUEST_LEVELS, ReadFrame, RequestFrame, WireError, Writer};
 use dav_resource::ReqBody;
 use std::alloc::AllocError;
 
@@ -39,6 +39,14 @@ impl Writer {
             Frame::Held => self.write_u8(6)?,
             Frame::BeginBackup => self.write_u8(7)?,
             Frame::EndBackup => self.write_u8(8)?,
+            Frame::SetRights(rules) => {
+                self.write_u8(9)?;
+                self.write_str(rules)?;
+            }
+            Frame::Explain(question) => {
+                self.write_u8(10)?;
+                self.write_question(question)?;
+            }
         }
         Ok(())
     }
@@ -84,6 +92,14 @@ impl Writer {
     {
         self.write_number(number)?;
         self.write_bytes(bytes)
+    }
+
+    /// Writes a question what the access rules allow.
+    fn write_question(&mut self, question: &ExplainFrame) -> Result<(), AllocError>
+        ensures { Writes explain (explain_frame_of question.now) self.old result self.new }
+    {
+        self.write_optional_str(question.principal)?;
+        self.write_str(question.path)
     }
 
     /// Writes the content of a read of a part of a file.

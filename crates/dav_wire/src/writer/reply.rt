@@ -1,11 +1,13 @@
 //! Writes of replies.
-ghost use Rattle.dav_wire.specs.Replies.{reply, response, part, held, quota};
+ghost use Rattle.dav_wire.specs.Replies.{reply, response, part, held, quota, explained};
 ghost use Rattle.dav_wire.specs.Levels.{IsTreeTooDeep, IsReplyTooDeep};
 ghost use Rattle.dav_wire.specs.Values.{optional};
-ghost use Rattle.dav_wire.specs.Views.{behind, reply_of, response_frame_of, file_part_of, held_frame_of};
+ghost use Rattle.dav_wire.specs.Views.{behind, reply_of, response_frame_of, file_part_of, held_frame_of, explained_frame_of};
 ghost use Rattle.dav_wire.specs.Writes.{Writes, WritesUnless};
 
-use crate::{FilePart, HeldFrame, REPLY_LEVELS, Reply, ResponseFrame, WireError, Writer};
+use crate::{
+    ExplainedFrame, FilePart, HeldFrame, REPLY_LEVELS, Reply, ResponseFrame, WireError, Writer,
+};
 use std::alloc::AllocError;
 
 impl Writer {
@@ -43,6 +45,14 @@ impl Writer {
                 self.write_u8(7)?;
                 self.write_number(u64::from(*status))?;
             }
+            Reply::Refused(reason) => {
+                self.write_u8(8)?;
+                self.write_str(reason)?;
+            }
+            Reply::Explained(allowed) => {
+                self.write_u8(9)?;
+                self.write_explained(allowed)?;
+            }
         }
         Ok(())
     }
@@ -66,6 +76,16 @@ impl Writer {
         self.write_optional_str(file.version)?;
         self.write_str(file.media_type)?;
         self.write_bytes(file.bytes)
+    }
+
+    /// Writes what the access rules allow.
+    fn write_explained(&mut self, allowed: &ExplainedFrame) -> Result<(), AllocError>
+        ensures { Writes explained (explained_frame_of allowed.now) self.old result self.new }
+    {
+        self.write_optional_number(allowed.rule)?;
+        self.write_flag(allowed.list)?;
+        self.write_flag(allowed.read)?;
+        self.write_flag(allowed.write)
     }
 
     /// Writes how much is held.

@@ -1,6 +1,7 @@
 use Rattle.std.proofs.Common.{refl, arith, ◌≤◌}
 use Rattle.dav_wire.specs.Numbers.{byte, number}
-use Rattle.dav_wire.specs.Frames.{request, add, read, frame, frame_position, frame_variants}
+use Rattle.dav_wire.specs.Values.{utf8_text}
+use Rattle.dav_wire.specs.Frames.{request, add, read, explain, frame, frame_position, frame_variants}
 use Rattle.dav_wire.specs.Views.{frame_of}
 use Rattle.dav_wire.proofs.ListLemmas.{unknown_variant}
 use Rattle.dav_wire.proofs.NodeLemmas.{is_read}
@@ -77,8 +78,30 @@ pub returns-in-8 : goal.returns-in-8
 unfolding frame
 returns-in-8 c = rw (is_read c.args.self.now _ 8 _ c.in-8.is c.in_ok-read_u8.ensures) refl
 
+pub returns-in_err-read_str-in-9 : goal.returns-in_err-read_str-in-9
+unfolding frame
+returns-in_err-read_str-in-9 c =
+    stops_allocating utf8_text frame frame_of c.args.self.now c.read_u8.new.self _ c.from_residual-in_err-read_str-in-9.result c.in_err-read_str-in-9.field-0.0 c.from_residual-in_err-read_str-in-9.ensures.1
+    (λ none. rw (is_read c.args.self.now _ 9 _ c.in-9.is c.in_ok-read_u8.ensures, none) refl) (may_allocate utf8_text c.read_u8.new.self _ c.in_err-read_str-in-9.ensures)
+
+pub returns-in_ok-read_str-in-9 : goal.returns-in_ok-read_str-in-9
+unfolding frame
+returns-in_ok-read_str-in-9 c =
+    rw (is_read c.args.self.now _ 9 _ c.in-9.is c.in_ok-read_u8.ensures, c.in_ok-read_str-in-9.ensures) refl
+
+pub returns-in_err-read_question-in-10 : goal.returns-in_err-read_question-in-10
+unfolding frame
+returns-in_err-read_question-in-10 c =
+    stops_allocating explain frame frame_of c.args.self.now c.read_u8.new.self _ c.from_residual-in_err-read_question-in-10.result c.in_err-read_question-in-10.field-0.0 c.from_residual-in_err-read_question-in-10.ensures.1
+    (λ none. rw (is_read c.args.self.now _ 10 _ c.in-10.is c.in_ok-read_u8.ensures, none) refl) (may_allocate explain c.read_u8.new.self _ c.in_err-read_question-in-10.ensures)
+
+pub returns-in_ok-read_question-in-10 : goal.returns-in_ok-read_question-in-10
+unfolding frame
+returns-in_ok-read_question-in-10 c =
+    rw (is_read c.args.self.now _ 10 _ c.in-10.is c.in_ok-read_u8.ensures, c.in_ok-read_question-in-10.ensures) refl
+
 pub returns-in_default : goal.returns-in_default
 unfolding frame
 returns-in_default c =
-    let other : 9 ≤ c.in_ok-read_u8.field-0 = omega arith in
+    let other : 11 ≤ c.in_ok-read_u8.field-0 = omega arith in
     unknown_variant frame_position frame_variants c.args.self.now c.in_ok-read_u8.field-0 c.read_u8.new.self c.in_ok-read_u8.ensures other

@@ -1,10 +1,11 @@
 use Rattle.std.proofs.Common.{refl, true, [], ◌∷◌}
 use Rattle.std.proofs.lemmas.Bool.{and_from}
 use Rattle.dav_wire.specs.Numbers.{byte, number}
-use Rattle.dav_wire.specs.Frames.{frame, request, read, add}
+use Rattle.dav_wire.specs.Values.{utf8_text}
+use Rattle.dav_wire.specs.Frames.{frame, request, read, explain, add}
 use Rattle.dav_wire.specs.Frames as frames
 use Rattle.dav_wire.specs.Levels.{IsBodyTooDeep}
-use Rattle.dav_wire.specs.Views.{request_frame_of, read_frame_of}
+use Rattle.dav_wire.specs.Views.{request_frame_of, read_frame_of, explain_frame_of}
 use Rattle.dav_wire.proofs.WriteLemmas.{appends_as, appends_after, writes_unless_after}
 use Rattle.dav_wire.proofs.writer.Writer.write_frame.Goals as goal
 
@@ -66,3 +67,17 @@ unfolding frame
 returns-in_ok-write_u8-in-EndBackup c =
     rw c.in-EndBackup.is
     (appends_as byte frame 8 frames.EndBackup c.args.self.now c.write_u8-in-EndBackup.new.self (λ ok. refl) refl c.in_ok-write_u8-in-EndBackup.ensures)
+
+pub returns-in_ok-write_str-in-SetRights : goal.returns-in_ok-write_str-in-SetRights
+unfolding frame
+returns-in_ok-write_str-in-SetRights c =
+    rw c.in-SetRights.is
+    (appends_after utf8_text frame c.in-SetRights.rules.now (frames.SetRights c.in-SetRights.rules.now) c.args.self.now c.write_u8-in-SetRights.new.self c.write_str.new.self (9 ∷ [])
+    c.in_ok-write_u8-in-SetRights.ensures.is (λ ok. and_from (utf8_text.is_valid c.in-SetRights.rules.now) true ok refl) refl c.in_ok-write_str-in-SetRights.ensures)
+
+pub returns-in_ok-write_question-in-Explain : goal.returns-in_ok-write_question-in-Explain
+unfolding frame
+returns-in_ok-write_question-in-Explain c =
+    rw c.in-Explain.is
+    (appends_after explain frame (explain_frame_of c.in-Explain.question) (frames.Explain (explain_frame_of c.in-Explain.question)) c.args.self.now c.write_u8-in-Explain.new.self c.write_question.new.self (10 ∷ [])
+    c.in_ok-write_u8-in-Explain.ensures.is (λ ok. and_from (explain.is_valid (explain_frame_of c.in-Explain.question)) true ok refl) refl c.in_ok-write_question-in-Explain.ensures)

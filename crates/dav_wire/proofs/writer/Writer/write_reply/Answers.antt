@@ -1,11 +1,11 @@
 use Rattle.std.proofs.Common.{refl, true, [], ◌∷◌}
 use Rattle.std.proofs.lemmas.Bool.{and_from}
 use Rattle.dav_wire.specs.Numbers.{byte, number}
-use Rattle.dav_wire.specs.Values.{optional}
+use Rattle.dav_wire.specs.Values.{optional, utf8_text}
 use Rattle.dav_wire.specs.Levels.{IsTreeTooDeep}
-use Rattle.dav_wire.specs.Replies.{reply, response, part, held}
+use Rattle.dav_wire.specs.Replies.{reply, response, part, held, explained}
 use Rattle.dav_wire.specs.Replies as replies
-use Rattle.dav_wire.specs.Views.{response_frame_of, file_part_of, held_frame_of}
+use Rattle.dav_wire.specs.Views.{response_frame_of, file_part_of, held_frame_of, explained_frame_of}
 use Rattle.dav_wire.proofs.WriteLemmas.{appends_as, appends_after, writes_unless_after}
 use Rattle.dav_wire.proofs.writer.Writer.write_reply.Goals as goal
 
@@ -63,3 +63,17 @@ returns-in_ok-write_number-in-Failed c =
     rw c.in-Failed.is
     (appends_after number reply c.in-Failed.status (replies.Failed c.in-Failed.status) c.args.self.now c.write_u8-in-Failed.new.self c.write_number-in-Failed.new.self (7 ∷ [])
     c.in_ok-write_u8-in-Failed.ensures.is (λ ok. and_from (number.is_valid c.in-Failed.status) true ok refl) refl (rw c.from.ensures at c.in_ok-write_number-in-Failed.ensures))
+
+pub returns-in_ok-write_str-in-Refused : goal.returns-in_ok-write_str-in-Refused
+unfolding reply
+returns-in_ok-write_str-in-Refused c =
+    rw c.in-Refused.is
+    (appends_after utf8_text reply c.in-Refused.reason.now (replies.Refused c.in-Refused.reason.now) c.args.self.now c.write_u8-in-Refused.new.self c.write_str.new.self (8 ∷ [])
+    c.in_ok-write_u8-in-Refused.ensures.is (λ ok. and_from (utf8_text.is_valid c.in-Refused.reason.now) true ok refl) refl c.in_ok-write_str-in-Refused.ensures)
+
+pub returns-in_ok-write_explained-in-Explained : goal.returns-in_ok-write_explained-in-Explained
+unfolding reply
+returns-in_ok-write_explained-in-Explained c =
+    rw c.in-Explained.is
+    (appends_after explained reply (explained_frame_of c.in-Explained.allowed) (replies.Explained (explained_frame_of c.in-Explained.allowed)) c.args.self.now c.write_u8-in-Explained.new.self c.write_explained.new.self (9 ∷ [])
+    c.in_ok-write_u8-in-Explained.ensures.is (λ ok. and_from (explained.is_valid (explained_frame_of c.in-Explained.allowed)) true ok refl) refl c.in_ok-write_explained-in-Explained.ensures)
