@@ -6,12 +6,13 @@ use Rattle.std.proofs.KnownBytes.{Appends-kept}
 use base.Stored.{Gv}
 use Rattle.dav_store.specs.Locks.{Locks}
 use Rattle.dav_store.specs.Store.{Store}
-use Rattle.dav_engine.specs.DavInner.{lent, lent_locks, has_locks}
+use Rattle.dav_engine.specs.DavInner.{lent_locks, has_locks}
+use Rattle.dav_rights.specs.Access.{written_rules}
 use Rattle.dav_server.specs.Batches.{BatchAnswer, Exchange}
 use Rattle.dav_server.specs.Exchanges.{answer_bytes, bytes_out, InOrder, Ends, ReadsAndAnswers}
 use Rattle.dav_server.specs.Keeping.{IsAnsweredAndSaved, ExchangesAndSaves, AreSavedRun, snapshot_of, IsKept, IsKeptSince, StaysKept, LastsEither, IsKeptAfter, RunsAndKeeps, IsKeptOrNow, KeepsBatch, KeepsLast, StopsInsideKept, StopsAfterKept}
 use Rattle.dav_server.specs.Snapshots.{Snapshot, snapshot_at, state_at, saved_of, IsResaved, KeepsOne}
-use Rattle.dav_server.specs.State.{Rules, ServerState, state_of}
+use Rattle.dav_server.specs.State.{Rules, ServerState, at_rest, state_of, store_in}
 use Rattle.dav_server.specs.declared.server.Server.{Server}
 use Rattle.dav_server.proofs.Lasting.{lasting, is_some-map, batch_lasts}
 use Rattle.dav_server.proofs.ReadingBack.{saved_run}
@@ -30,14 +31,14 @@ by_locks (Some locks) there goal = goal locks refl
 
 module _ {F L : Type 0} where
   snapshot_is : (server : Server F L) (locks : L) → lent_locks server.engine ≡ Some locks
-      → snapshot_of server ≡ Some (snapshot_at (lent server.engine) locks server.now server.last)
-  snapshot_is server locks is = ap (option_map (λ l. snapshot_at (lent server.engine) l server.now server.last)) is
+      → snapshot_of server ≡ Some (snapshot_at (store_in server) locks server.now server.last)
+  snapshot_is server locks is = ap (option_map (λ l. snapshot_at (store_in server) l server.now server.last)) is
 
   -- what a snapshot of a server says of it
   module _ (see_store : F → Store) (see_locks : L → Locks) where
     record Shows (server : Server F L) (snapshot : Snapshot F L) : Type 0 where
-      state : state_at see_store see_locks snapshot ≡ state_of see_store see_locks server
-      store : lent server.engine ≡ snapshot.store
+      state : state_at see_store see_locks (written_rules server.rights) snapshot ≡ state_of see_store see_locks server
+      store : store_in server ≡ snapshot.store
       there : has_locks server.engine ≡ true
 
     shown : (server : Server F L) (snapshot : Snapshot F L) → snapshot_of server ≡ Some snapshot → Shows server snapshot
@@ -45,12 +46,13 @@ module _ {F L : Type 0} where
       where
         by_there : (o : Option L) → lent_locks server.engine ≡ o → Shows server snapshot
         by_there None none =
-            let no : None ≡ Some snapshot = sym (ap (option_map (λ l. snapshot_at (lent server.engine) l server.now server.last)) none) ∙ is in absurd cc
+            let no : None ≡ Some snapshot = sym (ap (option_map (λ l. snapshot_at (store_in server) l server.now server.last)) none) ∙ is in absurd cc
         by_there (Some locks) some =
-            let both : Some (snapshot_at (lent server.engine) locks server.now server.last) ≡ Some snapshot = sym (snapshot_is server locks some) ∙ is in
-            let same : snapshot_at (lent server.engine) locks server.now server.last ≡ snapshot = cc in
+            let both : Some (snapshot_at (store_in server) locks server.now server.last) ≡ Some snapshot = sym (snapshot_is server locks some) ∙ is in
+            let same : snapshot_at (store_in server) locks server.now server.last ≡ snapshot = cc in
             record {
-              state = ap (state_at see_store see_locks) (sym same) ∙ ap (λ o. record { seen = record { store = (state_of see_store see_locks server).seen.store; locks = option_map see_locks o }; now = server.now; last = server.last }) (sym some);
+              state = ap (state_at see_store see_locks (written_rules server.rights)) (sym same)
+                  ∙ ap (λ o. record (state_of see_store see_locks server) { seen = record { store = at_rest (see_store (store_in server)); locks = option_map see_locks o } }) (sym some);
               store = ap (λ (s : Snapshot F L). s.store) same;
               there = ap is_some some;
             }
@@ -60,8 +62,8 @@ module _ {F L : Type 0} where
 module _ {F L K : Type 0} (see_store : F → Store) (lasts : K → Gv → Snapshot F L → Type 0) (same : Snapshot F L → Snapshot F L → Type 0) where
   -- what is saved of the store is as before
   lasted : (keeper : K) (earlier : Snapshot F L) (old next : Server F L) (see_locks : L → Locks)
-      → saved_of (see_store (lent next.engine)) ≡ saved_of (see_store (lent old.engine))
-      → IsKeptSince see_store lasts same keeper earlier old → lasts keeper (saved_of (see_store (lent next.engine))) earlier
+      → saved_of (see_store (store_in next)) ≡ saved_of (see_store (store_in old))
+      → IsKeptSince see_store lasts same keeper earlier old → lasts keeper (saved_of (see_store (store_in next))) earlier
   lasted keeper earlier old next see_locks as_before since =
       subst (λ saved. lasts keeper saved earlier)
       (sym (as_before ∙ ap (λ s. saved_of (see_store s)) (shown see_store see_locks old since.snapshot since.is).store)) since.kept
@@ -73,25 +75,25 @@ module _ {F L K : Type 0} (see_store : F → Store) (lasts : K → Gv → Snapsh
 
   pub keeps_now : {T E : Type 0} (r : Result T E) (keeper keeper' : K) (old new : Server F L)
       → lent_locks new.engine ≡ lent_locks old.engine → OnOk r (has_locks old.engine ≡ true)
-      → OnOk r ((before : Snapshot F L) (locks : L) → lasts keeper (saved_of (see_store (lent old.engine))) before → lent_locks old.engine ≡ Some locks
-      → KeepsOne lasts same keeper' (saved_of (see_store (lent new.engine))) before (snapshot_at (lent new.engine) locks new.now new.last))
-      → OnOk r ((before : Snapshot F L) → lasts keeper (saved_of (see_store (lent old.engine))) before → StaysKept see_store lasts same keeper' before new)
+      → OnOk r ((before : Snapshot F L) (locks : L) → lasts keeper (saved_of (see_store (store_in old))) before → lent_locks old.engine ≡ Some locks
+      → KeepsOne lasts same keeper' (saved_of (see_store (store_in new))) before (snapshot_at (store_in new) locks new.now new.last))
+      → OnOk r ((before : Snapshot F L) → lasts keeper (saved_of (see_store (store_in old))) before → StaysKept see_store lasts same keeper' before new)
   keeps_now (Err e) keeper keeper' old new locks there ok = tt
   keeps_now (Ok x) keeper keeper' old new as_before there ok =
       λ before lasted. by_locks (lent_locks old.engine) there
-      (λ locks is. stays keeper' before (snapshot_at (lent new.engine) locks new.now new.last) new (snapshot_is new locks (as_before ∙ is)) (ok before locks lasted is))
+      (λ locks is. stays keeper' before (snapshot_at (store_in new) locks new.now new.last) new (snapshot_is new locks (as_before ∙ is)) (ok before locks lasted is))
 
 module _ {F L K : Type 0} (see_store : F → Store) (lasts : K → Gv → Snapshot F L → Type 0) (lasts_either : K → Gv → Snapshot F L → Snapshot F L → Type 0) where
   pub keeps_either : {T E : Type 0} (r : Result T E) (keeper keeper' : K) (old new : Server F L)
       → lent_locks new.engine ≡ lent_locks old.engine
-      → OnErr r ((before : Snapshot F L) (locks : L) → lasts keeper (saved_of (see_store (lent old.engine))) before → lent_locks old.engine ≡ Some locks
-      → lasts_either keeper' (saved_of (see_store (lent new.engine))) before (snapshot_at (lent new.engine) locks new.now new.last))
-      → OnErr r ((before : Snapshot F L) → lasts keeper (saved_of (see_store (lent old.engine))) before → has_locks old.engine ≡ true
+      → OnErr r ((before : Snapshot F L) (locks : L) → lasts keeper (saved_of (see_store (store_in old))) before → lent_locks old.engine ≡ Some locks
+      → lasts_either keeper' (saved_of (see_store (store_in new))) before (snapshot_at (store_in new) locks new.now new.last))
+      → OnErr r ((before : Snapshot F L) → lasts keeper (saved_of (see_store (store_in old))) before → has_locks old.engine ≡ true
       → LastsEither see_store lasts_either keeper' before new)
   keeps_either (Ok x) keeper keeper' old new same err = tt
   keeps_either (Err e) keeper keeper' old new same err =
       λ before lasted there. by_locks (lent_locks old.engine) there
-      (λ locks is. record { snapshot = snapshot_at (lent new.engine) locks new.now new.last; is = snapshot_is new locks (same ∙ is); kept = err before locks lasted is })
+      (λ locks is. record { snapshot = snapshot_at (store_in new) locks new.now new.last; is = snapshot_is new locks (same ∙ is); kept = err before locks lasted is })
 
 -- what is kept still, or now, is in one of two snapshots, by the laws of the keeper
 either_of : {F L K : Type 0} (see_store : F → Store) (lasts : K → Gv → Snapshot F L → Type 0) (lasts_either : K → Gv → Snapshot F L → Snapshot F L → Type 0)
@@ -119,7 +121,7 @@ module _ {F L K : Type 0} (see_store : F → Store) (see_locks : L → Locks) (i
 
     -- the snapshot that was kept, while the store is that of the server between
     pub still_lasts : (keeper : K) (earlier : Snapshot F L) → IsKeptSince see_store lasts same keeper earlier old
-        → lasts keeper (saved_of (see_store (lent next.engine))) earlier
+        → lasts keeper (saved_of (see_store (store_in next))) earlier
     still_lasts keeper earlier since = lasted see_store lasts same keeper earlier old next see_locks (ap (λ p. p.0) same_lasting) since
 
     still_there : (keeper : K) (earlier : Snapshot F L) → IsKeptSince see_store lasts same keeper earlier old → has_locks next.engine ≡ true
@@ -143,7 +145,7 @@ module _ {F L K : Type 0} (see_store : F → Store) (see_locks : L → Locks) (i
 
       -- the keeper fails, and nothing is written
       pub stops_unkept : {T E : Type 0} (r : Result T E) (keeper keeper' : K) (output : Option (List ℕ))
-          → ((before : Snapshot F L) → lasts keeper (saved_of (see_store (lent next.engine))) before → has_locks next.engine ≡ true
+          → ((before : Snapshot F L) → lasts keeper (saved_of (see_store (store_in next))) before → has_locks next.engine ≡ true
           → LastsEither see_store lasts_either keeper' before new)
           → OnErr r (StopsInsideKept see_store see_locks lasts lasts_either same is_honest rules keeper keeper' old new output output)
       stops_unkept (Ok x) keeper keeper' output either = tt
@@ -158,7 +160,7 @@ module _ {F L K : Type 0} (see_store : F → Store) (see_locks : L → Locks) (i
       pub stops_unwritten : {T E : Type 0} (r : Result T E) (keeper keeper' : K) (output output' : Option (List ℕ))
           → ((keeper : K) (saved : Gv) (one other : Snapshot F L) → lasts keeper saved one → lasts_either keeper saved one other)
           → ((keeper : K) (saved : Gv) (one other : Snapshot F L) → lasts keeper saved other → lasts_either keeper saved one other)
-          → ((before : Snapshot F L) → lasts keeper (saved_of (see_store (lent next.engine))) before → StaysKept see_store lasts same keeper' before new)
+          → ((before : Snapshot F L) → lasts keeper (saved_of (see_store (store_in next))) before → StaysKept see_store lasts same keeper' before new)
           → OnErr r (StopsInsideKept see_store see_locks lasts lasts_either same is_honest rules keeper keeper' old new output output')
       stops_unwritten (Ok x) keeper keeper' output output' first second now = tt
       stops_unwritten (Err e) keeper keeper' output output' first second now =
@@ -206,6 +208,7 @@ module _ {F L K : Type 0} (see_store : F → Store) (see_locks : L → Locks) (i
         passed = record {
           first = exchanges;
           rest = [];
+          rights = written_rules server.rights;
           all = sym (append-nil exchanges);
           before = subst (InOrder (IsAnsweredAndSaved see_store is_honest rules) exchanges old) (sym state) answered;
           after = sym state;
@@ -230,6 +233,7 @@ module _ {F L K : Type 0} (see_store : F → Store) (see_locks : L → Locks) (i
             passed = record {
               first = passed.first;
               rest = passed.rest ++ more;
+              rights = passed.rights;
               all = is ∙ ap (λ (xs : List Exchange). xs ++ more) passed.all ∙ append_assoc passed.first passed.rest more;
               before = passed.before;
               after = InOrder-append (IsAnsweredAndSaved see_store is_honest rules) passed.rest more _ _ _ passed.after others;

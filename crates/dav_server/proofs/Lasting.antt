@@ -8,9 +8,11 @@ use Rattle.dav_store.specs.Store.{Store}
 use Rattle.dav_messages.specs.Reply.{Answer}
 use Rattle.dav_wire.specs.Frames.{RequestValue}
 use Rattle.dav_server.specs.Batches.{BatchAnswer, AnswersBatch, begun}
-use Rattle.dav_server.specs.Events.{Action, Malformed, OutOfMemory, BodyStarted, BodyExtended, BodyDropped, FileRead, ExpiryReturned, HeldReturned, BackupBegun, BackupEnded, Rejected, Served, Acts, Event, LocksExpired, Does, Happens, Happen, events_of, ServesRequest}
+use Rattle.dav_server.specs.Events.{Action, Malformed, OutOfMemory, BodyStarted, BodyExtended, BodyDropped, FileRead, ExpiryReturned, HeldReturned, BackupBegun, BackupEnded, RightsRead, RightsExplained, Rejected, Served, Acts, Event, LocksExpired, Does, Happens, Happen, events_of, ServesRequest}
 use Rattle.dav_server.specs.Snapshots.{saved_of}
 use Rattle.dav_server.specs.State.{Rules, ServerState}
+use Rattle.dav_server.proofs.Reactions.{rights_keep}
+use Rattle.dav_engine.specs.State.{Seen}
 use Rattle.dav_wire.specs.declared.batch.BatchHeader.{BatchHeader}
 
 -- what is saved of the store, and whether there is a lock system
@@ -47,6 +49,8 @@ module _ {F : Type 0} (see_store : F → Store) (is_honest : F → Bool) (rules 
   action_lasts (HeldReturned reply) old new acts = ap lasting acts.0
   action_lasts BackupBegun old new acts = ap lasting acts
   action_lasts BackupEnded old new acts = ap lasting acts
+  action_lasts (RightsRead text reply) old new acts = ap (λ (s : Seen). (saved_of s.store, is_some s.locks)) (rights_keep text reply old new acts)
+  action_lasts (RightsExplained asked reply) old new acts = ap lasting acts.0
   action_lasts (Rejected frame e) old new acts = ap lasting acts.0
   action_lasts (Served frame request answer) old new acts = request_lasts rules frame request answer old new acts
 

@@ -10,3 +10,4 @@ pub mod ReadingBack
 pub mod StreamRuns
 pub mod Lasting
 pub mod KeptRuns
+pub mod RightsReplies

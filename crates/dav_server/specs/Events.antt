@@ -1,8 +1,10 @@
 -- What a server does, one event after the other. What each event does is this project's own choice, except that requests are served by the engine.
 use Rattle.std.specs.Prelude.{◌≡◌, ◌⊎◌, ℕ, Bool, true, false, List, [], ◌∷◌, flat_map, Option, Some, None, Result, Ok, Err}
 use Rattle.std.specs.Option.{option_map_or}
-use Rattle.dav_resource.specs.Errors.{fs_status}
+use Rattle.dav_key.specs.Key.{Key}
+use Rattle.dav_resource.specs.Errors.{dav_status, fs_status}
 use Rattle.dav_resource.specs.Methods.{method_of}
+use Rattle.dav_resource.specs.PathText.{PathValue, read_path}
 use Rattle.dav_resource.specs.declared.error.DavError.{DavError}
 use Rattle.dav_resource.specs.declared.error.DavError.TheVariants.{Memory, Status}
 use Rattle.dav_resource.specs.declared.error.FsError.{FsError}
@@ -10,18 +12,22 @@ use Rattle.dav_resource.specs.declared.request.DavRequest.{DavRequest}
 use Rattle.dav_store.specs.BodyCalls.{StartsBody, AddsToBody, with_body}
 use Rattle.dav_store.specs.Store.{Store}
 use Rattle.dav_memls.specs.Expiry.{earliest_expiry}
+use Rattle.dav_rights.specs.Access.{explanation_by, rights_under}
+use Rattle.dav_rights.specs.declared.rule.Rule.{Rule}
+use Rattle.dav_rights.specs.declared.rules.WrittenRule.{WrittenRule}
+use Rattle.dav_rules.specs.Rules.{HasRules, HasNoRules}
 use Rattle.dav_messages.specs.Reply.{Answer}
 use Rattle.dav_engine.specs.State.{Seen}
 use Rattle.dav_engine.specs.Step.{Serves}
-use Rattle.dav_wire.specs.Frames.{RequestValue, ReadValue, FrameValue}
+use Rattle.dav_wire.specs.Frames.{RequestValue, ReadValue, ExplainValue, FrameValue}
 use Rattle.dav_wire.specs.Frames as frames
-use Rattle.dav_wire.specs.Replies.{ReplyValue}
+use Rattle.dav_wire.specs.Replies.{ReplyValue, ExplainedValue}
 use Rattle.dav_wire.specs.Replies as replies
 use Rattle.dav_server.specs.Owners.{is_forbidden}
 use Rattle.dav_server.specs.Parts.{ReadsFile}
 use Rattle.dav_server.specs.Replies.{response_of, IsHeld}
 use Rattle.dav_server.specs.Requests.{IsRequest, IsUnfit}
-use Rattle.dav_server.specs.State.{Rules, ServerState, unlogged_seen, settings_at, locks_at, with_store, after_expiry}
+use Rattle.dav_server.specs.State.{Rules, ServerState, seen_for, seen_at_rest, settings_at, locks_at, with_store, after_expiry}
 
 -- what is done for a frame
 pub data Action : Type 0 where
@@ -41,6 +47,10 @@ pub data Action : Type 0 where
   -- a backup begins, or ends
   BackupBegun : Action
   BackupEnded : Action
+  -- the access rules of this text are to be served by
+  RightsRead : List ℕ → ReplyValue → Action
+  -- what the access rules allow is explained
+  RightsExplained : ExplainValue → ReplyValue → Action
   -- a request is rejected before the engine, or served by the engine
   Rejected : RequestValue → DavError → Action
   Served : RequestValue → DavRequest → Answer → Action
@@ -64,6 +74,8 @@ frame_of (ExpiryReturned time) = Some frames.NextExpiry
 frame_of (HeldReturned reply) = Some frames.Held
 frame_of BackupBegun = Some frames.BeginBackup
 frame_of BackupEnded = Some frames.EndBackup
+frame_of (RightsRead text reply) = Some (frames.SetRights text)
+frame_of (RightsExplained asked reply) = Some (frames.Explain asked)
 frame_of (Rejected frame e) = Some (frames.Request frame)
 frame_of (Served frame request answer) = Some (frames.Request frame)
 
@@ -88,6 +100,8 @@ reply_of (ExpiryReturned time) = replies.NextExpiry time
 reply_of (HeldReturned reply) = reply
 reply_of BackupBegun = replies.Done
 reply_of BackupEnded = replies.Done
+reply_of (RightsRead text reply) = reply
+reply_of (RightsExplained asked reply) = reply
 reply_of (Rejected frame e) = replies.Response (response_of (Err e))
 reply_of (Served frame request answer) = replies.Response (response_of answer)
 
@@ -103,23 +117,41 @@ pub record OnStore (Change : Store → Store → Type 0) (old new : ServerState)
   pub change : Change old.seen.store new.seen.store
   pub same : new ≡ with_store old new.seen.store
 
--- the request of the frame names a lock of another principal
-pub record NamesAnothers (rules : Rules) (state : ServerState) (frame : RequestValue) : Type 0 where
+-- the access rules are those of the text; or it has none, or memory runs out, and nothing changes
+abbrev pub ReadsRights : List ℕ → ReplyValue → ServerState → ServerState → Type 0
+ReadsRights text replies.Done old new = (rules : List WrittenRule) × HasRules text rules × (new ≡ record old { rights = Some rules })
+ReadsRights text (replies.Refused reason) old new = HasNoRules text × (new ≡ old)
+ReadsRights text (replies.Failed status) old new = (status ≡ 507) × (new ≡ old)
+ReadsRights text _ old new = ⊥
+
+-- what these rules allow at a key, and the number of the rule that decides
+abbrev pub explained_by : Option (List Rule) → Key → ExplainedValue
+explained_by rights key =
+    let is = explanation_by rights key in
+    record { rule = is.rule; list = is.allowed.list; read = is.allowed.read; write = is.allowed.write }
+
+-- the reply to such a question; its path may be no path of this server, which has the status of that error; or memory runs out (507)
+abbrev pub Explains : Result PathValue DavError → Option (List WrittenRule) → ExplainValue → ReplyValue → Type 0
+Explains (Ok path) rights asked reply = (reply ≡ replies.Explained (explained_by (rights_under rights asked.principal) path.key)) ⊎ (reply ≡ replies.Failed 507)
+Explains (Err e) rights asked reply = (reply ≡ replies.Failed (dav_status e)) ⊎ (reply ≡ replies.Failed 507)
+
+-- the request of the frame names a lock of another principal, or is for a lock that the access rights do not allow
+pub record AsksForbidden (rules : Rules) (state : ServerState) (frame : RequestValue) : Type 0 where
   pub request : DavRequest
   pub is : IsRequest rules.prefix state.now frame request
   pub forbidden : is_forbidden rules state request ≡ true
 
--- why a request is rejected before the engine: memory runs out, the frame carries no request, or it names a lock of another principal (403)
+-- why a request is rejected before the engine: memory runs out, the frame carries no request, or it asks what is forbidden (403)
 abbrev pub IsRejected : Rules → ServerState → RequestValue → DavError → Type 0
-IsRejected rules state frame e = (e ≡ Memory) ⊎ IsUnfit rules.prefix frame e ⊎ ((e ≡ Status 403) × NamesAnothers rules state frame)
+IsRejected rules state frame e = (e ≡ Memory) ⊎ IsUnfit rules.prefix frame e ⊎ ((e ≡ Status 403) × AsksForbidden rules state frame)
 
--- the engine serves the request (`Serves`), and then the log is emptied
+-- the engine serves the request (`Serves`) on what its principal sees of the store, and then the log is emptied
 pub record Executes (rules : Rules) (request : DavRequest) (answer : Answer) (old new : ServerState) : Type 0 where
   pub after : Seen
-  pub served : Serves (method_of request.method) (settings_at rules old) old.seen request answer after
-  pub emptied : new ≡ record old { seen = unlogged_seen after }
+  pub served : Serves (method_of request.method) (settings_at rules (seen_for old request.principal)) (seen_for old request.principal) request answer after
+  pub emptied : new ≡ record old { seen = seen_at_rest after }
 
--- the request of the frame, at the server's time, names no lock of another principal, and is executed
+-- the request of the frame, at the server's time, asks nothing that is forbidden, and is executed
 pub record ServesRequest (rules : Rules) (frame : RequestValue) (request : DavRequest) (answer : Answer) (old new : ServerState) : Type 0 where
   pub is : IsRequest rules.prefix old.now frame request
   pub allowed : is_forbidden rules old request ≡ false
@@ -144,6 +176,8 @@ module _ {F : Type 0} (see_store : F → Store) (is_honest : F → Bool) where
   Acts rules (HeldReturned reply) old new = (new ≡ old) × IsHeld old reply
   Acts rules BackupBegun old new = new ≡ old
   Acts rules BackupEnded old new = new ≡ old
+  Acts rules (RightsRead text reply) old new = ReadsRights text reply old new
+  Acts rules (RightsExplained asked reply) old new = (new ≡ old) × Explains (read_path asked.path rules.prefix) old.rights asked reply
   Acts rules (Rejected frame e) old new = (new ≡ old) × IsRejected rules old frame e
   Acts rules (Served frame request answer) old new = ServesRequest rules frame request answer old new
 

@@ -130,22 +130,27 @@ module _ {F : Type 0} (is_honest : F → Bool) where
 abbrev pub joined : List (List Action) → List Action
 joined actions = flat_map (λ each. each) actions
 
+-- the access rights stay as they are, and the store as `Stays` says
+pub record IsQuiet (Stays : Store → Store → Type 0) (old new : ServerState) : Type 0 where
+  pub store : Stays old.seen.store new.seen.store
+  pub rights : new.rights ≡ old.rights
+
 -- the store stays as it is
 abbrev pub IsSameStore : Store → Store → Type 0
 IsSameStore old new = new ≡ old
 
 -- `Stays` says how the store may differ where no action is done
 module _ {F : Type 0} (see_store : F → Store) (is_honest : F → Bool) (Stays : Store → Store → Type 0) where
-  -- actions in order; before, between and after them the time, the number of the last batch and the locks may change, and the store as `Stays` says
+  -- actions in order; before, between and after them the time, the number of the last batch and the locks may change, and the store as `Stays` says, but
+  -- not the access rights
   abbrev pub ActInOrder : Rules → List Action → ServerState → ServerState → Type 0
-  ActInOrder rules [] old new = Stays old.seen.store new.seen.store
+  ActInOrder rules [] old new = IsQuiet Stays old new
   ActInOrder rules (action ∷ actions) old new =
-      (before after : ServerState)
-      × Stays old.seen.store before.seen.store × Acts see_store is_honest rules action before after × ActInOrder rules actions after new
+      (before after : ServerState) × IsQuiet Stays old before × Acts see_store is_honest rules action before after × ActInOrder rules actions after new
 
   -- the exchanges as one list of actions, for each exchange its own, in which what a PUT wrote is what a later read returns
   pub record AreOneRun (rules : Rules) (exchanges : List Exchange) (old new : ServerState) : Type 0 where
     pub actions : List (List Action)
     pub of : AllZip AreFor exchanges actions
     pub in_order : ActInOrder rules (joined actions) old new
-    pub reads_back : ReadsBack is_honest (settings_at rules old) (joined actions)
+    pub reads_back : ReadsBack is_honest (settings_at rules old.seen) (joined actions)

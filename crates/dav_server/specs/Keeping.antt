@@ -4,12 +4,13 @@ use Rattle.std.specs.Io.KnownBytes.{Appends, Keeps}
 use base.Stored.{Gv}
 use Rattle.dav_store.specs.Locks.{Locks}
 use Rattle.dav_store.specs.Store.{Store}
-use Rattle.dav_engine.specs.DavInner.{lent, lent_locks}
+use Rattle.dav_engine.specs.DavInner.{lent_locks}
+use Rattle.dav_rights.specs.declared.rules.WrittenRule.{WrittenRule}
 use Rattle.dav_server.specs.Batches.{Exchange}
 use Rattle.dav_server.specs.Exchanges.{bytes_out, InOrder, ExchangesBy, StopsBy, RunsBy, IsAnswered}
 use Rattle.dav_server.specs.Guarantees.{AreOneRun}
 use Rattle.dav_server.specs.Snapshots.{Snapshot, snapshot_at, state_at, saved_of, OnlySavedDiffers, IsResaved}
-use Rattle.dav_server.specs.State.{Rules, ServerState, state_of}
+use Rattle.dav_server.specs.State.{Rules, ServerState, state_of, store_in}
 use Rattle.dav_server.specs.declared.server.Server.{Server}
 
 -- ---- exchanges
@@ -38,7 +39,7 @@ module _ {F : Type 0} (see_store : F → Store) (is_honest : F → Bool) where
 module _ {F L : Type 0} where
   -- the snapshot of a server, if it has a lock system
   abbrev pub snapshot_of : Server F L → Option (Snapshot F L)
-  snapshot_of server = option_map (λ locks. snapshot_at (lent server.engine) locks server.now server.last) (lent_locks server.engine)
+  snapshot_of server = option_map (λ locks. snapshot_at (store_in server) locks server.now server.last) (lent_locks server.engine)
 
 module _ {F L K : Type 0} (see_store : F → Store) (lasts : K → Gv → Snapshot F L → Type 0) where
   -- a crash leaves what is in the server now
@@ -69,13 +70,14 @@ module _ {F L K : Type 0} (see_store : F → Store) (lasts : K → Gv → Snapsh
 -- ---- runs
 
 module _ {F L : Type 0} (see_store : F → Store) (see_locks : L → Locks) (is_honest : F → Bool) (rules : Rules) where
-  -- these exchanges lead from one state to the other: the first ones to this snapshot, and the rest on from there
+  -- These exchanges lead from one state to the other: the first ones to this snapshot, with the access rights of then, and the rest on from there.
   pub record LeadThrough (exchanges : List Exchange) (old : ServerState) (passed : Snapshot F L) (new : ServerState) : Type 0 where
     pub first : List Exchange
     pub rest : List Exchange
+    pub rights : Option (List WrittenRule)
     pub all : exchanges ≡ first ++ rest
-    pub before : InOrder (IsAnsweredAndSaved see_store is_honest rules) first old (state_at see_store see_locks passed)
-    pub after : InOrder (IsAnsweredAndSaved see_store is_honest rules) rest (state_at see_store see_locks passed) new
+    pub before : InOrder (IsAnsweredAndSaved see_store is_honest rules) first old (state_at see_store see_locks rights passed)
+    pub after : InOrder (IsAnsweredAndSaved see_store is_honest rules) rest (state_at see_store see_locks rights passed) new
 
 -- `lasts`, `lasts_either` and `same` are those of the keeper
 module _ {F L K : Type 0} (see_store : F → Store) (see_locks : L → Locks) (lasts : K → Gv → Snapshot F L → Type 0)
@@ -119,7 +121,7 @@ module _ {F L K : Type 0} (see_store : F → Store) (see_locks : L → Locks) (l
     pub snapshot : Snapshot F L
     pub passed : LeadThrough see_store see_locks is_honest rules exchanges old snapshot mid
     pub last : Snapshot F L
-    pub was : state_at see_store see_locks last ≡ mid
+    pub was : state_at see_store see_locks mid.rights last ≡ mid
     pub unchanged : same snapshot last
     pub either : LastsEither see_store lasts_either keeper snapshot server
 

@@ -1,5 +1,5 @@
--- Which requests would remove or refresh a lock of another principal: this project's own choice.
-use Rattle.std.specs.Prelude.{◌&&◌, ℕ, Bool, false, not, bytes_eq, if◌then◌else◌, List, [], Option, Some, None}
+-- Which requests about locks a server forbids: this project's own choice.
+use Rattle.std.specs.Prelude.{◌&&◌, ◌||◌, ℕ, Bool, false, not, bytes_eq, if◌then◌else◌, List, [], Option, Some, None}
 use Rattle.std.specs.List.{find, list_any}
 use Rattle.std.specs.Option.{option_eq, option_map_or, option_to_list}
 use Rattle.dav_resource.specs.Methods.{method_of}
@@ -12,6 +12,9 @@ use Rattle.dav_store.specs.Store.{Bodies}
 use Rattle.dav_store.specs.declared.lock.DavLock.{DavLock}
 use Rattle.dav_messages.specs.Conditions.{submitted_tokens}
 use Rattle.dav_engine.specs.Locking.{is_refresh}
+use Rattle.dav_engine.specs.Rules.{depth_or_all, is_deep}
+use Rattle.dav_rights.specs.Access.{may_lock_by, rights_under}
+use Rattle.dav_rights.specs.declared.rule.Rule.{Rule}
 use Rattle.dav_server.specs.State.{Rules, ServerState, locks_at}
 
 -- the tokens of the locks that a request would remove or refresh: that in Lock-Token of an UNLOCK, those in If of a refresh
@@ -34,6 +37,18 @@ abbrev pub meddles : Option (List DavLock) → Bodies → DavRequest → Bool
 meddles None held request = false
 meddles (Some locks) held request = names_any locks request.principal (named_tokens (method_of request.method) held request)
 
+-- so it would, and not anyone may
+abbrev pub meddles_under : Rules → ServerState → DavRequest → Bool
+meddles_under rules state request = not rules.anyone_unlocks && meddles (locks_at state) state.seen.store.facts.bodies request
+
+-- the request is for a new lock that these rights do not allow: where one may not write, or above such a place
+abbrev pub locks_unwritable : Option DavMethod → Option (List Rule) → Bodies → DavRequest → Bool
+locks_unwritable (Some Lock) rights held request =
+    not (is_refresh held request.body) && not (may_lock_by rights request.path.key (is_deep (depth_or_all request)))
+locks_unwritable _ rights held request = false
+
 -- the request is answered 403 before the engine
 abbrev pub is_forbidden : Rules → ServerState → DavRequest → Bool
-is_forbidden rules state request = not rules.anyone_unlocks && meddles (locks_at state) state.seen.store.facts.bodies request
+is_forbidden rules state request =
+    meddles_under rules state request
+    || locks_unwritable (method_of request.method) (rights_under state.rights request.principal) state.seen.store.facts.bodies request

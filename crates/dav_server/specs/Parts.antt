@@ -1,5 +1,5 @@
 -- Reads of parts of files.
-use Rattle.std.specs.Prelude.{◌≡◌, ◌⊎◌, ℕ, Bool, true, false, bytes_eq, List, length, Option, Some, None, Result, Ok, Err}
+use Rattle.std.specs.Prelude.{◌≡◌, ◌⊎◌, ℕ, Bool, true, false, bytes_eq, List, [], ◌∷◌, length, Option, Some, None, Result, Ok, Err}
 use Rattle.std.specs.FinMap.{get}
 use Rattle.std.specs.Option.{option_eq}
 use Rattle.dav_resource.specs.Errors.{dav_status, fs_status}
@@ -10,16 +10,26 @@ use Rattle.dav_resource.specs.PathText.{PathValue, read_path}
 use Rattle.dav_resource.specs.declared.error.DavError.{DavError}
 use Rattle.dav_resource.specs.declared.error.FsError.{FsError}
 use Rattle.dav_resource.specs.declared.meta.Meta.{Meta}
+use Rattle.dav_resource.specs.declared.record.Op.TheVariants.{Metadata, ReadBytes}
+use Rattle.dav_guarding.specs.Policy.{Refusals}
+use Rattle.dav_rights.specs.Access.{refuses_to}
 use Rattle.dav_store.specs.Calls.{IsOwn, bytes_from}
 use Rattle.dav_store.specs.Store.{Store, Contents, File, Directory}
 use Rattle.dav_wire.specs.Frames.{ReadValue}
 use Rattle.dav_wire.specs.Replies.{PartValue, ReplyValue, Part, Collection, Failed}
-use Rattle.dav_server.specs.State.{Rules, ServerState, unlogged}
+use Rattle.dav_server.specs.State.{Rules, ServerState, at_rest}
 
 -- an earlier part of the file had this entity tag, or none was read
 abbrev pub is_same_version : Option (List ℕ) → Option (List ℕ) → Bool
 is_same_version None tag = true
 is_same_version (Some version) tag = option_eq bytes_eq tag (Some version)
+
+-- the metadata of the resource may be looked up, and its bytes read
+abbrev pub MayList : Refusals → Key → Type 0
+MayList refuses key = refuses Metadata (key ∷ []) ≡ false
+
+abbrev pub MayRead : Refusals → Key → Type 0
+MayRead refuses key = MayList refuses key × (refuses ReadBytes (key ∷ []) ≡ false)
 
 -- these bytes as a part of a file with this metadata
 abbrev pub part_with : Key → Meta → List ℕ → PartValue
@@ -49,6 +59,10 @@ pub record HasOtherVersion (contents : Contents) (key : Key) (asked : ReadValue)
 abbrev pub IsStoresStatus : ℕ → Type 0
 IsStoresStatus status = ((e : FsError) × IsOwn e × (status ≡ fs_status e)) ⊎ (status ≡ 507)
 
+-- nothing exists at the key, as the caller may see (404), or the store fails, or refuses the call (403)
+abbrev pub IsUnlisted : Refusals → Contents → Key → ℕ → Type 0
+IsUnlisted refuses contents key status = (MayList refuses key × (status ≡ 404) × (get contents.tree key ≡ None)) ⊎ IsStoresStatus status
+
 -- nothing exists at the key (404), or the store fails
 abbrev pub IsMissing : Contents → Key → ℕ → Type 0
 IsMissing contents key status = ((status ≡ 404) × (get contents.tree key ≡ None)) ⊎ IsStoresStatus status
@@ -60,25 +74,28 @@ pub record IsRead (honest : Bool) (contents : Contents) (key : Key) (place count
   pub number : length read ≡ length (bytes_from place count bytes)
   pub answer : honest ≡ true → read ≡ bytes_from place count bytes
 
--- why no part is returned: nothing exists at the path (404), the file has another version (412), or the store fails
-abbrev pub IsUnread : Contents → Key → ReadValue → ℕ → Type 0
-IsUnread contents key asked status =
-    ((status ≡ 404) × (get contents.tree key ≡ None)) ⊎ ((status ≡ 412) × HasOtherVersion contents key asked) ⊎ IsStoresStatus status
+-- nothing exists at the path (404), or the file has another version (412)
+abbrev pub IsUnfit : Contents → Key → ReadValue → ℕ → Type 0
+IsUnfit contents key asked status = ((status ≡ 404) × (get contents.tree key ≡ None)) ⊎ ((status ≡ 412) × HasOtherVersion contents key asked)
 
--- the reply to a read at this key
-abbrev pub ReturnsAt : Bool → Contents → Key → ReadValue → ReplyValue → Type 0
-ReturnsAt honest contents key asked (Part part) = ReturnsPart honest contents key asked part
-ReturnsAt honest contents key asked Collection = get contents.tree key ≡ Some Directory
-ReturnsAt honest contents key asked (Failed status) = IsUnread contents key asked status
-ReturnsAt honest contents key asked _ = ⊥
+-- why no part is returned: there is none, as the principal may see; or the store fails, or refuses it (403)
+abbrev pub IsUnread : Refusals → Contents → Key → ReadValue → ℕ → Type 0
+IsUnread refuses contents key asked status = (MayList refuses key × IsUnfit contents key asked status) ⊎ IsStoresStatus status
+
+-- the reply to a read at this key by one to whom these calls are refused
+abbrev pub ReturnsAt : Refusals → Bool → Contents → Key → ReadValue → ReplyValue → Type 0
+ReturnsAt refuses honest contents key asked (Part part) = MayRead refuses key × ReturnsPart honest contents key asked part
+ReturnsAt refuses honest contents key asked Collection = MayList refuses key × (get contents.tree key ≡ Some Directory)
+ReturnsAt refuses honest contents key asked (Failed status) = IsUnread refuses contents key asked status
+ReturnsAt refuses honest contents key asked _ = ⊥
 
 -- the reply to a read by the path of its frame, which may be no path of this server: then its status is that of the error; or memory runs out (507)
-abbrev pub ReadsBy : Result PathValue DavError → Bool → Contents → ReadValue → ReplyValue → Type 0
-ReadsBy (Ok path) honest contents asked reply = ReturnsAt honest contents path.key asked reply ⊎ (reply ≡ Failed 507)
-ReadsBy (Err e) honest contents asked reply = (reply ≡ Failed (dav_status e)) ⊎ (reply ≡ Failed 507)
+abbrev pub ReadsBy : Result PathValue DavError → Refusals → Bool → Contents → ReadValue → ReplyValue → Type 0
+ReadsBy (Ok path) refuses honest contents asked reply = ReturnsAt refuses honest contents path.key asked reply ⊎ (reply ≡ Failed 507)
+ReadsBy (Err e) refuses honest contents asked reply = (reply ≡ Failed (dav_status e)) ⊎ (reply ≡ Failed 507)
 
--- the reply to a read, from a store in this state; `store` is the store after its calls, whose medium may be honest
+-- the reply to a read by its principal, from a store in this state; `store` is the store after its calls, whose medium may be honest
 pub record ReadsFile {F : Type 0} (see_store : F → Store) (is_honest : F → Bool) (rules : Rules) (state : ServerState) (asked : ReadValue) (reply : ReplyValue) : Type 0 where
   pub store : F
-  pub seen : unlogged (see_store store) ≡ state.seen.store
-  pub reads : ReadsBy (read_path asked.path rules.prefix) (is_honest store) state.seen.store.contents asked reply
+  pub seen : at_rest (see_store store) ≡ state.seen.store
+  pub reads : ReadsBy (read_path asked.path rules.prefix) (refuses_to state.rights asked.principal) (is_honest store) state.seen.store.contents asked reply

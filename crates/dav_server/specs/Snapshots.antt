@@ -1,8 +1,9 @@
 -- What a keeper keeps of a server, and what it may change of the store.
-use Rattle.std.specs.Prelude.{◌≡◌, ◌⊎◌, ℕ}
+use Rattle.std.specs.Prelude.{◌≡◌, ◌⊎◌, ℕ, List, Option}
 use base.Stored.{Gv}
 use Rattle.dav_store.specs.Locks.{Locks}
 use Rattle.dav_store.specs.Store.{Store}
+use Rattle.dav_rights.specs.declared.rules.WrittenRule.{WrittenRule}
 use Rattle.dav_server.specs.State.{ServerState, resumed_state, with_store}
 
 -- ---- what is saved
@@ -36,9 +37,10 @@ module _ {F L : Type 0} where
   abbrev pub snapshot_at : F → L → ℕ → ℕ → Snapshot F L
   snapshot_at store locks now last = record { store = store; locks = locks; now = now; last = last }
 
-  -- the state of a server with this store and these locks, at this time and after this batch
-  abbrev pub state_at : (F → Store) → (L → Locks) → Snapshot F L → ServerState
-  state_at see_store see_locks snapshot = resumed_state (see_store snapshot.store) (see_locks snapshot.locks) snapshot.now snapshot.last
+  -- the state of a server with this store and these locks, at this time and after this batch, with these access rights
+  abbrev pub state_at : (F → Store) → (L → Locks) → Option (List WrittenRule) → Snapshot F L → ServerState
+  state_at see_store see_locks rights snapshot =
+      resumed_state (see_store snapshot.store) (see_locks snapshot.locks) rights snapshot.now snapshot.last
 
 -- `lasts` and `same` are those of a keeper
 module _ {F L K : Type 0} (lasts : K → Gv → Snapshot F L → Type 0) (same : Snapshot F L → Snapshot F L → Type 0) where

@@ -123,7 +123,7 @@ impl<'a, F: TimedStore, L: ExpiringLocks> Server<'a, F, L> {
         }
         self.last = header.number;
         self.now = self.now.max(header.now);
-        self.engine.fs.set_now(self.now);
+        self.engine.fs.inner_mut().set_now(self.now);
         true
     }
 }

@@ -6,6 +6,7 @@ use crate::replies::{encode, failed, started};
 use crate::server::Server;
 use crate::{ExpiringLocks, TimedStore};
 use dav_resource::BodyNumber;
+use dav_store::GuardedFileSystem;
 use dav_wire::Reply;
 
 impl<'a, F: TimedStore, L: ExpiringLocks> Server<'a, F, L> {

@@ -10,6 +10,7 @@ use crate::replies::{encode, failed};
 use crate::server::Server;
 use crate::{ExpiringLocks, TimedStore};
 use dav_resource::{FsError, FsResult};
+use dav_store::GuardedFileSystem;
 use dav_wire::{HeldFrame, Reply};
 
 impl<'a, F: TimedStore, L: ExpiringLocks> Server<'a, F, L> {

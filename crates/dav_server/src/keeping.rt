@@ -2,6 +2,7 @@
 ghost use Rattle.std.specs.Prelude.{◌≡◌, true, false, IfOk, OnOk, OnErr, Some};
 ghost use Rattle.std.specs.Io.KnownBytes.{IsAtEnd};
 ghost use Rattle.dav_engine.specs.DavInner.{lent, lent_locks, has_locks, loans, made_with};
+ghost use Rattle.dav_guarding.specs.Guarding.{inner_of};
 ghost use Rattle.dav_server.specs.Exchanges.{Ends};
 ghost use Rattle.dav_server.specs.Snapshots.{Snapshot, snapshot_at, saved_of, OnlySavedDiffers, IsResaved, KeepsOne};
 
@@ -9,10 +10,12 @@ use crate::exchange::write_answer;
 use crate::server::Server;
 use crate::{ExpiringLocks, Keeper, TimedStore};
 use dav_engine::DavInner;
+use dav_guarding::Guarding;
+use dav_rights::Access;
 use std::io::{self, ErrorKind, Read, Write};
 
 impl<'a, F: TimedStore, L: ExpiringLocks> Server<'a, F, L> {
-    ghost use Rattle.dav_server.specs.State.{state_of, rules_of, loans_of};
+    ghost use Rattle.dav_server.specs.State.{state_of, store_in, rules_of, loans_of};
     ghost use Rattle.dav_server.specs.Keeping.{ExchangesAndSaves, RunsAndKeeps, IsKeptSince, StaysKept, LastsEither, StopsInsideKept, StopsAfterKept};
 
     /// Serves batches until the input ends, as `serve` does, and has the keeper keep each batch before its answer is
@@ -91,9 +94,9 @@ impl<'a, F: TimedStore, L: ExpiringLocks> Server<'a, F, L> {
         ensures loans { loans_of self.new ≡ loans_of self.old }
         ensures saved { IsResaved (state_of F.seen L.seen self.old) (state_of F.seen L.seen self.new) }
         ensures clean { K.is_clean keeper.new → K.is_clean keeper.old }
-        ensures kept { OnOk result ((before : Snapshot F L) → K.lasts keeper.old (saved_of (F.seen (lent self.old.engine))) before
+        ensures kept { OnOk result ((before : Snapshot F L) → K.lasts keeper.old (saved_of (F.seen (store_in self.old))) before
             → StaysKept F.seen K.lasts K.same keeper.new before self.new) }
-        ensures either { OnErr result ((before : Snapshot F L) → K.lasts keeper.old (saved_of (F.seen (lent self.old.engine))) before
+        ensures either { OnErr result ((before : Snapshot F L) → K.lasts keeper.old (saved_of (F.seen (store_in self.old))) before
             → has_locks self.old.engine ≡ true → LastsEither F.seen K.lasts_either keeper.new before self.new) }
     {
         let (now, last) = (self.now, self.last);
@@ -104,26 +107,26 @@ impl<'a, F: TimedStore, L: ExpiringLocks> Server<'a, F, L> {
 /// Has the keeper keep the store and the locks of an engine. Fails with its error, or if there is no lock system.
 fn keep_lent<F: TimedStore, L: ExpiringLocks, K: Keeper<F, L>>(
     keeper: &mut K,
-    engine: &mut DavInner<'_, (), F, L>,
+    engine: &mut DavInner<'_, (), Guarding<F, Access>, L>,
     now: u64,
     last: u64,
     in_backup: bool,
 ) -> io::Result<()>
-    ensures seen { OnlySavedDiffers (F.seen (lent engine.old)) (F.seen (lent engine.new)) }
+    ensures seen { OnlySavedDiffers (F.seen (inner_of (lent engine.old))) (F.seen (inner_of (lent engine.new))) }
     ensures locks { lent_locks engine.new ≡ lent_locks engine.old }
     ensures loans { loans engine.new ≡ loans engine.old }
     ensures made { made_with engine.new ≡ made_with engine.old }
     ensures clean { K.is_clean keeper.new → K.is_clean keeper.old }
     ensures there { OnOk result (has_locks engine.old ≡ true) }
-    ensures ok { OnOk result ((before : Snapshot F L) (locks : L) → K.lasts keeper.old (saved_of (F.seen (lent engine.old))) before
+    ensures ok { OnOk result ((before : Snapshot F L) (locks : L) → K.lasts keeper.old (saved_of (F.seen (inner_of (lent engine.old)))) before
         → lent_locks engine.old ≡ Some locks
-        → KeepsOne K.lasts K.same keeper.new (saved_of (F.seen (lent engine.new))) before (snapshot_at (lent engine.new) locks now last)) }
-    ensures err { OnErr result ((before : Snapshot F L) (locks : L) → K.lasts keeper.old (saved_of (F.seen (lent engine.old))) before
+        → KeepsOne K.lasts K.same keeper.new (saved_of (F.seen (inner_of (lent engine.new)))) before (snapshot_at (inner_of (lent engine.new)) locks now last)) }
+    ensures err { OnErr result ((before : Snapshot F L) (locks : L) → K.lasts keeper.old (saved_of (F.seen (inner_of (lent engine.old)))) before
         → lent_locks engine.old ≡ Some locks
-        → K.lasts_either keeper.new (saved_of (F.seen (lent engine.new))) before (snapshot_at (lent engine.new) locks now last)) }
+        → K.lasts_either keeper.new (saved_of (F.seen (inner_of (lent engine.new)))) before (snapshot_at (inner_of (lent engine.new)) locks now last)) }
 {
     match engine.ls.as_deref() {
-        Some(locks) => keeper.keep(engine.fs, locks, now, last, in_backup),
+        Some(locks) => keeper.keep(engine.fs.inner_mut(), locks, now, last, in_backup),
         None => Err(io::Error::from(ErrorKind::Unsupported)),
     }
 }

@@ -20,6 +20,7 @@ mod owners;
 mod parts;
 mod replies;
 mod requests;
+mod rights;
 mod served;
 mod server;
 

@@ -1,15 +1,19 @@
-//! Requests that would remove or refresh a lock of another principal.
+//! Requests about locks that a server forbids.
 ghost use Rattle.std.specs.Prelude.{◌≡◌, false, IfOk, IfErr, Some, bytes_eq};
 ghost use Rattle.std.specs.Option.{option_copied, option_eq, option_map_or, option_to_list as to_list};
 ghost use Rattle.dav_resource.specs.declared.error.DavError.TheVariants.{Memory};
 ghost use Rattle.dav_headers.specs.LockToken.{lock_token_of};
 ghost use Rattle.dav_messages.specs.Conditions.{submitted_tokens, token_of, tokens_in};
-ghost use Rattle.dav_server.specs.Owners.{is_of_another as is_lock_of_another, meddles as meddles_with, names_any};
+ghost use Rattle.dav_engine.specs.Rules.{depth_or_all, is_deep as covers_all};
+ghost use Rattle.dav_resource.specs.Methods.{method_of};
+ghost use Rattle.dav_rights.specs.Access.{rights_in};
+ghost use Rattle.dav_server.specs.Owners.{is_of_another as is_lock_of_another, locks_unwritable as locks_unwritable_with, meddles as meddles_with, names_any};
 
 use crate::ExpiringLocks;
-use dav_engine::{IfItem, IfList, read_if, read_lock_token};
+use dav_engine::{IfItem, IfList, read_depth, read_if, read_lock_token};
 use dav_messages::is_empty_body;
-use dav_resource::{DavMethod, DavRequest, DavResult, Text};
+use dav_resource::{DavMethod, DavRequest, DavResult, Depth, Text};
+use dav_rights::Access;
 use dav_store::GuardedFileSystem;
 use std::alloc::Global;
 
@@ -30,6 +34,31 @@ pub fn meddles<F: GuardedFileSystem<()>, L: ExpiringLocks>(
         ),
         _ => Ok(false),
     }
+}
+
+/// Whether the request is for a new lock that this access does not allow: where one may not write, or above such a
+/// place.
+pub fn locks_unwritable<F: GuardedFileSystem<()>>(
+    fs: &F,
+    request: &DavRequest,
+    access: &Access,
+) -> bool
+    ensures { result ≡ locks_unwritable_with (method_of request.entry.now.method) (rights_in access.entry.now) (F.seen fs.now).facts.bodies request.entry.now }
+{
+    match DavMethod::from_method(&request.method) {
+        Some(DavMethod::Lock) => {
+            !is_empty_body::<(), F>(fs, &request.body)
+                && !access.may_lock(request.path.key(), is_deep(request))
+        }
+        _ => false,
+    }
+}
+
+/// Whether a new lock covers all below its resource: with any Depth but 0.
+fn is_deep(request: &DavRequest) -> bool
+    ensures { result ≡ covers_all (depth_or_all request.entry.now) }
+{
+    !matches!(read_depth(&request.headers), Ok(Some(Depth::Zero)))
 }
 
 /// Whether the lock that the header Lock-Token names is that of another principal. Never returns an error.

@@ -1,5 +1,5 @@
 //! Reads of parts of files.
-ghost use Rattle.std.specs.Prelude.{◌≡◌, Some, IfOk, IfErr, option_map};
+ghost use Rattle.std.specs.Prelude.{◌≡◌, [], ◌∷◌, false, Some, IfOk, IfErr, OnOk, option_map};
 ghost use Rattle.std.specs.Option.{option_copied};
 ghost use Rattle.dav_wire.specs.Views.{read_frame_of, file_part_of};
 ghost use Rattle.dav_wire.specs.Frames as frames;
@@ -10,7 +10,9 @@ ghost use Rattle.dav_server.specs.Parts.{is_same_version, part_with};
 use crate::replies::{encode, failed};
 use crate::server::Server;
 use crate::{ExpiringLocks, TimedStore};
-use dav_resource::{DavPath, Meta, Text};
+use dav_resource::{DavPath, Meta, Op, Text};
+use dav_rights::Access;
+use dav_store::GuardedFileSystem;
 use dav_wire::{FilePart, ReadFrame, Reply};
 use http::StatusCode;
 use std::alloc::Global;
@@ -25,16 +27,16 @@ enum Found {
 }
 
 impl<'a, F: TimedStore, L: ExpiringLocks> Server<'a, F, L> {
-    ghost use Rattle.dav_engine.specs.DavInner.{lent};
     ghost use Rattle.dav_server.specs.Finding.{Finds};
-    ghost use Rattle.dav_server.specs.Parts.{IsMissing, IsRead, IsUnread};
-    ghost use Rattle.dav_server.specs.State.{HasEmptyLog, state_of, rules_of, loans_of};
+    ghost use Rattle.dav_server.specs.Parts.{IsMissing, IsRead, IsUnlisted, IsUnread, MayList};
+    ghost use Rattle.dav_server.specs.State.{HasEmptyLog, state_of, store_in, refusals_in, rules_of, loans_of};
     ghost use Rattle.dav_server.specs.Frames.{Reacts};
 
-    /// Reads a part of a file, and returns the encoded reply.
+    /// Reads a part of a file for the principal of the frame, and returns the encoded reply.
     ///
     /// The reply is a failure if the path cannot be parsed (the status of its error), if nothing exists there (404),
-    /// if the file has another version than the frame says (412), or if a call of the store fails.
+    /// if the file has another version than the frame says (412), if the access rights refuse a call of the store (403),
+    /// or if one fails.
     pub(crate) fn read_part(&mut self, asked: ReadFrame<'_>) -> Option<Vec<u8>>
         ensures rules { rules_of self.new ≡ rules_of self.old }
         ensures loans { loans_of self.new ≡ loans_of self.old }
@@ -46,6 +48,10 @@ impl<'a, F: TimedStore, L: ExpiringLocks> Server<'a, F, L> {
             Ok(path) => path,
             Err(error) => return encode(alloc, &failed(error.statuscode())),
         };
+        let Ok(access) = Access::of(alloc, self.rights.as_ref(), asked.principal) else {
+            return encode(alloc, &failed(StatusCode::INSUFFICIENT_STORAGE));
+        };
+        self.engine.fs.set_policy(access);
         let found = self.find_part(&path, &asked);
         self.engine.fs.clear_log();
         encode_found(alloc, &path, &found)
@@ -57,8 +63,8 @@ impl<'a, F: TimedStore, L: ExpiringLocks> Server<'a, F, L> {
         ensures rules { rules_of self.new ≡ rules_of self.old }
         ensures loans { loans_of self.new ≡ loans_of self.old }
         ensures same { state_of F.seen L.seen self.new ≡ state_of F.seen L.seen self.old }
-        ensures found { IfOk result (λ found. Finds (F.is_honest (lent self.new.engine)) (F.seen (lent self.old.engine)).contents path.now.key (read_frame_of asked.entry.now) found) }
-        ensures failed { IfErr result (λ status. IsUnread (F.seen (lent self.old.engine)).contents path.now.key (read_frame_of asked.entry.now) status) }
+        ensures found { IfOk result (λ found. Finds (refusals_in self.old) (F.is_honest (store_in self.new)) (F.seen (store_in self.old)).contents path.now.key (read_frame_of asked.entry.now) found) }
+        ensures failed { IfErr result (λ status. IsUnread (refusals_in self.old) (F.seen (store_in self.old)).contents path.now.key (read_frame_of asked.entry.now) status) }
     {
         let meta = self.look(path)?;
         if meta.dir {
@@ -76,8 +82,10 @@ impl<'a, F: TimedStore, L: ExpiringLocks> Server<'a, F, L> {
         ensures rules { rules_of self.new ≡ rules_of self.old }
         ensures loans { loans_of self.new ≡ loans_of self.old }
         ensures same { state_of F.seen L.seen self.new ≡ state_of F.seen L.seen self.old }
-        ensures found { IfOk result (λ meta. (F.seen (lent self.old.engine)).contents.metas path.now.key ≡ Some meta) }
-        ensures failed { IfErr result (IsMissing (F.seen (lent self.old.engine)).contents path.now.key) }
+        ensures refusals { refusals_in self.new ≡ refusals_in self.old }
+        ensures found { IfOk result (λ meta. (F.seen (store_in self.old)).contents.metas path.now.key ≡ Some meta) }
+        ensures listed { OnOk result (MayList (refusals_in self.old) path.now.key) }
+        ensures failed { IfErr result (λ status. IsUnlisted (refusals_in self.old) (F.seen (store_in self.old)).contents path.now.key status) }
     {
         match self.engine.fs.metadata(path, &()) {
             Ok(meta) => Ok(meta),
@@ -91,8 +99,9 @@ impl<'a, F: TimedStore, L: ExpiringLocks> Server<'a, F, L> {
         ensures rules { rules_of self.new ≡ rules_of self.old }
         ensures loans { loans_of self.new ≡ loans_of self.old }
         ensures same { state_of F.seen L.seen self.new ≡ state_of F.seen L.seen self.old }
-        ensures found { IfOk result (λ bytes. IsRead (F.is_honest (lent self.new.engine)) (F.seen (lent self.old.engine)).contents path.now.key place length bytes.items) }
-        ensures failed { IfErr result (IsMissing (F.seen (lent self.old.engine)).contents path.now.key) }
+        ensures found { IfOk result (λ bytes. IsRead (F.is_honest (store_in self.new)) (F.seen (store_in self.old)).contents path.now.key place length bytes.items) }
+        ensures readable { OnOk result (refusals_in self.old Op.ReadBytes (path.now.key ∷ []) ≡ false) }
+        ensures failed { IfErr result (IsMissing (F.seen (store_in self.old)).contents path.now.key) }
     {
         match self.engine.fs.read_bytes(path, place, length as usize, &()) {
             Ok(bytes) => Ok(bytes),

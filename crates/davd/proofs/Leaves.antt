@@ -2,7 +2,7 @@
 use Rattle.std.proofs.Common.{◌≡◌, ◌∙◌, inl, inr, ℕ, List, [], ◌∷◌, ◌++◌, Option, Some, None, Result, Ok, Err, refl, subst}
 use Rattle.std.specs.Prelude.{IfSome, OnOk, OnErr, option_map}
 use Rattle.dav_data.specs.declared.data_file.DataFile.{DataFile}
-use Rattle.dav_engine.specs.DavInner.{lent, lent_locks}
+use Rattle.dav_engine.specs.DavInner.{lent_locks}
 use Rattle.dav_folder.specs.Closing.{LeavesAlone, LeavesOneOf}
 use Rattle.dav_folder.specs.Lasting.{At, Lasts, LastsEither, IsSameKept, HasCleanDatabase}
 use Rattle.dav_folder.specs.Opening.{opened_at}
@@ -14,7 +14,7 @@ use Rattle.dav_pieces.specs.declared.piece.Piece.{Piece}
 use Rattle.dav_server.specs.Batches.{Exchange}
 use Rattle.dav_server.specs.Keeping.{snapshot_of, IsKept, IsKeptAfter, IsKeptOrNow}
 use Rattle.dav_server.specs.Snapshots.{snapshot_at}
-use Rattle.dav_server.specs.State.{Rules, ServerState}
+use Rattle.dav_server.specs.State.{Rules, ServerState, store_in}
 use Rattle.dav_tree.specs.TreeFs.{memory_of, store_of, honest_of, before_of}
 use Rattle.dav_tree.specs.declared.medium.Medium.{Ghosts}
 use Rattle.dav_tree.specs.declared.tree_fs.TreeFs.{TreeFs}
@@ -43,10 +43,10 @@ module _ {M : Type 0} {g : Ghosts M (List Piece)} where
   has_store kept (Some locks) now last = refl
 
   -- the snapshot of a server has its store
-  snapshot_store : (server : Serving g) (snapshot : At g) → snapshot_of server ≡ Some snapshot → snapshot.store ≡ lent server.engine
+  snapshot_store : (server : Serving g) (snapshot : At g) → snapshot_of server ≡ Some snapshot → snapshot.store ≡ store_in server
   snapshot_store server snapshot is =
-      subst (λ these. IfSome these (λ (s : At g). s.store ≡ lent server.engine)) is
-      (has_store (lent server.engine) (lent_locks server.engine) server.now server.last)
+      subst (λ these. IfSome these (λ (s : At g). s.store ≡ store_in server)) is
+      (has_store (store_in server) (lent_locks server.engine) server.now server.last)
 
 module _ {D E : Type 0} {d : disk.Ghosts D} {e : disk.Ghosts E} {rows : store.Ghosts (FileStore D d)} {g : Ghosts (DataFile E e) (List Piece)} (rules : Rules)
     (opened : Opened (FileStore D d) (DataFile E e) (List Piece) rows g) (folder : Folder (FileStore D d) rows) (kept : TreeFs (DataFile E e) (List Piece) g)
@@ -54,7 +54,7 @@ module _ {D E : Type 0} {d : disk.Ghosts D} {e : disk.Ghosts E} {rows : store.Gh
   begins_kept : (first : Serving g) → BeginsOpened first opened → IsOpenedAsKept opened → IsKept (store_of {g = g}) Lasts opened.folder first
   begins_kept first begins lasts = record { snapshot = opened_at opened; is = begins.snapshot; kept = lasts }
 
-  module _ (last : Serving g) (ends : lent last.engine ≡ kept) where
+  module _ (last : Serving g) (ends : store_in last ≡ kept) where
     after : (exchanges : List Exchange) (old : ServerState) → LeavesAlone folder kept files
         → IsKeptAfter store_of locks_of Lasts IsSameKept honest_of rules folder exchanges old last → LeavesAfter g rules exchanges old last files
     after exchanges old alone is_kept =

@@ -1,8 +1,7 @@
 -- What the program does over a folder: what a start finds there, and what a run leaves.
-use Rattle.std.specs.Prelude.{◌≡◌, ℕ, true, List, [], string_bytes, Option, Some}
+use Rattle.std.specs.Prelude.{◌≡◌, ℕ, true, List, [], string_bytes, Option, Some, None}
 use Rattle.std.specs.FinMap.{empty, insert}
 use Rattle.std.specs.Option.{option_map}
-use Rattle.dav_engine.specs.DavInner.{lent}
 use Rattle.dav_folder.specs.Files.{KeptStore, kept_at, Hold}
 use Rattle.dav_folder.specs.Lasting.{At, Lasts, LastsEither, IsSameKept, HasCleanDatabase}
 use Rattle.dav_folder.specs.Opening.{opened_at}
@@ -16,7 +15,7 @@ use Rattle.dav_rows.specs.Contents.{Contents}
 use Rattle.dav_rows.specs.declared.loading.Rows.{Rows}
 use Rattle.dav_rows_files.specs.Starting.{IsVacant, BeginsNew}
 use Rattle.dav_server.specs.Keeping.{snapshot_of, RunsAndKeeps, StopsAfterKept}
-use Rattle.dav_server.specs.State.{Rules, ServerState, first_rules, state_of}
+use Rattle.dav_server.specs.State.{Rules, ServerState, first_rules, state_of, store_in}
 use Rattle.dav_server.specs.Snapshots.{state_at}
 use Rattle.dav_server.specs.declared.server.Options.{Options}
 use Rattle.dav_server.specs.declared.server.Server.{Server}
@@ -46,9 +45,9 @@ module _ {M : Type 0} where
     abbrev pub state_now : Serving g → ServerState
     state_now server = state_of (store_of {g = g}) locks_of server
 
-    -- the state of one that goes on from here
+    -- the state of one that goes on from here, without access rules
     abbrev pub state_from : At g → ServerState
-    state_from snapshot = state_at (store_of {g = g}) locks_of snapshot
+    state_from snapshot = state_at (store_of {g = g}) locks_of None snapshot
 
 -- ---- what a start finds
 
@@ -96,7 +95,7 @@ module _ {S M : Type 0} {rows : store.Ghosts S} {g : Ghosts M (List Piece)} wher
     pub first : Serving g
     pub last : Serving g
     pub begins : BeginsOpened first opened
-    pub ends : lent last.engine ≡ kept.1
+    pub ends : store_in last ≡ kept.1
     pub runs : RunsAndKeeps (store_of {g = g}) locks_of Lasts IsSameKept honest_of rules opened.folder kept.0 first last input input' output output'
 
   -- such a run that an error stops
@@ -105,5 +104,5 @@ module _ {S M : Type 0} {rows : store.Ghosts S} {g : Ghosts M (List Piece)} wher
     pub first : Serving g
     pub last : Serving g
     pub begins : BeginsOpened first opened
-    pub ends : lent last.engine ≡ kept.1
+    pub ends : store_in last ≡ kept.1
     pub stops : StopsAfterKept (store_of {g = g}) locks_of Lasts LastsEither IsSameKept honest_of rules opened.folder kept.0 first last output output'

@@ -11,6 +11,7 @@ use Rattle.dav_rows_files.specs.Starting.{IsVacant}
 use Rattle.dav_server.specs.Batches.{Exchange}
 use Rattle.dav_server.specs.Exchanges.{bytes_out, InOrder, StopsBy}
 use Rattle.dav_server.specs.Keeping.{snapshot_of, IsAnsweredAndSaved, AreSavedRun, RunsAndSaves, LeadThrough}
+use Rattle.dav_server.specs.Snapshots.{state_at}
 use Rattle.dav_server.specs.State.{Rules, ServerState}
 use Rattle.dav_tree.specs.TreeFs.{memory_of, store_of, honest_of}
 use Rattle.dav_tree.specs.declared.medium.Medium.{Ghosts}
@@ -48,7 +49,7 @@ module _ {D E : Type 0} {d : disk.Ghosts D} {e : disk.Ghosts E} (g : Ghosts (Dat
     pub snapshot : At g
     pub passed : Pass g rules exchanges old snapshot mid
     pub after : At g
-    pub was : state_from after ≡ mid
+    pub was : state_at store_of locks_of mid.rights after ≡ mid
     pub unchanged : IsSameKept snapshot after
     pub now : At g
     pub is : snapshot_of last ≡ Some now

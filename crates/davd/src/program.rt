@@ -14,8 +14,10 @@ ghost use Rattle.davd.specs.Program.{ServesFolder, StopsInFolder, HasNotBegun};
 use crate::checking::check_folder;
 use crate::options::{ProgramOptions, read_options};
 use crate::serving::{FolderData, serve_folder};
+use dav_guarding::Guarding;
 use dav_memls::MemLs;
 use dav_resource::{FsError, FsResult};
+use dav_rights::Access;
 use dav_server::{Options, Server};
 use dav_tree::{InMemory, Medium, MemFs};
 use sqlite::{FileFrom, Start};
@@ -149,7 +151,8 @@ fn serve_in_memory<I: Read, O: Write>(
     ensures end { OnOk result (IsAtEnd (I.remaining input.new)) }
     ensures err { IfErr result IsNotUsage }
 {
-    let mut store = new_store(alloc, quota)?;
+    let store = new_store(alloc, quota)?;
+    let mut store = Guarding::new(alloc, store, Access::Full);
     let mut locks = MemLs::new(alloc);
     let mut server = Server::new(alloc, &mut store, &mut locks, options);
     match server.serve(input, output) {

@@ -14,9 +14,11 @@ use crate::folder::open_folder;
 use crate::program::Stopped;
 use dav_data::DataFile;
 use dav_folder::{Folder, Opened, close_store};
+use dav_guarding::Guarding;
 use dav_keep::KeepError;
 use dav_reserve::{Reserved, Roomy};
 use dav_resource::FsError;
+use dav_rights::Access;
 use dav_server::{Options, Server};
 use dav_tree::{Medium, TreeFs};
 use sqlite::{Alter, Error, ErrorCode, FileFrom, FileStore, Start};
@@ -105,11 +107,12 @@ pub fn serve_opened<S: Alter + Drop, D: Roomy + Drop, I: Read, O: Write>(
 {
     let Opened {
         mut folder,
-        mut store,
+        store,
         mut locks,
         now,
         last,
     } = opened;
+    let mut store = Guarding::new(alloc, store, Access::Full);
     let mut server = Server::resume(alloc, &mut store, &mut locks, options, now, last);
     let ended = server.serve_kept(&mut folder, input, output);
     let _store = server.into_store();
@@ -117,7 +120,7 @@ pub fn serve_opened<S: Alter + Drop, D: Roomy + Drop, I: Read, O: Write>(
         Ok(()) => Ok(()),
         Err(error) => Err(stopped_by(&folder, error)),
     };
-    (ended, (folder, store))
+    (ended, (folder, store.into_inner()))
 }
 
 /// Returns why serving ended with this error: the keeper says so, or else a stream failed.

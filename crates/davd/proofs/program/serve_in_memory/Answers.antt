@@ -8,5 +8,5 @@ returns-in-Ok-clause-served g c =
       empty = c.in_ok-store.ensures;
       unlocked = c.new-locks.ensures;
       final = _;
-      runs = rw (c.new-server.ensures.state, c.new-server.ensures.rules) at c.in-Ok.ensures.ran;
+      runs = rw (c.new-server.ensures.state, c.new-store.ensures.inner, c.new-server.ensures.rules) at c.in-Ok.ensures.ran;
     }

@@ -7,7 +7,7 @@ returns-clause-served g c = elim c.match-ended.branch [
   | in-Ok w ↦ rw w.ended-is (record {
     first = c.resume-server.result;
     last = c.serve_kept-ended.new.self;
-    begins = record { snapshot = c.resume-server.ensures.snapshot; state = c.resume-server.ensures.state };
+    begins = record { snapshot = rw c.new-store.ensures.inner at c.resume-server.ensures.snapshot; state = rw c.new-store.ensures.inner at c.resume-server.ensures.state };
     ends = search rules;
     runs = rw c.resume-server.ensures.rules at w.in-Ok.ensures.ran;
   })
@@ -20,7 +20,7 @@ returns-clause-stopped g c = elim c.match-ended.branch [
   | in-Err w ↦ rw w.ended-is (record {
     first = c.resume-server.result;
     last = c.serve_kept-ended.new.self;
-    begins = record { snapshot = c.resume-server.ensures.snapshot; state = c.resume-server.ensures.state };
+    begins = record { snapshot = rw c.new-store.ensures.inner at c.resume-server.ensures.snapshot; state = rw c.new-store.ensures.inner at c.resume-server.ensures.state };
     ends = search rules;
     stops = rw c.resume-server.ensures.rules at w.in-Err.ensures.stopped;
   })

@@ -9,10 +9,10 @@ pub returns-in-Ok-clause-reacts : goal.returns-in-Ok-clause-reacts
 returns-in-Ok-clause-reacts g c =
     let state = state_of g.F.GuardedFileSystem.seen g.L.DavLockSystem.seen c.args.self.now in
     reacts _ _ _ _ _ _ _ (events.BodyExtended c.args.number c.args.bytes.now (Ok tt)) _ refl
-    (extends state _ _ _ _ _ (c.in-Ok.ensures {u = tt})) refl c.encode.ensures
+    (extends state _ _ _ _ _ (c.in-Ok.ensures {u = tt}).inner) refl c.encode.ensures
 
 pub returns-in-Err-clause-reacts : goal.returns-in-Err-clause-reacts
 returns-in-Err-clause-reacts g c =
     let state = state_of g.F.GuardedFileSystem.seen g.L.DavLockSystem.seen c.args.self.now in
     reacts _ _ _ _ _ _ _ (events.BodyExtended c.args.number c.args.bytes.now (Err c.in-Err.error)) _ refl
-    (fails_to_extend state _ _ _ _ _ _ (c.in-Err.ensures {u = tt}) c.drop_body.ensures) (c.failed.ensures ∙ ap Failed c.statuscode.ensures) c.encode-in-Err.ensures
+    (fails_to_extend state _ _ _ _ _ _ (c.in-Err.ensures {u = tt}).inner c.drop_body.ensures.inner) (c.failed.ensures ∙ ap Failed c.statuscode.ensures) c.encode-in-Err.ensures

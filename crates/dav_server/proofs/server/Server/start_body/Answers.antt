@@ -7,4 +7,4 @@ use Rattle.dav_server.proofs.server.Server.start_body.Goals as goal
 pub returns-clause-reacts : goal.returns-clause-reacts
 returns-clause-reacts g c =
     let state = state_of g.F.GuardedFileSystem.seen g.L.DavLockSystem.seen c.args.self.now in
-    reacts _ _ _ _ _ _ _ (events.BodyStarted c.start_body-begun.result) _ refl (starts state _ _ _ c.start_body-begun.ensures) c.started-reply.ensures c.encode.ensures
+    reacts _ _ _ _ _ _ _ (events.BodyStarted c.start_body-begun.result) _ refl (starts state _ _ _ c.start_body-begun.ensures.inner) c.started-reply.ensures c.encode.ensures
