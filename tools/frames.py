@@ -106,7 +106,24 @@ class EndBackup:
     pass
 
 
-Frame = Request | StartBody | AddToBody | DropBody | Read | NextExpiry | Held | BeginBackup | EndBackup
+@dataclasses.dataclass(frozen=True)
+class SetRights:
+    """Access rules, in TOML."""
+
+    rules: str
+
+
+@dataclasses.dataclass(frozen=True)
+class Explain:
+    """What do the access rules allow?"""
+
+    principal: str | None
+    path: str
+
+
+Frame = (
+    Request | StartBody | AddToBody | DropBody | Read | NextExpiry | Held | BeginBackup | EndBackup | SetRights | Explain
+)
 
 
 @dataclasses.dataclass(frozen=True)
@@ -161,7 +178,24 @@ class Failed:
     status: int
 
 
-Reply = Response | BodyStarted | Done | Part | Collection | Expiry | Holdings | Failed
+@dataclasses.dataclass(frozen=True)
+class Refused:
+    """Why the text of a frame was refused."""
+
+    reason: str
+
+
+@dataclasses.dataclass(frozen=True)
+class Explained:
+    """What the access rules allow, and the number of the rule that decides."""
+
+    rule: int | None
+    is_listed: bool
+    is_read: bool
+    is_written: bool
+
+
+Reply = Response | BodyStarted | Done | Part | Collection | Expiry | Holdings | Failed | Refused | Explained
 
 
 @dataclasses.dataclass(frozen=True)
@@ -259,6 +293,10 @@ def encode_frame(frame: Frame) -> bytes:
             return b"\7"
         case EndBackup():
             return b"\x08"
+        case SetRights():
+            return b"\x09" + string(frame.rules)
+        case Explain():
+            return b"\x0a" + optional(string, frame.principal) + string(frame.path)
 
 
 def quota(value: tuple[int, int | None]) -> bytes:
@@ -285,6 +323,11 @@ def encode_reply(reply: Reply) -> bytes:
             return b"\6" + number(reply.locks) + optional(quota, reply.quota)
         case Failed():
             return b"\7" + number(reply.status)
+        case Refused():
+            return b"\x08" + string(reply.reason)
+        case Explained():
+            flags = bytes([reply.is_listed, reply.is_read, reply.is_written])
+            return b"\x09" + optional(number, reply.rule) + flags
 
 
 def encode_content(frames: typing.Sequence[bytes]) -> bytes:
@@ -400,7 +443,7 @@ class Reader:
                 return Unreadable()
 
     def frame(self) -> Frame:
-        match self.kind(9, "a frame"):
+        match self.kind(11, "a frame"):
             case 0:
                 method, path, principal = self.text(), self.string(), self.optional(self.string)
                 return Request(method, path, principal, self.string(), self.many(self.field), self.body())
@@ -419,14 +462,18 @@ class Reader:
                 return Held()
             case 7:
                 return BeginBackup()
-            case _:
+            case 8:
                 return EndBackup()
+            case 9:
+                return SetRights(self.string())
+            case _:
+                return Explain(self.optional(self.string), self.string())
 
     def quota(self) -> tuple[int, int | None]:
         return self.number(), self.optional(self.number)
 
     def reply(self) -> Reply:
-        match self.kind(8, "a reply"):
+        match self.kind(10, "a reply"):
             case 0:
                 status, close, fields = self.number(), self.flag(), self.many(self.field)
                 return Response(status, close, fields, self.optional(lambda: self.tree(REPLY_LEVELS)))
@@ -443,8 +490,12 @@ class Reader:
                 return Expiry(self.optional(self.number))
             case 6:
                 return Holdings(self.number(), self.optional(self.quota))
-            case _:
+            case 7:
                 return Failed(self.number())
+            case 8:
+                return Refused(self.string())
+            case _:
+                return Explained(self.optional(self.number), self.flag(), self.flag(), self.flag())
 
     def reply_batch(self) -> ReplyBatch:
         return ReplyBatch(self.number(), self.number(), self.many(self.text))
@@ -512,6 +563,9 @@ FRAMES = [
     Held(),
     BeginBackup(),
     EndBackup(),
+    SetRights("# no rules\n"),
+    Explain("p", "/a"),
+    Explain(None, "/"),
 ]
 REPLIES = [
     Response(207, False, ((b"etag", b'"1"'),), LEAF),
@@ -527,6 +581,9 @@ REPLIES = [
     Holdings(0, (1, None)),
     Holdings(0, (1, 2)),
     Failed(404),
+    Refused("rule 1: a rule is a table"),
+    Explained(None, True, False, False),
+    Explained(3, False, True, True),
 ]
 # By hand from the grammar.
 WRITTEN = [
@@ -534,6 +591,10 @@ WRITTEN = [
     (encode_frame, Read(None, "/", 1, 2), b"\4\0" + b"\0" * 7 + b"\1/" + b"\0" * 7 + b"\1" + b"\0" * 7 + b"\2\0"),
     (encode_frame, BeginBackup(), b"\7"),
     (encode_frame, EndBackup(), b"\x08"),
+    (encode_frame, SetRights("x"), b"\x09" + b"\0" * 7 + b"\1x"),
+    (encode_frame, Explain(None, "/"), b"\x0a\0" + b"\0" * 7 + b"\1/"),
+    (encode_reply, Refused("x"), b"\x08" + b"\0" * 7 + b"\1x"),
+    (encode_reply, Explained(2, True, False, True), b"\x09\1" + b"\0" * 7 + b"\2\1\0\1"),
     (encode_reply, Failed(507), b"\7\0\0\0\0\0\0\1\xfb"),
     (encode_reply, Expiry(1), b"\5\1\0\0\0\0\0\0\0\1"),
     (tree, Element("n", nodes=("t",)), b"\0" * 7 + b"\1n\0\0" + b"\0" * 8 + b"\2" + b"\0" * 7 + b"\1t\0"),
@@ -589,7 +650,7 @@ def test():
     for attributes in ((("b", ""), ("a", "")), (("a", ""), ("a", ""))):
         assert not is_read(decode_frame, encode_frame(Request(b"LOCK", "/", body=Element("x", attributes=attributes))))
     assert not is_read(decode_frame, encode_frame(Read(None, "/", 0, 0)).replace(b"/", b"\xff"))
-    assert not any(is_read(decode_frame, bytes([kind])) for kind in range(9, 256))
+    assert not any(is_read(decode_frame, bytes([kind])) for kind in range(11, 256))
     batches = [ReplyBatch(1, 200, tuple(map(encode_reply, REPLIES))), ReplyBatch(3, 409, ())]
     assert decode_reply_batches(b"".join(map(encode_reply_batch, batches))) == batches
     content = encode_content([encode_frame(it) for it in FRAMES])

@@ -17,6 +17,22 @@ MOST_BATCHES = 40
 MOST_BYTES = 100_000
 TIMEOUTS = ("Second-0", "Second-1", "Second-5", "Second-20", "Second-600", "Second-4100000000", "Infinite", "x")
 UNKNOWN = "unknown"
+# Rules by which everyone may do everything, and texts without rules.
+ALL_ALLOWED = """\
+[groups]
+nobody = []
+
+[[rule]]
+group = "nobody"
+at_and_below = "/"
+allow = []
+
+[[rule]]
+everyone = true
+at_and_below = "/"
+allow = ["list", "read", "write"]
+"""
+NO_RULES = ("[", "x = 1\n", "[[rule]]\neveryone = true\nat = \"a\"\nallow = []\n", "[[rule]]\nuser = \"\\u00e9\"\n")
 
 
 # ---- what is sent
@@ -91,7 +107,7 @@ class Batches:
         return content[:8] + frames.number(frames.GREATEST - self.chance.randrange(20)) + content[16:]
 
     def items(self) -> list[Item]:
-        kinds = {"request": 70, "read": 12, "next": 4, "held": 4, "backup": 2, "body": 6, "malformed": 6}
+        kinds = {"request": 70, "read": 12, "next": 4, "held": 4, "backup": 2, "rights": 4, "body": 6, "malformed": 6}
         kind = self.chance.choices(list(kinds), list(kinds.values()))[0]
         if kind == "malformed":
             return [Item(self.malformed(), None)]
@@ -105,6 +121,13 @@ class Batches:
 
     def framed_backup(self) -> list[Framed]:
         return [Framed(self.chance.choice((frames.BeginBackup(), frames.EndBackup())))]
+
+    def framed_rights(self) -> list[Framed]:
+        if self.chance.random() < 0.5:
+            return [Framed(frames.SetRights(self.chance.choice((ALL_ALLOWED, *NO_RULES))))]
+        place = self.requests.place()
+        frame = frames.Explain(self.chance.choice((None, "ann")), place.path)
+        return [Framed(frame, Asked(scripts.Block("", ""), place))]
 
     def framed_request(self) -> list[Framed]:
         asked = self.requests.request()
@@ -212,6 +235,7 @@ class Model:
         # Whether there may be locks where there is no resource. No PROPFIND lists them.
         self.may_locks_be_astray = False
         self.bodies: dict[int, bytes] = {}
+        self.has_rules = False
         self.started = 0
         self.last = 0
         self.now = 0
@@ -248,9 +272,26 @@ class Model:
                 self.check_held(reply)
             case frames.BeginBackup() | frames.EndBackup():
                 want(reply, frames.Done())
+            case frames.SetRights():
+                self.check_rights(frame, reply)
+            case frames.Explain():
+                self.check_explained(asked.place.key, reply)
             case frames.Request():
                 want_kind(reply, frames.Response)
                 self.check_request(frame, asked, reply)
+
+    def check_rights(self, frame: frames.SetRights, reply: frames.Reply):
+        if frame.rules == ALL_ALLOWED:
+            self.has_rules = True
+            return want(reply, frames.Done())
+        want_kind(reply, frames.Refused)
+        if not reply.reason:
+            raise Wrong("no reason is given")
+
+    def check_explained(self, key: Key | None, reply: frames.Reply):
+        if key is None:
+            return want_kind(reply, frames.Failed)
+        want(reply, frames.Explained(2 if self.has_rules else None, True, True, True))
 
     def check_held(self, reply: frames.Reply):
         want_kind(reply, frames.Holdings)
