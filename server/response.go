@@ -69,6 +69,7 @@ func responseOf(reply frame.Reply, err error) (*frame.Response, error) {
 
 // write writes a response of davd.
 func (h *Handler) write(w http.ResponseWriter, r *http.Request, response *frame.Response) error {
+	withoutRepeats(r, response)
 	header := w.Header()
 	for _, field := range response.Fields {
 		if field.Name != "content-length" { // It is about the resource, or 0.
