@@ -31,7 +31,8 @@ type Handler struct {
 }
 
 // New starts davd and returns a handler over it. The caller must close the handler. With a folder, New waits until davd
-// has loaded it. When ctx is done before, New fails. Later ctx has no effect.
+// has loaded it. When ctx is done before, New fails. Later ctx has no effect. If the text of the access rules has none,
+// the error is a *RightsError.
 func New(ctx context.Context, options Options) (*Handler, error) {
 	options, err := options.complete()
 	if err != nil {
@@ -46,6 +47,7 @@ func New(ctx context.Context, options Options) (*Handler, error) {
 		Args:    arguments(options),
 		Folder:  options.Folder,
 		Memory:  options.Memory,
+		Rights:  options.Rights,
 		Log:     options.Log,
 	})
 	if err != nil {
@@ -91,6 +93,24 @@ func (h *Handler) greet(ctx context.Context) error {
 // Close ends davd. No request may be under way. When ctx is done before davd has ended, davd is killed.
 func (h *Handler) Close(ctx context.Context) error {
 	return h.engine.Close(ctx)
+}
+
+// A RightsError says that a text has no access rules. Its Reason has one or more lines, which name the line of the text or
+// the number of the rule that is wrong, if it is one.
+type RightsError = davd.RightsError
+
+// A StatusError says with which HTTP status davd failed what it was asked for.
+type StatusError = davd.StatusError
+
+// SetRights replaces the access rules. Requests that davd gets later are served by the new ones, also by a davd that is
+// started again. A request under way that needs several answers of davd, such as a long GET, may be served by both. While
+// davd does not run, SetRights waits.
+//
+// If the text has no rules, the error is a *RightsError. After an error the old rules stay. Only after a *StatusError with
+// 507, for which memory ran out, nobody knows which ones hold, until rules are set or davd is started again, and gets the
+// old ones. When ctx is done, SetRights returns its error, but it waits for the answer of davd to a text that was sent.
+func (h *Handler) SetRights(ctx context.Context, text string) error {
+	return h.engine.SetRights(ctx, text)
 }
 
 // Check reports whether davd answers.

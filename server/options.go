@@ -25,6 +25,9 @@ type Options struct {
 	// Principal returns the authenticated user of a request, and false if there is none. Nil: there is never one.
 	// Requests without a user can use each other's locks.
 	Principal func(*http.Request) (string, bool)
+	// Rights is the text of the access rules in TOML. Empty: none, and each user may do everything. To allow nothing at
+	// all, use a text with a line end.
+	Rights string
 	// MaxBody is how many bytes the body of a PUT or PATCH may have, and how far from the start of a file a PATCH may
 	// begin. 0: 1 GiB.
 	MaxBody int64

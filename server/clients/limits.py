@@ -191,6 +191,9 @@ def properties(starter: Starter):
 
 SMALL_FOLDER = ("-memory", "32M", "-folder", "{folder}/kept")
 SMALL = 32 * MB
+# Less than a folder needs that has filled the above.
+LESS_FOLDER = ("-memory", "24M", "-folder", "{folder}/kept")
+LESS = 24 * MB
 # What davd may have while it loads its folder: loadFactor in internal/davd/memory.go.
 AT_START = 4 * SMALL
 TREES, FILES = 20, 50
@@ -215,13 +218,13 @@ def copy_trees(server) -> int:
     return count
 
 
-@MEMORY.check("a folder that has filled -memory is served again under it: what adds something is 507, and DELETE 204")
+@MEMORY.check("a folder that needs more than -memory is served under it: what adds something is 507, and DELETE 204")
 def served_again(starter: Starter):
     server = starter.start(*SMALL_FOLDER)
     count = copy_trees(server)
     server.stop()
-    server = starter.start(*SMALL_FOLDER)
-    if f"-memory allows {SMALL // 1024} KiB" not in server.log():
+    server = starter.start(*LESS_FOLDER)
+    if f"-memory allows {LESS // 1024} KiB" not in server.log():
         raise Wrong(f"expected that -memory is too small for the folder, got\n{server.log()}")
     expect("a file", server.ask("GET", "/tree-1/7/7", status=200).body, b"x")
     server.ask("PROPFIND", "/tree-1/", None, {"Depth": "1"}, 207)
@@ -232,7 +235,7 @@ def served_again(starter: Starter):
         server.ask("DELETE", f"/tree-{number}", status=204)
     server.ask("GET", "/tree-1/7/7", status=404)
     server.stop()
-    server = starter.start(*SMALL_FOLDER)
+    server = starter.start(*LESS_FOLDER)
     server.ask("PUT", "/new", b"x", status=201)
     server.stop()
     return f"{count * (TREES * (FILES + 1) + 1)} resources"

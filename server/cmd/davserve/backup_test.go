@@ -49,10 +49,11 @@ func TestParseBackupAccepts(t *testing.T) {
 	}
 }
 
-func TestTheHelpNamesBothCommands(t *testing.T) {
+func TestTheHelpNamesEachCommand(t *testing.T) {
 	for arguments, wants := range map[string][]string{
-		"-h":        {"davserve backup [-folder FOLDER | -socket PATH] TARGET", "-listen"},
+		"-h":        {"davserve backup [-folder FOLDER | -socket PATH] TARGET", "davserve rights check", "-listen"},
 		"backup -h": {"davserve backup [-folder FOLDER | -socket PATH] TARGET", "-socket path", "exit status"},
+		"rights -h": {"davserve rights check [-davd PROGRAM] FILE USER PATH", "-davd program", "exit status"},
 	} {
 		var said bytes.Buffer
 		run(context.Background(), strings.Fields(arguments), io.Discard, &said)

@@ -24,6 +24,7 @@ type config struct {
 	metrics        string
 	socket         string
 	users          string
+	rights         string
 	realm          string
 	userHeader     string
 	trustedProxies prefixes
@@ -71,9 +72,11 @@ func (p *prefixes) Set(text string) error {
 
 const usage = `usage: davserve [OPTIONS]
        davserve backup [-folder FOLDER | -socket PATH] TARGET
+       davserve rights check [-davd PROGRAM] FILE USER PATH
 
 The first serves WebDAV, with these options. The second makes a backup of what a
-server keeps in its folder, while it serves: davserve backup -h.
+server keeps in its folder, while it serves: davserve backup -h. The third says what
+access rules allow: davserve rights -h.
 
 `
 
@@ -140,6 +143,8 @@ func socketIn(folder string) string {
 
 func (c *config) addUsers(flags *flag.FlagSet) {
 	flags.StringVar(&c.users, "users", "", "htpasswd `file` with the users; its passwords are hashed by bcrypt")
+	flags.Func("rights", "`file` with the access rules, which SIGHUP has read again (default: each user may do everything)",
+		notEmpty(&c.rights))
 	flags.StringVar(&c.realm, "realm", "davserve", "what clients show when they ask for a password")
 	flags.StringVar(&c.userHeader, "user-header", "", "`name` of the header field in which a proxy passes the user")
 	flags.Var(&c.trustedProxies, "trusted-proxy", "`network` of proxies, such as 10.0.0.0/8 (repeatable)")

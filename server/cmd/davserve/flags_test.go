@@ -38,6 +38,7 @@ func TestParseRefuses(t *testing.T) {
 		{"-listen :8080 -users u -anonymous", "passwords need"},
 		{"-folder=", "the name is empty"},
 		{"-socket=", "the name is empty"},
+		{"-rights=", "the name is empty"},
 		{"-socket s", "-socket needs -folder"},
 		{"extra", "unknown argument"},
 		{"-unknown", "not defined"},
@@ -67,6 +68,7 @@ func TestParseAccepts(t *testing.T) {
 		"-listen :8080 -user-header X-User -trusted-proxy 10.0.0.0/8 -trusted-proxy ::1/128",
 		"-folder data",
 		"-folder data -socket /run/davserve",
+		"-rights rules.toml",
 		"-cors-origin https://a.example -cors-origin https://b.example",
 	} {
 		if _, err := parse(strings.Fields(arguments), io.Discard); err != nil {
@@ -133,10 +135,17 @@ func TestExitStatus(t *testing.T) {
 		{"-davd /no/such/davd", 1},
 		{"-davd /bin/true", 1},
 		{"-users /no/such/file", 1},
+		{"-rights /no/such/file", 1},
 		{"-metrics 127.0.0.1:no-port", 1},
 		{"backup -h", 0},
 		{"backup", 2},
 		{"backup -folder /no/such/folder /no/such/target", 1},
+		{"rights -h", 0},
+		{"rights check -h", 0},
+		{"rights", 2},
+		{"rights check", 2},
+		{"rights check /no/such/file ada", 2},
+		{"rights check /no/such/file ada /a", 1},
 	}
 	for _, test := range tests {
 		if got := run(context.Background(), strings.Fields(test.arguments), io.Discard, io.Discard); got != test.want {

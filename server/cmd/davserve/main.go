@@ -1,6 +1,7 @@
 // Davserve serves WebDAV over HTTP. Without -folder it keeps files and locks in memory: they are lost when it ends.
 //
-// Davserve backup makes a backup of the folder of a server that goes on serving.
+// Davserve backup makes a backup of the folder of a server that goes on serving. Davserve rights check says what access
+// rules allow.
 //
 // Exit statuses: 0 after SIGTERM, SIGINT, -help and -version, 1 if the server cannot start or fails, 2 for a wrong
 // command line.
@@ -39,6 +40,9 @@ func main() {
 func run(ctx context.Context, arguments []string, output, errorOutput io.Writer) int {
 	if len(arguments) > 0 && arguments[0] == "backup" {
 		return runBackup(ctx, arguments[1:], output, errorOutput)
+	}
+	if len(arguments) > 0 && arguments[0] == "rights" {
+		return runRights(ctx, arguments[1:], output, errorOutput)
 	}
 	c, err := parse(arguments, errorOutput)
 	switch {

@@ -24,11 +24,11 @@ const maxHeaderBytes = 64 << 10
 
 // serve runs the server until ctx is done and the requests under way are answered.
 func serve(ctx context.Context, c config, logger *log.Logger) (err error) {
-	if c.options.Davd == "" {
-		c.options.Davd = defaultDavd()
+	reloader := newReloader(c.rights, logger)
+	defer reloader.end()
+	if err := c.complete(logger); err != nil {
+		return err
 	}
-	c.options.Log = logger
-	c.options.Principal = func(r *http.Request) (string, bool) { return auth.User(r.Context()) }
 	meter, closeMetrics, err := c.meter(logger)
 	if err != nil {
 		return err
@@ -39,15 +39,36 @@ func serve(ctx context.Context, c config, logger *log.Logger) (err error) {
 		return nil // It was interrupted while davd loaded its folder.
 	}
 	if err != nil {
-		return err
+		return inFile(c.rights, err)
 	}
 	defer func() { err = closeDavd(dav, c.shutdownTimeout, err) }()
+	ctx, cancel := context.WithCancel(ctx)
+	defer cancel()
+	reloader.start(ctx, dav)
 	meter.show(dav)
 	closeControl, err := c.control(ctx, dav, logger)
 	if err != nil {
 		return err
 	}
 	defer closeControl()
+	return c.serveHTTP(ctx, dav, meter, logger)
+}
+
+// complete sets the options of the handler that are not flags.
+func (c *config) complete(logger *log.Logger) (err error) {
+	if c.options.Davd == "" {
+		c.options.Davd = defaultDavd()
+	}
+	c.options.Log = logger
+	c.options.Principal = func(r *http.Request) (string, bool) { return auth.User(r.Context()) }
+	if c.rights != "" {
+		c.options.Rights, err = readRights(c.rights)
+	}
+	return err
+}
+
+// serveHTTP serves over HTTP until ctx is done and the requests under way are answered.
+func (c *config) serveHTTP(ctx context.Context, dav *davserve.Handler, meter *meter, logger *log.Logger) error {
 	handler, err := c.handler(dav, meter, logger)
 	if err != nil {
 		return err
@@ -201,6 +222,9 @@ func (c *config) announce(logger *log.Logger, address net.Addr) {
 		scheme = "https"
 	}
 	logger.Printf("serving WebDAV at %s://%s%s/", scheme, address, c.options.Prefix)
+	if c.rights != "" {
+		logger.Printf("the access rules of %s hold", c.rights)
+	}
 	if c.options.Folder != "" {
 		logger.Printf("files and locks are kept in the folder %s", c.options.Folder)
 		return

@@ -22,11 +22,15 @@ type call struct {
 	lasts  bool     // davd may keep what it does in its folder; otherwise it ends with the davd that gets it
 	adds   bool     // davd may hold more after it
 	frees  bool     // davd may hold less after it
-	again  bool     // it was sent before
+	sets   bool     // it sets the access rules
+	place  uint64   // its place among all calls that were queued
+	again  bool     // it was sent before, or is not to be sent again
 	reply  []byte
 	err    error
 	done   chan struct{} // gets one value when reply or err is set
 	what   string        // for the log
+
+	replied func(reply []byte) // called before who waits gets the reply; nil: nothing
 }
 
 func newCall(f frame.Frame) *call {
@@ -36,6 +40,7 @@ func newCall(f frame.Frame) *call {
 		lasts: lasts(f),
 		adds:  adds(f),
 		frees: frees(f),
+		sets:  sets(f),
 		done:  make(chan struct{}, 1),
 		what:  describe(f),
 	}
@@ -47,10 +52,15 @@ func (c *call) finish(reply []byte, err error) {
 	c.done <- struct{}{}
 }
 
+// repeats reports whether the call may be sent to the next davd, when the one that it was sent to has ended.
+func (c *call) repeats() bool {
+	return (c.reads || c.sets) && !c.again
+}
+
 // reads reports whether a frame changes nothing.
 func reads(f frame.Frame) bool {
 	switch f := f.(type) {
-	case frame.Read, frame.NextExpiry, frame.Held:
+	case frame.Read, frame.NextExpiry, frame.Held, frame.Explain:
 		return true
 	case *frame.Request:
 		return f.Method == "PROPFIND" || f.Method == "OPTIONS"
@@ -58,14 +68,20 @@ func reads(f frame.Frame) bool {
 	return false
 }
 
-// lasts reports whether davd may keep what a frame does in its folder. It holds bodies and the begin of a backup in
-// memory only.
+// lasts reports whether davd may keep what a frame does in its folder. It holds bodies, the begin of a backup and the
+// access rules in memory only.
 func lasts(f frame.Frame) bool {
 	switch f.(type) {
-	case frame.StartBody, frame.AddToBody, frame.DropBody, frame.BeginBackup, frame.EndBackup:
+	case frame.StartBody, frame.AddToBody, frame.DropBody, frame.BeginBackup, frame.EndBackup, frame.SetRights:
 		return false
 	}
 	return true
+}
+
+// sets reports whether a frame sets the access rules.
+func sets(f frame.Frame) bool {
+	_, ok := f.(frame.SetRights)
+	return ok
 }
 
 // adds reports whether davd may hold more after a frame. Without a body a LOCK refreshes one.
@@ -99,6 +115,8 @@ func describe(f frame.Frame) string {
 		return "upload"
 	case frame.BeginBackup, frame.EndBackup:
 		return "backup"
+	case frame.SetRights:
+		return "access rules"
 	}
 	return "query"
 }
@@ -125,12 +143,14 @@ func (b *batch) changes() bool {
 	return false
 }
 
-// cut splits the calls of the next batch from the others. The batch has at least one call.
+// cut splits the calls of the next batch from the others. The batch has at least one call. One that sets access rules is
+// alone in its batch.
 func cut(calls []*call) (batch, rest []*call) {
 	size := 0
 	for i, c := range calls {
 		size += len(c.frame)
-		if i > 0 && size > batchBytes || i == batchFrames {
+		ends := size > batchBytes || c.sets || calls[0].sets
+		if i > 0 && ends || i == batchFrames {
 			return calls[:i:i], calls[i:]
 		}
 	}

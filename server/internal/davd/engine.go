@@ -65,6 +65,7 @@ type Config struct {
 	Args    []string // as docs/FRAMES.md lists them
 	Folder  string   // the folder that it keeps, its last argument; empty: it holds everything in memory
 	Memory  int64    // limit of its address space in bytes, over a folder once it is loaded; 0: none
+	Rights  string   // the text of the access rules, in TOML; empty: none, and each principal may do everything
 	Log     *log.Logger
 
 	pauses pauses // zero: the defaults
@@ -97,18 +98,25 @@ type Engine struct {
 	idle    chan struct{} // closed when davd, in a pause, has answered what it was sent; nil: nobody waits for that
 	backup  bool          // a backup is under way
 	waiting []*call
-	now     uint64 // the time of the last batch
-	started uint64 // how many times davd was started again
+	queued  uint64  // how many calls were queued
+	now     uint64  // the time of the last batch
+	started uint64  // how many times davd was started again
+	rights  *string // the text of the access rules that the next davd gets; nil: none
 }
 
 // Start starts davd. An error says why it could not be started. Over a folder it may be ErrNoStore, ErrInUse or
-// ErrNoAccess, and Start waits until davd has loaded the folder or ctx is done.
+// ErrNoAccess, and Start waits until davd has loaded the folder or ctx is done. If the text of the access rules has none,
+// it is a *RightsError.
 func Start(ctx context.Context, config Config) (*Engine, error) {
 	if config.pauses == (pauses{}) {
 		config.pauses = defaultPauses
 	}
 	now := later(0, time.Now())
-	process, err := open(config, ctx.Done(), now)
+	var rights *string
+	if config.Rights != "" {
+		rights = &config.Rights
+	}
+	process, err := open(config, rights, ctx.Done(), now)
 	if errors.Is(err, errStopped) {
 		return nil, ctx.Err()
 	}
@@ -116,7 +124,7 @@ func Start(ctx context.Context, config Config) (*Engine, error) {
 		return nil, err
 	}
 	e := &Engine{
-		config: config, process: process, now: now,
+		config: config, process: process, now: now, rights: rights,
 		stats: newStats(), closed: make(chan struct{}), ended: make(chan struct{}),
 	}
 	go e.supervise(process)
@@ -181,7 +189,12 @@ func (e *Engine) do(ctx context.Context, c *call) (frame.Reply, error) {
 	if c.err != nil {
 		return nil, c.err
 	}
-	reply, err := frame.Decode(c.reply)
+	return decode(c.reply)
+}
+
+// decode decodes a reply. A frame that failed is a *StatusError.
+func decode(b []byte) (frame.Reply, error) {
+	reply, err := frame.Decode(b)
 	if err != nil {
 		return nil, fmt.Errorf("a reply of davd: %w", err)
 	}
@@ -199,6 +212,8 @@ func (e *Engine) submit(c *call) {
 		c.finish(nil, err)
 		return
 	}
+	e.queued++
+	c.place = e.queued
 	e.waiting = append(e.waiting, c)
 	batch := e.next()
 	e.mu.Unlock()
@@ -214,7 +229,7 @@ func (e *Engine) refusal(c *call) error {
 		return ErrClosed
 	case c.only != nil && c.only != e.process:
 		return c.only.lost
-	case e.pausing:
+	case e.pausing && !c.sets:
 		return ErrDown
 	case c.adds && e.process != nil && e.process.isFull && !e.renew():
 		return errNoMemory
@@ -222,7 +237,8 @@ func (e *Engine) refusal(c *call) error {
 	return nil
 }
 
-// withdraw removes a call that was not sent yet from the queue.
+// withdraw removes a call that was not sent yet from the queue. One that was sent is not sent again, if who waits for its
+// reply waits on.
 func (e *Engine) withdraw(c *call) bool {
 	e.mu.Lock()
 	defer e.mu.Unlock()
@@ -232,6 +248,7 @@ func (e *Engine) withdraw(c *call) bool {
 			return true
 		}
 	}
+	c.again = c.again || c.sets
 	return false
 }
 
@@ -291,12 +308,18 @@ func (e *Engine) answered(p *process) {
 	}
 }
 
-// failWaiting fails each call that waits. It is called with e.mu held.
+// failWaiting fails each call that waits. One that sets access rules waits on while davd does not run. It is called with
+// e.mu held.
 func (e *Engine) failWaiting(err error) {
+	var others []*call
 	for _, c := range e.waiting {
-		c.finish(nil, err)
+		if c.sets && err == ErrDown {
+			others = append(others, c)
+		} else {
+			c.finish(nil, err)
+		}
 	}
-	e.waiting = nil
+	e.waiting = others
 }
 
 // loadPart is how many times as long as it has loaded its folder a davd serves at least that is full.

@@ -323,6 +323,7 @@ func TestTimeNeverGoesBack(t *testing.T) {
 
 func TestCut(t *testing.T) {
 	small, large := &call{frame: make([]byte, 10)}, &call{frame: make([]byte, batchBytes)}
+	rules := &call{frame: make([]byte, 10), sets: true}
 	many := make([]*call, batchFrames+5)
 	for i := range many {
 		many[i] = small
@@ -336,6 +337,9 @@ func TestCut(t *testing.T) {
 		{"a large one alone", []*call{large, small}, 1, 1},
 		{"small ones before a large one", []*call{small, small, large, small}, 2, 2},
 		{"many", many, batchFrames, 5},
+		{"access rules alone", []*call{rules, small}, 1, 1},
+		{"small ones before access rules", []*call{small, small, rules, small}, 2, 2},
+		{"access rules twice", []*call{rules, rules}, 1, 1},
 	}
 	for _, test := range tests {
 		batch, rest := cut(test.calls)

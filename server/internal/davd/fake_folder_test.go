@@ -60,7 +60,7 @@ func fakeOver(folder fakeFolder, acts []string) {
 		case number != folder.get("last")+1:
 			writeReplies(folder.get("last"), 409, nil)
 			continue
-		case act == "ends" && frames[0][0] != 1 && frames[0][0] != 7: // not at the begin of a body or a backup
+		case act == "ends" && !isBegin(frames[0][0]):
 			os.Exit(exit)
 		}
 		folder.set("last", number)
@@ -70,6 +70,11 @@ func fakeOver(folder fakeFolder, acts []string) {
 		}
 		writeReplies(number, 200, replies(frames))
 	}
+}
+
+// isBegin reports whether a frame begins a body or a backup, or sets the access rules.
+func isBegin(kind byte) bool {
+	return kind == 1 || kind == 7 || kind == 9
 }
 
 // noteBackup keeps whether a backup is under way after these frames.

@@ -102,8 +102,9 @@ func replies(frames [][]byte) [][]byte {
 	for _, f := range frames {
 		var reply []byte
 		switch f[0] {
-		case 0: // a request: a response without fields, with the status 201
-			reply = append(numbered(0, 201), make([]byte, 1+8+1)...)
+		case 0: // a request: a response with the status 201, and the access rules in the field rights
+			reply = binary.BigEndian.AppendUint64(append(numbered(0, 201), 0), 1)
+			reply = append(appendText(appendText(reply, "rights"), fakeRights), 0)
 		case 1:
 			reply = numbered(1, uint64(os.Getpid()))
 		case 2, 3, 7, 8:
@@ -111,12 +112,41 @@ func replies(frames [][]byte) [][]byte {
 		case 6:
 			reply = append(numbered(6, uint64(len(frames))), 1)
 			reply = append(binary.BigEndian.AppendUint64(reply, uint64(os.Getpid())), 0)
+		case 9:
+			reply = setFakeRights(string(f[9:]))
+		case 10: // Rule 3 allows to list and to read.
+			reply = append(binary.BigEndian.AppendUint64([]byte{9, 1}, 3), 1, 1, 0)
 		default:
 			reply = numbered(7, 404)
 		}
 		all = append(all, reply)
 	}
 	return all
+}
+
+// fakeRights is the text of the access rules of a fake davd.
+var fakeRights string
+
+// setFakeRights answers a text of access rules, which may say what is wrong with it.
+func setFakeRights(text string) []byte {
+	switch {
+	case text == "ends":
+		os.Exit(3)
+	case text == "no memory":
+		return numbered(7, 507)
+	case text == "an unknown frame":
+		return numbered(7, 400)
+	case text == "a wrong reply":
+		return []byte{4}
+	case strings.HasPrefix(text, "refused"):
+		return appendText([]byte{8}, "line 1: "+text)
+	}
+	fakeRights = text
+	return []byte{2}
+}
+
+func appendText(b []byte, text string) []byte {
+	return append(binary.BigEndian.AppendUint64(b, uint64(len(text))), text...)
 }
 
 func numbered(kind byte, n uint64) []byte {

@@ -4,6 +4,7 @@ import (
 	"errors"
 	"fmt"
 	"io"
+	"sort"
 	"time"
 
 	"davserve/internal/frame"
@@ -13,28 +14,48 @@ import (
 var errStopped = errors.New("it was stopped")
 
 // open starts davd. Over a folder it waits until davd has named the last batch that it kept, and then limits its memory.
-// It gives up when stop is closed.
-func open(config Config, stop <-chan struct{}, now uint64) (*process, error) {
+// It gives davd the access rules, if there are some. It gives up when stop is closed.
+func open(config Config, rights *string, stop <-chan struct{}, now uint64) (*process, error) {
 	p, err := start(config)
-	if err != nil || config.Folder == "" {
+	if err != nil || config.Folder == "" && rights == nil {
 		return p, err
 	}
-	err = p.greet(stop, config.pauses.load, now)
-	if err == nil {
+	err = p.await(stop, config.pauses.load, func() error { return p.greet(config, rights, now) })
+	if err == nil && config.Folder != "" {
 		err = p.limitMemory(config)
 	}
-	if err != nil {
-		p.kill()
-		return nil, fmt.Errorf("davd cannot serve the folder %s: %w", config.Folder, whyNot(err, p.wait()))
+	if err == nil {
+		return p, nil
 	}
-	return p, nil
+	p.kill()
+	if end := p.wait(); !isReply(err) {
+		err = whyNot(err, end)
+	}
+	if config.Folder == "" {
+		return nil, fmt.Errorf("davd cannot serve: %w", err)
+	}
+	return nil, fmt.Errorf("davd cannot serve the folder %s: %w", config.Folder, err)
 }
 
-// greet has davd name the last batch that it kept. If that takes longer than the limit, or if stop is closed before,
-// davd is killed.
-func (p *process) greet(stop <-chan struct{}, limit time.Duration, now uint64) error {
+// greet is what is done before davd is in service: it names the last batch that it kept in its folder, and gets the access
+// rules. Its memory is not limited yet over a folder, so that the rules find room beside what fills it.
+func (p *process) greet(config Config, rights *string, now uint64) error {
+	if config.Folder != "" {
+		if err := p.ask(now); err != nil {
+			return err
+		}
+	}
+	if rights == nil {
+		return nil
+	}
+	return p.setRights(*rights, now)
+}
+
+// await waits for what is done with davd. If that takes longer than the limit, or if stop is closed before, davd is
+// killed.
+func (p *process) await(stop <-chan struct{}, limit time.Duration, do func() error) error {
 	answered := make(chan error, 1)
-	go func() { answered <- p.ask(now) }()
+	go func() { answered <- do() }()
 	timer := time.NewTimer(limit)
 	defer timer.Stop()
 	var err error
@@ -69,7 +90,7 @@ func (p *process) ask(now uint64) error {
 	if header.Status != statusNotNext || header.Count != 0 {
 		return fmt.Errorf("batch 0 has the status %d and %d replies", header.Status, header.Count)
 	}
-	p.number, p.loaded = header.Number, time.Now()
+	p.kept, p.number, p.loaded = header.Number, header.Number, time.Now()
 	return nil
 }
 
@@ -125,12 +146,12 @@ func (e *Engine) endOutage() []*call {
 }
 
 // settle finishes the calls that the last davd had not answered, by the number of the last batch that the next one has
-// kept. Those that only read are queued once more. It is called with e.mu held.
+// kept. Those that only read are queued once more, each in its old place. It is called with e.mu held.
 func (e *Engine) settle(last uint64) (kept, undone []string) {
 	var again []*call
 	for _, c := range e.endOutage() {
 		switch {
-		case c.reads && !c.again:
+		case c.repeats():
 			c.again, c.sentTo = true, nil
 			again = append(again, c)
 		case c.reads:
@@ -144,5 +165,6 @@ func (e *Engine) settle(last uint64) (kept, undone []string) {
 		}
 	}
 	e.waiting = append(again, e.waiting...)
+	sort.SliceStable(e.waiting, func(i, j int) bool { return e.waiting[i].place < e.waiting[j].place })
 	return kept, undone
 }

@@ -33,6 +33,7 @@ type process struct {
 	isFull  bool          // it has more memory than it may, so that nothing is added to its folder
 	removed bool          // it was sent what removes something
 	renewed bool          // it gets no more batches and ends, so that the next one needs less memory
+	kept    uint64        // the number of the last batch that it had kept in its folder when it was started
 	number  uint64        // of the last batch
 	pending int           // how many batches were sent whose replies were not all read
 	sent    chan *batch   // the batches whose replies were not begun to be read
@@ -131,6 +132,9 @@ func (p *process) read(b *batch) error {
 			return err
 		}
 		b.answered++
+		if c.replied != nil {
+			c.replied(reply)
+		}
 		c.finish(reply, nil)
 	}
 	p.free = time.Now()

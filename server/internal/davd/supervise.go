@@ -88,8 +88,8 @@ func (e *Engine) read(p *process) error {
 	}
 }
 
-// detach takes a davd that has ended out of service. The calls that only read are queued once more, the others fail.
-// Over a folder, those that were sent wait for the next davd. It returns what was lost.
+// detach takes a davd that has ended out of service. The calls that only read or set access rules are queued once more,
+// the others fail. Over a folder, those that were sent wait for the next davd. It returns what was lost.
 func (e *Engine) detach(p *process, end error) []string {
 	e.mu.Lock()
 	defer e.mu.Unlock()
@@ -104,7 +104,7 @@ func (e *Engine) detach(p *process, end error) []string {
 			again = append(again, c)
 		case isKept && c.sentTo != nil && c.lasts:
 			unknown = append(unknown, c)
-		case c.reads && !c.again && !e.closing:
+		case c.repeats() && !e.closing:
 			c.again, c.sentTo = true, nil
 			again = append(again, c)
 		default:
@@ -179,17 +179,25 @@ func (e *Engine) restart(pause *time.Duration) *process {
 	}
 }
 
-// openNext starts the next davd. Over a folder it counts as loading meanwhile.
+// openNext starts the next davd. Over a folder it counts as loading meanwhile. The access rules do not change until it is
+// in service: only the reply of a davd changes them, and there is none.
 func (e *Engine) openNext() (*process, error) {
 	e.setLoading(e.config.Folder != "")
 	defer e.setLoading(false)
-	return open(e.config, e.closed, e.later())
+	return open(e.config, e.nextRights(), e.closed, e.later())
 }
 
 func (e *Engine) setLoading(loading bool) {
 	e.mu.Lock()
 	e.loading = loading
 	e.mu.Unlock()
+}
+
+// nextRights returns the text of the access rules that the next davd gets, or nil if there are none.
+func (e *Engine) nextRights() *string {
+	e.mu.Lock()
+	defer e.mu.Unlock()
+	return e.rights
 }
 
 // sleep waits, and reports whether the engine is still open. Calls wait too if the pause is short, and fail otherwise.
@@ -226,7 +234,7 @@ func (e *Engine) attach(p *process) *process {
 	}
 	e.process, e.pausing = p, false
 	e.started++
-	kept, undone := e.settle(p.number)
+	kept, undone := e.settle(p.kept)
 	if p.isFull {
 		e.failAdditions()
 	}

@@ -50,7 +50,10 @@ func TestReadsAreWhatChangesNothing(t *testing.T) {
 			t.Errorf("%s changes nothing", method)
 		}
 	}
-	for _, f := range []frame.Frame{frame.StartBody{}, frame.AddToBody{}, frame.DropBody{}} {
+	if !reads(frame.Explain{}) {
+		t.Error("Explain changes something")
+	}
+	for _, f := range []frame.Frame{frame.StartBody{}, frame.AddToBody{}, frame.DropBody{}, frame.SetRights{}} {
 		if reads(f) {
 			t.Errorf("%T changes nothing", f)
 		}
@@ -63,7 +66,8 @@ func TestWhatAdds(t *testing.T) {
 			t.Errorf("%s adds nothing", method)
 		}
 	}
-	others := []frame.Frame{frame.Read{}, frame.DropBody{}, frame.Held{}, frame.BeginBackup{}, frame.EndBackup{}}
+	others := []frame.Frame{frame.Read{}, frame.DropBody{}, frame.Held{}, frame.BeginBackup{}, frame.EndBackup{},
+		frame.SetRights{}, frame.Explain{}}
 	for _, method := range []string{"PROPFIND", "OPTIONS", "DELETE", "UNLOCK", "LOCK"} { // the refresh of a lock
 		others = append(others, &frame.Request{Method: method})
 	}

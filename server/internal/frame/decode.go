@@ -20,6 +20,8 @@ const (
 	replyExpiry
 	replyHoldings
 	replyFailed
+	replyRefused
+	replyExplained
 )
 
 func (Response) isReply()    {}
@@ -30,6 +32,8 @@ func (Collection) isReply()  {}
 func (Expiry) isReply()      {}
 func (Holdings) isReply()    {}
 func (Failed) isReply()      {}
+func (Refused) isReply()     {}
+func (Explained) isReply()   {}
 
 // Decode decodes a reply, which must be the whole of b. If it cannot, the error wraps ErrMalformed.
 //
@@ -60,7 +64,7 @@ type reader struct {
 }
 
 func (r *reader) reply() Reply {
-	switch r.kind(replyFailed, "a reply") {
+	switch r.kind(replyExplained, "a reply") {
 	case replyResponse:
 		return r.response()
 	case replyBodyStarted:
@@ -75,8 +79,12 @@ func (r *reader) reply() Reply {
 		return Expiry{Time: r.optionalNumber()}
 	case replyHoldings:
 		return Holdings{Locks: r.number(), Quota: r.quota()}
-	default:
+	case replyFailed:
 		return Failed{Status: r.status()}
+	case replyRefused:
+		return Refused{Reason: r.string()}
+	default:
+		return Explained{Rule: r.optionalNumber(), List: r.flag(), Read: r.flag(), Write: r.flag()}
 	}
 }
 

@@ -40,6 +40,11 @@ func appendReply(b []byte, reply Reply) []byte {
 		return appendOptionalNumber(appendNumber(append(b, yes), r.Quota.Used), r.Quota.Total)
 	case Failed:
 		return appendNumber(append(b, replyFailed), uint64(r.Status))
+	case Refused:
+		return appendString(append(b, replyRefused), r.Reason)
+	case Explained:
+		b = appendOptionalNumber(append(b, replyExplained), r.Rule)
+		return appendFlag(appendFlag(appendFlag(b, r.List), r.Read), r.Write)
 	}
 	return b
 }

@@ -22,6 +22,8 @@ const (
 	frameHeld
 	frameBeginBackup
 	frameEndBackup
+	frameSetRights
+	frameExplain
 )
 
 func (f Request) appendTo(b []byte) []byte {
@@ -75,6 +77,17 @@ func (BeginBackup) appendTo(b []byte) []byte {
 
 func (EndBackup) appendTo(b []byte) []byte {
 	return append(b, frameEndBackup)
+}
+
+func (f SetRights) appendTo(b []byte) []byte {
+	b = append(b, frameSetRights)
+	return appendString(b, f.Rules)
+}
+
+func (f Explain) appendTo(b []byte) []byte {
+	b = append(b, frameExplain)
+	b = appendOptional(b, f.Principal)
+	return appendString(b, f.Path)
 }
 
 // The first byte of the body of a request.

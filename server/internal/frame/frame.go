@@ -41,7 +41,7 @@ type Field struct {
 }
 
 // A Frame asks davd for something. It is one of Request, StartBody, AddToBody, DropBody, Read, NextExpiry, Held,
-// BeginBackup and EndBackup.
+// BeginBackup, EndBackup, SetRights and Explain.
 type Frame interface {
 	appendTo(b []byte) []byte
 }
@@ -106,7 +106,20 @@ type BeginBackup struct{}
 // EndBackup ends the backup, if there is one. The reply is Done.
 type EndBackup struct{}
 
-// A Reply answers a frame. It is one of Response, BodyStarted, Done, Part, Collection, Expiry, Holdings and Failed.
+// SetRights has davd serve by the access rules of a text from now on. The reply is Done, or Refused if the text has no
+// rules.
+type SetRights struct {
+	Rules string // in TOML
+}
+
+// Explain asks what the access rules allow a principal at a path. The reply is Explained.
+type Explain struct {
+	Principal *string // nil: nobody
+	Path      string  // as in the request line, percent-encoded
+}
+
+// A Reply answers a frame. It is one of Response, BodyStarted, Done, Part, Collection, Expiry, Holdings, Failed, Refused
+// and Explained.
 type Reply interface {
 	isReply()
 }
@@ -159,4 +172,17 @@ type Quota struct {
 // Failed says that a frame failed, with an HTTP status.
 type Failed struct {
 	Status int // 100 to 999
+}
+
+// Refused says that the text of SetRights has no rules. Nothing has changed.
+type Refused struct {
+	Reason string // one or more lines, which name the line of the text or the rule that is wrong, if it is one
+}
+
+// Explained says what the access rules allow a principal at a path.
+type Explained struct {
+	Rule  *uint64 // the number of the rule that decides, from 1; nil: none does
+	List  bool
+	Read  bool
+	Write bool
 }

@@ -60,10 +60,14 @@ var vectorFrames = map[string]Frame{
 	"read-of-version": Read{
 		Principal: pointer("p"), Path: "/\u00e9", Offset: 1 << 32, Count: greatest, ETag: pointer("5-1"),
 	},
-	"next-expiry":  NextExpiry{},
-	"held":         Held{},
-	"begin-backup": BeginBackup{},
-	"end-backup":   EndBackup{},
+	"next-expiry":       NextExpiry{},
+	"held":              Held{},
+	"begin-backup":      BeginBackup{},
+	"end-backup":        EndBackup{},
+	"set-rights":        SetRights{Rules: "[[rule]]\nuser = \"\u00e9\"\n"},
+	"set-no-rights":     SetRights{},
+	"explain":           Explain{Path: "/%C3%A9"},
+	"explain-principal": Explain{Principal: pointer("p"), Path: "/a"},
 }
 
 var vectorReplies = map[string]Reply{
@@ -88,12 +92,17 @@ var vectorReplies = map[string]Reply{
 	"holdings-without-limit":  Holdings{Quota: &Quota{Used: 1}},
 	"holdings-with-limit":     Holdings{Quota: &Quota{Used: 1, Total: pointer(uint64(2))}},
 	"failed":                  Failed{Status: 507},
+	"refused":                 Refused{Reason: "rule 3: \u00e9"},
+	"refused-without-reason":  Refused{},
+	"explained":               Explained{Rule: pointer(uint64(3)), List: true, Read: true},
+	"explained-write":         Explained{Rule: pointer(uint64(greatest)), Write: true},
+	"explained-by-no-rule":    Explained{List: true},
 }
 
 // vectorFailures has what the error for each vector of malformed.txt says.
 var vectorFailures = map[string]string{
 	"nothing":                        "byte 0: expected a reply, not the end",
-	"kind-8":                         "byte 0: expected a reply, not the byte 8",
+	"kind-10":                        "byte 0: expected a reply, not the byte 10",
 	"kind-255":                       "byte 0: expected a reply, not the byte 255",
 	"done-and-a-byte":                "byte 1: expected the end",
 	"body-started-and-a-byte":        "byte 9: expected the end",
@@ -130,6 +139,12 @@ var vectorFailures = map[string]string{
 	"media-type-not-utf8":            "byte 19: expected UTF-8",
 	"part-cut":                       "byte 27: expected 2 bytes, and 1 are left",
 	"part-and-a-byte":                "byte 28: expected the end",
+	"reason-not-utf8":                "byte 9: expected UTF-8",
+	"reason-cut":                     "byte 9: expected 2 bytes, and 1 are left",
+	"explained-rule-2":               "byte 1: expected an optional value, not the byte 2",
+	"explained-flag-2":               "byte 3: expected a flag, not the byte 2",
+	"explained-without-write":        "byte 4: expected a flag, not the end",
+	"explained-and-a-byte":           "byte 5: expected the end",
 }
 
 // readVectors returns the vectors in a file by their names.

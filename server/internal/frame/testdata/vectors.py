@@ -43,6 +43,10 @@ FRAMES = {
     "held": frames.Held(),
     "begin-backup": frames.BeginBackup(),
     "end-backup": frames.EndBackup(),
+    "set-rights": frames.SetRights('[[rule]]\nuser = "\u00e9"\n'),
+    "set-no-rights": frames.SetRights(""),
+    "explain": frames.Explain(None, "/%C3%A9"),
+    "explain-principal": frames.Explain("p", "/a"),
 }
 
 REPLIES = {
@@ -64,6 +68,11 @@ REPLIES = {
     "holdings-without-limit": frames.Holdings(0, (1, None)),
     "holdings-with-limit": frames.Holdings(0, (1, 2)),
     "failed": frames.Failed(507),
+    "refused": frames.Refused("rule 3: \u00e9"),
+    "refused-without-reason": frames.Refused(""),
+    "explained": frames.Explained(3, True, True, False),
+    "explained-write": frames.Explained(frames.GREATEST, False, False, True),
+    "explained-by-no-rule": frames.Explained(None, True, False, False),
 }
 
 
@@ -90,7 +99,7 @@ BAD = frames.text(b"\xff")
 
 MALFORMED = {
     "nothing": b"",
-    "kind-8": b"\x08",
+    "kind-10": b"\x0a",
     "kind-255": b"\xff",
     "done-and-a-byte": b"\2\0",
     "body-started-and-a-byte": b"\1" + frames.number(1) + b"\0",
@@ -127,6 +136,12 @@ MALFORMED = {
     "media-type-not-utf8": part(b"\0", BAD, frames.text(b"")),
     "part-cut": part(b"\0", frames.text(b""), frames.number(2) + b"x"),
     "part-and-a-byte": part(b"\0", frames.text(b""), frames.number(1) + b"xy"),
+    "reason-not-utf8": b"\x08" + BAD,
+    "reason-cut": b"\x08" + frames.number(2) + b"x",
+    "explained-rule-2": b"\x09\2" + b"\0" * 3,
+    "explained-flag-2": b"\x09\0\0\2\0",
+    "explained-without-write": b"\x09\0\1\1",
+    "explained-and-a-byte": b"\x09\0\0\0\0\0",
 }
 
 
