@@ -8,7 +8,7 @@ DAVD       ?= crates/davd/out/davd
 GO         ?= go
 
 DAVSERVE := server/out/davserve
-SOURCES  := $(shell find server -name '*.go' ! -name '*_test.go') server/go.mod
+SOURCES  := $(shell find server -name '*.go' ! -name '*_test.go') $(wildcard server/page/*) server/go.mod
 
 BINDIR  := $(PREFIX)/bin
 MANDIR  := $(PREFIX)/share/man/man1

@@ -2,6 +2,11 @@ package davserve
 
 import (
 	"bytes"
+	"context"
+	"crypto/sha256"
+	_ "embed" // for the parts of the page
+	"encoding/base64"
+	"fmt"
 	"html/template"
 	"net/http"
 	"net/url"
@@ -11,66 +16,79 @@ import (
 	"time"
 )
 
-// page lists the members of a collection for people.
-var page = template.Must(template.New("page").Parse(`<!DOCTYPE html>
-<html lang="en">
-<meta charset="utf-8">
-<meta name="viewport" content="width=device-width">
-<title>{{.Path}}</title>
-<style>
-body { font-family: sans-serif; margin: 2em }
-td, th { padding: .2em 1em .2em 0; text-align: left }
-td.size { text-align: right }
-</style>
-<h1><bdi>{{.Path}}</bdi></h1>
-<table>
-<tr><th>Name<th>Bytes<th>Modified
-{{- if .HasParent}}
-<tr><td><a href="../">../</a><td><td>
-{{- end}}
-{{- range .Rows}}
-<tr><td><a href="{{.Link}}"><bdi>{{.Name}}</bdi></a><td class="size">{{.Size}}<td>{{.Modified}}
-{{- end}}
-</table>
-</html>
-`))
+var (
+	//go:embed page/page.html
+	pageText string
+	//go:embed page/page.css
+	pageStyle string
+	//go:embed page/upload.js
+	pageScript string
+)
 
-// A row is what the page says of a member.
+// page lists the members of a collection for people.
+var page = template.Must(template.New("page").Parse(pageText))
+
+// policy allows the page its style and nothing else. A page that uploads may also run its script, which may send requests
+// to this server.
+var (
+	policy = "default-src 'none'; style-src " + hashSource(pageStyle) +
+		"; form-action 'none'; frame-ancestors 'none'; base-uri 'none'"
+	uploadPolicy = policy + "; script-src " + hashSource(pageScript) + "; connect-src 'self'"
+)
+
+// topName is what the page calls the collection that has no name, because nothing is above it.
+const topName = "Files"
+
+// newName stands for the name of a new member. No access rule has it.
+const newName = "davserve-new-name"
+
+// A view is what the page shows.
+type view struct {
+	Name    string
+	Above   []crumb
+	Rows    []row
+	Count   string
+	Longest int64 // of a file to upload, in bytes
+	Style   template.CSS
+	Script  template.JS // empty: the page does not upload
+}
+
+// A crumb is a collection above that of the page.
+type crumb struct {
+	Link string
+	Name string
+}
+
+// A row is what the page shows of a member.
 type row struct {
+	Kind     string
 	Link     string
 	Name     string
-	Size     string
-	Modified string
+	Bytes    int64
+	Size     string // empty for a collection
+	Exact    string
+	Modified string // empty: not known
+	Date     string
+	Clock    string
 }
 
 // index answers a GET of a collection.
 func (h *Handler) index(w http.ResponseWriter, r *http.Request) error {
-	_, members, err := h.list(r.Context(), pathOf(r), h.principal(r))
+	self, members, err := h.list(r.Context(), pathOf(r), h.principal(r))
 	if err != nil {
 		return err
 	}
-	sort.Slice(members, func(i, j int) bool {
-		if members[i].isCollection != members[j].isCollection {
-			return members[i].isCollection
-		}
-		return members[i].name() < members[j].name()
-	})
-	rows := make([]row, len(members))
-	for i, m := range members {
-		rows[i] = rowOf(m)
+	uploads, err := h.mayAdd(r.Context(), self.href, h.principal(r))
+	if err != nil {
+		return err
 	}
 	var body bytes.Buffer
-	err = page.Execute(&body, map[string]any{
-		"Path":      r.URL.Path,
-		"HasParent": strings.TrimSuffix(r.URL.Path, "/") != h.options.Prefix,
-		"Rows":      rows,
-	})
-	if err != nil {
-		return err
+	if err := page.Execute(&body, h.viewOf(self, members, uploads)); err != nil {
+		return fmt.Errorf("the page: %w", err)
 	}
 	header := w.Header()
 	header.Set("Content-Type", "text/html; charset=utf-8")
-	header.Set("Content-Security-Policy", "default-src 'none'; style-src 'unsafe-inline'")
+	header.Set("Content-Security-Policy", policyOf(uploads))
 	header.Set("Cache-Control", "no-cache")
 	header.Set("Content-Length", strconv.Itoa(body.Len()))
 	w.WriteHeader(http.StatusOK)
@@ -80,18 +98,130 @@ func (h *Handler) index(w http.ResponseWriter, r *http.Request) error {
 	return nil
 }
 
-// rowOf returns what the page says of a member. The link is relative, and begins with ./ because a name may have a
+// mayAdd reports whether the access rules allow a principal to write a new member of a collection. Rules for the name of
+// one member may say otherwise.
+func (h *Handler) mayAdd(ctx context.Context, collection string, principal *string) (bool, error) {
+	explained, err := h.engine.Explain(ctx, principal, collection+newName)
+	return explained.Write, err
+}
+
+// viewOf returns what the page of a collection shows.
+func (h *Handler) viewOf(self member, members []member, uploads bool) view {
+	sort.Slice(members, func(i, j int) bool {
+		if members[i].isCollection != members[j].isCollection {
+			return members[i].isCollection
+		}
+		return members[i].name() < members[j].name()
+	})
+	v := view{Style: template.CSS(pageStyle), Count: countOf(members), Longest: h.options.MaxBody}
+	v.Above, v.Name = crumbsOf(strings.TrimPrefix(self.href, h.options.Prefix))
+	for _, m := range members {
+		v.Rows = append(v.Rows, rowOf(m))
+	}
+	if uploads {
+		v.Script = template.JS(pageScript)
+	}
+	return v
+}
+
+// policyOf returns the Content-Security-Policy of a page.
+func policyOf(uploads bool) string {
+	if uploads {
+		return uploadPolicy
+	}
+	return policy
+}
+
+// hashSource returns the source of a Content-Security-Policy that allows exactly this inline text.
+func hashSource(text string) string {
+	sum := sha256.Sum256([]byte(text))
+	return "'sha256-" + base64.StdEncoding.EncodeToString(sum[:]) + "'"
+}
+
+// crumbsOf returns the collections above one, the highest first, and its own name. The path is percent-encoded, without
+// the prefix of the server, and ends with a slash. The links are relative, so that they stay on this host.
+func crumbsOf(path string) (above []crumb, name string) {
+	name = topName
+	segments := strings.Split(strings.Trim(path, "/"), "/")
+	if segments[0] == "" {
+		return nil, name
+	}
+	for i, segment := range segments {
+		above = append(above, crumb{Name: name, Link: strings.Repeat("../", len(segments)-i)})
+		name = unescaped(segment)
+	}
+	return above, name
+}
+
+// rowOf returns what the page shows of a member. The link is relative, and begins with ./ because a name may have a
 // colon.
 func rowOf(m member) row {
-	r := row{Name: m.name(), Link: "./" + url.PathEscape(m.name())}
+	r := row{Kind: "file", Name: m.name(), Link: "./" + url.PathEscape(m.name())}
 	if m.isCollection {
+		r.Kind = "folder"
 		r.Name += "/"
 		r.Link += "/"
 	} else {
-		r.Size = strconv.FormatInt(m.length, 10)
+		r.Bytes, r.Size, r.Exact = m.length, sizeOf(m.length), exactSizeOf(m.length)
 	}
 	if !m.modified.IsZero() {
-		r.Modified = m.modified.UTC().Format(time.RFC3339)
+		modified := m.modified.UTC()
+		r.Modified, r.Date, r.Clock = modified.Format(time.RFC3339), modified.Format("2006-01-02"), modified.Format("15:04")
 	}
 	return r
+}
+
+// countOf says how many collections and files there are.
+func countOf(members []member) string {
+	folders := 0
+	for _, m := range members {
+		if m.isCollection {
+			folders++
+		}
+	}
+	files := len(members) - folders
+	switch {
+	case folders == 0:
+		return counted(files, "file")
+	case files == 0:
+		return counted(folders, "folder")
+	}
+	return counted(folders, "folder") + ", " + counted(files, "file")
+}
+
+func counted(n int, noun string) string {
+	if n == 1 {
+		return "1 " + noun
+	}
+	return strconv.Itoa(n) + " " + noun + "s"
+}
+
+// sizeOf returns a number of bytes as people read it: by powers of 1000, with two digits at least.
+func sizeOf(n int64) string {
+	if n < 1000 {
+		return exactSizeOf(n)
+	}
+	size := float64(n)
+	for _, unit := range []string{"kB", "MB", "GB", "TB", "PB"} {
+		size /= 1000
+		if size < 9.95 {
+			return fmt.Sprintf("%.1f %s", size, unit)
+		}
+		if size < 999.5 {
+			return fmt.Sprintf("%.0f %s", size, unit)
+		}
+	}
+	return fmt.Sprintf("%.1f EB", size/1000)
+}
+
+// exactSizeOf returns a number of bytes with a comma between thousands.
+func exactSizeOf(n int64) string {
+	digits := strconv.FormatInt(n, 10)
+	for i := len(digits) - 3; i > 0; i -= 3 {
+		digits = digits[:i] + "," + digits[i:]
+	}
+	if n == 1 {
+		return "1 byte"
+	}
+	return digits + " bytes"
 }

@@ -14,11 +14,16 @@ import (
 // readOnly allows to list and to read.
 const readOnly = "[[rule]]\neveryone = true\nat_and_below = \"/\"\nallow = [\"list\", \"read\"]\n"
 
-// statusOf returns the status of a request without a body.
-func statusOf(handler http.Handler, method, path string) int {
+// responseTo returns the response to a request without a body.
+func responseTo(handler http.Handler, method, path string) *httptest.ResponseRecorder {
 	recorder := httptest.NewRecorder()
 	handler.ServeHTTP(recorder, httptest.NewRequest(method, path, nil))
-	return recorder.Code
+	return recorder
+}
+
+// statusOf returns the status of a request without a body.
+func statusOf(handler http.Handler, method, path string) int {
+	return responseTo(handler, method, path).Code
 }
 
 func TestRightsAreReplaced(t *testing.T) {

@@ -111,21 +111,6 @@ func TestSafeHeaders(t *testing.T) {
 	}
 }
 
-func TestThePageEscapesNames(t *testing.T) {
-	c := startServer(t, Options{})
-	c.want(201, "PUT", "/%3Cscript%3Ealert(1)%3C%22", "x")
-	c.want(201, "PUT", "/javascript:alert(1)", "x")
-	text := c.want(200, "GET", "/", "")
-	if strings.Contains(text, "<script") || strings.Contains(text, `href="javascript:`) {
-		t.Errorf("the page has a script: %s", text)
-	}
-	for _, link := range []string{`"./%3Cscript%3Ealert%281%29%3C%22"`, `"./javascript:alert%281%29"`} {
-		if !strings.Contains(text, link) {
-			t.Errorf("the page lacks the link %s: %s", link, text)
-		}
-	}
-}
-
 func TestAllowListsWhatIsServed(t *testing.T) {
 	c := startServer(t, Options{})
 	for _, method := range []string{"OPTIONS", "POST"} {

@@ -27,11 +27,15 @@ type member struct {
 // name returns the last segment of the path of a resource, decoded.
 func (m member) name() string {
 	path := strings.TrimSuffix(m.href, "/")
-	path = path[strings.LastIndexByte(path, '/')+1:]
-	if name, err := url.PathUnescape(path); err == nil {
+	return unescaped(path[strings.LastIndexByte(path, '/')+1:])
+}
+
+// unescaped returns a segment of a path, decoded.
+func unescaped(segment string) string {
+	if name, err := url.PathUnescape(segment); err == nil {
 		return name
 	}
-	return path
+	return segment
 }
 
 // walk calls a function for the resource at a path and for each one below it, until the function returns an error. The

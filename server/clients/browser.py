@@ -1,4 +1,6 @@
 """What a browser asks for: the page of a collection, pages of other origins (CORS), and the health."""
+import base64
+import hashlib
 import html.parser
 import urllib.parse
 
@@ -23,18 +25,23 @@ GROUPS = [PAGE, PREFIXED, CORS, HEALTH]
 
 
 class Page(html.parser.HTMLParser):
-    """The links of a page with their texts, and all its elements."""
+    """The links of a page with their texts, all its elements, and what its scripts and styles contain."""
 
     def __init__(self, text: str):
         super().__init__()
         self.links: dict[str, str] = {}
         self.elements: list[tuple[str, dict]] = []
+        self.inline: dict[str, str] = {}
         self.link: str | None = None
+        self.inside: str | None = None
         self.feed(text)
         self.close()
 
     def handle_starttag(self, tag, attributes):
         self.elements.append((tag, dict(attributes)))
+        if tag in ("script", "style"):
+            self.inside = tag
+            self.inline[tag] = ""
         if tag == "a":
             self.link = dict(attributes).get("href") or ""
             self.links[self.link] = ""
@@ -42,10 +49,18 @@ class Page(html.parser.HTMLParser):
     def handle_endtag(self, tag):
         if tag == "a":
             self.link = None
+        if tag == self.inside:
+            self.inside = None
 
     def handle_data(self, data):
         if self.link is not None:
             self.links[self.link] += data
+        if self.inside:
+            self.inline[self.inside] += data
+
+    def members(self) -> dict[str, str]:
+        """The links to members, with their names."""
+        return {link: text for link, text in self.links.items() if link.startswith("./")}
 
 
 # ---- the page
@@ -88,15 +103,50 @@ def links(server: Server):
     expect("the link below", "x" in {it.strip() for it in below.links.values()}, True)
 
 
+def crumbs(server: Server):
+    """Each collection above the page has a link, and the page itself its name without one."""
+    path = fill(server) + "sub%20folder/"
+    page = page_of(server, path)
+    found = [(urllib.parse.urljoin(path, link), text) for link, text in page.links.items() if link.startswith("..")]
+    top = f"{server.prefix}/"
+    name = fill(server)[len(top) :].rstrip("/")
+    expect("the links above", found, [(top, "Files"), (f"{top}{name}/", name)])
+    for target, text in found:
+        above = page_of(server, target)
+        below = {urllib.parse.urljoin(target, it) for it in above.members()}
+        expect(f"whether {text} has the page below it", any(path.startswith(it) for it in below), True)
+    current = [attributes for tag, attributes in page.elements if "aria-current" in attributes]
+    expect("what is the page itself", current, [{"aria-current": "page"}])
+
+
 def no_script(server: Server):
-    """No name becomes an element or an attribute."""
+    """No name becomes an element or an attribute. The only script is the one that the policy allows."""
     page = page_of(server, fill(server))
     for tag, attributes in page.elements:
         has_handler = any(it.startswith("on") for it in attributes)
-        if has_handler or tag in ("script", "img", "iframe", "object", "base", "form"):
+        if has_handler or "style" in attributes or tag in ("img", "iframe", "object", "base", "form", "link"):
             raise Wrong(f"expected no element {tag} with {attributes}")
         if urllib.parse.urlsplit(attributes.get("href") or "").scheme:
             raise Wrong(f"expected a relative link, got {attributes}")
+    found = [it for it in page.elements if it[0] in page.inline]
+    expect("scripts and styles", found, [("style", {}), ("script", {})])
+
+
+def source(text: str) -> str:
+    """The source of a policy that allows a script or a style (Content Security Policy Level 3, section 6.7.2)."""
+    return f"'sha256-{base64.b64encode(hashlib.sha256(text.encode()).digest()).decode()}'"
+
+
+def policy(server: Server):
+    """The policy allows this script, this style and requests to this server, and nothing else."""
+    answer = server.ask("GET", fill(server), status=200)
+    inline = Page(answer.body.decode()).inline
+    rules = [it.split() for it in (answer.field("Content-Security-Policy") or "").split(";")]
+    wanted = [
+        ["base-uri", "'none'"], ["connect-src", "'self'"], ["default-src", "'none'"], ["form-action", "'none'"],
+        ["frame-ancestors", "'none'"], ["script-src", source(inline["script"])], ["style-src", source(inline["style"])],
+    ]
+    expect("Content-Security-Policy", sorted(rules), wanted)
 
 
 def redirects(server: Server):
@@ -112,8 +162,10 @@ def redirects(server: Server):
 
 def heads(server: Server):
     path = fill(server)
-    answer = server.ask("HEAD", path, status=200)
+    answer, page = server.ask("HEAD", path, status=200), server.ask("GET", path, status=200)
     expect("Content-Type", (answer.field("Content-Type") or "").partition(";")[0], "text/html")
+    for name in ("Content-Length", "Content-Security-Policy", "Cache-Control"):
+        expect(name, answer.field(name), page.field(name))
     server.ask("HEAD", path.rstrip("/"), status=(301, 302, 307, 308))
 
 
@@ -124,7 +176,9 @@ def nothing(server: Server):
 
 for group in (PAGE, PREFIXED):
     group.add("each member has a link that works", links)
-    group.add("no script, whatever the names are", no_script)
+    group.add("the collections above have links that work", crumbs)
+    group.add("no other script, whatever the names are", no_script)
+    group.add("the policy allows only its script and its style", policy)
     group.add("a path without its trailing slash redirects", redirects)
     group.add("HEAD", heads)
     group.add("what does not exist is 404", nothing)

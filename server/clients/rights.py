@@ -225,7 +225,7 @@ def listed(server: Server, path: str, fields: dict) -> list[str]:
     answer = server.ask("PROPFIND", path, NAMES, {**fields, "Depth": "1"}, 207)
     found = sorted(it for it in multistatus.resources(answer) if it != path)
     page = browser.Page(server.ask("GET", path, None, fields, 200).body.decode())
-    links = sorted(urllib.parse.urljoin(path, it) for it in page.links if it != "../")
+    links = sorted(urllib.parse.urljoin(path, it) for it in page.members())
     expect(f"the page of {path}", links, found)
     return found
 
