@@ -8,8 +8,8 @@
   have the function and its contract the clause. The file of a link to an .antt file must define each name. In the other
   documents only citations with clauses are checked.
 - Laws: docs/GUARANTEES.md cites each definition that a field of a law of dav_engine uses (specs/Law.antt).
-- The picture docs/crates.svg is that of crates.txt (tools/picture), and the chart docs/speed.svg that of the table in
-  docs/SPEED.md (tools/chart).
+- The picture docs/crates.svg is that of crates.txt (tools/picture), and the charts docs/speed.svg and
+  docs/server-speed.svg are those of the tables in docs/SPEED.md (tools/chart).
 - Words: the documents and the comments of the sources, those in Go too, use no word of WORDS. tools/words-allowed lists
   exceptions.
 """
@@ -158,7 +158,7 @@ def check_laws(prose):
 
 
 def check_pictures():
-    for tool, picture in (("picture", "docs/crates.svg"), ("chart", "docs/speed.svg")):
+    for tool, picture in (("picture", "docs/crates.svg"), ("chart", "the charts of docs/SPEED.md")):
         ran = subprocess.run([TOP / "tools" / tool, "--check"], capture_output=True, text=True)
         yield picture, (ran.stdout + ran.stderr).strip() or f"status {ran.returncode}" if ran.returncode else None
 
