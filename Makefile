@@ -25,7 +25,7 @@ PREFIX=$(PREFIX)       where programs, pages and the unit are
 SYSCONFDIR=$(SYSCONFDIR)         where the options are
 DESTDIR=$(DESTDIR)                a folder in the place of /, for packages
 DAVD=$(DAVD)
-                        the program davd: `rt ci davd` proves and builds it
+                        the program davd: `rt ci` proves and builds it
 endef
 export HELP
 
