@@ -1,2 +1,3 @@
+pub mod Sight
 pub mod Changes
-pub mod ChangeLaws
+pub mod Reading

@@ -1,11 +1,10 @@
--- Logs whose records of granted calls are allowed.
-use Rattle.std.proofs.Common.{◌≡◌, ◌≢◌, ◌∙◌, Bool, true, false, sym, ap, subst, ◌⊎◌, inl, inr, List, [], ◌∷◌, ◌++◌, map}
+-- Logs whose records of calls that reveal something are allowed.
+use Rattle.std.proofs.Common.{◌≡◌, Bool, true, false, sym, ap, subst, ◌⊎◌, inl, inr, List, [], ◌∷◌, ◌++◌, map}
 use Rattle.std.specs.Prelude.{not, if◌then◌else◌}
 use Rattle.dav_resource.specs.declared.record.Record.{Record}
-use Rattle.dav_resource.specs.declared.record.Outcome.TheVariants.{Granted}
 use Rattle.dav_store.specs.Logged.{Logged, logged_of}
 use Rattle.dav_store.specs.Members.{IsIn}
-use Rattle.dav_guarding.specs.Policy.{Refusals, AreAllowed}
+use Rattle.dav_guarding.specs.Policy.{Refusals, Reveals, AreAllowed}
 
 within : (call : Logged) (before after : List Record) → IsIn call (map logged_of (before ++ after)) → IsIn call (map logged_of before) ⊎ IsIn call (map logged_of after)
 within call [] after is = inr is
@@ -23,10 +22,10 @@ allowed-append refuses before after old more call is granted = by_part (within c
     by_part (inl is) = old call is granted
     by_part (inr is) = more call is granted
 
--- a record of a call that was not granted
-pub allowed-other : (refuses : Refusals) (r : Record) → r.outcome ≢ Granted → AreAllowed refuses (r ∷ [])
-allowed-other refuses r other call (inl is) granted = absurd (other (ap (λ (l : Logged). l.outcome) is ∙ granted))
-allowed-other refuses r other call (inr is) granted = absurd is
+-- a record of a call that reveals nothing
+pub allowed-other : (refuses : Refusals) (r : Record) → (¬ (Reveals r.outcome)) → AreAllowed refuses (r ∷ [])
+allowed-other refuses r other call (inl is) reveals = absurd (other (subst (λ (l : Logged). Reveals l.outcome) (sym is) reveals))
+allowed-other refuses r other call (inr is) reveals = absurd is
 
 -- a record of a call that is not refused
 pub allowed-free : (refuses : Refusals) (r : Record) → refuses r.op (map (λ path. path.key) r.paths) ≡ false → AreAllowed refuses (r ∷ [])

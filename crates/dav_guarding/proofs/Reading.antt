@@ -20,7 +20,7 @@ use Rattle.dav_wrapping.specs.HidingLaws.{names-shown, still_shown, named, recor
 use Rattle.dav_wrapping.specs.Underway.{IsHidden}
 use Rattle.dav_wrapping.specs.Declining.{Listing, Declining, declining_call, declined}
 use Rattle.dav_guarding.specs.declared.policy.Policy.{Ghosts}
-use Rattle.dav_guarding.specs.Policy.{Refusals, leave_by, why_by, AreAllowed}
+use Rattle.dav_guarding.specs.Policy.{Refusals, leave_by, why_by, Reveals, AreAllowed}
 use Rattle.dav_guarding.specs.declared.guard.Guard.{Guard}
 use Rattle.dav_guarding.specs.Guard as guards
 use Rattle.dav_guarding.specs.Guard.{policy_in, records_in, IsKept}
@@ -44,14 +44,14 @@ free_why refuses key is = by_test (refuses Entry (key ∷ [])) is
     by_test true is = absurd cc
     by_test false is = refl
 
--- no record of a member that is not listed is of a granted call
+-- no record of a member that is not listed reveals something
 pub unseen_allowed : (refuses : Refusals) (directory : Key) (children : List Child) (records : List Record) → map logged_of records ≡ filter_map (unseen_record directory) children → AreAllowed refuses records
-unseen_allowed refuses directory children records are call within granted = absurd (none children (subst (IsIn call) are within))
+unseen_allowed refuses directory children records are call within reveals = absurd (none children (subst (IsIn call) are within))
   where
     none : (children : List Child) → IsIn call (filter_map (unseen_record directory) children) → ⊥
     none [] within = within
     none ((name, Ok entry) ∷ children) within = none children within
-    none ((name, Err e) ∷ children) (inl is) = absurd (let no = ap (λ (l : Logged). l.outcome) is ∙ granted in cc)
+    none ((name, Err e) ∷ children) (inl is) = subst (λ (l : Logged). Reveals l.outcome) (sym is) reveals
     none ((name, Err e) ∷ children) (inr within) = none children within
 
 module _ {F P : Type 0} {g : Ghosts P} (see : F → Store) (path : PathValue) where

@@ -1,5 +1,6 @@
 -- What each call does in a store that a policy guards: this project's own choice.
 use Rattle.std.specs.Prelude.{◌≡◌, ◌≢◌, ℕ, Bool, false, List, [], ◌∷◌, ◌++◌, map, filter_map, Result, Ok, Err, Vec, ◌⊎◌, ◌+◌, length, MatchResult}
+use Rattle.std.proofs.Common.{sym, subst}
 use Rattle.std.specs.declared.alloc.Global.{Global}
 use Rattle.dav_key.specs.Key.{Key}
 use Rattle.dav_resource.specs.PathText.{PathValue}
@@ -13,6 +14,7 @@ use Rattle.dav_resource.specs.declared.record.Record.{Record}
 use Rattle.dav_resource.specs.declared.error.FsError.{FsError}
 use Rattle.dav_resource.specs.declared.error.FsError.TheVariants.{Memory, Forbidden}
 use Rattle.dav_store.specs.Logged.{logged_of, record_with, record_on}
+use Rattle.dav_store.specs.Allowed.{IsAllowed}
 use Rattle.dav_store.specs.Store.{Store}
 use Rattle.dav_store.specs.Calls.{ReadsBytes, Writes, place_of}
 use Rattle.dav_store.specs.BodyCalls.{stored_bytes}
@@ -20,7 +22,7 @@ use Rattle.dav_store.specs.Members.{Lists, ReadsDir, unseen_record}
 use Rattle.dav_wrapping.specs.Wrapping.{seen_with}
 use Rattle.dav_wrapping.specs.Hiding.{shown_by, hidden_by}
 use Rattle.dav_guarding.specs.declared.policy.Policy.{Ghosts}
-use Rattle.dav_guarding.specs.Policy.{Refusals, leave_by, why_by}
+use Rattle.dav_guarding.specs.Policy.{Refusals, leave_by, why_by, Reveals, AreAllowed}
 use Rattle.dav_guarding.specs.Guard as guards
 use Rattle.dav_guarding.specs.declared.guarding.Guarding.{Guarding}
 
@@ -51,6 +53,13 @@ module _ {F P : Type 0} {g : Ghosts P} where
   -- the bytes of a body, which the wrapped store holds under a number
   abbrev pub body_behind : (F → Store) → Guarding F P g → ℕ → List ℕ
   body_behind see store number = stored_bytes (see (inner_of store)).facts.bodies number
+
+  -- each call in the log whose outcome reveals something is allowed
+  pub log_allowed : (store : Guarding F P g) → AreAllowed (refusals_of store) (records_of store)
+  log_allowed store = store.guard.allowed
+
+  pub is_allowed : (see : F → Store) (store : Guarding F P g) → IsAllowed (seen_behind see store)
+  is_allowed see store call is granted = log_allowed store call is (subst Reveals (sym granted) tt)
 
   -- ---- a call
 

@@ -3,7 +3,8 @@ use Rattle.std.specs.Prelude.{◌≡◌, Bool, true, not, List, [], ◌∷◌, m
 use Rattle.dav_key.specs.Key.{Key}
 use Rattle.dav_resource.specs.declared.record.Op.{Op}
 use Rattle.dav_resource.specs.declared.record.Op.TheVariants.{Entry}
-use Rattle.dav_resource.specs.declared.record.Outcome.TheVariants.{Granted}
+use Rattle.dav_resource.specs.declared.record.Outcome.{Outcome}
+use Rattle.dav_resource.specs.declared.record.Outcome.TheVariants.{Granted, Barred, Refused}
 use Rattle.dav_resource.specs.declared.record.Record.{Record}
 use Rattle.dav_resource.specs.declared.error.FsError.TheVariants.{Forbidden}
 use Rattle.dav_store.specs.Logged.{Logged, logged_of}
@@ -27,9 +28,15 @@ leave_by refuses = record { allows = λ facts call. not (refuses call.op call.ke
 abbrev pub why_by : Refusals → Why
 why_by refuses key = if refuses Entry (key ∷ []) then Some Forbidden else None
 
--- each record of a granted call is allowed
+-- the outcome reveals something of what the store contains: the call was granted or barred, and not refused
+abbrev pub Reveals : Outcome → Type 0
+Reveals Granted = Unit {0}
+Reveals (Barred e) = Unit {0}
+Reveals (Refused e) = ⊥
+
+-- each call whose outcome reveals something is allowed
 abbrev pub AreAllowed : Refusals → List Record → Type 0
-AreAllowed refuses records = (call : Logged) → IsIn call (map logged_of records) → call.outcome ≡ Granted → not (refuses call.op call.keys) ≡ true
+AreAllowed refuses records = (call : Logged) → IsIn call (map logged_of records) → Reveals call.outcome → not (refuses call.op call.keys) ≡ true
 
 -- the members whose entries are refused are hidden, whichever members the listing has; `hidden` has the records of those that it did not list before
 abbrev pub HidesRefused : Refusals → PathValue → List (Result DirEntry FsError) → List Record → List (Result DirEntry FsError) → List Record → Type 0

@@ -95,7 +95,7 @@ impl<F, P: Policy> Guarding<F, P> {
 }
 
 impl<C, F: GuardedFileSystem<C>, P: Policy> GuardedFileSystem<C> for Guarding<F, P> {
-    ghost use Rattle.dav_guarding.specs.Guarding.{seen_behind, inner_of, body_behind, policy_of, records_of, Guards, GuardsReading, ReadsBehind, GuardsRead, GuardsWrite, MovesHandle};
+    ghost use Rattle.dav_guarding.specs.Guarding.{seen_behind, inner_of, body_behind, policy_of, records_of, is_allowed, Guards, GuardsReading, ReadsBehind, GuardsRead, GuardsWrite, MovesHandle};
 
     ghost seen = { seen_behind F.seen };
 
@@ -103,7 +103,7 @@ impl<C, F: GuardedFileSystem<C>, P: Policy> GuardedFileSystem<C> for Guarding<F,
 
     ghost well_formed = { λ store. F.well_formed store.inner };
 
-    ghost allowed = { λ store. store.guard.allowed };
+    ghost allowed = { is_allowed F.seen };
 
     fn metadata(&mut self, path: &DavPath, credentials: &C) -> FsResult<Meta>
         ensures seen { LooksUp (seen_behind F.seen self.old) path.now.key result (seen_behind F.seen self.new) }

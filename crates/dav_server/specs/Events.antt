@@ -12,6 +12,7 @@ use Rattle.dav_resource.specs.declared.request.DavRequest.{DavRequest}
 use Rattle.dav_store.specs.BodyCalls.{StartsBody, AddsToBody, with_body}
 use Rattle.dav_store.specs.Store.{Store}
 use Rattle.dav_memls.specs.Expiry.{earliest_expiry}
+use Rattle.dav_access.specs.Reading.{RevealsOnly, sight_by}
 use Rattle.dav_rights.specs.Access.{explanation_by, rights_under}
 use Rattle.dav_rights.specs.declared.rule.Rule.{Rule}
 use Rattle.dav_rights.specs.declared.rules.WrittenRule.{WrittenRule}
@@ -145,10 +146,12 @@ pub record AsksForbidden (rules : Rules) (state : ServerState) (frame : RequestV
 abbrev pub IsRejected : Rules → ServerState → RequestValue → DavError → Type 0
 IsRejected rules state frame e = (e ≡ Memory) ⊎ IsUnfit rules.prefix frame e ⊎ ((e ≡ Status 403) × AsksForbidden rules state frame)
 
--- the engine serves the request (`Serves`) on what its principal sees of the store, and then the log is emptied
+-- the engine serves the request (`Serves`) on what its principal sees of the store, which reveals to it nothing else than its rules let it see (`RevealsOnly`);
+-- and then the log is emptied
 pub record Executes (rules : Rules) (request : DavRequest) (answer : Answer) (old new : ServerState) : Type 0 where
   pub after : Seen
   pub served : Serves (method_of request.method) (settings_at rules (seen_for old request.principal)) (seen_for old request.principal) request answer after
+  pub reveals : RevealsOnly (sight_by (rights_under old.rights request.principal)) (settings_at rules (seen_for old request.principal)) (seen_for old request.principal) (request ∷ []) (answer ∷ []) after
   pub emptied : new ≡ record old { seen = seen_at_rest after }
 
 -- the request of the frame, at the server's time, asks nothing that is forbidden, and is executed

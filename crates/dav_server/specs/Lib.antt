@@ -2,6 +2,7 @@ pub mod State
 pub mod Requests
 pub mod Owners
 pub mod Parts
+pub mod PartLaws
 pub mod Finding
 pub mod Replies
 pub mod Events

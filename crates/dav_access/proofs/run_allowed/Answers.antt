@@ -1,6 +1,6 @@
 use Rattle.std.proofs.lemmas.Result.{IfOk-weaker}
 use Rattle.dav_engine.specs.DavInner.{lent}
-use Rattle.dav_access.specs.ChangeLaws.{changes_by_allowed}
+use Rattle.dav_access.proofs.ChangeLaws.{changes_by_allowed}
 use Rattle.dav_access.proofs.run_allowed.Goals as goal
 
 pub returns : goal.returns

@@ -45,7 +45,7 @@ found test (r ∷ records) is = by_first (test r) refl is (found test records)
     by_first true here is later = (r, inl refl, here)
     by_first false here is later = let rest = later is in (rest.0, inr rest.1, rest.2)
 
-later : (r : Logged) (before after : List Logged) → IsIn r after → IsIn r (before ++ after)
+pub later : (r : Logged) (before after : List Logged) → IsIn r after → IsIn r (before ++ after)
 later r [] after is = is
 later r (first ∷ before) after is = inr (later r before after is)
 

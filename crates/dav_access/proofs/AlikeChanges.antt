@@ -1,0 +1,269 @@
+-- A change at one key, of contents that look alike: what it leaves looks alike too.
+use Rattle.std.proofs.Common.{◌≡◌, ◌≢◌, ◌∙◌, ◌==◌, ◌||◌, ℕ, Bool, true, false, cond, List, [], ◌∷◌, ◌++◌, inl, inr, unwrap_or, Option, Some, None, length, refl, sym, ap, subst, if◌then◌else◌}
+use Rattle.std.specs.Option.{option_map, ForSome}
+use Rattle.std.specs.Ordering.{eq_by_cmp}
+use Rattle.std.specs.FinMap.{FinMap, get, empty, len, len-empty, same_map}
+use Rattle.dav_key.specs.Key.{Key, key_cmp, key_cmp_total, key_cmp_exact, tied_decides}
+use Rattle.dav_key.specs.Below.{is_at_or_below, put_at}
+use Rattle.dav_resource.specs.Tree as elements
+use Rattle.dav_store.specs.Store.{Node, File, Directory, Quota, PropertyMap, Contents, AreNamed, element_key}
+use Rattle.dav_store.specs.Calls.{limit_of, bytes_at, IsMadeAt}
+use Rattle.dav_store.specs.Members.{IsIn, IsRemovedAt}
+use Rattle.dav_store.specs.PropertyCalls.{Patch, IsWhole, patch, patched, name_of, properties_at, some_properties, IsPatchedAt}
+use Rattle.dav_store.specs.Transfers.{IsMoved, IsCopiedTo, IsRenamedTo}
+use Rattle.dav_store.specs.BelowLaws.{at_or_below-append, at_or_below-tail}
+use Rattle.dav_tree.specs.EachLaws.{get-put_at, put_at-same}
+use Rattle.dav_walks.specs.KeyCall.{standing}
+use Rattle.dav_engine.specs.Opening.{IsFileAt}
+use Rattle.dav_access.specs.Sight.{Sight, ReadsBelow, kind}
+use Rattle.dav_access.proofs.AlikeCalls.{same_none}
+use Rattle.dav_access.proofs.Shadow.{Standing, size, IsSound, IsLike, sound_nothing, like_same, Mirrored, shadow, shadow_standing, shadow_mirrored}
+
+-- contents to which the same leads from the other contents, and which look like those to which it led
+pub record Follows (sight : Sight) (new : Contents) (Leads : Contents → Type 0) : Type 0 where
+  pub after : Contents
+  pub leads : Leads after
+  pub alike : Mirrored sight new after
+
+-- by something that leads there too
+pub followed : {sight : Sight} {new : Contents} {Leads Others : Contents → Type 0} → ((after : Contents) → Leads after → Others after) → Follows sight new Leads → Follows sight new Others
+followed go follows = record { after = follows.after; leads = go follows.after follows.leads; alike = follows.alike }
+
+-- the same, by what it leaves looking alike
+pub followed_alike : {sight : Sight} {new : Contents} {Leads Others : Contents → Type 0} → ((after : Contents) → Mirrored sight new after → Leads after → Others after) → Follows sight new Leads → Follows sight new Others
+followed_alike go follows = record { after = follows.after; leads = go follows.after follows.alike follows.leads; alike = follows.alike }
+
+-- nothing changes
+pub follows_same : {sight : Sight} {old new other : Contents} → Mirrored sight old other → new ≡ old → Follows sight new (λ after. after ≡ other)
+follows_same {sight} {old} {new} {other} alike same = record { after = other; leads = refl; alike = subst (λ c. Mirrored sight c other) (sym same) alike }
+
+-- this stands at the key, and nothing else changes; the quota keeps its limit
+pub record IsPut (key : Key) (there : Standing) (old new : Contents) : Type 0 where
+  pub tree : new.tree ≡ put_at old.tree key there.0
+  pub properties : new.properties ≡ put_at old.properties key there.1
+  pub limit : limit_of new ≡ limit_of old
+
+module _ (sight : Sight) (old new other : Contents) (alike : Mirrored sight old other) where
+  other_limit : limit_of new ≡ limit_of old → limit_of new ≡ limit_of other
+  other_limit same = same ∙ ap (option_map (λ (q : Quota). q.total)) (sym alike.quota)
+
+  module _ (key : Key) (one another : Standing) (put : IsPut key one old new) (like : IsLike (sight.lists key) (sight.reads key) one another) where
+    -- what is at each key then
+    put_there : Key → Standing
+    put_there q = cond (eq_by_cmp key_cmp q key) another (standing other q)
+
+    pick : {X : Type 0} (part : Standing → X) (there : Standing) (contents : Contents) (b : Bool) (q : Key) → cond b (part there) (part (standing contents q)) ≡ part (cond b there (standing contents q))
+    pick part there contents true q = refl
+    pick part there contents false q = refl
+
+    new_standing : (q : Key) → standing new q ≡ cond (eq_by_cmp key_cmp q key) one (standing old q)
+    new_standing q = (λ i. ((ap (λ t. get t q) put.tree ∙ get-put_at old.tree key one.0 q) i, (ap (λ p. get p q) put.properties ∙ get-put_at old.properties key one.1 q) i)) ∙ by (eq_by_cmp key_cmp q key)
+      where
+        by : (b : Bool) → (cond b one.0 (get old.tree q), cond b one.1 (get old.properties q)) ≡ cond b one (standing old q)
+        by true = refl
+        by false = refl
+
+    put_like : (q : Key) → IsLike (sight.lists q) (sight.reads q) (standing new q) (put_there q)
+    unfolding put_there
+    put_like q = subst (λ s. IsLike (sight.lists q) (sight.reads q) s (put_there q)) (sym (new_standing q)) (by (eq_by_cmp key_cmp q key) refl)
+      where
+        by : (b : Bool) → eq_by_cmp key_cmp q key ≡ b → IsLike (sight.lists q) (sight.reads q) (cond b one (standing old q)) (cond b another (standing other q))
+        by true tied = subst (λ k. IsLike (sight.lists k) (sight.reads k) one another) (sym ((tied_decides q key).0 tied)) like
+        by false tied = alike.like q
+
+    part_of : {X : Type 0} (part : Standing → Option X) (map : FinMap key_cmp X) (q : Key) → get map q ≡ part (standing other q) → part (put_there q) ≡ get (put_at map key (part another)) q
+    unfolding put_there
+    part_of part map q known = sym (pick part another other (eq_by_cmp key_cmp q key) q) ∙ ap (cond (eq_by_cmp key_cmp q key) (part another)) (sym known) ∙ sym (get-put_at map key (part another) q)
+
+    put_too : IsPut key another other (shadow sight new put_there)
+    put_too = record {
+      tree = same_map key_cmp_total key_cmp_exact _ _ (λ q. ap (λ (s : Standing). s.0) (shadow_standing sight new put_there put_like q) ∙ part_of (λ s. s.0) other.tree q refl);
+      properties = same_map key_cmp_total key_cmp_exact _ _ (λ q. ap (λ (s : Standing). s.1) (shadow_standing sight new put_there put_like q) ∙ part_of (λ s. s.1) other.properties q refl);
+      limit = other_limit put.limit;
+    }
+
+    pub follows_put : Follows sight new (IsPut key another other)
+    follows_put = record { after = shadow sight new put_there; leads = put_too; alike = shadow_mirrored sight new put_there put_like }
+
+  -- ---- with the properties that were there
+
+  module _ (key : Key) where
+    -- the node alone is put
+    abbrev pub with_node : Contents → Node → Standing
+    with_node contents node = (Some node, get contents.properties key)
+
+    node_sound : (node : Node) → IsSound (with_node other node)
+    node_sound node = let here = (alike.like key).sound in record { bare = λ none. absurd cc; none_empty = here.none_empty; named = here.named }
+
+    -- a node that looks alike
+    node_like : (node another : Node) → kind another ≡ kind node → (sight.lists key ≡ true → size (Some another) ≡ size (Some node)) → (sight.reads key ≡ true → another ≡ node)
+        → IsLike (sight.lists key) (sight.reads key) (with_node old node) (with_node other another)
+    node_like node another kinds sizes same = record {
+      kinds = ap Some kinds;
+      sizes = sizes;
+      read = λ reads i. (Some (same reads i), ((alike.like key).read reads i).1);
+      sound = node_sound another;
+    }
+
+    same_properties : (contents : Contents) → contents.properties ≡ put_at contents.properties key (get contents.properties key)
+    same_properties contents = sym (put_at-same contents.properties key (get contents.properties key) refl)
+
+    pub follows_made : IsMadeAt key old new → Follows sight new (IsMadeAt key other)
+    follows_made made = followed (λ after put. record { tree = put.tree; properties = put.properties ∙ sym (same_properties other); limit = put.limit })
+        (follows_put key (with_node old Directory) (with_node other Directory) (record { tree = made.tree; properties = made.properties ∙ same_properties old; limit = made.limit }) (node_like Directory Directory refl (λ _. refl) (λ _. refl)))
+
+    -- a file with bytes as many where a caller may list it, and the same where it may read it
+    pub follows_file : (bytes others : List ℕ) → (sight.lists key ≡ true → length others ≡ length bytes) → (sight.reads key ≡ true → others ≡ bytes) → IsFileAt key bytes old new → Follows sight new (IsFileAt key others other)
+    follows_file bytes others sizes same file = followed (λ after put. record { tree = put.tree; properties = put.properties ∙ sym (same_properties other); limit = put.limit })
+        (follows_put key (with_node old (File bytes)) (with_node other (File others)) (record { tree = file.tree; properties = file.properties ∙ same_properties old; limit = file.limit }) (node_like (File bytes) (File others) refl sizes (λ reads. ap File (same reads))))
+
+    pub follows_removed : IsRemovedAt key old new → Follows sight new (IsRemovedAt key other)
+    follows_removed removed = followed (λ after put. record { tree = put.tree; properties = put.properties; limit = put.limit })
+        (follows_put key (None, None) (None, None) (record { tree = removed.tree; properties = removed.properties; limit = removed.limit }) (like_same (sight.lists key) (sight.reads key) (None, None) sound_nothing))
+
+  -- ---- a copy
+
+  pub follows_copied : (from to : Key) → sight.reads from ≡ true → IsCopiedTo from to old new → Follows sight new (IsCopiedTo from to other)
+  follows_copied from to reads copied = followed (λ after put. record { tree = put.tree; properties = put.properties; limit = put.limit })
+      (follows_put to (copy old) (copy other) (record { tree = copied.tree; properties = copied.properties; limit = copied.limit }) (subst (IsLike (sight.lists to) (sight.reads to) (copy old)) (ap (λ (s : Standing). (Some (File (bytes_at s.0)), s.1)) (sym ((alike.like from).read reads))) (like_same (sight.lists to) (sight.reads to) (copy old) copy_sound)))
+    where
+      copy : Contents → Standing
+      copy contents = (Some (File (bytes_at (get contents.tree from))), get contents.properties from)
+
+      copy_sound : IsSound (copy old)
+      copy_sound = let here : IsSound (standing old from) = subst IsSound ((alike.like from).read reads) (alike.like from).sound in record { bare = λ none. absurd cc; none_empty = here.none_empty; named = here.named }
+
+  -- ---- changed properties
+
+  module _ (key : Key) (patches : List Patch) where
+    patched_there : Contents → Standing
+    patched_there contents = (get contents.tree key, some_properties (patched patches (properties_at contents key)))
+
+    pub follows_patched : AreNamed (patched patches (properties_at other key)) → get old.tree key ≢ None → IsPatchedAt key patches old new → Follows sight new (IsPatchedAt key patches other)
+    unfolding patched_there
+    follows_patched named there made = followed (λ after put. record { tree = put.tree ∙ put_at-same other.tree key (get other.tree key) refl; properties = put.properties; limit = put.limit })
+        (follows_put key (patched_there old) (patched_there other) (record { tree = made.tree ∙ sym (put_at-same old.tree key (get old.tree key) refl); properties = made.properties; limit = made.limit }) like)
+      where
+        unwrapped : (one another : PropertyMap) → Some one ≡ Some another → one ≡ another
+        unwrapped one another same = ap (λ o. unwrap_or o one) same
+
+        not_empty : (properties : PropertyMap) → (len properties == 0) ≡ false → properties ≢ empty
+        not_empty properties some none = let no : true ≡ false = sym (ap (λ n. n == 0) (ap len none ∙ len-empty key_cmp elements.Tree)) ∙ some in cc
+
+        some_sound : (properties : PropertyMap) → AreNamed properties → (some_properties properties ≢ Some empty) × ForSome (some_properties properties) AreNamed
+        some_sound properties named = by (len properties == 0) refl
+          where
+            by : (b : Bool) → (len properties == 0) ≡ b → ((if b then None else Some properties) ≢ Some empty) × ForSome (if b then None else Some properties) AreNamed
+            by true none = ((λ no. cc), λ x no. absurd cc)
+            by false some = ((λ same. not_empty properties some (unwrapped properties empty same)), λ x is. subst AreNamed (unwrapped properties x is) named)
+
+        like : IsLike (sight.lists key) (sight.reads key) (patched_there old) (patched_there other)
+        like = record {
+          kinds = (alike.like key).kinds;
+          sizes = (alike.like key).sizes;
+          read = λ reads i. (((alike.like key).read reads i).0, some_properties (patched patches (unwrap_or ((alike.like key).read reads i).1 empty)));
+          sound = record { bare = λ none. absurd (there (same_none (get other.tree key) (get old.tree key) (sym (alike.like key).kinds) none)); none_empty = (some_sound (patched patches (properties_at other key)) named).0; named = (some_sound (patched patches (properties_at other key)) named).1 };
+        }
+
+  -- ---- a move
+
+  module _ (from to : Key) (reads : ReadsBelow sight from) (moved : IsRenamedTo from to old new) where
+    -- what is at or below the two places is the same there
+    is_moving : Key → Bool
+    is_moving key = is_at_or_below key from || is_at_or_below key to
+
+    moved_there : Key → Standing
+    moved_there key = cond (is_moving key) (standing new key) (standing other key)
+
+    gone_from : (below : Key) → standing new (from ++ below) ≡ (None, None)
+    gone_from below i = (moved.tree.gone below i, moved.properties.gone below i)
+
+    come_to : (below : Key) → standing new (to ++ below) ≡ standing other (from ++ below)
+    come_to below = (λ i. (moved.tree.moved below i, moved.properties.moved below i)) ∙ sym ((alike.like (from ++ below)).read (reads (from ++ below) (at_or_below-append from below)))
+
+    moving_sound : (key : Key) → is_moving key ≡ true → IsSound (standing new key)
+    unfolding is_moving
+    moving_sound key is = by (is_at_or_below key from) refl is
+      where
+        by : (b : Bool) → is_at_or_below key from ≡ b → (b || is_at_or_below key to) ≡ true → IsSound (standing new key)
+        by true below is = let tail = at_or_below-tail from key below in subst IsSound (sym (ap (standing new) tail.1 ∙ gone_from tail.0)) sound_nothing
+        by false below is = let tail = at_or_below-tail to key is in subst IsSound (sym (ap (standing new) tail.1 ∙ come_to tail.0)) (alike.like (from ++ tail.0)).sound
+
+    apart_both : (key : Key) → is_moving key ≡ false → (is_at_or_below key from ≡ false) × (is_at_or_below key to ≡ false)
+    unfolding is_moving
+    apart_both key is = by (is_at_or_below key from) (is_at_or_below key to) refl refl is
+      where
+        by : (a b : Bool) → is_at_or_below key from ≡ a → is_at_or_below key to ≡ b → (a || b) ≡ false → (is_at_or_below key from ≡ false) × (is_at_or_below key to ≡ false)
+        by true b f t is = absurd cc
+        by false true f t is = absurd cc
+        by false false f t is = (f, t)
+
+    moved_like : (key : Key) → IsLike (sight.lists key) (sight.reads key) (standing new key) (moved_there key)
+    unfolding moved_there
+    moved_like key = by (is_moving key) refl
+      where
+        by : (b : Bool) → is_moving key ≡ b → IsLike (sight.lists key) (sight.reads key) (standing new key) (cond b (standing new key) (standing other key))
+        by true is = like_same (sight.lists key) (sight.reads key) (standing new key) (moving_sound key is)
+        by false is =
+            let apart = apart_both key is in
+            subst (λ s. IsLike (sight.lists key) (sight.reads key) s (standing other key)) (sym (λ i. (moved.tree.rest key apart.0 apart.1 i, moved.properties.rest key apart.0 apart.1 i))) (alike.like key)
+
+    moved_at : (key : Key) → is_moving key ≡ true → standing (shadow sight new moved_there) key ≡ standing new key
+    unfolding moved_there
+    moved_at key is = shadow_standing sight new moved_there moved_like key ∙ ap (λ b. cond b (standing new key) (standing other key)) is
+
+    rest_at : (key : Key) → is_at_or_below key from ≡ false → is_at_or_below key to ≡ false → standing (shadow sight new moved_there) key ≡ standing other key
+    unfolding moved_there is_moving
+    rest_at key f t = shadow_standing sight new moved_there moved_like key ∙ (λ i. cond (f i || is_at_or_below key to) (standing new key) (standing other key)) ∙ ap (λ b. cond b (standing new key) (standing other key)) t
+
+    below_from : (below : Key) → is_moving (from ++ below) ≡ true
+    unfolding is_moving
+    below_from below = ap (λ b. b || is_at_or_below (from ++ below) to) (at_or_below-append from below)
+
+    below_to : (below : Key) → is_moving (to ++ below) ≡ true
+    unfolding is_moving
+    below_to below = by (is_at_or_below (to ++ below) from) (at_or_below-append to below)
+      where
+        by : (a : Bool) → is_at_or_below (to ++ below) to ≡ true → (a || is_at_or_below (to ++ below) to) ≡ true
+        by true is = refl
+        by false is = is
+
+    moved_part : {X : Type 0} (part : Standing → Option X) (before after : FinMap key_cmp X) → part (None, None) ≡ None → ((q : Key) → get before q ≡ part (standing other q)) → ((q : Key) → get after q ≡ part (standing (shadow sight new moved_there) q)) → IsMoved from to before after
+    moved_part part before after none had has = record {
+      moved = λ below. has (to ++ below) ∙ ap part (moved_at (to ++ below) (below_to below) ∙ come_to below) ∙ sym (had (from ++ below));
+      gone = λ below. has (from ++ below) ∙ ap part (moved_at (from ++ below) (below_from below) ∙ gone_from below) ∙ none;
+      rest = λ key f t. has key ∙ ap part (rest_at key f t) ∙ sym (had key);
+    }
+
+    pub follows_renamed : Follows sight new (IsRenamedTo from to other)
+    follows_renamed = record {
+      after = shadow sight new moved_there;
+      leads = record {
+        tree = moved_part (λ s. s.0) other.tree (shadow sight new moved_there).tree refl (λ q. refl) (λ q. refl);
+        properties = moved_part (λ s. s.1) other.properties (shadow sight new moved_there).properties refl (λ q. refl) (λ q. refl);
+        limit = other_limit moved.limit;
+      };
+      alike = shadow_mirrored sight new moved_there moved_like;
+    }
+
+-- ---- the names of properties after changes
+
+named_at : (properties : PropertyMap) (name : Key) (element : Option elements.Tree) → AreNamed properties → ((e : elements.Tree) → element ≡ Some e → element_key e ≡ name) → AreNamed (put_at properties name element)
+named_at properties name element named own other found is = by (eq_by_cmp key_cmp other name) refl (sym (get-put_at properties name element other) ∙ is)
+  where
+    by : (b : Bool) → eq_by_cmp key_cmp other name ≡ b → cond b element (get properties other) ≡ Some found → element_key found ≡ other
+    by true tied is = own found is ∙ sym ((tied_decides other name).0 tied)
+    by false tied is = named other found is
+
+-- the changes set each property to an element of its name
+pub named_after : (patches : List Patch) (properties : PropertyMap) → ((change : Patch) → IsIn change patches → IsWhole change) → AreNamed properties → AreNamed (patched patches properties)
+named_after [] properties whole named = named
+named_after (change ∷ patches) properties whole named = named_after patches (patch properties change) (λ other is. whole other (inr is)) (one change (whole change (inl refl)))
+  where
+    one : (change : Patch) → IsWhole change → AreNamed (patch properties change)
+    one (true, prop) whole = named_at properties (name_of prop) prop.element named (known prop.element whole)
+      where
+        known : (element : Option elements.Tree) → option_map element_key element ≡ Some (name_of prop) → (e : elements.Tree) → element ≡ Some e → element_key e ≡ name_of prop
+        known None is e same = absurd cc
+        known (Some element) is e same = cc
+    one (false, prop) whole = named_at properties (name_of prop) None named (λ e no. absurd cc)

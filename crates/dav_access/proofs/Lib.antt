@@ -1,0 +1,13 @@
+pub mod ChangeLaws
+pub mod ReadLaws
+pub mod Shadow
+pub mod AlikeDialogues
+pub mod AlikeCalls
+pub mod AlikeChanges
+pub mod AlikeRemovals
+pub mod AlikeCopies
+pub mod AlikeRules
+pub mod AlikeFindings
+pub mod AlikeWrites
+pub mod AlikeTransfers
+pub mod AlikeLocks
