@@ -121,9 +121,31 @@ class Explain:
     path: str
 
 
+@dataclasses.dataclass(frozen=True)
+class ListLocks:
+    pass
+
+
+@dataclasses.dataclass(frozen=True)
+class RemoveLock:
+    """The lock with this token is removed, if its resource is at the path or above it."""
+
+    path: str
+    token: str
+
+
+@dataclasses.dataclass(frozen=True)
+class SetModified:
+    """The resource at the path was last modified at the time."""
+
+    path: str
+    time: int
+
+
 Frame = (
     Request | StartBody | AddToBody | DropBody | Read | NextExpiry | Held | BeginBackup | EndBackup | SetRights | Explain
-)
+    | ListLocks | RemoveLock | SetModified
+)  # fmt: skip
 
 
 @dataclasses.dataclass(frozen=True)
@@ -195,7 +217,26 @@ class Explained:
     is_written: bool
 
 
-Reply = Response | BodyStarted | Done | Part | Collection | Expiry | Holdings | Failed | Refused | Explained
+@dataclasses.dataclass(frozen=True)
+class Lock:
+    """A lock of the resource at the path and, if it is deep, of everything below it. `end` is when it expires."""
+
+    token: str
+    path: str
+    principal: str | None
+    is_deep: bool
+    is_shared: bool
+    end: int | None
+
+
+@dataclasses.dataclass(frozen=True)
+class Locks:
+    """All locks, the oldest first."""
+
+    locks: tuple[Lock, ...]
+
+
+Reply = Response | BodyStarted | Done | Part | Collection | Expiry | Holdings | Failed | Refused | Explained | Locks
 
 
 @dataclasses.dataclass(frozen=True)
@@ -297,10 +338,21 @@ def encode_frame(frame: Frame) -> bytes:
             return b"\x09" + string(frame.rules)
         case Explain():
             return b"\x0a" + optional(string, frame.principal) + string(frame.path)
+        case ListLocks():
+            return b"\x0b"
+        case RemoveLock():
+            return b"\x0c" + string(frame.path) + string(frame.token)
+        case SetModified():
+            return b"\x0d" + string(frame.path) + number(frame.time)
 
 
 def quota(value: tuple[int, int | None]) -> bytes:
     return number(value[0]) + optional(number, value[1])
+
+
+def lock(value: Lock) -> bytes:
+    head = string(value.token) + string(value.path) + optional(string, value.principal)
+    return head + bytes([value.is_deep, value.is_shared]) + optional(number, value.end)
 
 
 def encode_reply(reply: Reply) -> bytes:
@@ -328,6 +380,8 @@ def encode_reply(reply: Reply) -> bytes:
         case Explained():
             flags = bytes([reply.is_listed, reply.is_read, reply.is_written])
             return b"\x09" + optional(number, reply.rule) + flags
+        case Locks():
+            return b"\x0a" + many(lock, reply.locks)
 
 
 def encode_content(frames: typing.Sequence[bytes]) -> bytes:
@@ -443,7 +497,7 @@ class Reader:
                 return Unreadable()
 
     def frame(self) -> Frame:
-        match self.kind(11, "a frame"):
+        match self.kind(14, "a frame"):
             case 0:
                 method, path, principal = self.text(), self.string(), self.optional(self.string)
                 return Request(method, path, principal, self.string(), self.many(self.field), self.body())
@@ -466,14 +520,24 @@ class Reader:
                 return EndBackup()
             case 9:
                 return SetRights(self.string())
-            case _:
+            case 10:
                 return Explain(self.optional(self.string), self.string())
+            case 11:
+                return ListLocks()
+            case 12:
+                return RemoveLock(self.string(), self.string())
+            case _:
+                return SetModified(self.string(), self.number())
 
     def quota(self) -> tuple[int, int | None]:
         return self.number(), self.optional(self.number)
 
+    def lock(self) -> Lock:
+        token, path, principal = self.string(), self.string(), self.optional(self.string)
+        return Lock(token, path, principal, self.flag(), self.flag(), self.optional(self.number))
+
     def reply(self) -> Reply:
-        match self.kind(10, "a reply"):
+        match self.kind(11, "a reply"):
             case 0:
                 status, close, fields = self.number(), self.flag(), self.many(self.field)
                 return Response(status, close, fields, self.optional(lambda: self.tree(REPLY_LEVELS)))
@@ -494,8 +558,10 @@ class Reader:
                 return Failed(self.number())
             case 8:
                 return Refused(self.string())
-            case _:
+            case 9:
                 return Explained(self.optional(self.number), self.flag(), self.flag(), self.flag())
+            case _:
+                return Locks(self.many(self.lock))
 
     def reply_batch(self) -> ReplyBatch:
         return ReplyBatch(self.number(), self.number(), self.many(self.text))
@@ -566,6 +632,9 @@ FRAMES = [
     SetRights("# no rules\n"),
     Explain("p", "/a"),
     Explain(None, "/"),
+    ListLocks(),
+    RemoveLock("/a", "urn:1"),
+    SetModified("/a", 7),
 ]
 REPLIES = [
     Response(207, False, ((b"etag", b'"1"'),), LEAF),
@@ -584,6 +653,8 @@ REPLIES = [
     Refused("rule 1: a rule is a table"),
     Explained(None, True, False, False),
     Explained(3, False, True, True),
+    Locks(()),
+    Locks((Lock("urn:1", "/a%20b", "p", True, False, 60), Lock("urn:2", "/", None, False, True, None))),
 ]
 # By hand from the grammar.
 WRITTEN = [
@@ -593,8 +664,18 @@ WRITTEN = [
     (encode_frame, EndBackup(), b"\x08"),
     (encode_frame, SetRights("x"), b"\x09" + b"\0" * 7 + b"\1x"),
     (encode_frame, Explain(None, "/"), b"\x0a\0" + b"\0" * 7 + b"\1/"),
+    (encode_frame, ListLocks(), b"\x0b"),
+    (encode_frame, RemoveLock("/", "t"), b"\x0c" + b"\0" * 7 + b"\1/" + b"\0" * 7 + b"\1t"),
+    (encode_frame, SetModified("/", 2), b"\x0d" + b"\0" * 7 + b"\1/" + b"\0" * 7 + b"\2"),
     (encode_reply, Refused("x"), b"\x08" + b"\0" * 7 + b"\1x"),
     (encode_reply, Explained(2, True, False, True), b"\x09\1" + b"\0" * 7 + b"\2\1\0\1"),
+    (
+        encode_reply,
+        Locks((Lock("t", "/", "p", True, False, 2), Lock("u", "/", None, False, True, None))),
+        b"\x0a" + b"\0" * 7 + b"\2"
+        + b"\0" * 7 + b"\1t" + b"\0" * 7 + b"\1/\1" + b"\0" * 7 + b"\1p\1\0\1" + b"\0" * 7 + b"\2"
+        + b"\0" * 7 + b"\1u" + b"\0" * 7 + b"\1/\0\0\1\0",
+    ),  # fmt: skip
     (encode_reply, Failed(507), b"\7\0\0\0\0\0\0\1\xfb"),
     (encode_reply, Expiry(1), b"\5\1\0\0\0\0\0\0\0\1"),
     (tree, Element("n", nodes=("t",)), b"\0" * 7 + b"\1n\0\0" + b"\0" * 8 + b"\2" + b"\0" * 7 + b"\1t\0"),
@@ -650,7 +731,7 @@ def test():
     for attributes in ((("b", ""), ("a", "")), (("a", ""), ("a", ""))):
         assert not is_read(decode_frame, encode_frame(Request(b"LOCK", "/", body=Element("x", attributes=attributes))))
     assert not is_read(decode_frame, encode_frame(Read(None, "/", 0, 0)).replace(b"/", b"\xff"))
-    assert not any(is_read(decode_frame, bytes([kind])) for kind in range(11, 256))
+    assert not any(is_read(decode_frame, bytes([kind])) for kind in range(14, 256))
     batches = [ReplyBatch(1, 200, tuple(map(encode_reply, REPLIES))), ReplyBatch(3, 409, ())]
     assert decode_reply_batches(b"".join(map(encode_reply_batch, batches))) == batches
     content = encode_content([encode_frame(it) for it in FRAMES])

@@ -107,7 +107,10 @@ class Batches:
         return content[:8] + frames.number(frames.GREATEST - self.chance.randrange(20)) + content[16:]
 
     def items(self) -> list[Item]:
-        kinds = {"request": 70, "read": 12, "next": 4, "held": 4, "backup": 2, "rights": 4, "body": 6, "malformed": 6}
+        kinds = {
+            "request": 70, "read": 12, "next": 4, "held": 4, "backup": 2, "rights": 4, "locks": 5, "modified": 4, "body": 6,
+            "malformed": 6,
+        }  # fmt: skip
         kind = self.chance.choices(list(kinds), list(kinds.values()))[0]
         if kind == "malformed":
             return [Item(self.malformed(), None)]
@@ -128,6 +131,20 @@ class Batches:
         place = self.requests.place()
         frame = frames.Explain(self.chance.choice((None, "ann")), place.path)
         return [Framed(frame, Asked(scripts.Block("", ""), place))]
+
+    def framed_locks(self) -> list[Framed]:
+        if self.chance.random() < 0.5:
+            return [Framed(frames.ListLocks())]
+        place, token = self.requests.place(), "urn:none"
+        if self.requests.locks:
+            token, _, locked = self.chance.choice(self.requests.locks[-6:])
+            place = locked if self.chance.random() < 0.7 else place
+        return [Framed(frames.RemoveLock(place.path, token), Asked(scripts.Block("", ""), place))]
+
+    def framed_modified(self) -> list[Framed]:
+        place = self.requests.place()
+        time = self.chance.choice((0, self.now, frames.GREATEST, self.chance.getrandbits(64)))
+        return [Framed(frames.SetModified(place.path, time), Asked(scripts.Block("", ""), place))]
 
     def framed_request(self) -> list[Framed]:
         asked = self.requests.request()
@@ -184,6 +201,7 @@ class Batches:
         block = scripts.Block("PROPFIND", self.prefix + "/", [("Depth", "infinity"), ("X-Litmus", "1")], tree)
         place = Place(block.path, ())
         found = [Framed(scripts.request_of(block, 0), Dump(block, place)), *self.framed_held(), *self.framed_next()]
+        found.append(Framed(frames.ListLocks()))
         for key in keys_of(3):
             path = self.prefix + "".join("/" + urllib.parse.quote(it) for it in key)
             place = Place(path or "/", key)
@@ -276,6 +294,12 @@ class Model:
                 self.check_rights(frame, reply)
             case frames.Explain():
                 self.check_explained(asked.place.key, reply)
+            case frames.ListLocks():
+                self.check_locks(reply)
+            case frames.RemoveLock():
+                self.check_removal(frame, asked.place.key, reply)
+            case frames.SetModified():
+                self.check_modified(frame, asked.place.key, reply)
             case frames.Request():
                 want_kind(reply, frames.Response)
                 self.check_request(frame, asked, reply)
@@ -292,6 +316,35 @@ class Model:
         if key is None:
             return want_kind(reply, frames.Failed)
         want(reply, frames.Explained(2 if self.has_rules else None, True, True, True))
+
+    def check_locks(self, reply: frames.Reply):
+        want_kind(reply, frames.Locks)
+        found = {it.token: Lock(self.key_of(it.path), it.principal, it.end) for it in reply.locks}
+        if self.are_locks_sure and list(found.items()) != list(self.locks.items()):
+            raise Wrong(f"davd lists the locks {found}, and the model has {self.locks}")
+
+    def check_removal(self, frame: frames.RemoveLock, key: Key | None, reply: frames.Reply):
+        if key is None:
+            return want_refusal(reply)
+        lock = self.locks.get(frame.token)
+        if self.are_locks_sure:
+            is_found = lock is not None and is_below(key, lock.key)
+            want(reply, frames.Done() if is_found else frames.Failed(404))
+        want_kind(reply, frames.Done | frames.Failed)
+        if reply == frames.Done():
+            self.locks.pop(frame.token, None)
+
+    def check_modified(self, frame: frames.SetModified, key: Key | None, reply: frames.Reply):
+        if key is None:
+            want_refusal(reply)
+        elif not self.is_sure(key):
+            want_kind(reply, frames.Done | frames.Failed)
+        elif key not in self.files:
+            want(reply, frames.Failed(404))
+        else:
+            want(reply, frames.Done())
+            if self.files[key] is not None:
+                self.files[key].modified = frame.time
 
     def check_held(self, reply: frames.Reply):
         want_kind(reply, frames.Holdings)
@@ -314,9 +367,7 @@ class Model:
 
     def check_read(self, frame: frames.Read, key: Key | None, reply: frames.Reply):
         if key is None:
-            want_kind(reply, frames.Failed)
-            if reply.status not in (400, 403, 502):
-                raise Wrong(f"the status of a path that names no resource is {reply.status}")
+            want_refusal(reply)
         elif not self.is_sure(key):
             want_kind(reply, frames.Part | frames.Collection | frames.Failed)
         elif key not in self.files:
@@ -487,6 +538,13 @@ def want(reply: frames.Reply, wanted: frames.Reply):
 def want_kind(reply: frames.Reply, kind):
     if not isinstance(reply, kind):
         raise Wrong(f"the reply is {reply}, and not of the kind {getattr(kind, '__name__', kind)}")
+
+
+def want_refusal(reply: frames.Reply):
+    """The reply to a frame whose path names no resource."""
+    want_kind(reply, frames.Failed)
+    if reply.status not in (400, 403, 502):
+        raise Wrong(f"the status of a path that names no resource is {reply.status}")
 
 
 def is_below(key: Key, top: Key) -> bool:

@@ -2,7 +2,7 @@
 use Rattle.std.proofs.Common.{◌≡◌, ◌∙◌, ℕ, Bool, true, false, List, [], ◌∷◌, filter_map, Option, Some, None, refl, sym, ap, if◌then◌else◌, unwrap_or}
 use Rattle.std.specs.Option.{option_map}
 use Rattle.std.specs.FinMap.{get, keys, empty, same_map}
-use Rattle.dav_key.specs.Below.{is_below}
+use Rattle.dav_key.specs.Below.{is_below, each}
 use Rattle.dav_key.specs.Key.{Key, key_cmp_total, key_cmp_exact, parent}
 use Rattle.dav_resource.specs.declared.error.FsError.TheVariants.{Forbidden}
 use Rattle.dav_resource.specs.declared.meta.OpenOptions.{OpenOptions}
@@ -12,8 +12,7 @@ use Rattle.dav_store.specs.Calls.{metadata_bar, metadata_call, create_dir_bar, c
 use Rattle.dav_store.specs.Members.{members, name_in, remove_file_call, remove_dir_bar, remove_dir_call, read_dir_bar, read_dir_call}
 use Rattle.dav_store.specs.PropertyCalls.{properties_bar, properties_at, get_prop_bar, get_prop_call, get_quota_bar, get_quota_call}
 use Rattle.dav_store.specs.Transfers.{copy_bar, copy_call, rename_bar, rename_call}
-use Rattle.dav_tree.specs.Memory.{each}
-use Rattle.dav_tree.specs.EachLaws.{get-each-some, keys-each-some}
+use Rattle.dav_key.specs.EachLaws.{get-each-some, keys-each-some}
 use Rattle.dav_access.specs.Sight.{Sight, kind, LooksAlike}
 
 -- ---- what depends on the kind alone

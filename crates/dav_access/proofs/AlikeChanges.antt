@@ -12,7 +12,7 @@ use Rattle.dav_store.specs.Members.{IsIn, IsRemovedAt}
 use Rattle.dav_store.specs.PropertyCalls.{Patch, IsWhole, patch, patched, name_of, properties_at, some_properties, IsPatchedAt}
 use Rattle.dav_store.specs.Transfers.{IsMoved, IsCopiedTo, IsRenamedTo}
 use Rattle.dav_store.specs.BelowLaws.{at_or_below-append, at_or_below-tail}
-use Rattle.dav_tree.specs.EachLaws.{get-put_at, put_at-same}
+use Rattle.dav_key.specs.EachLaws.{get-put_at, put_at-same}
 use Rattle.dav_walks.specs.KeyCall.{standing}
 use Rattle.dav_engine.specs.Opening.{IsFileAt}
 use Rattle.dav_access.specs.Sight.{Sight, ReadsBelow, kind}

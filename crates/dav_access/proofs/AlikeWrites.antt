@@ -18,7 +18,7 @@ use Rattle.dav_store.specs.Store.{Node, Bodies, Contents}
 use Rattle.dav_store.specs.Calls.{Call, create_dir_call, open_call, bytes_at, written_at}
 use Rattle.dav_store.specs.Members.{IsIn}
 use Rattle.dav_store.specs.declared.lock.DavLock.{DavLock}
-use Rattle.dav_tree.specs.EachLaws.{put_at-same}
+use Rattle.dav_key.specs.EachLaws.{put_at-same}
 use Rattle.dav_messages.specs.Dialogue.{Dialogue, Asks, Refuses, Passed, needs, if_granted, LeadsTo, WasGranted}
 use Rattle.dav_messages.specs.Reply.{Reply, Answer}
 use Rattle.dav_walks.specs.KeyCall.{standing}

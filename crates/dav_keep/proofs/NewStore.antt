@@ -35,7 +35,7 @@ use Rattle.dav_store_rows.specs.declared.saving.Counts.{Counts}
 use Rattle.dav_tree.proofs.Editing.{resources-insert}
 use Rattle.dav_tree.proofs.PastTrees.{same-entries}
 use Rattle.dav_tree.specs.Before.{entries_code}
-use Rattle.dav_tree.specs.EachLaws.{get-each-some}
+use Rattle.dav_key.specs.EachLaws.{get-each-some}
 use Rattle.dav_tree.specs.Entry.{stored_by, is_held}
 use Rattle.dav_tree.specs.Kept.{resources_by}
 use Rattle.dav_tree.specs.Memory.{Stored, fresh}

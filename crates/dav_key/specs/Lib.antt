@@ -6,4 +6,5 @@ pub mod FlatKey
 pub mod Segments
 pub mod KeyBuilder
 pub mod Below
+pub mod EachLaws
 pub mod Members

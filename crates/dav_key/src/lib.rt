@@ -4,8 +4,6 @@
 mod builder;
 mod flat_key;
 mod segments;
-#[cfg(test)]
-mod tests;
 mod text;
 
 pub use builder::KeyBuilder;

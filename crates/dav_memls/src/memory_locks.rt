@@ -90,6 +90,18 @@ impl MemLs {
         self.locks.values()
     }
 
+    /// Returns copies of the locks, the oldest first. The only error is `Memory`.
+    pub fn all(&self) -> Result<Items<DavLock>, LockError>
+        ensures ok { IfOk result (λ locks. locks ≡ list_of self.now) }
+        ensures err { IfErr result (λ e. e ≡ LockError.Memory) }
+    {
+        let mut copies = Vec::new(self.locks.allocator());
+        for lock in self.locks() {
+            copies.push(lock.clone()?)?;
+        }
+        Ok(Items::from_vec(copies))
+    }
+
     /// Returns the number of locks.
     pub fn len(&self) -> usize
         ensures { result ≡ length (list_of self.now) }

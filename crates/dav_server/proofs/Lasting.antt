@@ -2,15 +2,17 @@
 use Rattle.std.proofs.Common.{◌≡◌, ◌∙◌, inl, inr, ℕ, Bool, List, [], ◌∷◌, Option, Some, None, Ok, Err, refl, sym, ap}
 use Rattle.std.specs.Prelude.{is_some, option_map}
 use base.Stored.{Gv}
+use Rattle.dav_resource.specs.PathText.{read_path}
 use Rattle.dav_resource.specs.declared.request.DavRequest.{DavRequest}
 use Rattle.dav_store.specs.Locks.{Locks}
 use Rattle.dav_store.specs.Store.{Store}
 use Rattle.dav_messages.specs.Reply.{Answer}
 use Rattle.dav_wire.specs.Frames.{RequestValue}
 use Rattle.dav_server.specs.Batches.{BatchAnswer, AnswersBatch, begun}
-use Rattle.dav_server.specs.Events.{Action, Malformed, OutOfMemory, BodyStarted, BodyExtended, BodyDropped, FileRead, ExpiryReturned, HeldReturned, BackupBegun, BackupEnded, RightsRead, RightsExplained, Rejected, Served, Acts, Event, LocksExpired, Does, Happens, Happen, events_of, ServesRequest}
+use Rattle.dav_server.specs.Events.{Action, Malformed, OutOfMemory, BodyStarted, BodyExtended, BodyDropped, FileRead, ExpiryReturned, HeldReturned, BackupBegun, BackupEnded, RightsRead, RightsExplained, LocksListed, LockRemoved, ModifiedSet, Rejected, Served, Acts, Event, LocksExpired, Does, Happens, Happen, events_of, ServesRequest}
 use Rattle.dav_server.specs.Snapshots.{saved_of}
 use Rattle.dav_server.specs.State.{Rules, ServerState}
+use Rattle.dav_server.proofs.OperatorSteps.{removes_keep, changes_keep}
 use Rattle.dav_server.proofs.Reactions.{rights_keep}
 use Rattle.dav_engine.specs.State.{Seen}
 use Rattle.dav_wire.specs.declared.batch.BatchHeader.{BatchHeader}
@@ -51,6 +53,11 @@ module _ {F : Type 0} (see_store : F → Store) (is_honest : F → Bool) (rules 
   action_lasts BackupEnded old new acts = ap lasting acts
   action_lasts (RightsRead text reply) old new acts = ap (λ (s : Seen). (saved_of s.store, is_some s.locks)) (rights_keep text reply old new acts)
   action_lasts (RightsExplained asked reply) old new acts = ap lasting acts.0
+  action_lasts (LocksListed reply) old new acts = ap lasting acts.0
+  action_lasts (LockRemoved asked reply) old new acts =
+      let keeps = removes_keep (read_path asked.path rules.prefix) asked old new reply acts in λ i. (saved_of (keeps.store i), keeps.there i)
+  action_lasts (ModifiedSet asked reply) old new acts =
+      let keeps = changes_keep (read_path asked.path rules.prefix) asked old new reply acts in λ i. ((keeps.facts i).saved, is_some (keeps.locks i))
   action_lasts (Rejected frame e) old new acts = ap lasting acts.0
   action_lasts (Served frame request answer) old new acts = request_lasts rules frame request answer old new acts
 

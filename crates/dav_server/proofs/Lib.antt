@@ -1,5 +1,6 @@
 pub mod AnyLemmas
 pub mod FieldLemmas
+pub mod OperatorSteps
 pub mod Reactions
 pub mod PartReads
 pub mod Executing

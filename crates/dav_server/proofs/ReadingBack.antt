@@ -10,7 +10,7 @@ use Rattle.dav_resource.specs.declared.method.DavMethod.{DavMethod}
 use Rattle.dav_resource.specs.declared.method.DavMethod.TheVariants.{Put, Patch, Copy, Move, Delete}
 use Rattle.dav_resource.specs.declared.request.DavRequest.{DavRequest}
 use Rattle.dav_store.specs.Calls.{bytes_from}
-use Rattle.dav_store.specs.Store.{Store, Bodies, Contents, Node, File, Directory}
+use Rattle.dav_store.specs.Store.{Store, Facts, Tree, Bodies, Contents, Node, File, Directory}
 use Rattle.dav_messages.specs.Reply.{Answer}
 use Rattle.dav_engine.specs.Law.{MethodLaw}
 use Rattle.dav_engine.specs.Put.{new_bytes}
@@ -20,13 +20,14 @@ use Rattle.dav_rights.specs.Access.{refuses_to}
 use Rattle.dav_wire.specs.Frames.{RequestValue, ReadValue}
 use Rattle.dav_wire.specs.Replies.{PartValue, ReplyValue, Part, Collection, Failed}
 use Rattle.dav_server.specs.Batches.{BatchAnswer, Exchange, bare_answer, AnswersBatch, SkipsBatch, begun}
-use Rattle.dav_server.specs.Events.{Action, Malformed, OutOfMemory, BodyStarted, BodyExtended, BodyDropped, FileRead, ExpiryReturned, HeldReturned, BackupBegun, BackupEnded, RightsRead, RightsExplained, Rejected, Served, Acts, Happen, events_of, ServesRequest}
+use Rattle.dav_server.specs.Events.{Action, Malformed, OutOfMemory, BodyStarted, BodyExtended, BodyDropped, FileRead, ExpiryReturned, HeldReturned, BackupBegun, BackupEnded, RightsRead, RightsExplained, LocksListed, LockRemoved, ModifiedSet, Rejected, Served, Acts, Happen, events_of, ServesRequest}
 use Rattle.dav_server.specs.Exchanges.{InOrder, IsAnswered}
 use Rattle.dav_server.specs.Keeping.{IsAnsweredAndSaved}
 use Rattle.dav_server.specs.Snapshots.{saved_of, resaved, OnlySavedDiffers}
 use Rattle.dav_server.specs.Parts.{ReadsFile, ReadsBy, ReturnsAt, ReturnsPart, is_same_version}
 use Rattle.dav_server.specs.State.{Rules, ServerState, seen_for, settings_at}
 use Rattle.dav_server.proofs.KeepingFiles.{file_stays}
+use Rattle.dav_server.proofs.OperatorSteps.{removes_keep, changes_keep}
 use Rattle.dav_server.proofs.Reactions.{rights_keep}
 use Rattle.dav_server.specs.Guarantees.{AreFor, bodies_by, bodies_after, may_rewrite, rewrites, WritesWhole, IsPartOf, IsReplyFrom, ReadsBack, joined, IsQuiet, IsSameStore, ActInOrder, AreOneRun}
 
@@ -97,6 +98,11 @@ module _ {F : Type 0} (see_store : F → Store) (is_honest : F → Bool) (rules 
   keeps BackupEnded first old new key bytes acts apart file = ap (λ (s : ServerState). node_at s key) acts ∙ file
   keeps (RightsRead text reply) first old new key bytes acts apart file = ap (λ (s : Seen). get s.store.contents.tree key) (rights_keep text reply old new acts) ∙ file
   keeps (RightsExplained asked reply) first old new key bytes acts apart file = ap (λ (s : ServerState). node_at s key) acts.0 ∙ file
+  keeps (LocksListed reply) first old new key bytes acts apart file = ap (λ (s : ServerState). node_at s key) acts.0 ∙ file
+  keeps (LockRemoved asked reply) first old new key bytes acts apart file =
+      ap (λ (s : Store). get s.contents.tree key) (removes_keep (read_path asked.path rules.prefix) asked old new reply acts).store ∙ file
+  keeps (ModifiedSet asked reply) first old new key bytes acts apart file =
+      ap (λ (t : Tree). get t key) (changes_keep (read_path asked.path rules.prefix) asked old new reply acts).tree ∙ file
   keeps (Rejected frame e) first old new key bytes acts apart file = ap (λ (s : ServerState). node_at s key) acts.0 ∙ file
   keeps (Served frame request answer) first old new key bytes acts apart file = request_keeps rules frame request answer first old new key bytes acts apart file
 
@@ -116,6 +122,9 @@ module _ {F : Type 0} (see_store : F → Store) (is_honest : F → Bool) (rules 
   holds BackupEnded old new acts = ap held_in acts
   holds (RightsRead text reply) old new acts = ap (λ (s : Seen). s.store.facts.bodies) (rights_keep text reply old new acts)
   holds (RightsExplained asked reply) old new acts = ap held_in acts.0
+  holds (LocksListed reply) old new acts = ap held_in acts.0
+  holds (LockRemoved asked reply) old new acts = ap (λ (s : Store). s.facts.bodies) (removes_keep (read_path asked.path rules.prefix) asked old new reply acts).store
+  holds (ModifiedSet asked reply) old new acts = ap (λ (f : Facts). f.bodies) (changes_keep (read_path asked.path rules.prefix) asked old new reply acts).facts
   holds (Rejected frame e) old new acts = ap held_in acts.0
   holds (Served frame request answer) old new acts = request_holds rules frame request answer old new acts
 

@@ -20,10 +20,11 @@ use Rattle.dav_rules.specs.Rules.{HasRules, HasNoRules}
 use Rattle.dav_messages.specs.Reply.{Answer}
 use Rattle.dav_engine.specs.State.{Seen}
 use Rattle.dav_engine.specs.Step.{Serves}
-use Rattle.dav_wire.specs.Frames.{RequestValue, ReadValue, ExplainValue, FrameValue}
+use Rattle.dav_wire.specs.Frames.{RequestValue, ReadValue, ExplainValue, UnlockValue, ModifiedValue, FrameValue}
 use Rattle.dav_wire.specs.Frames as frames
 use Rattle.dav_wire.specs.Replies.{ReplyValue, ExplainedValue}
 use Rattle.dav_wire.specs.Replies as replies
+use Rattle.dav_server.specs.Operating.{ListsLocks, RemovesAsked, ChangesAsked}
 use Rattle.dav_server.specs.Owners.{is_forbidden}
 use Rattle.dav_server.specs.Parts.{ReadsFile}
 use Rattle.dav_server.specs.Replies.{response_of, IsHeld}
@@ -52,6 +53,10 @@ pub data Action : Type 0 where
   RightsRead : List ℕ → ReplyValue → Action
   -- what the access rules allow is explained
   RightsExplained : ExplainValue → ReplyValue → Action
+  -- the locks are returned, a lock is removed, or a resource gets another time of modification
+  LocksListed : ReplyValue → Action
+  LockRemoved : UnlockValue → ReplyValue → Action
+  ModifiedSet : ModifiedValue → ReplyValue → Action
   -- a request is rejected before the engine, or served by the engine
   Rejected : RequestValue → DavError → Action
   Served : RequestValue → DavRequest → Answer → Action
@@ -77,6 +82,9 @@ frame_of BackupBegun = Some frames.BeginBackup
 frame_of BackupEnded = Some frames.EndBackup
 frame_of (RightsRead text reply) = Some (frames.SetRights text)
 frame_of (RightsExplained asked reply) = Some (frames.Explain asked)
+frame_of (LocksListed reply) = Some frames.ListLocks
+frame_of (LockRemoved asked reply) = Some (frames.RemoveLock asked)
+frame_of (ModifiedSet asked reply) = Some (frames.SetModified asked)
 frame_of (Rejected frame e) = Some (frames.Request frame)
 frame_of (Served frame request answer) = Some (frames.Request frame)
 
@@ -103,6 +111,9 @@ reply_of BackupBegun = replies.Done
 reply_of BackupEnded = replies.Done
 reply_of (RightsRead text reply) = reply
 reply_of (RightsExplained asked reply) = reply
+reply_of (LocksListed reply) = reply
+reply_of (LockRemoved asked reply) = reply
+reply_of (ModifiedSet asked reply) = reply
 reply_of (Rejected frame e) = replies.Response (response_of (Err e))
 reply_of (Served frame request answer) = replies.Response (response_of answer)
 
@@ -181,6 +192,9 @@ module _ {F : Type 0} (see_store : F → Store) (is_honest : F → Bool) where
   Acts rules BackupEnded old new = new ≡ old
   Acts rules (RightsRead text reply) old new = ReadsRights text reply old new
   Acts rules (RightsExplained asked reply) old new = (new ≡ old) × Explains (read_path asked.path rules.prefix) old.rights asked reply
+  Acts rules (LocksListed reply) old new = (new ≡ old) × ListsLocks old reply
+  Acts rules (LockRemoved asked reply) old new = RemovesAsked (read_path asked.path rules.prefix) asked old reply new
+  Acts rules (ModifiedSet asked reply) old new = ChangesAsked (read_path asked.path rules.prefix) asked old reply new
   Acts rules (Rejected frame e) old new = (new ≡ old) × IsRejected rules old frame e
   Acts rules (Served frame request answer) old new = ServesRequest rules frame request answer old new
 

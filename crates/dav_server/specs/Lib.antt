@@ -5,6 +5,7 @@ pub mod Parts
 pub mod PartLaws
 pub mod Finding
 pub mod Replies
+pub mod Operating
 pub mod Events
 pub mod Frames
 pub mod Batches

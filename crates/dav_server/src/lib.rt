@@ -16,6 +16,7 @@ mod held;
 mod keeper;
 mod keeping;
 mod memory;
+mod operating;
 mod owners;
 mod parts;
 mod replies;

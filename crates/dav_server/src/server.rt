@@ -172,6 +172,9 @@ impl<'a, F: TimedStore, L: ExpiringLocks> Server<'a, F, L> {
             Frame::EndBackup => self.end_backup(),
             Frame::SetRights(text) => self.set_rights(text),
             Frame::Explain(question) => self.explain(question),
+            Frame::ListLocks => self.list_locks(),
+            Frame::RemoveLock(asked) => self.remove_lock(asked),
+            Frame::SetModified(asked) => self.set_modified(asked),
         }
     }
 

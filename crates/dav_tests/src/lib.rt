@@ -1,4 +1,5 @@
-//! Tests across crates: the engine over an in-memory store and lock system.
+//! The tests of the library: keys, frames, stores, and the engine over an in-memory store and lock system. They are
+//! in one crate, because a crate with tests is proved and compiled once more for them.
 #![tactic(auto)]
 
 ghost use Rattle.std.specs.Prelude.{◌≡◌, map, IfOk, OnErr};
@@ -35,11 +36,21 @@ pub fn serve_over<'a, F: GuardedFileSystem<()>, L: DavLockSystem>(
 }
 
 #[cfg(test)]
+mod changes;
+#[cfg(test)]
 mod conditions;
 #[cfg(test)]
 mod engine;
 #[cfg(test)]
 mod fixture;
+#[cfg(test)]
+mod frames;
+#[cfg(test)]
+mod handing;
+#[cfg(test)]
+mod keys;
+#[cfg(test)]
+mod noting;
 #[cfg(test)]
 mod outline;
 #[cfg(test)]

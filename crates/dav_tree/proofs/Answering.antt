@@ -21,7 +21,7 @@ use Rattle.dav_resource.specs.declared.record.Record.{Record}
 use Rattle.dav_resource.specs.declared.error.FsError.{FsError}
 use Rattle.dav_resource.specs.declared.error.FsError.TheVariants.{NotImplemented, GeneralFailure, Exists, NotFound, Forbidden, InsufficientStorage, LoopDetected, PathTooLong, TooLarge, IsRemote, Memory}
 use Rattle.dav_key.specs.Below.{put_at, is_below}
-use Rattle.dav_tree.specs.EachLaws.{each-put_at, each-IsMoved, put_at-same}
+use Rattle.dav_key.specs.EachLaws.{each-put_at, each-IsMoved, put_at-same}
 use Rattle.dav_store.specs.Logged.{logged_of}
 use Rattle.dav_store.specs.Store.{Node, File, Directory, Quota, Contents, Store}
 use Rattle.dav_store.specs.Calls.{Call, Answers, Declines, IsLawful, IsOwn, error_of, limit_of, create_dir_bar, open_bar, file_bar, bytes_at, must_be_file, IsMadeAt, IsOpened, IsWritten}
@@ -283,7 +283,7 @@ makes key old new free is =
 pub changed-tree : (resources : Resources) (key : Key) (change : Stored → Stored) (s : Stored) → get resources key ≡ Some s → tree_of (change_at key change resources) ≡ insert (tree_of resources) key (change s).node
 changed-tree resources key change s here = ap (λ o. tree_of (put_at resources key (option_map change o))) here ∙ tree-put resources key (change s)
 
-changed-properties : (resources : Resources) (key : Key) (change : Stored → Stored) (s : Stored) → get resources key ≡ Some s → (change s).properties ≡ s.properties → properties_of (change_at key change resources) ≡ properties_of resources
+pub changed-properties : (resources : Resources) (key : Key) (change : Stored → Stored) (s : Stored) → get resources key ≡ Some s → (change s).properties ≡ s.properties → properties_of (change_at key change resources) ≡ properties_of resources
 changed-properties resources key change s here same =
     ap (λ o. properties_of (put_at resources key (option_map change o))) here ∙ properties-put resources key (change s) ∙ ap (λ p. put_at (properties_of resources) key (some_properties p)) same
     ∙ put_at-same (properties_of resources) key _ (get-properties resources key ∙ ap (option_and_then (λ s. some_properties s.properties)) here)

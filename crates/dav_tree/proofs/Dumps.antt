@@ -10,7 +10,7 @@ use Rattle.dav_key.specs.Key.{Key, key_cmp, tied_decides}
 use Rattle.dav_resource.specs.PathText.{IsKey}
 use Rattle.dav_tree.specs.Memory.{Stored, Resources, IsSound}
 use Rattle.dav_tree.specs.Dump.{Dumped, IsDump, IsDumpOf}
-use Rattle.dav_tree.specs.EachLaws.{get-each-some, with_values, entries-each-some}
+use Rattle.dav_key.specs.EachLaws.{get-each-some, with_values, entries-each-some}
 use Rattle.dav_tree.specs.Lawful.{get-tree}
 use Rattle.dav_tree.specs.Entry.{stored_by}
 use Rattle.dav_tree.specs.Kept.{resources_by}

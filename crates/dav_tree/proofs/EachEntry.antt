@@ -5,7 +5,7 @@ use Rattle.std.specs.Ordering.{eq_by_cmp}
 use Rattle.std.specs.FinMap.{FinMap, get, entries, entries_sorted, get-entries}
 use Rattle.std.specs.FinMap.Entries.{find, is_sorted, below_all}
 use Rattle.dav_key.specs.Key.{Key, key_cmp, tied_decides}
-use Rattle.dav_tree.specs.EachLaws.{both_parts}
+use Rattle.dav_key.specs.EachLaws.{both_parts}
 use Rattle.dav_tree.proofs.Sums.{found-later}
 
 module _ {X : Type 0} (P : Key → X → Type 0) where

@@ -11,7 +11,7 @@ use Rattle.dav_nodes.specs.Tree.{Tree, IsReplaced}
 use Rattle.dav_key.specs.Below.{put_at}
 use Rattle.dav_store.specs.BelowLaws.{at_or_below-tail}
 use Rattle.dav_tree.specs.Memory.{Stored, Resources, size_of, used_by, change_at}
-use Rattle.dav_tree.specs.EachLaws.{each-put_at, each-IsMoved, put_at-same}
+use Rattle.dav_key.specs.EachLaws.{each-put_at, each-IsMoved, put_at-same}
 use Rattle.dav_tree.specs.Entry.{node_by, stored_by, is_held}
 use Rattle.dav_tree.specs.Kept.{Kept, Rest, kept_by, resources_by, AreHeld, AreKept, IsAt, IsTaken, Has, HasMoved, held_of}
 use Rattle.dav_tree.specs.declared.entry.Entry.{Entry}

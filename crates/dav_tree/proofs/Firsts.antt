@@ -10,9 +10,10 @@ use Rattle.std.specs.BTreeMap.{BTreeMap, is_at}
 use Rattle.dav_key.specs.Key.{key_cmp, key_cmp_total, key_cmp_exact}
 use base.Stored.{Gv, gnil}
 use Rattle.dav_nodes.specs.Tree.{Tree, root_tree}
-use Rattle.dav_tree.specs.Memory.{Stored, size_of, used_by, none_held, each, fresh}
+use Rattle.dav_tree.specs.Memory.{Stored, size_of, used_by, none_held, fresh}
 use Rattle.dav_store.specs.Store.{Directory}
-use Rattle.dav_tree.specs.EachLaws.{get-each-some}
+use Rattle.dav_key.specs.Below.{each}
+use Rattle.dav_key.specs.EachLaws.{get-each-some}
 use Rattle.dav_tree.specs.Entry.{node_by, stored_by, is_held}
 use Rattle.dav_tree.specs.Kept.{Rest, kept_by, resources_by, AreKept, held_of}
 use Rattle.dav_tree.specs.declared.entry.Entry.{Entry}

@@ -21,7 +21,7 @@ use Rattle.dav_store.specs.Store.{File, Bodies}
 use Rattle.dav_store.specs.Calls.{written_at}
 use Rattle.dav_store.specs.BodyCalls.{stored_bytes, put_body}
 use Rattle.dav_tree.specs.Memory.{Stored, Resources, Held, is_directory, size_of, used_by, fresh, asked}
-use Rattle.dav_tree.specs.EachLaws.{get-each-some}
+use Rattle.dav_key.specs.EachLaws.{get-each-some}
 use Rattle.dav_tree.specs.Entry.{node_by, stored_by, is_held, is_file}
 use Rattle.dav_tree.specs.Kept.{Kept, Rest, kept_by, resources_by, bodies_by, held_of, AreHeld, AreStored, AreKept, IsAt, IsFound, IsAbsent, Has}
 use Rattle.dav_tree.specs.declared.entry.Content.{Content}

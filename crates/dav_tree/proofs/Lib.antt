@@ -3,6 +3,7 @@ pub mod PropertyMaps
 pub mod Patching
 pub mod Named
 pub mod Answering
+pub mod Modifying
 pub mod MemoryListings
 pub mod Rows
 pub mod Sound

@@ -11,7 +11,7 @@ use Rattle.dav_nodes.specs.Tree.{Tree}
 use Rattle.dav_resource.specs.declared.meta.DirEntry.{DirEntry}
 use Rattle.dav_resource.specs.declared.error.FsError.{FsError}
 use Rattle.dav_store.specs.Members.{name_in, members, member}
-use Rattle.dav_tree.specs.EachLaws.{keys-each-some}
+use Rattle.dav_key.specs.EachLaws.{keys-each-some}
 use Rattle.dav_tree.specs.Memory.{tree_of, meta_of}
 use Rattle.dav_tree.specs.MemoryCalls.{IsShown, IsListing}
 use Rattle.dav_tree.specs.Entry.{stored_by}

@@ -13,7 +13,7 @@ use Rattle.std.specs.BTreeMap.{BTreeMap, is_at}
 use Rattle.dav_key.specs.Key.{Key}
 use Rattle.dav_nodes.specs.Tree.{Tree}
 use Rattle.dav_tree.specs.Before.{entries_code, past_code, rest_of}
-use Rattle.dav_tree.specs.EachLaws.{with_values, entries-each-some}
+use Rattle.dav_key.specs.EachLaws.{with_values, entries-each-some}
 use Rattle.dav_tree.specs.Entry.{node_by, stored_by, is_held}
 use Rattle.dav_tree.specs.Kept.{kept_by, resources_by, AreHeld, AreKept}
 use Rattle.dav_tree.specs.Loading.{IsLoaded}

@@ -9,7 +9,7 @@ use Rattle.dav_resource.specs.Tree.{Tree}
 use Rattle.dav_key.specs.Below.{put_at}
 use Rattle.dav_store.specs.Store.{PropertyMap, AreNamed, element_key}
 use Rattle.dav_store.specs.PropertyCalls.{Patch, patch, patched, name_of, IsWhole}
-use Rattle.dav_tree.specs.EachLaws.{get-put_at}
+use Rattle.dav_key.specs.EachLaws.{get-put_at}
 use Rattle.dav_tree.specs.Patching.{wanted}
 use Rattle.dav_tree.proofs.Patching.{patch-wanted}
 

@@ -12,7 +12,7 @@ use Rattle.dav_resource.specs.Tree.{Tree}
 use Rattle.dav_key.specs.Below.{put_at}
 use Rattle.dav_store.specs.Store.{PropertyMap}
 use Rattle.dav_store.specs.PropertyCalls.{Patch, name_of, patch, patched}
-use Rattle.dav_tree.specs.EachLaws.{get-put_at, find_below, both_parts, or_none}
+use Rattle.dav_key.specs.EachLaws.{get-put_at, find_below, both_parts, or_none}
 use Rattle.dav_tree.specs.OrderedMaps.{seen_entries}
 use Rattle.dav_tree.specs.PropertyNames.{key_of, name_cmp}
 use Rattle.dav_tree.specs.Patching.{Changes, changes_of, wanted, replaced_by, ArePut, AreKept, AreTaken, AreOthers, AreChanged, Planned, IsPlan}

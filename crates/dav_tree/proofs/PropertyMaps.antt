@@ -15,7 +15,7 @@ use Rattle.std.specs.FinMap as fin
 use Rattle.std.specs.FinMap.Entries.{find, is_sorted, below_all}
 use Rattle.dav_key.specs.Key.{Key, key_cmp, key_cmp_total, key_cmp_exact, tied_decides}
 use Rattle.dav_resource.specs.Tree.{Tree}
-use Rattle.dav_tree.specs.EachLaws.{find_below, both_parts, or_none}
+use Rattle.dav_key.specs.EachLaws.{find_below, both_parts, or_none}
 use Rattle.dav_tree.specs.OrderedMaps.{seen_entries, OrdersAs}
 use Rattle.dav_store.specs.Store.{PropertyMap, property_key}
 use Rattle.dav_tree.specs.PropertyNames.{key_of, name_cmp, properties_of}

@@ -15,7 +15,7 @@ use Rattle.dav_store.specs.BelowLaws.{at_or_below-append, at_or_below-tail}
 use Rattle.dav_store.specs.Members.{member, members, IsIn}
 use Rattle.dav_store.specs.MemberLaws.{parent-below, member-parent, parent-member, there_members}
 use Rattle.dav_store.specs.Transfers.{IsMoved}
-use Rattle.dav_tree.specs.EachLaws.{get-put_at, each-put_at, each-IsMoved, put_at-same}
+use Rattle.dav_key.specs.EachLaws.{get-put_at, each-put_at, each-IsMoved, put_at-same}
 use Rattle.dav_tree.specs.Lawful.{node_in, get-tree}
 use Rattle.dav_tree.specs.Memory.{Stored, Resources, tree_of, IsSound, is_directory, change_at, with_bytes, with_properties}
 use Rattle.dav_tree.proofs.Answering.{tree-put, changed-tree}
@@ -112,19 +112,22 @@ sound-filled old new key bytes version moment s sound is found file =
     (sound-insert old key (File bytes) sound (sound.keys key (not_none _ s.node here)) (sound.parents key (not_none _ s.node here)) (λ e. no_directory s.node file (sym here ∙ e)))
     (named-changed old new key (with_bytes bytes version moment) sound.named is (λ t named. named))
 
--- the properties of a resource are changed
-pub sound-patched : (old new : Resources) (key : Key) (patches : List Patch) → IsSound old → new ≡ change_at key (λ s. with_properties (patched patches s.properties) s) old → All IsWhole patches → IsSound new
-sound-patched old new key patches sound is whole = sound-tree new (tree_of old)
+-- a resource changes, and not what it contains
+pub sound-beside : (old new : Resources) (key : Key) (change : Stored → Stored) → ((s : Stored) → (change s).node ≡ s.node) → ((s : Stored) → AreNamed s.properties → AreNamed (change s).properties)
+    → IsSound old → new ≡ change_at key change old → IsSound new
+sound-beside old new key change same named sound is = sound-tree new (tree_of old)
     (ap tree_of is ∙ each-put_at (λ s. Some s.node) old key (option_map change (get old key)) ∙ put_at-same (tree_of old) key _ (get-tree old key ∙ nodes (get old key)))
     (record { root = sound.root; parents = sound.parents; keys = sound.keys })
-    (named-changed old new key change sound.named is (λ s named. named-patched patches s.properties named whole))
+    (named-changed old new key change sound.named is named)
   where
-    change : Stored → Stored
-    change s = with_properties (patched patches s.properties) s
-
     nodes : (o : Option Stored) → option_map node_in o ≡ option_and_then (λ s. Some s.node) (option_map change o)
     nodes None = refl
-    nodes (Some s) = refl
+    nodes (Some s) = ap Some (sym (same s))
+
+-- the properties of a resource are changed
+pub sound-patched : (old new : Resources) (key : Key) (patches : List Patch) → IsSound old → new ≡ change_at key (λ s. with_properties (patched patches s.properties) s) old → All IsWhole patches → IsSound new
+sound-patched old new key patches sound is whole =
+    sound-beside old new key (λ s. with_properties (patched patches s.properties) s) (λ s. refl) (λ s named. named-patched patches s.properties named whole) sound is
 
 -- the root alone
 pub sound-root : (resources : Resources) (s : Stored) → resources ≡ insert empty [] s → s.node ≡ Directory → s.properties ≡ empty → IsSound resources

@@ -11,7 +11,7 @@ use Rattle.dav_key.specs.Key.{Key, key_cmp, key_cmp_total, key_cmp_exact, tied_d
 use Rattle.dav_key.specs.Below.{is_at_or_below}
 use Rattle.dav_store.specs.BelowLaws.{at_or_below-append, at_or_below-tail}
 use Rattle.dav_store.specs.Transfers.{IsMoved}
-use Rattle.dav_tree.specs.EachLaws.{find_below, both_parts}
+use Rattle.dav_key.specs.EachLaws.{find_below, both_parts}
 use lib.Dec.{T}
 
 less : (r : Ordering) → T (is_lt r) → r ≡ Less

@@ -6,7 +6,7 @@ use Rattle.std.proofs.lemmas.List.{length-map}
 use Rattle.dav_key.specs.Key.{Key}
 use Rattle.dav_nodes.specs.Tree.{Tree}
 use Rattle.dav_tree.specs.Memory.{Stored}
-use Rattle.dav_tree.specs.EachLaws.{entries-each-some}
+use Rattle.dav_key.specs.EachLaws.{entries-each-some}
 use Rattle.dav_tree.specs.Entry.{stored_by}
 use Rattle.dav_tree.specs.Kept.{resources_by, AreKept}
 use Rattle.dav_tree.specs.declared.entry.Entry.{Entry}

@@ -7,10 +7,10 @@ use Rattle.std.specs.BTreeMap as ordered
 use Rattle.std.specs.BTreeMap.{BTreeMap}
 use base.Stored.{Gv}
 use Rattle.dav_key.specs.Key.{Key, key_cmp}
-use Rattle.dav_key.specs.Below.{IsMoved}
+use Rattle.dav_key.specs.Below.{each, IsMoved}
 use Rattle.dav_nodes.specs.Tree.{Tree, IsReplaced}
 use Rattle.dav_store.specs.Store.{Directory}
-use Rattle.dav_tree.specs.Memory.{Stored, Resources, Held, none_held, each, fresh, is_directory, used_by}
+use Rattle.dav_tree.specs.Memory.{Stored, Resources, Held, none_held, fresh, is_directory, used_by}
 use Rattle.dav_tree.specs.Entry.{stored_by, is_held}
 use Rattle.dav_tree.specs.declared.entry.Entry.{Entry}
 

@@ -10,7 +10,7 @@ use Rattle.dav_resource.specs.Tree as elements
 use Rattle.dav_store.specs.Store.{Node, File, Directory, PropertyMap, IsWellFormed, AreNamed, MetaFits, IsTagText, is_tag_byte}
 use Rattle.dav_store.specs.PropertyCalls.{some_properties}
 use Rattle.dav_tree.specs.Memory.{Stored, Resources, Memory, tree_of, properties_of, meta_of, contents_of, IsSound, tag_text, is_directory, size_of}
-use Rattle.dav_tree.specs.EachLaws.{get-each}
+use Rattle.dav_key.specs.EachLaws.{get-each}
 
 -- ---- the tree
 

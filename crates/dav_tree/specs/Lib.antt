@@ -1,6 +1,6 @@
 pub mod Bodies
 pub mod Memory
-pub mod EachLaws
+pub mod Modified
 pub mod MemoryCalls
 pub mod OrderedMaps
 pub mod PropertyNames

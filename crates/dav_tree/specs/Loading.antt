@@ -1,5 +1,5 @@
 -- What is checked of a tree of entries that is loaded: this project's own choice.
-use Rattle.std.specs.Prelude.{◌≡◌, ◌&&◌, ℕ, Bool, false, List, not, Option, Some}
+use Rattle.std.specs.Prelude.{◌≡◌, ℕ, false, List, Option, Some}
 use Rattle.std.specs.Option.{ForSome}
 use Rattle.std.specs.Coded.{Coded}
 use Rattle.std.specs.FinMap.{get}

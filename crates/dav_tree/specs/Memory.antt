@@ -1,14 +1,14 @@
 -- The state of the in-memory store without its log, and the effects of its calls on it: this project's own choice.
-use Rattle.std.specs.Prelude.{◌≡◌, ◌≢◌, ℕ, ◌+◌, ◌-◌, ◌^◌, min, Bool, true, false, List, [], ◌++◌, length, filter_map, Option, Some, None}
+use Rattle.std.specs.Prelude.{◌≡◌, ◌≢◌, ℕ, ◌+◌, ◌-◌, ◌^◌, min, Bool, true, false, List, [], ◌++◌, length, Option, Some, None}
 use Rattle.std.specs.Option.{option_map}
 use Rattle.std.specs.List.{sum_by}
 use Rattle.std.specs.Fmt.{digits}
-use Rattle.std.specs.FinMap.{FinMap, empty, from_entries, get, insert, remove, entries}
+use Rattle.std.specs.FinMap.{FinMap, empty, get, insert, remove, entries}
 use base.Stored.{Gv, gnil}
 use Rattle.dav_key.specs.Key.{Key, key_cmp, parent}
 use Rattle.dav_resource.specs.PathText.{IsKey}
 use Rattle.dav_resource.specs.declared.meta.Meta.{Meta}
-use Rattle.dav_key.specs.Below.{put_at}
+use Rattle.dav_key.specs.Below.{put_at, each}
 use Rattle.dav_store.specs.Logged.{Logged}
 use Rattle.dav_store.specs.Store.{Node, File, Directory, Tree, PropertyMap, Properties, Quota, Contents, Bodies, Facts, Store, AreNamed}
 use Rattle.dav_store.specs.Calls.{bytes_at, written_at}
@@ -44,10 +44,6 @@ pub record Memory : Type 0 where
   pub held : Held
 
 -- ---- what contracts see of it
-
--- the results of `give` for the values of a map, each at its key
-abbrev pub each : {X Y : Type 0} → (X → Option Y) → FinMap key_cmp X → FinMap key_cmp Y
-each give m = from_entries (filter_map (λ e. option_map (λ y. (e.0, y)) (give e.1)) (entries m))
 
 abbrev pub tree_of : Resources → Tree
 tree_of resources = each (λ s. Some s.node) resources
@@ -132,6 +128,9 @@ copy_of there version now s = record s { version = version; created = made_when 
 abbrev pub with_properties : PropertyMap → Stored → Stored
 with_properties properties s = record s { properties = properties }
 
+abbrev pub with_modified : ℕ → Stored → Stored
+with_modified time s = record s { modified = time }
+
 -- the resource at the key, and nothing else, is changed
 abbrev pub change_at : Key → (Stored → Stored) → Resources → Resources
 change_at key change resources = put_at resources key (option_map change (get resources key))
@@ -155,6 +154,10 @@ copied from to old = record old { resources = put_at old.resources to (option_ma
 -- the properties at the key are changed; this does not count as a change
 abbrev pub with_patches : Key → List Patch → Memory → Memory
 with_patches key patches old = record old { resources = change_at key (λ s. with_properties (patched patches s.properties) s) old.resources }
+
+-- the resource at the key was last modified at this time; this does not count as a change
+abbrev pub modified_at : Key → ℕ → Memory → Memory
+modified_at key time old = record old { resources = change_at key (with_modified time) old.resources }
 
 -- the resource at the first key, and everything below it, moves to the second; this does not count as a change
 pub record IsRenamed (from to : Key) (old new : Memory) : Type 0 where

@@ -6,10 +6,10 @@ ghost use Rattle.dav_key.specs.Below.{AreApart};
 ghost use Rattle.dav_nodes.specs.Noted.{tree_of, before_of};
 ghost use Rattle.dav_store.specs.Store.{File, Directory};
 ghost use Rattle.dav_store.specs.PropertyCalls.{patched};
-ghost use Rattle.dav_tree.specs.Memory.{Stored, used_by, size_of, meta_of, fresh, with_properties, asked};
+ghost use Rattle.dav_tree.specs.Memory.{Stored, used_by, size_of, meta_of, fresh, with_properties, with_modified, asked};
 ghost use Rattle.dav_nodes.specs.Rows.{row_in};
 ghost use Rattle.dav_tree.specs.Before.{IsNotedBetween, IsSaved, HasSaved, HasTree, HasEntry, HasNoEntry};
-ghost use Rattle.dav_tree.specs.KeptCalls.{IsUnchanged, ChangesAt};
+ghost use Rattle.dav_tree.specs.KeptCalls.{IsUnchanged, IsChangedAt, ChangesAt};
 ghost use Rattle.dav_tree.specs.Kept.{held_of, IsFirst, IsAbsent, IsFound, IsNumber, IsAt, IsTaken, Has, HasMoved};
 
 mod bodies;
@@ -281,6 +281,16 @@ impl<M: Medium> Entries<M> {
         let answer = entry.properties.patch(patches);
         self.tree.exchange(number, &mut entry);
         answer
+    }
+
+    /// Sets when the resource with a number was last modified, in whole seconds since 1970.
+    pub fn set_modified(&mut self, number: usize, time: u64)
+        requires { IsNumber self.old number }
+        ensures { IsChangedAt number (with_modified time) self.old self.new }
+    {
+        let mut entry = take(self.alloc, &mut self.tree, number);
+        entry.modified = time;
+        self.tree.exchange(number, &mut entry);
     }
 }
 

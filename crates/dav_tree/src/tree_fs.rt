@@ -1,5 +1,6 @@
 //! A store with its tree in memory.
 ghost use Rattle.std.specs.Prelude.{◌≡◌, ◌≢◌, ◌⊎◌, ◌<◌, ◌≤◌, ℕ, ◌+◌, ◌^◌, [], ◌∷◌, map, All, length, option_map, replicate, false, true, IfOk, IfErr, OnOk, OnErr, IfSome, Some, None, refl};
+ghost use Rattle.std.specs.FinMap.{get};
 ghost use Rattle.dav_store.specs.Logged.{logged_of};
 ghost use Rattle.dav_store.specs.Store.{Directory};
 ghost use Rattle.dav_store.specs.Calls.{LooksUp, MakesDirectory, Opens, ReadsBytes, bytes_from, Seeks, Writes, Flushes, LooksUpFile};
@@ -109,7 +110,8 @@ impl TreeFs<InMemory> {
 
 impl<M: Medium> TreeFs<M> {
     ghost use Rattle.dav_tree.specs.TreeFs.{memory_of, store_of, records_of, before_of, older_of, entries_of};
-    ghost use Rattle.dav_tree.specs.Memory.{first_memory, asked};
+    ghost use Rattle.dav_tree.specs.Memory.{first_memory, asked, modified_at};
+    ghost use Rattle.dav_tree.specs.Modified.{SetsModified};
     ghost use Rattle.dav_nodes.specs.Rows.{row_in};
     ghost use Rattle.dav_tree.specs.Before.{IsNotedBetween, IsSaved, HasSaved, HasTree, HasEntry, HasNoEntry};
     ghost use base.Stored.{gnil};
@@ -236,6 +238,24 @@ impl<M: Medium> TreeFs<M> {
         ensures records { records_of self.new ≡ records_of self.old }
     {
         self.moment = now;
+    }
+
+    /// Sets when the resource at a path was last modified, in whole seconds since 1970. Nothing else changes: its entity
+    /// tag and the log stay the same.
+    ///
+    /// `NotFound`: nothing exists at the path. There is no other error, and after it nothing has changed.
+    pub fn set_modified(&mut self, path: &DavPath, time: u64) -> FsResult<()>
+        ensures seen { OnOk result (SetsModified path.now.key time (store_of self.old) (store_of self.new)) }
+        ensures memory { OnOk result (memory_of self.new ≡ modified_at path.now.key time (memory_of self.old)) }
+        ensures err { OnErr result (memory_of self.new ≡ memory_of self.old) }
+        ensures cause { IfErr result (λ e. (e ≡ FsError.NotFound) × (get (contents_of (memory_of self.old)).tree path.now.key ≡ None)) }
+        ensures records { records_of self.new ≡ records_of self.old }
+    {
+        let Some(place) = self.entries.find(path.key()) else {
+            return Err(FsError::NotFound);
+        };
+        self.entries.set_modified(place.number, time);
+        Ok(())
     }
 }
 

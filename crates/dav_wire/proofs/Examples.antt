@@ -9,9 +9,9 @@ use Rattle.dav_wire.specs.Values.{text, utf8_text, flag, optional}
 use Rattle.dav_resource.specs.declared.request.ReqBody.TheVariants as body
 use Rattle.dav_wire.specs.Fields.{field, fields}
 use Rattle.dav_wire.specs.Bodies.{request_body}
-use Rattle.dav_wire.specs.Frames.{frame, request, read, add}
+use Rattle.dav_wire.specs.Frames.{frame, request, read, unlock, modified, add}
 use Rattle.dav_wire.specs.Frames as frames
-use Rattle.dav_wire.specs.Replies.{reply, response, held, quota, explained}
+use Rattle.dav_wire.specs.Replies.{reply, response, held, quota, explained, lock, locks}
 use Rattle.dav_wire.specs.Replies as replies
 use Rattle.dav_wire.specs.Batches.{batch, reply_header, batch_header}
 use Rattle.dav_wire.specs.Trees.{attribute, attributes, tag, one_node, nodes, element_over, tree}
@@ -98,8 +98,20 @@ rules_9 : decode frame (9 ∷ small 1 ++ codes "x") ≡ Some (frames.SetRights (
 unfolding frame utf8_text text number is_utf8 chars encode
 rules_9 = refl
 
+locks_11 : decode frame (11 ∷ []) ≡ Some frames.ListLocks
+unfolding frame
+locks_11 = refl
+
+unlock_12 : decode frame (12 ∷ small 1 ++ codes "/" ++ small 1 ++ codes "t") ≡ Some (frames.RemoveLock (record { path = codes "/"; token = codes "t" }))
+unfolding frame unlock utf8_text text number is_utf8 chars encode
+unlock_12 = refl
+
+modified_13 : decode frame (13 ∷ small 1 ++ codes "/" ++ small 7) ≡ Some (frames.SetModified (record { path = codes "/"; time = 7 }))
+unfolding frame modified utf8_text text number is_utf8 chars encode
+modified_13 = refl
+
 -- a byte of no variant, and a byte after a frame
-unknown : decode frame (11 ∷ []) ≡ None
+unknown : decode frame (14 ∷ []) ≡ None
 unfolding frame
 unknown = refl
 
@@ -122,6 +134,11 @@ explained_3 = refl
 held_2 : reply.encode (replies.Held (record { locks = 2; quota = Some (3, None) })) ≡ 6 ∷ small 2 ++ 1 ∷ small 3 ++ 0 ∷ []
 unfolding reply held quota number
 held_2 = refl
+
+locks_10 : reply.encode (replies.Locks (record { token = codes "t"; path = codes "/a"; principal = None; deep = true; shared = false; expires = Some 9 } ∷ []))
+    ≡ 10 ∷ small 1 ++ small 1 ++ codes "t" ++ small 2 ++ codes "/a" ++ 0 ∷ 1 ∷ 0 ∷ 1 ∷ small 9
+unfolding reply locks lock flag utf8_text text number
+locks_10 = refl
 
 -- ---- batches
 

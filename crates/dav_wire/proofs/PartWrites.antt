@@ -6,8 +6,8 @@ use Rattle.dav_wire.specs.Values.{text, utf8_text, flag, optional}
 use Rattle.dav_wire.specs.Trees.{tree}
 use Rattle.dav_wire.specs.Fields.{fields}
 use Rattle.dav_wire.specs.Bodies.{request_body}
-use Rattle.dav_wire.specs.Frames.{RequestValue, request, parts_of_request, ReadValue, read, parts_of_read, ExplainValue, explain, parts_of_explain}
-use Rattle.dav_wire.specs.Replies.{ResponseValue, response, parts_of_response, reply_levels, PartValue, part, parts_of_part, ExplainedValue, explained, parts_of_explained}
+use Rattle.dav_wire.specs.Frames.{RequestValue, request, parts_of_request, ReadValue, read, parts_of_read, ExplainValue, explain, parts_of_explain, UnlockValue, unlock, parts_of_unlock, ModifiedValue, modified, parts_of_modified}
+use Rattle.dav_wire.specs.Replies.{ResponseValue, response, parts_of_response, reply_levels, PartValue, part, parts_of_part, ExplainedValue, explained, parts_of_explained, LockValue, lock, parts_of_lock}
 use Rattle.dav_wire.specs.Levels.{IsBodyTooDeep, IsTreeTooDeep}
 use Rattle.dav_wire.specs.Writes.{Appends, Writes, WritesUnless}
 use Rattle.dav_wire.specs.declared.error.WireError.{WireError}
@@ -102,3 +102,37 @@ explained_written x old b c d new r rule list read write =
     let second = writes_pair flag from_read x.list p.1.1 b c new r list third in
     let first = writes_pair (optional number) from_list x.rule p.1 old b new r rule second in
     writes_as (pair (optional number) from_list) explained p x old new r (λ ok. ok) refl first
+
+pub unlock_written :
+    {U E : Type 0} (x : UnlockValue) (old b new : List ℕ) (r : Result U E)
+    → Appends utf8_text x.path old b → Writes utf8_text x.token b r new → Writes unlock x old r new
+unfolding unlock
+unlock_written x old b new r path token =
+    let first = writes_pair utf8_text utf8_text x.path x.token old b new r path token in
+    writes_as (pair utf8_text utf8_text) unlock (parts_of_unlock x) x old new r (λ ok. ok) refl first
+
+pub modified_written :
+    {U E : Type 0} (x : ModifiedValue) (old b new : List ℕ) (r : Result U E)
+    → Appends utf8_text x.path old b → Writes number x.time b r new → Writes modified x old r new
+unfolding modified
+modified_written x old b new r path time =
+    let first = writes_pair utf8_text number x.path x.time old b new r path time in
+    writes_as (pair utf8_text number) modified (parts_of_modified x) x old new r (λ ok. ok) refl first
+
+pub lock_written :
+    {U E : Type 0} (x : LockValue) (old b c d e f new : List ℕ) (r : Result U E)
+    → Appends utf8_text x.token old b → Appends utf8_text x.path b c → Appends (optional utf8_text) x.principal c d
+    → Appends flag x.deep d e → Appends flag x.shared e f → Writes (optional number) x.expires f r new → Writes lock x old r new
+unfolding lock
+lock_written x old b c d e f new r token path principal deep shared expires =
+    let p = parts_of_lock x in
+    let from_shared = pair flag (optional number) in
+    let from_deep = pair flag from_shared in
+    let from_principal = pair (optional utf8_text) from_deep in
+    let from_path = pair utf8_text from_principal in
+    let fifth = writes_pair flag (optional number) x.shared x.expires e f new r shared expires in
+    let fourth = writes_pair flag from_shared x.deep p.1.1.1.1 d e new r deep fifth in
+    let third = writes_pair (optional utf8_text) from_deep x.principal p.1.1.1 c d new r principal fourth in
+    let second = writes_pair utf8_text from_principal x.path p.1.1 b c new r path third in
+    let first = writes_pair utf8_text from_path x.token p.1 old b new r token second in
+    writes_as (pair utf8_text from_path) lock p x old new r (λ ok. ok) refl first

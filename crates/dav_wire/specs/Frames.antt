@@ -32,6 +32,16 @@ pub record ExplainValue : Type 0 where
   pub principal : Option (List ℕ)
   pub path : List ℕ
 
+-- the path of a locked resource, or one below it, and the token of the lock
+pub record UnlockValue : Type 0 where
+  pub path : List ℕ
+  pub token : List ℕ
+
+-- when the resource at a path was last modified
+pub record ModifiedValue : Type 0 where
+  pub path : List ℕ
+  pub time : ℕ
+
 pub data FrameValue : Type 0 where
   Request : RequestValue → FrameValue
   -- begin a body that the store holds
@@ -53,6 +63,12 @@ pub data FrameValue : Type 0 where
   SetRights : List ℕ → FrameValue
   -- what the access rules allow
   Explain : ExplainValue → FrameValue
+  -- which locks there are
+  ListLocks : FrameValue
+  -- remove a lock
+  RemoveLock : UnlockValue → FrameValue
+  -- set when a resource was last modified
+  SetModified : ModifiedValue → FrameValue
 
 -- ---- requests
 
@@ -101,6 +117,30 @@ parts_of_explain r = (r.principal, r.path)
 unfoldable pub explain : Codec ExplainValue
 explain = as_type (pair (optional utf8_text) utf8_text) explain_of parts_of_explain (λ p. refl) (λ r. refl)
 
+-- ---- locks to remove
+
+abbrev pub unlock_of : List ℕ × List ℕ → UnlockValue
+unlock_of p = record { path = p.0; token = p.1 }
+
+abbrev pub parts_of_unlock : UnlockValue → List ℕ × List ℕ
+parts_of_unlock r = (r.path, r.token)
+
+-- the parts in this order
+unfoldable pub unlock : Codec UnlockValue
+unlock = as_type (pair utf8_text utf8_text) unlock_of parts_of_unlock (λ p. refl) (λ r. refl)
+
+-- ---- times of modification
+
+abbrev pub modified_of : List ℕ × ℕ → ModifiedValue
+modified_of p = record { path = p.0; time = p.1 }
+
+abbrev pub parts_of_modified : ModifiedValue → List ℕ × ℕ
+parts_of_modified r = (r.path, r.time)
+
+-- the parts in this order
+unfoldable pub modified : Codec ModifiedValue
+modified = as_type (pair utf8_text number) modified_of parts_of_modified (λ p. refl) (λ r. refl)
+
 -- ---- additions to bodies
 
 -- the number of the body and the bytes to add
@@ -121,6 +161,9 @@ frame_position BeginBackup = 7
 frame_position EndBackup = 8
 frame_position (SetRights rules) = 9
 frame_position (Explain r) = 10
+frame_position ListLocks = 11
+frame_position (RemoveLock r) = 12
+frame_position (SetModified r) = 13
 
 abbrev pub from_request : FrameValue → Option RequestValue
 from_request (Request r) = Some r
@@ -165,6 +208,18 @@ from_rights x = None
 abbrev pub from_explain : FrameValue → Option ExplainValue
 from_explain (Explain r) = Some r
 from_explain x = None
+
+abbrev pub from_locks : FrameValue → Option (Unit {0})
+from_locks ListLocks = Some tt
+from_locks x = None
+
+abbrev pub from_unlock : FrameValue → Option UnlockValue
+from_unlock (RemoveLock r) = Some r
+from_unlock x = None
+
+abbrev pub from_modified : FrameValue → Option ModifiedValue
+from_modified (SetModified r) = Some r
+from_modified x = None
 
 abbrev pub add_of : ℕ × List ℕ → FrameValue
 add_of p = AddToBody p.0 p.1
@@ -213,6 +268,18 @@ pub explain_exact : (x : FrameValue) (r : ExplainValue) → from_explain x ≡ S
 explain_exact (Explain s) r e = cc
 explain_exact x r e = cc
 
+pub locks_exact : (x : FrameValue) (u : Unit {0}) → from_locks x ≡ Some u → ListLocks ≡ x
+locks_exact ListLocks u e = refl
+locks_exact x u e = cc
+
+pub unlock_exact : (x : FrameValue) (r : UnlockValue) → from_unlock x ≡ Some r → RemoveLock r ≡ x
+unlock_exact (RemoveLock s) r e = cc
+unlock_exact x r e = cc
+
+pub modified_exact : (x : FrameValue) (r : ModifiedValue) → from_modified x ≡ Some r → SetModified r ≡ x
+modified_exact (SetModified s) r e = cc
+modified_exact x r e = cc
+
 abbrev pub request_frame : Codec FrameValue
 request_frame = variant request Request from_request (λ r. refl) (λ x r e. request_exact x r e)
 
@@ -246,11 +313,21 @@ rights_frame = variant utf8_text SetRights from_rights (λ rules. refl) (λ x ru
 abbrev pub explain_frame : Codec FrameValue
 explain_frame = variant explain Explain from_explain (λ r. refl) (λ x r e. explain_exact x r e)
 
+abbrev pub locks_frame : Codec FrameValue
+locks_frame = variant nothing (λ u. ListLocks) from_locks (λ u. refl) (λ x u e. locks_exact x u e)
+
+abbrev pub unlock_frame : Codec FrameValue
+unlock_frame = variant unlock RemoveLock from_unlock (λ r. refl) (λ x r e. unlock_exact x r e)
+
+abbrev pub modified_frame : Codec FrameValue
+modified_frame = variant modified SetModified from_modified (λ r. refl) (λ x r e. modified_exact x r e)
+
 -- ---- frames
 
 abbrev pub frame_variants : List (Codec FrameValue)
 frame_variants =
-    request_frame ∷ start_frame ∷ add_frame ∷ drop_frame ∷ part_frame ∷ expiry_frame ∷ held_frame ∷ begin_frame ∷ end_frame ∷ rights_frame ∷ explain_frame ∷ []
+    request_frame ∷ start_frame ∷ add_frame ∷ drop_frame ∷ part_frame ∷ expiry_frame ∷ held_frame ∷ begin_frame ∷ end_frame ∷ rights_frame ∷ explain_frame
+    ∷ locks_frame ∷ unlock_frame ∷ modified_frame ∷ []
 
 -- the byte of the variant, then its content
 unfoldable pub frame : Codec FrameValue

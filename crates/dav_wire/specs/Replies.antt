@@ -4,7 +4,7 @@ use Rattle.dav_resource.specs.Tree.{Tree}
 use Rattle.dav_wire.specs.Codec.{Codec}
 use Rattle.dav_wire.specs.Combine.{nothing, pair, as_type, variant}
 use Rattle.dav_wire.specs.Numbers.{number}
-use Rattle.dav_wire.specs.Values.{text, utf8_text, flag, optional, one_of}
+use Rattle.dav_wire.specs.Values.{text, utf8_text, flag, optional, list, one_of}
 use Rattle.dav_wire.specs.Trees.{tree}
 use Rattle.dav_wire.specs.Fields.{fields}
 
@@ -41,6 +41,15 @@ pub record ExplainedValue : Type 0 where
   pub read : Bool
   pub write : Bool
 
+-- a lock: its token, the path of its resource, and its principal if it is known; whether it is deep and shared; and when it expires, if it does
+pub record LockValue : Type 0 where
+  pub token : List ℕ
+  pub path : List ℕ
+  pub principal : Option (List ℕ)
+  pub deep : Bool
+  pub shared : Bool
+  pub expires : Option ℕ
+
 pub data ReplyValue : Type 0 where
   Response : ResponseValue → ReplyValue
   -- the number of the body that was begun
@@ -59,6 +68,8 @@ pub data ReplyValue : Type 0 where
   Refused : List ℕ → ReplyValue
   -- what the access rules allow
   Explained : ExplainedValue → ReplyValue
+  -- the locks, the oldest first
+  Locks : List LockValue → ReplyValue
 
 -- ---- responses
 
@@ -124,6 +135,27 @@ parts_of_explained x = (x.rule, (x.list, (x.read, x.write)))
 unfoldable pub explained : Codec ExplainedValue
 explained = as_type (pair (optional number) (pair flag (pair flag flag))) explained_of parts_of_explained (λ p. refl) (λ x. refl)
 
+-- ---- locks
+
+abbrev pub LockParts : Type 0
+LockParts = List ℕ × (List ℕ × (Option (List ℕ) × (Bool × (Bool × Option ℕ))))
+
+abbrev pub lock_of : LockParts → LockValue
+lock_of p = record { token = p.0; path = p.1.0; principal = p.1.1.0; deep = p.1.1.1.0; shared = p.1.1.1.1.0; expires = p.1.1.1.1.1 }
+
+abbrev pub parts_of_lock : LockValue → LockParts
+parts_of_lock l = (l.token, (l.path, (l.principal, (l.deep, (l.shared, l.expires)))))
+
+-- the parts in this order
+unfoldable pub lock : Codec LockValue
+lock =
+    as_type (pair utf8_text (pair utf8_text (pair (optional utf8_text) (pair flag (pair flag (optional number))))))
+    lock_of parts_of_lock (λ p. refl) (λ l. refl)
+
+-- locks in order
+unfoldable pub locks : Codec (List LockValue)
+locks = list lock
+
 -- ---- variants
 
 abbrev pub reply_position : ReplyValue → ℕ
@@ -137,6 +169,7 @@ reply_position (Held h) = 6
 reply_position (Failed status) = 7
 reply_position (Refused reason) = 8
 reply_position (Explained x) = 9
+reply_position (Locks ls) = 10
 
 abbrev pub from_response : ReplyValue → Option ResponseValue
 from_response (Response r) = Some r
@@ -178,6 +211,10 @@ abbrev pub from_explained : ReplyValue → Option ExplainedValue
 from_explained (Explained x) = Some x
 from_explained x = None
 
+abbrev pub from_locks : ReplyValue → Option (List LockValue)
+from_locks (Locks ls) = Some ls
+from_locks x = None
+
 pub response_exact : (x : ReplyValue) (r : ResponseValue) → from_response x ≡ Some r → Response r ≡ x
 response_exact (Response s) r e = cc
 response_exact x r e = cc
@@ -218,6 +255,10 @@ pub explained_exact : (x : ReplyValue) (y : ExplainedValue) → from_explained x
 explained_exact (Explained z) y e = cc
 explained_exact x y e = cc
 
+pub locks_exact : (x : ReplyValue) (ls : List LockValue) → from_locks x ≡ Some ls → Locks ls ≡ x
+locks_exact (Locks other) ls e = cc
+locks_exact x ls e = cc
+
 abbrev pub response_reply : Codec ReplyValue
 response_reply = variant response Response from_response (λ r. refl) (λ x r e. response_exact x r e)
 
@@ -248,12 +289,15 @@ refused_reply = variant utf8_text Refused from_refused (λ reason. refl) (λ x r
 abbrev pub explained_reply : Codec ReplyValue
 explained_reply = variant explained Explained from_explained (λ x. refl) (λ x y e. explained_exact x y e)
 
+abbrev pub locks_reply : Codec ReplyValue
+locks_reply = variant locks Locks from_locks (λ ls. refl) (λ x ls e. locks_exact x ls e)
+
 -- ---- replies
 
 abbrev pub reply_variants : List (Codec ReplyValue)
 reply_variants =
     response_reply ∷ started_reply ∷ done_reply ∷ part_reply ∷ collection_reply ∷ expiry_reply ∷ held_reply ∷ failed_reply ∷ refused_reply
-    ∷ explained_reply ∷ []
+    ∷ explained_reply ∷ locks_reply ∷ []
 
 -- the byte of the variant, then its content
 unfoldable pub reply : Codec ReplyValue

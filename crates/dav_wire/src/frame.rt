@@ -37,6 +37,12 @@ pub enum Frame<'a> {
     SetRights(&'a str),
     /// What the access rules allow somebody.
     Explain(ExplainFrame<'a>),
+    /// Which locks there are.
+    ListLocks,
+    /// Remove a lock.
+    RemoveLock(UnlockFrame<'a>),
+    /// Set when a resource was last modified.
+    SetModified(ModifiedFrame<'a>),
 }
 
 impl<'a> Frame<'a> {
@@ -93,6 +99,24 @@ pub struct ExplainFrame<'a> {
     pub principal: Option<&'a str>,
     /// The path.
     pub path: &'a str,
+}
+
+/// The lock to remove.
+#[derive(Drop, Debug)]
+pub struct UnlockFrame<'a> {
+    /// The path of the locked resource, or one below it.
+    pub path: &'a str,
+    /// The token of the lock.
+    pub token: &'a str,
+}
+
+/// When a resource was last modified.
+#[derive(Drop, Debug)]
+pub struct ModifiedFrame<'a> {
+    /// The path of the resource.
+    pub path: &'a str,
+    /// The time, in whole seconds since 1970.
+    pub time: u64,
 }
 
 /// A read of a part of a file.

@@ -34,6 +34,9 @@
 //! - 8, end the backup: nothing.
 //! - 9, serve by other access rules from now on: their text, a string.
 //! - 10, what the access rules allow: the principal, an optional string; and the path, a string.
+//! - 11, which locks there are: nothing.
+//! - 12, remove a lock: the path of its resource, a string; and its token, a string.
+//! - 13, set when a resource was last modified: the path, a string; and the time, a number.
 //!
 //! The body of a request is the byte 0 for none, the byte 1 and a byte string, the byte 2 and the number of a
 //! body that the store holds, the byte 3 and an element of at most `REQUEST_LEVELS` levels, or the byte 4 for
@@ -57,6 +60,9 @@
 //! - 8, the text of the frame was refused: the reason, a string.
 //! - 9, what the access rules allow: the number of the rule that decides, an optional number; and whether one may list,
 //!   read and write, three flags.
+//! - 10, the locks: their count as a number, then for each its token, a string; the path of its resource, a string; its
+//!   principal, an optional string; whether it is deep, and whether it is shared, two flags; and when it expires, an
+//!   optional number.
 //!
 //! # Batches
 //!
@@ -75,10 +81,11 @@ mod writer;
 
 pub use batch::{BatchHeader, ReplyHeader, read_batch};
 pub use error::WireError;
-pub use frame::{ExplainFrame, Frame, REQUEST_LEVELS, ReadFrame, RequestFrame};
+pub use frame::{
+    ExplainFrame, Frame, ModifiedFrame, REQUEST_LEVELS, ReadFrame, RequestFrame, UnlockFrame,
+};
 pub use reader::Reader;
-pub use reply::{ExplainedFrame, FilePart, HeldFrame, REPLY_LEVELS, Reply, ResponseFrame};
+pub use reply::{
+    ExplainedFrame, FilePart, HeldFrame, LockFrame, REPLY_LEVELS, Reply, ResponseFrame,
+};
 pub use writer::Writer;
-
-#[cfg(test)]
-mod tests;

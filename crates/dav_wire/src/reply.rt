@@ -34,6 +34,8 @@ pub enum Reply<'a> {
     Refused(&'a str),
     /// What the access rules allow.
     Explained(ExplainedFrame),
+    /// The locks, the oldest first.
+    Locks(Vec<LockFrame<'a>>),
 }
 
 impl Reply<'_> {
@@ -98,4 +100,21 @@ pub struct ExplainedFrame {
     pub read: bool,
     /// Whether it may write it.
     pub write: bool,
+}
+
+/// A lock.
+#[derive(Drop, Debug)]
+pub struct LockFrame<'a> {
+    /// The token.
+    pub token: &'a str,
+    /// The path of the locked resource.
+    pub path: String,
+    /// The principal that created the lock, if it is known.
+    pub principal: Option<&'a str>,
+    /// Whether the lock also covers all that is below the resource.
+    pub deep: bool,
+    /// Whether the lock is shared.
+    pub shared: bool,
+    /// When the lock expires, in whole seconds since 1970, if it does.
+    pub expires: Option<u64>,
 }

@@ -4,11 +4,14 @@ ghost use Rattle.dav_wire.specs.Numbers.{number};
 ghost use Rattle.dav_wire.specs.Values.{text};
 ghost use Rattle.dav_wire.specs.Fields.{field, fields};
 ghost use Rattle.dav_wire.specs.Bodies.{request_body};
-ghost use Rattle.dav_wire.specs.Frames.{frame, request, read, explain, add};
-ghost use Rattle.dav_wire.specs.Views.{field_of, addition_of, request_frame_of, read_frame_of, explain_frame_of, frame_of};
+ghost use Rattle.dav_wire.specs.Frames.{frame, request, read, explain, unlock, modified, add};
+ghost use Rattle.dav_wire.specs.Views.{field_of, addition_of, request_frame_of, read_frame_of, explain_frame_of, unlock_frame_of, modified_frame_of, frame_of};
 ghost use Rattle.dav_wire.specs.Reads.{Reads, ReadsAllocating};
 
-use crate::{ExplainFrame, Frame, REQUEST_LEVELS, ReadFrame, Reader, RequestFrame, WireError};
+use crate::{
+    ExplainFrame, Frame, ModifiedFrame, REQUEST_LEVELS, ReadFrame, Reader, RequestFrame,
+    UnlockFrame, WireError,
+};
 use dav_resource::{BodyNumber, Items, ReqBody};
 
 impl<'a> Reader<'a> {
@@ -31,6 +34,9 @@ impl<'a> Reader<'a> {
             8 => Ok(Frame::EndBackup),
             9 => Ok(Frame::SetRights(self.read_str()?)),
             10 => Ok(Frame::Explain(self.read_question()?)),
+            11 => Ok(Frame::ListLocks),
+            12 => Ok(Frame::RemoveLock(self.read_unlock()?)),
+            13 => Ok(Frame::SetModified(self.read_modified()?)),
             _ => Err(WireError::Malformed),
         }
     }
@@ -123,6 +129,24 @@ impl<'a> Reader<'a> {
         let principal = self.read_optional_str()?;
         let path = self.read_str()?;
         Ok(ExplainFrame { principal, path })
+    }
+
+    /// Reads the path and the token of a lock.
+    fn read_unlock(&mut self) -> Result<UnlockFrame<'a>, WireError>
+        ensures { Reads unlock unlock_frame_of self.old result self.new }
+    {
+        let path = self.read_str()?;
+        let token = self.read_str()?;
+        Ok(UnlockFrame { path, token })
+    }
+
+    /// Reads the path of a resource and when it was last modified.
+    fn read_modified(&mut self) -> Result<ModifiedFrame<'a>, WireError>
+        ensures { Reads modified modified_frame_of self.old result self.new }
+    {
+        let path = self.read_str()?;
+        let time = self.read_number()?;
+        Ok(ModifiedFrame { path, time })
     }
 
     /// Reads the content of a read of a part of a file.

@@ -1,11 +1,14 @@
 //! Writes of frames.
 ghost use Rattle.dav_wire.specs.Bodies.{request_body};
-ghost use Rattle.dav_wire.specs.Frames.{frame, request, read, explain, add};
+ghost use Rattle.dav_wire.specs.Frames.{frame, request, read, explain, unlock, modified, add};
 ghost use Rattle.dav_wire.specs.Levels.{IsBodyTooDeep, IsFrameTooDeep};
-ghost use Rattle.dav_wire.specs.Views.{request_frame_of, read_frame_of, explain_frame_of, frame_of};
+ghost use Rattle.dav_wire.specs.Views.{request_frame_of, read_frame_of, explain_frame_of, unlock_frame_of, modified_frame_of, frame_of};
 ghost use Rattle.dav_wire.specs.Writes.{Writes, WritesUnless};
 
-use crate::{ExplainFrame, Frame, REQUEST_LEVELS, ReadFrame, RequestFrame, WireError, Writer};
+use crate::{
+    ExplainFrame, Frame, ModifiedFrame, REQUEST_LEVELS, ReadFrame, RequestFrame, UnlockFrame,
+    WireError, Writer,
+};
 use dav_resource::ReqBody;
 use std::alloc::AllocError;
 
@@ -46,6 +49,15 @@ impl Writer {
             Frame::Explain(question) => {
                 self.write_u8(10)?;
                 self.write_question(question)?;
+            }
+            Frame::ListLocks => self.write_u8(11)?,
+            Frame::RemoveLock(asked) => {
+                self.write_u8(12)?;
+                self.write_unlock(asked)?;
+            }
+            Frame::SetModified(asked) => {
+                self.write_u8(13)?;
+                self.write_modified(asked)?;
             }
         }
         Ok(())
@@ -100,6 +112,22 @@ impl Writer {
     {
         self.write_optional_str(question.principal)?;
         self.write_str(question.path)
+    }
+
+    /// Writes the path and the token of a lock.
+    fn write_unlock(&mut self, asked: &UnlockFrame) -> Result<(), AllocError>
+        ensures { Writes unlock (unlock_frame_of asked.now) self.old result self.new }
+    {
+        self.write_str(asked.path)?;
+        self.write_str(asked.token)
+    }
+
+    /// Writes the path of a resource and when it was last modified.
+    fn write_modified(&mut self, asked: &ModifiedFrame) -> Result<(), AllocError>
+        ensures { Writes modified (modified_frame_of asked.now) self.old result self.new }
+    {
+        self.write_str(asked.path)?;
+        self.write_number(asked.time)
     }
 
     /// Writes the content of a read of a part of a file.

@@ -1,12 +1,14 @@
 //! Writes of replies.
-ghost use Rattle.dav_wire.specs.Replies.{reply, response, part, held, quota, explained};
+ghost use Rattle.std.specs.Prelude.{map};
+ghost use Rattle.dav_wire.specs.Replies.{reply, response, part, held, quota, explained, lock, locks};
 ghost use Rattle.dav_wire.specs.Levels.{IsTreeTooDeep, IsReplyTooDeep};
 ghost use Rattle.dav_wire.specs.Values.{optional};
-ghost use Rattle.dav_wire.specs.Views.{behind, reply_of, response_frame_of, file_part_of, held_frame_of, explained_frame_of};
+ghost use Rattle.dav_wire.specs.Views.{behind, reply_of, response_frame_of, file_part_of, held_frame_of, explained_frame_of, lock_frame_of};
 ghost use Rattle.dav_wire.specs.Writes.{Writes, WritesUnless};
 
 use crate::{
-    ExplainedFrame, FilePart, HeldFrame, REPLY_LEVELS, Reply, ResponseFrame, WireError, Writer,
+    ExplainedFrame, FilePart, HeldFrame, LockFrame, REPLY_LEVELS, Reply, ResponseFrame, WireError,
+    Writer,
 };
 use std::alloc::AllocError;
 
@@ -53,6 +55,10 @@ impl Writer {
                 self.write_u8(9)?;
                 self.write_explained(allowed)?;
             }
+            Reply::Locks(locks) => {
+                self.write_u8(10)?;
+                self.write_locks(locks)?;
+            }
         }
         Ok(())
     }
@@ -86,6 +92,29 @@ impl Writer {
         self.write_flag(allowed.list)?;
         self.write_flag(allowed.read)?;
         self.write_flag(allowed.write)
+    }
+
+    /// Writes the locks.
+    fn write_locks(&mut self, held: &[LockFrame]) -> Result<(), AllocError>
+        ensures { Writes locks (map lock_frame_of held.now) self.old result self.new }
+    {
+        self.write_number(held.len() as u64)?;
+        for lock in held {
+            self.write_lock(lock)?;
+        }
+        Ok(())
+    }
+
+    /// Writes a lock.
+    fn write_lock(&mut self, held: &LockFrame) -> Result<(), AllocError>
+        ensures { Writes lock (lock_frame_of held.now) self.old result self.new }
+    {
+        self.write_str(held.token)?;
+        self.write_str(&held.path)?;
+        self.write_optional_str(held.principal)?;
+        self.write_flag(held.deep)?;
+        self.write_flag(held.shared)?;
+        self.write_optional_number(held.expires)
     }
 
     /// Writes how much is held.

@@ -2,7 +2,7 @@ use Rattle.std.proofs.Common.{◌≡◌, ◌∙◌, ap, sym, subst, None, Some}
 use Rattle.std.specs.BTreeMap.{IsOrdered}
 use Rattle.std.specs.FinMap as map
 use Rattle.dav_key.specs.Below.{put_at}
-use Rattle.dav_tree.specs.EachLaws.{put_at-same}
+use Rattle.dav_key.specs.EachLaws.{put_at-same}
 use Rattle.dav_tree.specs.PropertyNames.{key_of, name_cmp, properties_of}
 use Rattle.dav_tree.specs.Patching.{replaced_by}
 use Rattle.dav_tree.specs.declared.properties.Properties.TheInside.{Inside}

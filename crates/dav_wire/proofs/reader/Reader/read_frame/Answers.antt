@@ -1,7 +1,7 @@
 use Rattle.std.proofs.Common.{refl, arith, ◌≤◌}
 use Rattle.dav_wire.specs.Numbers.{byte, number}
 use Rattle.dav_wire.specs.Values.{utf8_text}
-use Rattle.dav_wire.specs.Frames.{request, add, read, explain, frame, frame_position, frame_variants}
+use Rattle.dav_wire.specs.Frames.{request, add, read, explain, unlock, modified, frame, frame_position, frame_variants}
 use Rattle.dav_wire.specs.Views.{frame_of}
 use Rattle.dav_wire.proofs.ListLemmas.{unknown_variant}
 use Rattle.dav_wire.proofs.NodeLemmas.{is_read}
@@ -100,8 +100,34 @@ unfolding frame
 returns-in_ok-read_question-in-10 c =
     rw (is_read c.args.self.now _ 10 _ c.in-10.is c.in_ok-read_u8.ensures, c.in_ok-read_question-in-10.ensures) refl
 
+pub returns-in-11 : goal.returns-in-11
+unfolding frame
+returns-in-11 c = rw (is_read c.args.self.now _ 11 _ c.in-11.is c.in_ok-read_u8.ensures) refl
+
+pub returns-in_err-read_unlock-in-12 : goal.returns-in_err-read_unlock-in-12
+unfolding frame
+returns-in_err-read_unlock-in-12 c =
+    stops_allocating unlock frame frame_of c.args.self.now c.read_u8.new.self _ c.from_residual-in_err-read_unlock-in-12.result c.in_err-read_unlock-in-12.field-0.0 c.from_residual-in_err-read_unlock-in-12.ensures.1
+    (λ none. rw (is_read c.args.self.now _ 12 _ c.in-12.is c.in_ok-read_u8.ensures, none) refl) (may_allocate unlock c.read_u8.new.self _ c.in_err-read_unlock-in-12.ensures)
+
+pub returns-in_ok-read_unlock-in-12 : goal.returns-in_ok-read_unlock-in-12
+unfolding frame
+returns-in_ok-read_unlock-in-12 c =
+    rw (is_read c.args.self.now _ 12 _ c.in-12.is c.in_ok-read_u8.ensures, c.in_ok-read_unlock-in-12.ensures) refl
+
+pub returns-in_err-read_modified-in-13 : goal.returns-in_err-read_modified-in-13
+unfolding frame
+returns-in_err-read_modified-in-13 c =
+    stops_allocating modified frame frame_of c.args.self.now c.read_u8.new.self _ c.from_residual-in_err-read_modified-in-13.result c.in_err-read_modified-in-13.field-0.0 c.from_residual-in_err-read_modified-in-13.ensures.1
+    (λ none. rw (is_read c.args.self.now _ 13 _ c.in-13.is c.in_ok-read_u8.ensures, none) refl) (may_allocate modified c.read_u8.new.self _ c.in_err-read_modified-in-13.ensures)
+
+pub returns-in_ok-read_modified-in-13 : goal.returns-in_ok-read_modified-in-13
+unfolding frame
+returns-in_ok-read_modified-in-13 c =
+    rw (is_read c.args.self.now _ 13 _ c.in-13.is c.in_ok-read_u8.ensures, c.in_ok-read_modified-in-13.ensures) refl
+
 pub returns-in_default : goal.returns-in_default
 unfolding frame
 returns-in_default c =
-    let other : 11 ≤ c.in_ok-read_u8.field-0 = omega arith in
+    let other : 14 ≤ c.in_ok-read_u8.field-0 = omega arith in
     unknown_variant frame_position frame_variants c.args.self.now c.in_ok-read_u8.field-0 c.read_u8.new.self c.in_ok-read_u8.ensures other

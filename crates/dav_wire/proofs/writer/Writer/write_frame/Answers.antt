@@ -2,10 +2,10 @@ use Rattle.std.proofs.Common.{refl, true, [], ◌∷◌}
 use Rattle.std.proofs.lemmas.Bool.{and_from}
 use Rattle.dav_wire.specs.Numbers.{byte, number}
 use Rattle.dav_wire.specs.Values.{utf8_text}
-use Rattle.dav_wire.specs.Frames.{frame, request, read, explain, add}
+use Rattle.dav_wire.specs.Frames.{frame, request, read, explain, unlock, modified, add}
 use Rattle.dav_wire.specs.Frames as frames
 use Rattle.dav_wire.specs.Levels.{IsBodyTooDeep}
-use Rattle.dav_wire.specs.Views.{request_frame_of, read_frame_of, explain_frame_of}
+use Rattle.dav_wire.specs.Views.{request_frame_of, read_frame_of, explain_frame_of, unlock_frame_of, modified_frame_of}
 use Rattle.dav_wire.proofs.WriteLemmas.{appends_as, appends_after, writes_unless_after}
 use Rattle.dav_wire.proofs.writer.Writer.write_frame.Goals as goal
 
@@ -81,3 +81,23 @@ returns-in_ok-write_question-in-Explain c =
     rw c.in-Explain.is
     (appends_after explain frame (explain_frame_of c.in-Explain.question) (frames.Explain (explain_frame_of c.in-Explain.question)) c.args.self.now c.write_u8-in-Explain.new.self c.write_question.new.self (10 ∷ [])
     c.in_ok-write_u8-in-Explain.ensures.is (λ ok. and_from (explain.is_valid (explain_frame_of c.in-Explain.question)) true ok refl) refl c.in_ok-write_question-in-Explain.ensures)
+
+pub returns-in_ok-write_u8-in-ListLocks : goal.returns-in_ok-write_u8-in-ListLocks
+unfolding frame
+returns-in_ok-write_u8-in-ListLocks c =
+    rw c.in-ListLocks.is
+    (appends_as byte frame 11 frames.ListLocks c.args.self.now c.write_u8-in-ListLocks.new.self (λ ok. refl) refl c.in_ok-write_u8-in-ListLocks.ensures)
+
+pub returns-in_ok-write_unlock-in-RemoveLock : goal.returns-in_ok-write_unlock-in-RemoveLock
+unfolding frame
+returns-in_ok-write_unlock-in-RemoveLock c =
+    rw c.in-RemoveLock.is
+    (appends_after unlock frame (unlock_frame_of c.in-RemoveLock.asked) (frames.RemoveLock (unlock_frame_of c.in-RemoveLock.asked)) c.args.self.now c.write_u8-in-RemoveLock.new.self c.write_unlock.new.self (12 ∷ [])
+    c.in_ok-write_u8-in-RemoveLock.ensures.is (λ ok. and_from (unlock.is_valid (unlock_frame_of c.in-RemoveLock.asked)) true ok refl) refl c.in_ok-write_unlock-in-RemoveLock.ensures)
+
+pub returns-in_ok-write_modified-in-SetModified : goal.returns-in_ok-write_modified-in-SetModified
+unfolding frame
+returns-in_ok-write_modified-in-SetModified c =
+    rw c.in-SetModified.is
+    (appends_after modified frame (modified_frame_of c.in-SetModified.asked) (frames.SetModified (modified_frame_of c.in-SetModified.asked)) c.args.self.now c.write_u8-in-SetModified.new.self c.write_modified.new.self (13 ∷ [])
+    c.in_ok-write_u8-in-SetModified.ensures.is (λ ok. and_from (modified.is_valid (modified_frame_of c.in-SetModified.asked)) true ok refl) refl c.in_ok-write_modified-in-SetModified.ensures)

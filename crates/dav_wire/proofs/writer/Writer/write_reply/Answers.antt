@@ -1,11 +1,11 @@
-use Rattle.std.proofs.Common.{refl, true, [], ◌∷◌}
+use Rattle.std.proofs.Common.{refl, true, [], ◌∷◌, map}
 use Rattle.std.proofs.lemmas.Bool.{and_from}
 use Rattle.dav_wire.specs.Numbers.{byte, number}
 use Rattle.dav_wire.specs.Values.{optional, utf8_text}
 use Rattle.dav_wire.specs.Levels.{IsTreeTooDeep}
-use Rattle.dav_wire.specs.Replies.{reply, response, part, held, explained}
+use Rattle.dav_wire.specs.Replies.{reply, response, part, held, explained, locks}
 use Rattle.dav_wire.specs.Replies as replies
-use Rattle.dav_wire.specs.Views.{response_frame_of, file_part_of, held_frame_of, explained_frame_of}
+use Rattle.dav_wire.specs.Views.{response_frame_of, file_part_of, held_frame_of, explained_frame_of, lock_frame_of}
 use Rattle.dav_wire.proofs.WriteLemmas.{appends_as, appends_after, writes_unless_after}
 use Rattle.dav_wire.proofs.writer.Writer.write_reply.Goals as goal
 
@@ -77,3 +77,11 @@ returns-in_ok-write_explained-in-Explained c =
     rw c.in-Explained.is
     (appends_after explained reply (explained_frame_of c.in-Explained.allowed) (replies.Explained (explained_frame_of c.in-Explained.allowed)) c.args.self.now c.write_u8-in-Explained.new.self c.write_explained.new.self (9 ∷ [])
     c.in_ok-write_u8-in-Explained.ensures.is (λ ok. and_from (explained.is_valid (explained_frame_of c.in-Explained.allowed)) true ok refl) refl c.in_ok-write_explained-in-Explained.ensures)
+
+pub returns-in_ok-write_locks-in-Locks : goal.returns-in_ok-write_locks-in-Locks
+unfolding reply
+returns-in_ok-write_locks-in-Locks c =
+    let held = map lock_frame_of c.in-Locks.locks.items in
+    rw c.in-Locks.is
+    (appends_after locks reply held (replies.Locks held) c.args.self.now c.write_u8-in-Locks.new.self c.write_locks.new.self (10 ∷ [])
+    c.in_ok-write_u8-in-Locks.ensures.is (λ ok. and_from (locks.is_valid held) true ok refl) refl (rw c.deref.ensures.value at c.in_ok-write_locks-in-Locks.ensures))

@@ -5,7 +5,7 @@ use Rattle.dav_key.specs.Key.{Key}
 use Rattle.dav_tree.specs.Memory.{IsSound, Stored}
 use Rattle.dav_tree.specs.Kept.{Kept}
 use Rattle.dav_tree.specs.Entry.{stored_by}
-use Rattle.dav_tree.specs.EachLaws.{with_values, entries-each-some}
+use Rattle.dav_key.specs.EachLaws.{with_values, entries-each-some}
 use Rattle.dav_tree.specs.declared.entry.Entry.{Entry}
 use Rattle.dav_tree.proofs.Dumps.{flat-keys, seen-entries, kept_key, copied_next, copied_more, copied_all, no_items}
 use Rattle.dav_tree.proofs.entries.listing.Entries+InMemory.dump.Goals as goal

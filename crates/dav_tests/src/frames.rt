@@ -1,7 +1,7 @@
-//! What a host calls, with the bytes that the grammar gives. What `davd` calls is tried with its bytes by
-//! `tools/replay`.
-use crate::{BatchHeader, Frame, ReadFrame, ReplyHeader, RequestFrame, WireError};
+//! Tests what a host calls of the frames, with the bytes that the grammar gives. What `davd` calls is tried with
+//! its bytes by `tools/replay`.
 use dav_resource::{Element, Items, ReqBody};
+use dav_wire::{BatchHeader, Frame, ReadFrame, ReplyHeader, RequestFrame, WireError};
 use std::alloc::{AllocError, Global};
 use std::test::Fail;
 

@@ -1,5 +1,5 @@
-//! Each public call once.
-use crate::{FlatKey, KeyBuilder};
+//! Tests each public call of the keys of resources once.
+use dav_key::{FlatKey, KeyBuilder, is_flat_segment};
 use std::alloc::{AllocError, Global};
 use std::process::Abort;
 use std::test::Fail;
@@ -8,7 +8,7 @@ use std::test::Fail;
 fn key_of(rt: &impl Abort, alloc: Global, segments: &[&str]) -> Result<FlatKey, AllocError> {
     let mut key = FlatKey::root(alloc)?;
     for segment in segments {
-        assert!(rt; crate::is_flat_segment(segment));
+        assert!(rt; is_flat_segment(segment));
         key = key.child(segment)?;
     }
     Ok(key)
@@ -102,7 +102,7 @@ fn keys_are_cut_and_joined(rt: HostRuntime) -> Result<(), Fail> {
 fn show_built(rt: &impl Abort, alloc: Global, segments: &[&str]) -> Result<String, AllocError> {
     let mut builder = KeyBuilder::with_capacity(alloc, 4)?;
     for segment in segments {
-        assert!(rt; crate::is_flat_segment(segment));
+        assert!(rt; is_flat_segment(segment));
         builder.push(segment)?;
     }
     let (popped, len, count) = (builder.pop(), builder.len(), builder.segments().count());

@@ -8,9 +8,7 @@ use Rattle.std.specs.List.{cons_option}
 use Rattle.std.specs.FinMap.{FinMap, from_entries, from_sorted, get, entries, keys, entries_sorted, get-entries, get-insert, get-remove, get-from_entries, get-from_sorted, entries-from_sorted, same_map}
 use Rattle.std.specs.FinMap.Entries.{find, is_sorted, below_all}
 use Rattle.dav_key.specs.Key.{Key, key_cmp, key_cmp_total, key_cmp_exact, tied_decides}
-use Rattle.dav_key.specs.Below.{put_at}
-use Rattle.dav_tree.specs.Memory.{each}
-use Rattle.dav_store.specs.Transfers.{IsMoved}
+use Rattle.dav_key.specs.Below.{put_at, each, IsMoved}
 use lib.Dec.{T}
 
 -- ---- lists of entries

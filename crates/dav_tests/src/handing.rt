@@ -4,8 +4,8 @@ ghost use Rattle.std.specs.Prelude.{◌≡◌, true, IfOk, Some, codes};
 ghost use Rattle.dav_store.specs.Store.{property_key};
 ghost use Rattle.dav_store.specs.PropertyCalls.{IsWhole, name_of};
 
+use crate::fixture::text_of;
 use crate::noting::{Form, Handed, Noting};
-use crate::texts::text_of;
 use dav_refusing::Refusing;
 use dav_resource::{
     BodyNumber, DavFile, DavPath, DavProp, DavResult, Element, FsError, FsResult, Op, OpenOptions,
