@@ -2,7 +2,10 @@ module davserve
 
 go 1.19
 
-require golang.org/x/crypto v0.4.0
+require (
+	golang.org/x/crypto v0.4.0
+	golang.org/x/sys v0.3.0
+)
 
 // Debian's package golang-golang-x-crypto-dev and what it uses, so that a build needs no network.
 replace (

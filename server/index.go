@@ -14,6 +14,9 @@ import (
 	"strconv"
 	"strings"
 	"time"
+
+	"davserve/internal/members"
+	"davserve/internal/size"
 )
 
 var (
@@ -78,7 +81,7 @@ func (h *Handler) index(w http.ResponseWriter, r *http.Request) error {
 	if err != nil {
 		return err
 	}
-	uploads, err := h.mayAdd(r.Context(), self.href, h.principal(r))
+	uploads, err := h.mayAdd(r.Context(), self.Href, h.principal(r))
 	if err != nil {
 		return err
 	}
@@ -108,13 +111,13 @@ func (h *Handler) mayAdd(ctx context.Context, collection string, principal *stri
 // viewOf returns what the page of a collection shows.
 func (h *Handler) viewOf(self member, members []member, uploads bool) view {
 	sort.Slice(members, func(i, j int) bool {
-		if members[i].isCollection != members[j].isCollection {
-			return members[i].isCollection
+		if members[i].IsCollection != members[j].IsCollection {
+			return members[i].IsCollection
 		}
-		return members[i].name() < members[j].name()
+		return members[i].Name() < members[j].Name()
 	})
 	v := view{Style: template.CSS(pageStyle), Count: countOf(members), Longest: h.options.MaxBody}
-	v.Above, v.Name = crumbsOf(strings.TrimPrefix(self.href, h.options.Prefix))
+	v.Above, v.Name = crumbsOf(strings.TrimPrefix(self.Href, h.options.Prefix))
 	for _, m := range members {
 		v.Rows = append(v.Rows, rowOf(m))
 	}
@@ -148,7 +151,7 @@ func crumbsOf(path string) (above []crumb, name string) {
 	}
 	for i, segment := range segments {
 		above = append(above, crumb{Name: name, Link: strings.Repeat("../", len(segments)-i)})
-		name = unescaped(segment)
+		name = members.Unescaped(segment)
 	}
 	return above, name
 }
@@ -156,16 +159,16 @@ func crumbsOf(path string) (above []crumb, name string) {
 // rowOf returns what the page shows of a member. The link is relative, and begins with ./ because a name may have a
 // colon.
 func rowOf(m member) row {
-	r := row{Kind: "file", Name: m.name(), Link: "./" + url.PathEscape(m.name())}
-	if m.isCollection {
+	r := row{Kind: "file", Name: m.Name(), Link: "./" + url.PathEscape(m.Name())}
+	if m.IsCollection {
 		r.Kind = "folder"
 		r.Name += "/"
 		r.Link += "/"
 	} else {
-		r.Bytes, r.Size, r.Exact = m.length, sizeOf(m.length), exactSizeOf(m.length)
+		r.Bytes, r.Size, r.Exact = m.Length, size.Readable(m.Length), size.Exact(m.Length)
 	}
-	if !m.modified.IsZero() {
-		modified := m.modified.UTC()
+	if !m.Modified.IsZero() {
+		modified := m.Modified.UTC()
 		r.Modified, r.Date, r.Clock = modified.Format(time.RFC3339), modified.Format("2006-01-02"), modified.Format("15:04")
 	}
 	return r
@@ -175,7 +178,7 @@ func rowOf(m member) row {
 func countOf(members []member) string {
 	folders := 0
 	for _, m := range members {
-		if m.isCollection {
+		if m.IsCollection {
 			folders++
 		}
 	}
@@ -194,34 +197,4 @@ func counted(n int, noun string) string {
 		return "1 " + noun
 	}
 	return strconv.Itoa(n) + " " + noun + "s"
-}
-
-// sizeOf returns a number of bytes as people read it: by powers of 1000, with two digits at least.
-func sizeOf(n int64) string {
-	if n < 1000 {
-		return exactSizeOf(n)
-	}
-	size := float64(n)
-	for _, unit := range []string{"kB", "MB", "GB", "TB", "PB"} {
-		size /= 1000
-		if size < 9.95 {
-			return fmt.Sprintf("%.1f %s", size, unit)
-		}
-		if size < 999.5 {
-			return fmt.Sprintf("%.0f %s", size, unit)
-		}
-	}
-	return fmt.Sprintf("%.1f EB", size/1000)
-}
-
-// exactSizeOf returns a number of bytes with a comma between thousands.
-func exactSizeOf(n int64) string {
-	digits := strconv.FormatInt(n, 10)
-	for i := len(digits) - 3; i > 0; i -= 3 {
-		digits = digits[:i] + "," + digits[i:]
-	}
-	if n == 1 {
-		return "1 byte"
-	}
-	return digits + " bytes"
 }

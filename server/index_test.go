@@ -12,29 +12,6 @@ import (
 	"time"
 )
 
-func TestSizesAreReadByPeople(t *testing.T) {
-	for n, want := range map[int64][2]string{
-		0:                   {"0 bytes", "0 bytes"},
-		1:                   {"1 byte", "1 byte"},
-		999:                 {"999 bytes", "999 bytes"},
-		1000:                {"1.0 kB", "1,000 bytes"},
-		1049:                {"1.0 kB", "1,049 bytes"},
-		9949:                {"9.9 kB", "9,949 bytes"},
-		9950:                {"10 kB", "9,950 bytes"},
-		999_499:             {"999 kB", "999,499 bytes"},
-		999_500:             {"1.0 MB", "999,500 bytes"},
-		1_234_567:           {"1.2 MB", "1,234,567 bytes"},
-		12_345_678_901:      {"12 GB", "12,345,678,901 bytes"},
-		4_000_000_000_000:   {"4.0 TB", "4,000,000,000,000 bytes"},
-		1<<63 - 1:           {"9.2 EB", "9,223,372,036,854,775,807 bytes"},
-		999_500_000_000_000: {"1.0 PB", "999,500,000,000,000 bytes"},
-	} {
-		if got := [2]string{sizeOf(n), exactSizeOf(n)}; got != want {
-			t.Errorf("%d is %q, want %q", n, got, want)
-		}
-	}
-}
-
 func TestCrumbsLeadToTheCollectionsAbove(t *testing.T) {
 	for path, want := range map[string][]string{
 		"/":                    {"Files"},
@@ -58,7 +35,7 @@ func TestCrumbsLeadToTheCollectionsAbove(t *testing.T) {
 }
 
 func TestTheCountNamesFoldersAndFiles(t *testing.T) {
-	folder, file := member{isCollection: true}, member{}
+	folder, file := member{IsCollection: true}, member{}
 	for want, members := range map[string][]member{
 		"1 file":             {file},
 		"2 files":            {file, file},
@@ -78,11 +55,11 @@ func TestARowHasWhatIsKnown(t *testing.T) {
 		member member
 		want   row
 	}{
-		{member{href: "/d/a%20b", length: 1500, modified: modified},
+		{member{Href: "/d/a%20b", Length: 1500, Modified: modified},
 			row{"file", "./a%20b", "a b", 1500, "1.5 kB", "1,500 bytes", "2026-11-28T22:05:59Z", "2026-11-28", "22:05"}},
-		{member{href: "/d/sub/", isCollection: true}, row{Kind: "folder", Link: "./sub/", Name: "sub/"}},
-		{member{href: "/d/x:y%2Fz"}, row{Kind: "file", Link: "./x:y%2Fz", Name: "x:y/z", Size: "0 bytes", Exact: "0 bytes"}},
-		{member{href: "/d/%22%3C%23%3F"}, row{Kind: "file", Link: "./%22%3C%23%3F", Name: `"<#?`, Size: "0 bytes", Exact: "0 bytes"}},
+		{member{Href: "/d/sub/", IsCollection: true}, row{Kind: "folder", Link: "./sub/", Name: "sub/"}},
+		{member{Href: "/d/x:y%2Fz"}, row{Kind: "file", Link: "./x:y%2Fz", Name: "x:y/z", Size: "0 bytes", Exact: "0 bytes"}},
+		{member{Href: "/d/%22%3C%23%3F"}, row{Kind: "file", Link: "./%22%3C%23%3F", Name: `"<#?`, Size: "0 bytes", Exact: "0 bytes"}},
 	} {
 		if got := rowOf(test.member); got != test.want {
 			t.Errorf("%+v, want %+v", got, test.want)

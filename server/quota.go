@@ -185,7 +185,7 @@ func (h *Handler) copied(r *http.Request) (size int64, err error) {
 		return int64(file.Length), nil
 	}
 	err = h.walk(r.Context(), pathOf(r), h.principal(r), func(m member) error {
-		if size += m.length; size > h.quota.total {
+		if size += m.Length; size > h.quota.total {
 			return statusError(http.StatusInsufficientStorage)
 		}
 		return nil

@@ -155,8 +155,8 @@ func TestEachXMLBodyHasItsOwnTree(t *testing.T) {
 		body := []byte(fmt.Sprintf("<a>%06d</a>", i))
 		for k := 0; k < 2; k++ {
 			root, err := kept.parse(body, davxml.LimitsFor(1000))
-			if err != nil || textOf(root) != string(body[3:9]) {
-				t.Fatalf("%s is parsed to %q, %v", body, textOf(root), err)
+			if err != nil || len(root.Nodes) != 1 || root.Nodes[0].Text != string(body[3:9]) {
+				t.Fatalf("%s is parsed to %+v, %v", body, root, err)
 			}
 		}
 		if len(kept.roots) > keptTrees {

@@ -36,7 +36,7 @@ class Processes:
 
     def start(self, command: list, **options) -> subprocess.Popen:
         words = [str(it) for it in command]
-        process = subprocess.Popen(words, stdin=subprocess.DEVNULL, start_new_session=True, **options)
+        process = subprocess.Popen(words, start_new_session=True, **{"stdin": subprocess.DEVNULL, **options})
         self.running.append(process)
         return process
 

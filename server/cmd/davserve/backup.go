@@ -56,7 +56,7 @@ func runBackup(ctx context.Context, arguments []string, output, errorOutput io.W
 // to the output.
 func parseBackup(arguments []string, output io.Writer) (backupConfig, error) {
 	var c backupConfig
-	var folder string
+	var server address
 	flags := flag.NewFlagSet("davserve backup", flag.ContinueOnError)
 	flags.SetOutput(output)
 	flags.Usage = func() {
@@ -64,28 +64,24 @@ func parseBackup(arguments []string, output io.Writer) (backupConfig, error) {
 		flags.PrintDefaults()
 		fmt.Fprint(output, backupStatuses)
 	}
-	flags.Func("folder", "the `folder` of the server, as its option -folder", notEmpty(&folder))
-	flags.Func("socket", "`path` of the socket of the server, as its option -socket", notEmpty(&c.socket))
+	server.add(flags)
 	if err := flags.Parse(arguments); err != nil {
 		return c, err
 	}
-	err := c.set(folder, flags.Args())
+	err := c.set(server, flags.Args())
 	if err != nil {
 		fmt.Fprintf(output, "davserve backup: %v\n", err)
 	}
 	return c, err
 }
 
-// set sets the socket by the folder, and the target by the other arguments.
-func (c *backupConfig) set(folder string, rest []string) error {
-	switch {
-	case (folder == "") == (c.socket == ""):
-		return errors.New("it needs one of -folder and -socket")
-	case len(rest) != 1 || rest[0] == "":
-		return errors.New("it needs one TARGET, after the options")
+// set sets the socket of the server, and the target by the other arguments.
+func (c *backupConfig) set(server address, rest []string) (err error) {
+	if c.socket, err = server.path(); err != nil {
+		return err
 	}
-	if folder != "" {
-		c.socket = socketIn(folder)
+	if len(rest) != 1 || rest[0] == "" {
+		return errors.New("it needs one TARGET, after the options")
 	}
 	c.target = rest[0]
 	return nil

@@ -51,8 +51,18 @@ func TestParseBackupAccepts(t *testing.T) {
 
 func TestTheHelpNamesEachCommand(t *testing.T) {
 	for arguments, wants := range map[string][]string{
-		"-h":        {"davserve backup [-folder FOLDER | -socket PATH] TARGET", "davserve rights check", "-listen"},
+		"-h": {
+			"davserve backup [-folder FOLDER | -socket PATH] TARGET", "davserve locks list", "davserve locks remove",
+			"davserve import", "davserve export", "davserve rights check", "davserve setup -user NAME", "-listen",
+		},
 		"backup -h": {"davserve backup [-folder FOLDER | -socket PATH] TARGET", "-socket path", "exit status"},
+		"locks -h": {
+			"davserve locks list [-folder FOLDER | -socket PATH] [-json]",
+			"davserve locks remove [-folder FOLDER | -socket PATH] TOKEN...", "-socket path", "-json", "exit status",
+		},
+		"import -h": {"davserve import -folder FOLDER [-davd PROGRAM] [-quiet] DIR [PATH]", "-davd program", "exit status"},
+		"export -h": {"davserve export -folder FOLDER [-davd PROGRAM] [-quiet] DIR [PATH]", "-davd program", "exit status"},
+		"setup -h":  {"davserve setup -user NAME", "-host name", "-no-start", "-options file", "exit status"},
 		"rights -h": {"davserve rights check [-davd PROGRAM] FILE USER PATH", "-davd program", "exit status"},
 	} {
 		var said bytes.Buffer

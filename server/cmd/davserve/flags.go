@@ -72,11 +72,23 @@ func (p *prefixes) Set(text string) error {
 
 const usage = `usage: davserve [OPTIONS]
        davserve backup [-folder FOLDER | -socket PATH] TARGET
+       davserve locks list [-folder FOLDER | -socket PATH] [-json]
+       davserve locks remove [-folder FOLDER | -socket PATH] TOKEN...
+       davserve import -folder FOLDER [-davd PROGRAM] [-quiet] DIR [PATH]
+       davserve export -folder FOLDER [-davd PROGRAM] [-quiet] DIR [PATH]
        davserve rights check [-davd PROGRAM] FILE USER PATH
+       davserve setup -user NAME [OPTIONS]
 
-The first serves WebDAV, with these options. The second makes a backup of what a
-server keeps in its folder, while it serves: davserve backup -h. The third says what
-access rules allow: davserve rights -h.
+The first serves WebDAV, with these options. The others are for who runs a server:
+
+  backup  makes a backup of what a server keeps in its folder, while it serves
+  locks   lists the locks of a server that runs, and removes some
+  import  copies files into the folder of a server that is stopped
+  export  copies files out of the folder of a server that is stopped
+  rights  says what access rules allow
+  setup   sets up the service: a user, access rules, a certificate and options
+
+Each has a help of its own, such as davserve backup -h.
 
 `
 
@@ -113,7 +125,8 @@ func (c *config) addServing(flags *flag.FlagSet) {
 	flags.StringVar(&c.options.Davd, "davd", "", "the `program` davd (default: beside this program, or in PATH)")
 	flags.Func("folder", "`folder` in which everything is kept (default: none, and everything is in memory)",
 		notEmpty(&c.options.Folder))
-	flags.Func("socket", "`path` of the socket for davserve backup (default: control in the folder)", notEmpty(&c.socket))
+	flags.Func("socket", "`path` of the socket for davserve backup and locks (default: control in the folder)",
+		notEmpty(&c.socket))
 	flags.StringVar(&c.options.Prefix, "prefix", "", "what the path of each URL begins with, such as /dav")
 	flags.StringVar(&c.options.PublicURL, "public-url", "", "the `URL` by which clients reach a server behind a proxy")
 	flags.StringVar(&c.cert, "cert", "", "`file` with the certificates for TLS, in PEM")
@@ -173,8 +186,6 @@ func (c *config) check(rest []string) error {
 	switch {
 	case len(rest) > 0:
 		return fmt.Errorf("unknown argument %q", rest[0])
-	case c.socket != "" && c.options.Folder == "":
-		return errors.New("-socket needs -folder")
 	case (c.cert == "") != (c.key == ""):
 		return errors.New("-cert and -key need each other")
 	case c.cert != "" && c.selfSigned:

@@ -1,7 +1,9 @@
 // Davserve serves WebDAV over HTTP. Without -folder it keeps files and locks in memory: they are lost when it ends.
 //
-// Davserve backup makes a backup of the folder of a server that goes on serving. Davserve rights check says what access
-// rules allow.
+// Davserve backup makes a backup of the folder of a server that goes on serving. Davserve locks lists the locks of a server
+// that runs, and removes some. Davserve import and davserve export copy files into the folder of a server that is stopped,
+// and out of it. Davserve rights check says what access rules allow. Davserve setup sets up the service, with a user, access
+// rules and a certificate.
 //
 // Exit statuses: 0 after SIGTERM, SIGINT, -help and -version, 1 if the server cannot start or fails, 2 for a wrong
 // command line.
@@ -36,13 +38,22 @@ func main() {
 	os.Exit(run(ctx, os.Args[1:], os.Stdout, os.Stderr))
 }
 
+// commands are what the program does beside serving, by its first argument. Each returns the exit status.
+var commands = map[string]func(ctx context.Context, arguments []string, output, errorOutput io.Writer) int{
+	"backup": runBackup,
+	"export": runExport,
+	"import": runImport,
+	"locks":  runLocks,
+	"rights": runRights,
+	"setup":  runSetup,
+}
+
 // run is the program, which ends when ctx is done. It returns the exit status.
 func run(ctx context.Context, arguments []string, output, errorOutput io.Writer) int {
-	if len(arguments) > 0 && arguments[0] == "backup" {
-		return runBackup(ctx, arguments[1:], output, errorOutput)
-	}
-	if len(arguments) > 0 && arguments[0] == "rights" {
-		return runRights(ctx, arguments[1:], output, errorOutput)
+	if len(arguments) > 0 {
+		if command, ok := commands[arguments[0]]; ok {
+			return command(ctx, arguments[1:], output, errorOutput)
+		}
 	}
 	c, err := parse(arguments, errorOutput)
 	switch {

@@ -129,6 +129,11 @@ func (c *checkConfig) explain(ctx context.Context, logger *log.Logger) (explaine
 	if err != nil {
 		return explained, err
 	}
+	return c.explainText(ctx, text, logger)
+}
+
+// explainText asks a davd of its own what rules with this text allow.
+func (c *checkConfig) explainText(ctx context.Context, text string, logger *log.Logger) (explained frame.Explained, err error) {
 	engine, err := davd.Start(ctx, davd.Config{Program: c.davd, Rights: text, Log: logger})
 	if err != nil {
 		return explained, inFile(c.file, err)

@@ -94,22 +94,22 @@ func (c *config) serveHTTP(ctx context.Context, dav *davserve.Handler, meter *me
 	return c.serveUntil(ctx, server, limit.Listener(meter.listener(listener), c.maxConnections, c.options.StallTimeout))
 }
 
-// control answers the commands of an operator, if there is a folder, until the function that it returns is called. Since
-// davd has the folder open, no other server listens at a socket there. A server that cannot have one there serves without
-// it: its path may be too long, or the disk full.
+// control answers the commands of an operator until the function that it returns is called. Without a folder it does so
+// only with -socket. Since davd has the folder open, no other server listens at a socket there. A server that cannot have
+// one there serves without it: its path may be too long, or the disk full.
 func (c *config) control(ctx context.Context, dav *davserve.Handler, logger *log.Logger) (closeControl func(), err error) {
 	none := func() {}
-	if c.options.Folder == "" {
-		return none, nil
-	}
 	socket := c.socket
-	if socket == "" {
+	switch {
+	case socket == "" && c.options.Folder == "":
+		return none, nil
+	case socket == "":
 		socket = socketIn(c.options.Folder)
 	}
 	listener, err := control.Listen(socket)
 	switch {
 	case err != nil && c.socket == "":
-		logger.Printf("no backup can be made: %v (-socket names another place)", err)
+		logger.Printf("no backup can be made, and no lock removed: %v (-socket names another place)", err)
 		return none, nil
 	case err != nil:
 		return nil, err

@@ -1,27 +1,16 @@
 package main
 
 import (
-	"crypto/ecdsa"
-	"crypto/elliptic"
-	"crypto/rand"
-	"crypto/sha256"
 	"crypto/tls"
-	"crypto/x509"
-	"crypto/x509/pkix"
 	"fmt"
 	"log"
-	"math/big"
 	"net"
 	"os"
-	"strings"
 	"time"
 )
 
-const (
-	selfSignedTime = 365 * 24 * time.Hour
-	clockSkew      = time.Hour // how far the clock of a client may be behind
-	serialBits     = 128
-)
+// selfSignedTime is how long a certificate that is made at a start is valid.
+const selfSignedTime = 365 * 24 * time.Hour
 
 // hasTLS reports whether the server speaks TLS.
 func (c *config) hasTLS() bool { return c.cert != "" || c.selfSigned }
@@ -70,39 +59,13 @@ func hostsOf(listen string) []string {
 
 // selfSigned returns a certificate for these names and addresses that its own key has signed. The key is in memory only.
 func selfSigned(hosts []string, now time.Time) (tls.Certificate, error) {
-	key, err := ecdsa.GenerateKey(elliptic.P256(), rand.Reader)
+	key, err := newKey()
 	if err != nil {
 		return tls.Certificate{}, err
 	}
-	serial, err := rand.Int(rand.Reader, new(big.Int).Lsh(big.NewInt(1), serialBits))
-	if err != nil {
-		return tls.Certificate{}, err
-	}
-	template := &x509.Certificate{
-		SerialNumber:          serial,
-		Subject:               pkix.Name{CommonName: "davserve"},
-		NotBefore:             now.Add(-clockSkew),
-		NotAfter:              now.Add(selfSignedTime),
-		KeyUsage:              x509.KeyUsageDigitalSignature,
-		ExtKeyUsage:           []x509.ExtKeyUsage{x509.ExtKeyUsageServerAuth},
-		BasicConstraintsValid: true,
-	}
-	for _, host := range hosts {
-		if ip := net.ParseIP(host); ip != nil {
-			template.IPAddresses = append(template.IPAddresses, ip)
-		} else {
-			template.DNSNames = append(template.DNSNames, host)
-		}
-	}
-	signed, err := x509.CreateCertificate(rand.Reader, template, template, key.Public(), key)
+	signed, err := signedByItself(key, hosts, now, selfSignedTime)
 	if err != nil {
 		return tls.Certificate{}, err
 	}
 	return tls.Certificate{Certificate: [][]byte{signed}, PrivateKey: key}, nil
-}
-
-// fingerprint returns the SHA-256 digest of a certificate, as browsers and openssl show it.
-func fingerprint(certificate []byte) string {
-	digest := sha256.Sum256(certificate)
-	return strings.ReplaceAll(fmt.Sprintf("% X", digest), " ", ":")
 }

@@ -21,6 +21,7 @@ import (
 	"testing"
 	"time"
 
+	"davserve"
 	"davserve/internal/davd"
 )
 
@@ -42,11 +43,17 @@ func (l *logged) String() string {
 	return l.text.String()
 }
 
-// A source makes backups as a function does.
+// A source makes backups as a function does, and has no locks.
 type source func(ctx context.Context, w io.Writer) error
 
 // Backup implements Source.
 func (s source) Backup(ctx context.Context, w io.Writer) error { return s(ctx, w) }
+
+// Locks implements Source.
+func (s source) Locks(context.Context) ([]davserve.Lock, error) { return nil, nil }
+
+// RemoveLock implements Source.
+func (s source) RemoveLock(context.Context, string) error { return davserve.ErrNoLock }
 
 // whole writes a whole backup.
 func whole(_ context.Context, w io.Writer) error {
@@ -112,7 +119,7 @@ func (f fixture) fetch(t *testing.T, ctx context.Context) error {
 // state asks for the state of the last backup.
 func (f fixture) state(t *testing.T) State {
 	t.Helper()
-	response, err := send(soon(t), clientOf(f.socket), http.MethodGet)
+	response, err := send(soon(t), clientOf(f.socket), http.MethodGet, backupPath)
 	if err != nil {
 		t.Fatal(err)
 	}
@@ -270,9 +277,13 @@ func TestOtherRequestsAreRefused(t *testing.T) {
 		method, url string
 		status      int
 	}{
-		{"GET", "http://davserve/", 404},
-		{"PUT", url, 405},
-		{"HEAD", url, 405},
+		{"GET", host + "/", 404},
+		{"PUT", host + backupPath, 405},
+		{"HEAD", host + backupPath, 405},
+		{"POST", host + locksPath, 405},
+		{"DELETE", host + locksPath, 400},
+		{"DELETE", host + locksPath + "?token=", 400},
+		{"DELETE", host + locksPath + "/?token=urn:1", 404},
 	} {
 		request, err := http.NewRequestWithContext(soon(t), test.method, test.url, nil)
 		if err != nil {

@@ -1,6 +1,7 @@
 package control
 
 import (
+	"bytes"
 	"context"
 	"encoding/json"
 	"errors"
@@ -8,14 +9,13 @@ import (
 	"io"
 	"net"
 	"net/http"
-	"strings"
 	"time"
 
 	"davserve/internal/backup"
 )
 
-// url is what requests are sent to. The host is not used.
-const url = "http://davserve" + backupPath
+// host is what the URLs of requests begin with. It is not used.
+const host = "http://davserve"
 
 // longestMessage is how many bytes of a message of the server are shown.
 const longestMessage = 4096
@@ -36,14 +36,14 @@ func Fetch(ctx context.Context, socket, folder string) (backup.Sizes, error) {
 	defer target.Discard()
 	client := clientOf(socket)
 	defer client.CloseIdleConnections()
-	response, err := send(ctx, client, http.MethodPost)
+	response, err := send(ctx, client, http.MethodPost, backupPath)
 	if err != nil {
 		return backup.Sizes{}, fmt.Errorf("no server answers at %s: %w", socket, err)
 	}
 	defer response.Body.Close()
 	if response.StatusCode != http.StatusOK {
 		text, _ := io.ReadAll(io.LimitReader(response.Body, longestMessage))
-		return backup.Sizes{}, fmt.Errorf("the server makes no backup: %s (status %d)", strings.TrimSpace(string(text)), response.StatusCode)
+		return backup.Sizes{}, answer{response.StatusCode, text}.refusal("makes no backup")
 	}
 	if len(response.TransferEncoding) != 1 || response.TransferEncoding[0] != "chunked" {
 		return backup.Sizes{}, errors.New("the response of the server has no end that shows that it is whole")
@@ -65,20 +65,54 @@ func clientOf(socket string) *http.Client {
 	return &http.Client{Transport: &http.Transport{DialContext: dial, DisableCompression: true}}
 }
 
-// send sends a request without a body.
-func send(ctx context.Context, client *http.Client, method string) (*http.Response, error) {
-	request, err := http.NewRequestWithContext(ctx, method, url, nil)
+// send sends a request without a body. The target is the path and the query of its URL.
+func send(ctx context.Context, client *http.Client, method, target string) (*http.Response, error) {
+	request, err := http.NewRequestWithContext(ctx, method, host+target, nil)
 	if err != nil {
 		return nil, err
 	}
 	return client.Do(request)
 }
 
+// An answer is a response whose body is read.
+type answer struct {
+	status int
+	body   []byte
+}
+
+// refusal returns the error of a server that does not do what it was asked for.
+func (a answer) refusal(what string) error {
+	text := a.body
+	if len(text) > longestMessage {
+		text = text[:longestMessage]
+	}
+	return fmt.Errorf("the server %s: %s (status %d)", what, bytes.TrimSpace(text), a.status)
+}
+
+// ask sends a request to the server that listens at a socket, and reads the response.
+func ask(ctx context.Context, socket, method, target string) (answer, error) {
+	if err := checkPath(socket); err != nil {
+		return answer{}, err
+	}
+	client := clientOf(socket)
+	defer client.CloseIdleConnections()
+	response, err := send(ctx, client, method, target)
+	if err != nil {
+		return answer{}, fmt.Errorf("no server answers at %s: %w", socket, err)
+	}
+	defer response.Body.Close()
+	body, err := io.ReadAll(response.Body)
+	if err != nil {
+		return answer{}, fmt.Errorf("the server at %s broke its answer off: %w", socket, err)
+	}
+	return answer{response.StatusCode, body}, nil
+}
+
 // reasonFrom asks the server why a backup failed. If it does not say, the reason is what was seen.
 func reasonFrom(client *http.Client, seen error) error {
 	ctx, cancel := context.WithTimeout(context.Background(), askTimeout)
 	defer cancel()
-	response, err := send(ctx, client, http.MethodGet)
+	response, err := send(ctx, client, http.MethodGet, backupPath)
 	if err != nil {
 		return fmt.Errorf("%w (its log may say why)", seen)
 	}

@@ -11,16 +11,21 @@ import (
 	"syscall"
 	"time"
 
+	"davserve"
 	"davserve/internal/davd"
 )
 
 // backupPath is the path of the backups.
 const backupPath = "/backup"
 
-// A Source makes backups. Backup writes one as a tar archive. If it fails before it writes anything, the error says why
-// none was begun.
+// A Source is what an operator gives commands to, as a davserve.Handler is.
 type Source interface {
+	// Backup writes a backup as a tar archive. If it fails before it writes anything, the error says why none was begun.
 	Backup(ctx context.Context, w io.Writer) error
+	// Locks returns all locks.
+	Locks(ctx context.Context) ([]davserve.Lock, error)
+	// RemoveLock removes the lock with a token. If no lock has it, the error is davserve.ErrNoLock.
+	RemoveLock(ctx context.Context, token string) error
 }
 
 // A State says what is known of the last backup.
@@ -32,8 +37,12 @@ type State struct {
 	Error string     `json:"error,omitempty"`
 }
 
-// A Handler answers the requests of an operator: POST /backup with a backup, and GET /backup with the State of the last
-// one.
+// A Handler answers the requests of an operator:
+//
+//	POST /backup                 a backup
+//	GET /backup                  the State of the last one
+//	GET /locks                   all locks
+//	DELETE /locks?token=TOKEN    removes a lock
 type Handler struct {
 	source  Source
 	log     *log.Logger
@@ -43,24 +52,45 @@ type Handler struct {
 	state State
 }
 
-// NewHandler returns a handler that makes backups of a source.
+// NewHandler returns a handler of the commands to a source.
 func NewHandler(source Source, log *log.Logger) *Handler {
 	return &Handler{source: source, log: log, state: State{State: "none"}}
 }
 
 // ServeHTTP implements http.Handler.
 func (h *Handler) ServeHTTP(w http.ResponseWriter, r *http.Request) {
-	switch {
-	case r.URL.Path != backupPath:
+	switch r.URL.Path {
+	case backupPath:
+		h.serveBackup(w, r)
+	case locksPath:
+		h.serveLocks(w, r)
+	default:
 		http.NotFound(w, r)
-	case r.Method == http.MethodPost:
+	}
+}
+
+// serveBackup answers POST with a backup, and GET with the state of the last one.
+func (h *Handler) serveBackup(w http.ResponseWriter, r *http.Request) {
+	switch r.Method {
+	case http.MethodPost:
 		h.backup(w, r)
-	case r.Method == http.MethodGet:
+	case http.MethodGet:
 		h.show(w)
 	default:
-		w.Header().Set("Allow", "GET, POST")
-		http.Error(w, "405 Method Not Allowed", http.StatusMethodNotAllowed)
+		refuseMethod(w, "GET, POST")
 	}
+}
+
+// refuseMethod answers a request whose method is none of those that are allowed.
+func refuseMethod(w http.ResponseWriter, allowed string) {
+	w.Header().Set("Allow", allowed)
+	http.Error(w, "405 Method Not Allowed", http.StatusMethodNotAllowed)
+}
+
+// writeJSON answers with a value as JSON.
+func writeJSON(w http.ResponseWriter, value any) {
+	w.Header().Set("Content-Type", "application/json")
+	json.NewEncoder(w).Encode(value)
 }
 
 // show answers with the state of the last backup.
@@ -68,8 +98,7 @@ func (h *Handler) show(w http.ResponseWriter) {
 	h.mu.Lock()
 	state := h.state
 	h.mu.Unlock()
-	w.Header().Set("Content-Type", "application/json")
-	json.NewEncoder(w).Encode(state)
+	writeJSON(w, state)
 }
 
 // backup answers with a backup. One that fails in the middle is broken off: the chunk that ends a response is not sent.
@@ -124,9 +153,11 @@ func (h *Handler) end(bytes int64, err error) {
 	h.log.Printf("the backup is done: %d bytes in %v", bytes, now.Sub(began).Round(time.Millisecond))
 }
 
-// statusOf returns the status of a backup that was not begun.
+// statusOf returns the status of a command that was not done.
 func statusOf(err error) int {
 	switch {
+	case errors.Is(err, davserve.ErrNoLock):
+		return http.StatusNotFound
 	case errors.Is(err, davd.ErrInBackup):
 		return http.StatusConflict
 	case errors.Is(err, davd.ErrFull), errors.Is(err, syscall.ENOSPC):

@@ -60,7 +60,7 @@ func (c *call) repeats() bool {
 // reads reports whether a frame changes nothing.
 func reads(f frame.Frame) bool {
 	switch f := f.(type) {
-	case frame.Read, frame.NextExpiry, frame.Held, frame.Explain:
+	case frame.Read, frame.NextExpiry, frame.Held, frame.Explain, frame.ListLocks:
 		return true
 	case *frame.Request:
 		return f.Method == "PROPFIND" || f.Method == "OPTIONS"
@@ -100,8 +100,13 @@ func adds(f frame.Frame) bool {
 
 // frees reports whether davd may hold less after a frame.
 func frees(f frame.Frame) bool {
-	request, ok := f.(*frame.Request)
-	return ok && (request.Method == "DELETE" || request.Method == "UNLOCK")
+	switch f := f.(type) {
+	case frame.RemoveLock:
+		return true
+	case *frame.Request:
+		return f.Method == "DELETE" || f.Method == "UNLOCK"
+	}
+	return false
 }
 
 // describe names a frame in the log.
@@ -117,6 +122,10 @@ func describe(f frame.Frame) string {
 		return "backup"
 	case frame.SetRights:
 		return "access rules"
+	case frame.RemoveLock:
+		return "removal of a lock of " + f.Path
+	case frame.SetModified:
+		return "time of " + f.Path
 	}
 	return "query"
 }

@@ -116,12 +116,36 @@ func replies(frames [][]byte) [][]byte {
 			reply = setFakeRights(string(f[9:]))
 		case 10: // Rule 3 allows to list and to read.
 			reply = append(binary.BigEndian.AppendUint64([]byte{9, 1}, 3), 1, 1, 0)
+		case 11:
+			reply = fakeLocks()
+		case 12, 13:
+			reply = fakeChange(f)
 		default:
 			reply = numbered(7, 404)
 		}
 		all = append(all, reply)
 	}
 	return all
+}
+
+// fakeLocks lists two locks.
+func fakeLocks() []byte {
+	reply := appendText(appendText(numbered(10, 2), "urn:1"), "/a%20b")
+	reply = append(appendText(append(reply, 1), "ada"), 1, 0, 1)
+	reply = binary.BigEndian.AppendUint64(reply, 60)
+	return append(appendText(appendText(reply, "urn:2"), "/"), 0, 0, 1, 0)
+}
+
+// fakeChange answers a frame about a path, which says what the reply is.
+func fakeChange(f []byte) []byte {
+	end := 9 + binary.BigEndian.Uint64(f[1:])
+	switch string(f[9:end]) {
+	case "/none":
+		return numbered(7, 404)
+	case "/wrong":
+		return []byte{4}
+	}
+	return []byte{2}
 }
 
 // fakeRights is the text of the access rules of a fake davd.

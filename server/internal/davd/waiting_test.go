@@ -50,10 +50,13 @@ func TestReadsAreWhatChangesNothing(t *testing.T) {
 			t.Errorf("%s changes nothing", method)
 		}
 	}
-	if !reads(frame.Explain{}) {
-		t.Error("Explain changes something")
+	for _, f := range []frame.Frame{frame.Explain{}, frame.ListLocks{}} {
+		if !reads(f) {
+			t.Errorf("%T changes something", f)
+		}
 	}
-	for _, f := range []frame.Frame{frame.StartBody{}, frame.AddToBody{}, frame.DropBody{}, frame.SetRights{}} {
+	for _, f := range []frame.Frame{frame.StartBody{}, frame.AddToBody{}, frame.DropBody{}, frame.SetRights{},
+		frame.RemoveLock{}, frame.SetModified{}} {
 		if reads(f) {
 			t.Errorf("%T changes nothing", f)
 		}
@@ -67,13 +70,26 @@ func TestWhatAdds(t *testing.T) {
 		}
 	}
 	others := []frame.Frame{frame.Read{}, frame.DropBody{}, frame.Held{}, frame.BeginBackup{}, frame.EndBackup{},
-		frame.SetRights{}, frame.Explain{}}
+		frame.SetRights{}, frame.Explain{}, frame.ListLocks{}, frame.RemoveLock{}, frame.SetModified{}}
 	for _, method := range []string{"PROPFIND", "OPTIONS", "DELETE", "UNLOCK", "LOCK"} { // the refresh of a lock
 		others = append(others, &frame.Request{Method: method})
 	}
 	for _, f := range others {
 		if adds(f) {
 			t.Errorf("%s %T adds something", describe(f), f)
+		}
+	}
+}
+
+func TestWhatFrees(t *testing.T) {
+	for _, f := range []frame.Frame{&frame.Request{Method: "DELETE"}, &frame.Request{Method: "UNLOCK"}, frame.RemoveLock{}} {
+		if !frees(f) {
+			t.Errorf("%s %T frees nothing", describe(f), f)
+		}
+	}
+	for _, f := range []frame.Frame{&frame.Request{Method: "PUT"}, frame.DropBody{}, frame.ListLocks{}, frame.SetModified{}} {
+		if frees(f) {
+			t.Errorf("%s %T frees something", describe(f), f)
 		}
 	}
 }

@@ -22,6 +22,7 @@ const (
 	replyFailed
 	replyRefused
 	replyExplained
+	replyLocks
 )
 
 func (Response) isReply()    {}
@@ -34,11 +35,12 @@ func (Holdings) isReply()    {}
 func (Failed) isReply()      {}
 func (Refused) isReply()     {}
 func (Explained) isReply()   {}
+func (Locks) isReply()       {}
 
 // Decode decodes a reply, which must be the whole of b. If it cannot, the error wraps ErrMalformed.
 //
-// The bytes of a Part are those in b, so the caller must not change b while it uses them. All strings of a Response
-// share one copy of b. The memory that Decode allocates is proportional to the length of b.
+// The bytes of a Part are those in b, so the caller must not change b while it uses them. All strings of a Response, and
+// all of Locks, share one copy of b. The memory that Decode allocates is proportional to the length of b.
 //
 // Decode returns an absent prefix or namespace and an empty one alike.
 func Decode(b []byte) (Reply, error) {
@@ -64,7 +66,7 @@ type reader struct {
 }
 
 func (r *reader) reply() Reply {
-	switch r.kind(replyExplained, "a reply") {
+	switch r.kind(replyLocks, "a reply") {
 	case replyResponse:
 		return r.response()
 	case replyBodyStarted:
@@ -83,8 +85,10 @@ func (r *reader) reply() Reply {
 		return Failed{Status: r.status()}
 	case replyRefused:
 		return Refused{Reason: r.string()}
-	default:
+	case replyExplained:
 		return Explained{Rule: r.optionalNumber(), List: r.flag(), Read: r.flag(), Write: r.flag()}
+	default:
+		return r.locks()
 	}
 }
 
@@ -112,8 +116,31 @@ func (r *reader) quota() *Quota {
 	return &Quota{Used: r.number(), Total: r.optionalNumber()}
 }
 
+func (r *reader) locks() Locks {
+	r.text = string(r.b)
+	count := r.count(lockBytes)
+	if count == 0 {
+		return nil
+	}
+	locks := make(Locks, count)
+	for i := range locks {
+		if r.err != nil {
+			return nil
+		}
+		locks[i] = Lock{
+			Token:     r.string(),
+			Path:      r.string(),
+			Principal: r.optionalString(),
+			Deep:      r.flag(),
+			Shared:    r.flag(),
+			Expires:   r.optionalNumber(),
+		}
+	}
+	return locks
+}
+
 func (r *reader) fields() []Field {
-	count := r.count()
+	count := r.count(pairBytes)
 	if count == 0 {
 		return nil
 	}
@@ -127,15 +154,19 @@ func (r *reader) fields() []Field {
 	return fields
 }
 
-// pairBytes is how many bytes a pair of byte strings has at least: two numbers.
-const pairBytes = 16
+const (
+	// pairBytes is how many bytes a pair of byte strings has at least: two numbers.
+	pairBytes = 16
+	// lockBytes is how many bytes a lock has at least: two numbers, no principal, two flags, and no time.
+	lockBytes = 8 + 8 + 1 + 1 + 1 + 1
+)
 
-// count reads the count of a list of pairs. It fails if too few bytes are left for so many pairs, so the caller may
-// allocate the list at once.
-func (r *reader) count() int {
+// count reads the count of a list of items that have so many bytes at least. It fails if too few bytes are left for so
+// many items, so the caller may allocate the list at once.
+func (r *reader) count(itemBytes int) int {
 	at := r.at
 	n := r.number()
-	if n > uint64(r.left()/pairBytes) {
+	if n > uint64(r.left()/itemBytes) {
 		r.fail(at, "a list, not the count %d with %d bytes left", n, r.left())
 		return 0
 	}

@@ -45,6 +45,12 @@ func appendReply(b []byte, reply Reply) []byte {
 	case Explained:
 		b = appendOptionalNumber(append(b, replyExplained), r.Rule)
 		return appendFlag(appendFlag(appendFlag(b, r.List), r.Read), r.Write)
+	case Locks:
+		b = appendNumber(append(b, replyLocks), uint64(len(r)))
+		for _, lock := range r {
+			b = appendOptional(appendString(appendString(b, lock.Token), lock.Path), lock.Principal)
+			b = appendOptionalNumber(appendFlag(appendFlag(b, lock.Deep), lock.Shared), lock.Expires)
+		}
 	}
 	return b
 }
@@ -193,14 +199,15 @@ func TestDecodeMemory(t *testing.T) {
 		leaves = append(leaves, Node{Element: &Element{}})
 		parents = append(parents, Node{Element: &Element{Nodes: leaves[:1]}})
 	}
-	for name, response := range map[string]Response{
-		"strings":          {Status: 207, Root: &Element{Nodes: make([]Node, n)}},
-		"elements":         {Status: 207, Root: &Element{Nodes: leaves}},
-		"parents":          {Status: 207, Root: &Element{Nodes: parents}},
-		"fields":           {Status: 207, Fields: make([]Field, n)},
-		"equal attributes": {Status: 207, Root: &Element{Attributes: make([]Attribute, n)}},
+	for name, reply := range map[string]Reply{
+		"strings":          Response{Status: 207, Root: &Element{Nodes: make([]Node, n)}},
+		"elements":         Response{Status: 207, Root: &Element{Nodes: leaves}},
+		"parents":          Response{Status: 207, Root: &Element{Nodes: parents}},
+		"fields":           Response{Status: 207, Fields: make([]Field, n)},
+		"equal attributes": Response{Status: 207, Root: &Element{Attributes: make([]Attribute, n)}},
+		"locks":            make(Locks, n),
 	} {
-		b := appendReply(nil, response)
+		b := appendReply(nil, reply)
 		for _, b := range [][]byte{b, b[:len(b)-1]} {
 			var err error
 			got := allocated(func() { _, err = Decode(b) })

@@ -3,7 +3,9 @@ package frame
 import (
 	"bytes"
 	"encoding/hex"
+	"fmt"
 	"io"
+	"os"
 	"reflect"
 	"strings"
 	"testing"
@@ -120,5 +122,32 @@ func TestDocumentReplies(t *testing.T) {
 	}
 	if _, err := ReadReplyHeader(r); err != io.EOF {
 		t.Errorf("%v, expected io.EOF", err)
+	}
+}
+
+// The tables of docs/FRAMES.md have a row for each frame and each reply that is encoded and decoded here.
+func TestDocumentTables(t *testing.T) {
+	text, err := os.ReadFile("../../../docs/FRAMES.md")
+	if err != nil {
+		t.Fatal(err)
+	}
+	for _, test := range []struct {
+		head     string
+		greatest int
+	}{
+		{"\n| byte | frame | content |\n|---|---|---|\n", frameSetModified},
+		{"\n| byte | body | content |\n|---|---|---|\n", bodyMalformed},
+		{"\n| byte | reply | content |\n|---|---|---|\n", replyLocks},
+	} {
+		_, table, _ := strings.Cut(string(text), test.head)
+		rows, _, _ := strings.Cut(table, "\n\n")
+		for i, row := range strings.Split(rows, "\n") {
+			if !strings.HasPrefix(row, fmt.Sprintf("| %d | ", i)) {
+				t.Errorf("row %d of the table%sis %q", i, test.head, row)
+			}
+		}
+		if got := strings.Count(rows, "\n"); got != test.greatest {
+			t.Errorf("the table%shas rows up to %d, want %d", test.head, got, test.greatest)
+		}
 	}
 }

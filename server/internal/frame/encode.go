@@ -24,6 +24,9 @@ const (
 	frameEndBackup
 	frameSetRights
 	frameExplain
+	frameListLocks
+	frameRemoveLock
+	frameSetModified
 )
 
 func (f Request) appendTo(b []byte) []byte {
@@ -88,6 +91,22 @@ func (f Explain) appendTo(b []byte) []byte {
 	b = append(b, frameExplain)
 	b = appendOptional(b, f.Principal)
 	return appendString(b, f.Path)
+}
+
+func (ListLocks) appendTo(b []byte) []byte {
+	return append(b, frameListLocks)
+}
+
+func (f RemoveLock) appendTo(b []byte) []byte {
+	b = append(b, frameRemoveLock)
+	b = appendString(b, f.Path)
+	return appendString(b, f.Token)
+}
+
+func (f SetModified) appendTo(b []byte) []byte {
+	b = append(b, frameSetModified)
+	b = appendString(b, f.Path)
+	return appendNumber(b, f.Time)
 }
 
 // The first byte of the body of a request.

@@ -41,7 +41,7 @@ type Field struct {
 }
 
 // A Frame asks davd for something. It is one of Request, StartBody, AddToBody, DropBody, Read, NextExpiry, Held,
-// BeginBackup, EndBackup, SetRights and Explain.
+// BeginBackup, EndBackup, SetRights, Explain, ListLocks, RemoveLock and SetModified.
 type Frame interface {
 	appendTo(b []byte) []byte
 }
@@ -118,8 +118,23 @@ type Explain struct {
 	Path      string  // as in the request line, percent-encoded
 }
 
-// A Reply answers a frame. It is one of Response, BodyStarted, Done, Part, Collection, Expiry, Holdings, Failed, Refused
-// and Explained.
+// ListLocks asks which locks there are. The reply is Locks.
+type ListLocks struct{}
+
+// RemoveLock removes a lock, whatever its principal is and whatever the access rules say. The reply is Done.
+type RemoveLock struct {
+	Path  string // of the resource of the lock, or of one below it, as in the request line, percent-encoded
+	Token string
+}
+
+// SetModified sets when a resource was last modified. It changes neither its entity tag nor its bytes. The reply is Done.
+type SetModified struct {
+	Path string // as in the request line, percent-encoded
+	Time uint64 // seconds since 1970
+}
+
+// A Reply answers a frame. It is one of Response, BodyStarted, Done, Part, Collection, Expiry, Holdings, Failed, Refused,
+// Explained and Locks.
 type Reply interface {
 	isReply()
 }
@@ -185,4 +200,17 @@ type Explained struct {
 	List  bool
 	Read  bool
 	Write bool
+}
+
+// Locks has all locks. The oldest one is the first.
+type Locks []Lock
+
+// A Lock is a write lock of a resource.
+type Lock struct {
+	Token     string
+	Path      string  // of the resource, as in the request line, percent-encoded
+	Principal *string // nil: nobody
+	Deep      bool    // the lock also covers everything below the resource
+	Shared    bool
+	Expires   *uint64 // seconds since 1970; nil: never
 }

@@ -63,7 +63,7 @@ func (r *reader) tag(e *Element) {
 }
 
 func (r *reader) attributes() []Attribute {
-	count := r.count()
+	count := r.count(pairBytes)
 	if count == 0 {
 		return nil
 	}

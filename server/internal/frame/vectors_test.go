@@ -68,6 +68,9 @@ var vectorFrames = map[string]Frame{
 	"set-no-rights":     SetRights{},
 	"explain":           Explain{Path: "/%C3%A9"},
 	"explain-principal": Explain{Principal: pointer("p"), Path: "/a"},
+	"list-locks":        ListLocks{},
+	"remove-lock":       RemoveLock{Path: "/%C3%A9", Token: "urn:t"},
+	"set-modified":      SetModified{Path: "/\u00e9", Time: greatest},
 }
 
 var vectorReplies = map[string]Reply{
@@ -97,12 +100,18 @@ var vectorReplies = map[string]Reply{
 	"explained":               Explained{Rule: pointer(uint64(3)), List: true, Read: true},
 	"explained-write":         Explained{Rule: pointer(uint64(greatest)), Write: true},
 	"explained-by-no-rule":    Explained{List: true},
+	"locks": Locks{
+		{Token: "urn:1", Path: "/%C3%A9/", Principal: pointer("\u00e9"), Deep: true, Expires: pointer(uint64(60))},
+		{Token: "urn:2", Path: "/a", Shared: true},
+		{Principal: pointer(""), Expires: pointer(uint64(greatest))},
+	},
+	"no-locks": Locks(nil),
 }
 
 // vectorFailures has what the error for each vector of malformed.txt says.
 var vectorFailures = map[string]string{
 	"nothing":                        "byte 0: expected a reply, not the end",
-	"kind-10":                        "byte 0: expected a reply, not the byte 10",
+	"kind-11":                        "byte 0: expected a reply, not the byte 11",
 	"kind-255":                       "byte 0: expected a reply, not the byte 255",
 	"done-and-a-byte":                "byte 1: expected the end",
 	"body-started-and-a-byte":        "byte 9: expected the end",
@@ -145,6 +154,15 @@ var vectorFailures = map[string]string{
 	"explained-flag-2":               "byte 3: expected a flag, not the byte 2",
 	"explained-without-write":        "byte 4: expected a flag, not the end",
 	"explained-and-a-byte":           "byte 5: expected the end",
+	"locks-without-bytes":            "byte 1: expected a list, not the count 18446744073709551615 with 0 bytes left",
+	"locks-one-too-many":             "byte 1: expected a list, not the count 2 with 26 bytes left",
+	"lock-token-not-utf8":            "byte 17: expected UTF-8",
+	"lock-path-not-utf8":             "byte 26: expected UTF-8",
+	"lock-principal-2":               "byte 27: expected an optional value, not the byte 2",
+	"lock-deep-2":                    "byte 28: expected a flag, not the byte 2",
+	"lock-shared-2":                  "byte 29: expected a flag, not the byte 2",
+	"lock-time-cut":                  "byte 31: expected a number, and 7 bytes are left",
+	"locks-and-a-byte":               "byte 31: expected the end",
 }
 
 // readVectors returns the vectors in a file by their names.

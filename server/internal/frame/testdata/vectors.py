@@ -47,6 +47,9 @@ FRAMES = {
     "set-no-rights": frames.SetRights(""),
     "explain": frames.Explain(None, "/%C3%A9"),
     "explain-principal": frames.Explain("p", "/a"),
+    "list-locks": frames.ListLocks(),
+    "remove-lock": frames.RemoveLock("/%C3%A9", "urn:t"),
+    "set-modified": frames.SetModified("/\u00e9", frames.GREATEST),
 }
 
 REPLIES = {
@@ -73,6 +76,12 @@ REPLIES = {
     "explained": frames.Explained(3, True, True, False),
     "explained-write": frames.Explained(frames.GREATEST, False, False, True),
     "explained-by-no-rule": frames.Explained(None, True, False, False),
+    "locks": frames.Locks((
+        frames.Lock("urn:1", "/%C3%A9/", "\u00e9", True, False, 60),
+        frames.Lock("urn:2", "/a", None, False, True, None),
+        frames.Lock("", "", "", False, False, frames.GREATEST),
+    )),
+    "no-locks": frames.Locks(()),
 }
 
 
@@ -94,12 +103,18 @@ def with_attributes(*keys: str) -> bytes:
     return rooted(frames.tree(Element("x", attributes=tuple((key, "") for key in keys))))
 
 
+def one_lock(token: bytes, path: bytes, rest: bytes) -> bytes:
+    """Locks of which there is one."""
+    return b"\x0a" + frames.number(1) + token + path + rest
+
+
 TAG = frames.tag(Element("x"))
 BAD = frames.text(b"\xff")
+TOKEN, PATH = frames.text(b"t"), frames.text(b"/")
 
 MALFORMED = {
     "nothing": b"",
-    "kind-10": b"\x0a",
+    "kind-11": b"\x0b",
     "kind-255": b"\xff",
     "done-and-a-byte": b"\2\0",
     "body-started-and-a-byte": b"\1" + frames.number(1) + b"\0",
@@ -142,6 +157,15 @@ MALFORMED = {
     "explained-flag-2": b"\x09\0\0\2\0",
     "explained-without-write": b"\x09\0\1\1",
     "explained-and-a-byte": b"\x09\0\0\0\0\0",
+    "locks-without-bytes": b"\x0a" + frames.number(frames.GREATEST),
+    "locks-one-too-many": b"\x0a" + frames.number(2) + TOKEN + PATH + b"\1" + b"\0" * 7,
+    "lock-token-not-utf8": one_lock(BAD, PATH, b"\0\0\0\0"),
+    "lock-path-not-utf8": one_lock(TOKEN, BAD, b"\0\0\0\0"),
+    "lock-principal-2": one_lock(TOKEN, PATH, b"\2\0\0\0"),
+    "lock-deep-2": one_lock(TOKEN, PATH, b"\0\2\0\0"),
+    "lock-shared-2": one_lock(TOKEN, PATH, b"\0\0\2\0"),
+    "lock-time-cut": one_lock(TOKEN, PATH, b"\0\0\0\1" + b"\0" * 7),
+    "locks-and-a-byte": one_lock(TOKEN, PATH, b"\0\0\0\0\0"),
 }
 
 
