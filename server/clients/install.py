@@ -6,6 +6,7 @@ import shlex
 import shutil
 import socket
 import subprocess
+import time
 
 import server as servers
 from connection import Connection, Wrong
@@ -115,6 +116,21 @@ def serves(starter: Starter):
     expect("the exit status", process.wait(servers.END_SECONDS), 0)
     checked = PROCESSES.run([root / "bin/davd", "--check", target], 30)
     expect(f"the check of the backup ({checked.stdout})", checked.returncode, 0)
+
+
+@GROUP.check("server/run builds davserve, and serves with its options", seconds=MAKE_SECONDS)
+def runs(starter: Starter):
+    if not (TOP / "crates/davd/out/davd").is_file():
+        raise Skipped("server/run would compile davd first")
+    port, log = servers.free_port(), starter.folder / "log"
+    with log.open("wb") as file:
+        process = PROCESSES.start([TOP / "server/run", "-listen", f"127.0.0.1:{port}", "-prefix", "/dav"], stdout=file, stderr=file)
+    while "serving WebDAV" not in log.read_text():
+        expect(f"the exit status ({log.read_text()})", process.poll(), None)
+        time.sleep(0.1)
+    ask(port, "PUT", "/dav/a", 201, b"run")
+    process.terminate()
+    expect("the exit status", process.wait(servers.END_SECONDS), 0)
 
 
 @GROUP.check("man and mandoc have nothing to say of the manual pages")
