@@ -22,7 +22,7 @@ GROUPS = [GROUP]
 
 SECONDS = 30
 NAMES = ("plain.txt", "two words", "100%", "50%25 off", "a+b&c=d;e", "#?:@!$'(),[]", "Привет", "日本語.txt", "שלום", "e\u0301 and \u00e9", "~", "-x")
-FILES = 1000  # of the import that is interrupted
+FILES = 4000  # of the import that is interrupted
 LOCK = b"""<?xml version="1.0"?><lockinfo xmlns="DAV:"><lockscope><exclusive/></lockscope><locktype><write/></locktype></lockinfo>"""
 
 Tree = dict[str, tuple[int, bytes | None]]  # by the path: the time, and the bytes of a file
