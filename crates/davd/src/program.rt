@@ -200,13 +200,16 @@ fn exit_status(stopped: &Stopped) -> u8
     }
 }
 
+/// What is said when memory runs out, also where a stream reports it.
+const OUT_OF_MEMORY: &str = "davd: out of memory";
+
 /// Returns what is said when the program ends for this reason.
 fn line_of(stopped: &Stopped) -> &'static str {
     match stopped {
         Stopped::Usage =>
             "usage: davd [-prefix PREFIX] [-anyone-unlocks] [-max-batch BYTES] [-quota BYTES] [FOLDER]\n       davd --check FOLDER",
         Stopped::Stream(error) => cause_of(error),
-        Stopped::Memory => "davd: out of memory",
+        Stopped::Memory => OUT_OF_MEMORY,
         Stopped::NotAStore => "davd: the folder is not one of davd, or it is damaged",
         Stopped::InUse => "davd: the folder is in use",
         Stopped::Disk(_) => "davd: the folder cannot be read or written",
@@ -219,6 +222,7 @@ fn line_of(stopped: &Stopped) -> &'static str {
 /// Returns what is said of a stream that failed.
 fn cause_of(error: &io::Error) -> &'static str {
     match error.kind() {
+        ErrorKind::OutOfMemory => OUT_OF_MEMORY,
         ErrorKind::UnexpectedEof => "davd: the input ends inside a batch",
         _ => "davd: the input or the output failed",
     }
