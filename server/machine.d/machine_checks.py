@@ -138,8 +138,12 @@ class Trial:
         return said.strip().splitlines()[-1] if said.strip() else None
 
     def backup(self):
-        """a backup of the service is restored"""
+        """sqlite3 lists the files of a backup of the service, and it is restored"""
         self.machine.do(f"mkdir /backups; sudo davserve backup -folder {FOLDER} /backups/monday")
+        (command,) = commands("### What meta.db has", "sqlite3")
+        command = command.replace("server/views.sql", "/mnt/views.sql").replace("FOLDER", "/backups/monday")
+        listed = self.machine.do(f"{GIVEN}; {command}")
+        expect(f"the file in {listed}", re.findall(r"^/a\|5\|", listed, re.M), ["/a|5|"])
         self.ask("PUT", "/a", b"second", AS_ANN, 204)
         self.machine.do(f"systemctl stop davserve; rm -r {FOLDER}; cp -r /backups/monday {FOLDER}")
         self.machine.do(f"sudo chown -R davserve: {FOLDER}; systemctl start davserve")

@@ -8,7 +8,7 @@ from programs import TOP, apt, is_there
 from server import PROCESSES
 
 RELEASE, MIRROR = "bookworm", "http://deb.debian.org/debian"
-INCLUDED = "systemd-sysv,linux-image-cloud-amd64,initramfs-tools,qemu-guest-agent,apache2-utils,curl,sudo"
+INCLUDED = "systemd-sysv,linux-image-cloud-amd64,initramfs-tools,qemu-guest-agent,apache2-utils,curl,sqlite3,sudo"
 DISK_BYTES = "2G"
 MAKE_SECONDS = 900
 BUILD_SECONDS = 300
@@ -72,10 +72,11 @@ class System:
 
 
 def given(folder: pathlib.Path, davd: pathlib.Path) -> pathlib.Path:
-    """Makes a disk with the Debian package, and with what `make install` installs, as an archive."""
+    """Makes a disk with the Debian package, what `make install` installs, as an archive, and the views of the database."""
     files = folder / "given"
     files.mkdir()
     shutil.copy(package(folder, davd), files)
+    shutil.copy(TOP / "server/views.sql", files)
     made = folder / "made"
     run(["make", "install", f"DAVD={davd}", f"DESTDIR={made}"], BUILD_SECONDS, cwd=TOP)
     run(["tar", "-C", made, "--owner=root", "--group=root", "-cf", files / "made.tar", "."], 60)
