@@ -105,15 +105,6 @@ survives-write then now synced end at n old new old_may new_may before within ke
       same = λ i below clear. on_disk.same i below clear ∙ was.same i below clear ∙ sym (here.same i below clear);
     }
 
--- a cut behind it, between calls that change nothing
-pub cut-keeps : (end : ℕ) (old before after new : List ℕ) → end ≤ length old → before ≡ old → Cut end before after → new ≡ after → KeepsBytes [] end old new
-cut-keeps end old before after new within is_old cut is_after =
-    let less = cut.no_shorter in let l = ap length is_old in let m = ap length is_after in
-    record {
-      within = omega arith;
-      same = λ i below clear. ap (λ file. slice_index file i) is_after ∙ cut.below i (omega arith) below ∙ ap (λ file. slice_index file i) is_old;
-    }
-
 -- the bytes of a run that is clear, where each clear byte is the same
 pub run-kept : (ranges : List Range) (end at n : ℕ) (old new : List ℕ) → KeepsBytes ranges end old new → at + n ≤ end → are_clear ranges at n ≡ true → bytes_at new at n ≡ bytes_at old at n
 run-kept ranges end at n old new kept below clear = same-bytes_at old new at n (λ i l h. kept.same i (omega arith) (clear-byte ranges at n i clear l h))
@@ -135,6 +126,14 @@ pub bytes-kept : (ranges now : List Range) (end at n : ℕ) (old new : List ℕ)
 bytes-kept ranges now end at n old new within free kept torn a m used =
     let both = and_parts (leb (a + m) end) (are_clear ranges a m) used in
     run-kept ranges end a m old new (torn-keeps ranges end at n old new within (unused-earlier at n ranges now kept free) torn) (leb-true (a + m) end both.0) both.1
+
+-- the bytes in use, before a place at which the file is cut
+pub cut-bytes : (ranges : List Range) (end : ℕ) (old new : List ℕ) → end ≤ length old → Cut end old new
+    → (a m : ℕ) → (leb (a + m) end && are_clear ranges a m) ≡ true → bytes_at new a m ≡ bytes_at old a m
+cut-bytes ranges end old new within cut a m used =
+    let both = and_parts (leb (a + m) end) (are_clear ranges a m) used in
+    let below = leb-true (a + m) end both.0 in
+    same-bytes_at old new a m (λ i l h. cut.below i (omega arith) (omega arith))
 
 -- the run that was written is in use
 pub in-use-taken : (old new : List Range) (end at n : ℕ) → at + n ≤ end → AreTaken at n old new → (leb (at + n) end && are_clear new at n) ≡ true

@@ -13,11 +13,6 @@ use Rattle.dav_space.specs.Space.{unused, IsFull, MakesRoom, MakesNoRoom}
 use Rattle.dav_blocks.specs.declared.run.Run.{Run}
 use Rattle.dav_blocks.specs.declared.block_file.BlockFile.{BlockFile}
 
--- the file ends before a place, unless a wrong answer was taken as true, and the error is not that there is no room
-pub record IsTooShort {D : Type 0} (g : Ghosts D) (disk : D) (end : ℕ) (left : D) (e : Error) : Type 0 where
-  pub short : g.is_clean left ≡ true → length (g.seen disk) < end
-  pub other : is_no_room e ≡ false
-
 module _ {D : Type 0} {g : Ghosts D} where
   abbrev pub disk_of : BlockFile D g → D
   disk_of it = it.disk
@@ -57,6 +52,10 @@ module _ {D : Type 0} {g : Ghosts D} where
   -- a crash leaves them as they are
   abbrev pub is_safe : BlockFile D g → ℕ → ℕ → Bool
   is_safe it at n = nat_le (at + n) it.synced && are_clear (unused it.at_sync.value) at n
+
+  -- where the bytes end that have been written
+  abbrev pub end_of : BlockFile D g → ℕ
+  end_of it = it.end
 
   -- the byte at a place may be written
   abbrev pub IsFree : BlockFile D g → ℕ → Type 0
@@ -102,8 +101,6 @@ module _ {D : Type 0} {g : Ghosts D} where
       (is_usable old ≡ false × is_no_room e ≡ false)
       ⊎ ((is_honest old ≡ true → at + n ≤ length (data_of old)) → MoreFaults (g.faults old.disk) (g.faults new.disk))
 
--- the file is too short, or a call has failed; and if the disk counts that it has no room, the error says so
-pub record IsNotOpened {D : Type 0} (g : Ghosts D) (disk : D) (end : ℕ) (e : Error) : Type 0 where
-  pub left : D
-  pub cause : IsTooShort g disk end left e ⊎ MoreFaults (g.faults disk) (g.faults left)
-  pub told : is_no_room e ≡ false → (g.tally_of left).refused ≡ (g.tally_of disk).refused
+  -- the file ends where the bytes end that have been written, or a call of the disk has failed
+  abbrev pub CutsOrFails : BlockFile D g → BlockFile D g → Type 0
+  CutsOrFails old new = (length (data_of new) ≡ end_of new) ⊎ MoreFaults (g.faults old.disk) (g.faults new.disk)

@@ -8,6 +8,7 @@ ghost use Rattle.dav_space.specs.Space.{unused};
 ghost use Rattle.dav_blocks.specs.Runs.{KeepsBytes, IsNextRun, IsRoomLen};
 
 use crate::run::Run;
+use crate::settle::settle;
 use dav_space::{LIMIT, Range, Space, outside};
 use sqlite_disk::Disk;
 use std::alloc::{AllocError, Global};
@@ -26,6 +27,8 @@ pub struct BlockFile<D: Disk> {
     synced: usize,
     /// Whether no call has changed the file since.
     settled: bool,
+    /// Whether the file had more bytes when it was opened, which are still there.
+    has_excess: bool,
     /// What was unused at the last sync, or after the last sweep since. For contracts only.
     at_sync: Snapshot<Space>,
     ghost within: { end ≤ length (D.Disk.seen disk) },
@@ -38,30 +41,29 @@ pub struct BlockFile<D: Disk> {
 
 impl<D: Disk> BlockFile<D> {
     ghost use Rattle.dav_blocks.specs.Blocks.{disk_of, data_of, may_leave, is_usable, is_honest, is_settled, tally_of, in_use, used_bytes, is_safe, IsFree};
-    ghost use Rattle.dav_blocks.specs.Blocks.{KeepsBlocks, ChangesOnly, AreWritten, ReservesRoom, HasFailed, HasCause, HasReadCause, TellsRoom, IsNotOpened};
+    ghost use Rattle.dav_blocks.specs.Blocks.{KeepsBlocks, ChangesOnly, AreWritten, ReservesRoom, HasFailed, HasCause, HasReadCause, TellsRoom, CutsOrFails, end_of};
+    ghost use Rattle.dav_blocks.specs.Settling.{HasNotSettled, IsUnharmed};
 
-    /// Opens the data file of which all bytes up to a place are in use. What is after them is cut off. It is an
-    /// error if the file is shorter, or the disk fails.
-    pub fn open(alloc: Global, disk: D, end: usize) -> io::Result<BlockFile<D>>
-    where
-        D: Drop,
+    /// Opens the data file of which all bytes up to a place are in use. What is behind them is unused. It stays in the
+    /// file until it is written over, or until [`BlockFile::trim`]: an honest disk has the same bytes afterwards.
+    ///
+    /// It is an error if the file is shorter, or the disk fails. The disk comes back with the error.
+    pub fn open(alloc: Global, disk: D, end: usize) -> Result<BlockFile<D>, (io::Error, D)>
         requires usable { D.Disk.is_usable disk ≡ true }
         requires below { end ≤ LIMIT }
         ensures used { IfOk result (λ it. (at n : ℕ) → at + n ≤ end → in_use it at n ≡ true) }
         ensures safe { IfOk result (λ it. (at n : ℕ) → at + n ≤ end → is_safe it at n ≡ true) }
-        ensures same { IfOk result (λ it. is_honest it ≡ true → KeepsBytes [] end (D.Disk.seen disk) (data_of it)) }
-        ensures cut { IfOk result (λ it. length (data_of it) ≡ end) }
+        ensures same { IfOk result (λ it. is_honest it ≡ true → data_of it ≡ D.Disk.seen disk) }
         ensures free { IfOk result (λ it. (i : ℕ) → end ≤ i → i < LIMIT → IsFree it i) }
         ensures usable { IfOk result (λ it. is_usable it ≡ true) }
         ensures settled { IfOk result (λ it. is_settled it ≡ true) }
-        ensures err { IfErr result (IsNotOpened D.Disk disk end) }
+        ensures err { IfErr result (λ e. HasNotSettled D.Disk disk end e.1 e.0) }
+        ensures unharmed { IfErr result (λ e. IsUnharmed D.Disk disk e.1) }
     {
         let mut disk = disk;
-        if disk.len()? < end {
-            return Err(io::ErrorKind::InvalidData.into());
+        if let Err(error) = settle(&mut disk, end) {
+            return Err((error, disk));
         }
-        disk.set_len(end)?;
-        disk.sync()?;
         let space = Space::behind(alloc, end);
         let at_sync = Snapshot::of(&space);
         Ok(BlockFile {
@@ -70,6 +72,7 @@ impl<D: Disk> BlockFile<D> {
             end,
             synced: end,
             settled: true,
+            has_excess: true,
             at_sync,
         })
     }
@@ -229,6 +232,26 @@ impl<D: Disk> BlockFile<D> {
         self.at_sync = Snapshot::of(&space);
         self.space = space;
         true
+    }
+
+    /// Cuts off what was behind everything in use when the file was opened, unless that was done. If the disk fails, it
+    /// stays there.
+    pub fn trim(&mut self)
+        ensures kept { KeepsBlocks self.old self.new }
+        ensures space { self.new.space ≡ self.old.space }
+        ensures end { end_of self.new ≡ end_of self.old }
+        ensures synced { self.new.synced ≡ self.old.synced }
+        ensures usable { is_usable self.new ≡ is_usable self.old }
+        ensures honest { is_honest self.new ≡ is_honest self.old }
+        ensures faults { self.old.has_excess ≡ true → is_usable self.old ≡ true → CutsOrFails self.old self.new }
+    {
+        if !self.has_excess || !self.disk.may_be_used() {
+            return;
+        }
+        self.settled = false;
+        if self.disk.set_len(self.end).is_ok() {
+            self.has_excess = false;
+        }
     }
 
     /// Returns where the bytes end that a crash leaves as they are, with what that says.

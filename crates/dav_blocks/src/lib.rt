@@ -3,6 +3,7 @@
 
 mod block_file;
 mod run;
+mod settle;
 
 pub use block_file::BlockFile;
 pub use run::Run;

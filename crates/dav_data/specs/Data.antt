@@ -135,10 +135,6 @@ module _ {D : Type 0} {g : Ghosts D} where
   abbrev pub LeavesEnds : DataFile D g → List ℕ → Type 0
   LeavesEnds it c = (body : List Piece) → is_synced it body ≡ true → is_below (length c) body ≡ true
 
-  -- the blocks of each body below a place have their digests, if they have them in these contents
-  abbrev pub FindsDigests : ℕ → List ℕ → DataFile D g → Type 0
-  FindsDigests end file it = (body : List Piece) → is_below end body ≡ true → are_right it.key file body ≡ true → has_digests it body ≡ true
-
   -- each block that was in use still is, with the same bytes, and what was safe still is
   pub record Keeps (old new : DataFile D g) : Type 0 where
     pub blocks : blocks.KeepsBlocks old.file new.file
@@ -222,9 +218,8 @@ module _ {D : Type 0} {g : Ghosts D} where
   abbrev pub GivesUpRest : DataFile D g → DataFile D g → Type 0
   GivesUpRest old new = GivesUpNothing old new ⊎ GivesUpUnspared old new
 
-  -- the bytes, the key and the state of the disk are the same
+  -- the key and the state of the disk are the same
   pub record KeepsDisk (old new : DataFile D g) : Type 0 where
-    pub same : data_of new ≡ data_of old
     pub key : new.key ≡ old.key
     pub usable : is_usable new ≡ is_usable old
 

@@ -1,7 +1,6 @@
 //! The data file, of which bodies are lists of pieces.
 ghost use Rattle.std.specs.Prelude.{◌≡◌, ◌≤◌, ◌<◌, ◌^◌, ℕ, List, All, length, true, is_ok, IfOk, IfErr, OnOk, OnErr};
 ghost use Rattle.dav_pieces.specs.declared.piece.Piece.{Piece};
-ghost use Rattle.dav_pieces.specs.Pieces.{bytes_of};
 ghost use Rattle.dav_space.specs.declared.range.TheConstants.{LIMIT};
 ghost use Rattle.dav_blocks.specs.Blocks as blocks;
 ghost use Rattle.dav_data.specs.Digests.{AreHashed};
@@ -40,27 +39,37 @@ pub struct DataFile<D: Disk> {
 }
 
 impl<D: Disk> DataFile<D> {
-    ghost use Rattle.dav_data.specs.Data.{disk_of, is_below, nothing_at, is_honest, is_usable, may_leave, key_of, swept_bytes, body_bytes, is_held, is_synced};
-    ghost use Rattle.dav_data.specs.Data.{HasFailed, KeepsSweep, IsIdle, LeavesBytes, LeavesDigests, LeavesEnds, FindsDigests};
+    ghost use Rattle.dav_blocks.specs.Settling.{HasNotSettled, IsUnharmed};
+    ghost use Rattle.dav_data.specs.Data.{disk_of, data_of, is_below, nothing_at, is_honest, is_usable, may_leave, key_of, swept_bytes, body_bytes, is_held, is_synced};
+    ghost use Rattle.dav_data.specs.Data.{HasFailed, KeepsSweep, IsIdle, LeavesBytes, LeavesDigests, LeavesEnds};
 
-    /// Opens the data file of which all bytes up to a place are in use. What is after them is cut off. It is an
-    /// error if the file is shorter, or the disk fails. `key` is the key of the digests of its blocks.
-    pub fn open(alloc: Global, disk: D, key: u64, end: usize) -> io::Result<DataFile<D>>
+    /// Opens the data file of which all bytes up to a place are in use. What is behind them stays there until the first
+    /// sweep that gives something up: an honest disk has the same bytes afterwards. `key` is the key of the digests of its
+    /// blocks.
+    ///
+    /// It is an error if the file is shorter, or the disk fails. The disk comes back with the error.
+    pub fn open(
+        alloc: Global,
+        disk: D,
+        key: u64,
+        end: usize,
+    ) -> Result<DataFile<D>, (io::Error, D)>
     where
         D: Drop,
         requires usable { D.Disk.is_usable disk ≡ true }
         requires below { end < 2 ^ 63 }
         ensures held { IfOk result (λ it. (body : List Piece) → is_below end body ≡ true → is_synced it body ≡ true) }
-        ensures same { IfOk result (λ it. is_honest it ≡ true → (body : List Piece) → is_below end body ≡ true → body_bytes it body ≡ bytes_of (D.Disk.seen disk) body) }
-        ensures digests { IfOk result (λ it. is_honest it ≡ true → FindsDigests end (D.Disk.seen disk) it) }
+        ensures same { IfOk result (λ it. is_honest it ≡ true → data_of it ≡ D.Disk.seen disk) }
         ensures key { IfOk result (λ it. key_of it ≡ key) }
         ensures swept { IfOk result (λ it. swept_bytes it ≡ 0) }
         ensures idle { IfOk result IsIdle }
         ensures usable { IfOk result (λ it. is_usable it ≡ true) }
-        ensures err { IfErr result (blocks.IsNotOpened D.Disk disk end) }
+        ensures err { IfErr result (λ e. HasNotSettled D.Disk disk end e.1 e.0) }
+        ensures unharmed { IfErr result (λ e. IsUnharmed D.Disk disk e.1) }
     {
+        let file = BlockFile::open(alloc, disk, end)?;
         Ok(DataFile {
-            file: BlockFile::open(alloc, disk, end)?,
+            file,
             key,
             tails: Vec::new(alloc),
             marks: Vec::new(alloc),

@@ -62,7 +62,7 @@ impl<D: Disk> DataFile<D> {
     }
 
     /// Ends a sweep, and gives up what is not marked, if all that was written is on the disk and memory did not
-    /// run out.
+    /// run out. Then it also cuts off what was behind all blocks when the file was opened.
     pub(crate) fn end(&mut self)
         ensures held { (body : List Piece) → is_marked self.old body ≡ true → is_held self.new body ≡ true }
         ensures same { (body : List Piece) → is_marked self.old body ≡ true → body_bytes self.new body ≡ body_bytes self.old body }
@@ -81,6 +81,7 @@ impl<D: Disk> DataFile<D> {
         self.tails.clear();
         if self.file.keep_only(alloc, marks) {
             self.swept = self.file.used();
+            self.file.trim();
         }
     }
 
