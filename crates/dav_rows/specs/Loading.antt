@@ -53,6 +53,10 @@ pub record AreAll (rows : Rows) (m : Contents) : Type 0 where
 abbrev pub AreHeld : State → State → Rows → Type 0
 AreHeld old new rows = (m : Contents) → IsAt old m → IsAt new m × AreAll rows m
 
+-- the tables stand for the maps that they stood for
+abbrev pub StaysAt : State → State → Type 0
+StaysAt old new = (m : Contents) → IsAt old m → IsAt new m
+
 -- It answers what is so of the maps, and leaves the tables, and what a crash finds, as they are.
 pub record Reads {X : Type 0} (old new : State) (result : Result X Error) (Is : X → Contents → Type 0) : Type 0 where
   pub clean : doubt old.is_clean ≤ doubt new.is_clean

@@ -22,7 +22,7 @@ pub use extent::ExtentRow;
 pub use loading::{Rows, load};
 pub use lock::LockRow;
 pub use memory::round_trip;
-pub use opening::{StartError, load_or_create};
+pub use opening::{StartError, create_if_empty, load_or_create};
 pub use property::PropertyRow;
 pub use resource::ResourceRow;
 pub use saving::save;

@@ -1,12 +1,12 @@
 //! Loads the rows of a database, or makes its tables.
-ghost use Rattle.std.specs.Prelude.{◌≡◌, ◌≤◌, [], false, IfOk, IfErr, IsErrOf};
+ghost use Rattle.std.specs.Prelude.{◌≡◌, ◌≤◌, [], false, IfOk, IfErr, OnOk, IsErrOf};
 ghost use Rattle.sqlite_trees.specs.View.{doubt};
 ghost use Rattle.sqlite.specs.State.{HasCleanDisk};
 ghost use Rattle.sqlite.specs.Held.{state};
 ghost use Rattle.dav_rows.specs.Tables.{rows_schema};
 ghost use Rattle.dav_rows.specs.Saving.{IsAt, Stays, LeavesNoOther};
-ghost use Rattle.dav_rows.specs.Creating.{first, IsBlank, LeavesBlankOr};
-ghost use Rattle.dav_rows.specs.Loading.{Reads, ReadsBlank, AreHeld, AreNew, LeavesAlone};
+ghost use Rattle.dav_rows.specs.Creating.{first, IsBlank, Makes, LeavesBlankOr};
+ghost use Rattle.dav_rows.specs.Loading.{Reads, ReadsBlank, AreHeld, AreNew, LeavesAlone, StaysAt};
 ghost use Rattle.dav_rows.specs.Failing.{IsExcusedStart, IsExcusedFirst, HasUtf8, FailsToCreate, FailsExcused, FailsExcusedBlank};
 ghost use Rattle.dav_rows.specs.declared.opening.StartError.TheVariants.{Foreign, Sqlite};
 
@@ -74,6 +74,30 @@ pub fn load_or_create<S: Alter>(
     match found_in(conn)? {
         Found::Nothing => Ok(create_and_load(conn, alloc, changes)?),
         Found::Ours => Ok(read_all(conn, alloc)?),
+        Found::Other => Err(StartError::Foreign),
+    }
+}
+
+/// In an empty database it makes the tables and applies the changes to them, in one transaction. A database with the tables of this
+/// store stays as it is.
+/// It fails with `Foreign` if the database has other tables, and with `Sqlite` if SQLite fails, for the causes of `load_or_create`.
+pub fn create_if_empty<S: Alter>(
+    conn: &mut Connection<S>,
+    changes: &[Change],
+) -> Result<(), StartError>
+    requires { conn.old.in_transaction ≡ false }
+    ensures idle { conn.new.in_transaction ≡ false }
+    ensures ours { HasCleanDisk (state S.Store conn.new) → OnOk result (StaysAt (state S.Store conn.old) (state S.Store conn.new)) }
+    ensures blank { HasCleanDisk (state S.Store conn.new) → OnOk result (Makes (state S.Store conn.old) (state S.Store conn.new) (first changes.now)) }
+    ensures clean { doubt (state S.Store conn.old).is_clean ≤ doubt (state S.Store conn.new).is_clean }
+    ensures err { HasCleanDisk (state S.Store conn.new) → IfErr result (λ e. (m : _) → IsAt (state S.Store conn.old) m → HasUtf8 m
+        → IsExcusedStart (state S.Store conn.old) (state S.Store conn.new) e) }
+    ensures err_blank { HasCleanDisk (state S.Store conn.new) → IfErr result (λ e. IsBlank (state S.Store conn.old)
+        → IsExcusedFirst (state S.Store conn.old) (state S.Store conn.new) changes.now e) }
+{
+    match found_in(conn)? {
+        Found::Nothing => Ok(create(conn, changes)?),
+        Found::Ours => Ok(()),
         Found::Other => Err(StartError::Foreign),
     }
 }

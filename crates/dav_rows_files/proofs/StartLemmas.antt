@@ -22,11 +22,9 @@ use Rattle.sqlite.specs.Effect.{Database}
 use Rattle.sqlite_schema.specs.declared.schema.Schema.{Schema}
 use Rattle.sqlite.specs.State.{State, Opens, IsLive, store_error, is_disk_error}
 use Rattle.sqlite.specs.Start.{FindsIn}
-use Rattle.sqlite.specs.Held.{AreDatabases}
-use Rattle.sqlite.specs.Files.{HoldsDatabase, IsNothing, FailsToOpenFiles, LeavesFiles, IsCleanLeft, tally_left, image_of}
+use Rattle.sqlite.specs.Held.{Held, AreDatabases}
+use Rattle.sqlite.specs.Files.{HoldsDatabase, IsNothing, Finds, FailsToOpenFiles, IsCleanLeft, tally_left, image_of, file_state}
 use Rattle.sqlite_wal.specs.Reads.{tally_of_files}
-use Rattle.sqlite.specs.declared.error.ErrorCode.TheVariants.{OutOfMemory, CannotOpen, DatabaseBusy}
-use Rattle.sqlite.specs.declared.error.Error.TheVariants.{SqliteFailure}
 use Rattle.sqlite.proofs.ListingLemmas.{empty_is_sound}
 use Rattle.sqlite.proofs.Theorems.{opens_again}
 use Rattle.dav_rows.specs.Tables.{rows_schema, no_schema}
@@ -38,7 +36,7 @@ use Rattle.dav_rows.specs.declared.opening.StartError.{StartError}
 use Rattle.dav_rows.specs.declared.opening.StartError.TheVariants.{Foreign, Sqlite}
 use Rattle.dav_rows.specs.Failing.{IsExcusedStart, IsExcusedFirst}
 use Rattle.dav_rows.specs.declared.change.Change.{Change}
-use Rattle.dav_rows_files.specs.Starting.{Keeps, KeepsEither, IsVacant, IsUnused, IsUnopened, IsStopped, IsStoppedFirst, FailsToStart, FailsToStartFirst, NextKeeps}
+use Rattle.dav_rows_files.specs.Starting.{Keeps, KeepsEither, IsVacant, IsUnused, IsStopped, IsStoppedFirst, FailsToStart, FailsToStartFirst, NextKeeps}
 
 -- the trees tell the schema
 sole : (schema : Schema) (db : Trees) → IsSound schema db → IsOurs db → schema ≡ rows_schema
@@ -117,11 +115,6 @@ named_fault a b = go (b.caught == a.caught) (b.refused == a.refused)
 abbrev AreKnown : Image → Type 0
 AreKnown image = ((db : Trees) × HoldsDatabase image db) ⊎ IsNothing image
 
-unopened : (e : Error) → (e ≡ SqliteFailure CannotOpen) ⊎ ((e ≡ SqliteFailure OutOfMemory) ⊎ (e ≡ SqliteFailure DatabaseBusy)) → IsUnopened (Sqlite e)
-unopened e (inl cannot) = inl (ap Sqlite cannot)
-unopened e (inr (inl memory)) = inr (inl (ap Sqlite memory))
-unopened e (inr (inr busy)) = inr (inr (ap Sqlite busy))
-
 module _ {D : Type 0} {g : Ghosts D} where
   -- an open of such files fails for these causes alone
   open_stopped : (files : Files D) (left : Leftover D g) (image : Image) (e : Error) → image_of g files ≡ image → AreKnown image → FailsToOpenFiles files left e → IsStopped left (Sqlite e)
@@ -131,24 +124,20 @@ module _ {D : Type 0} {g : Ghosts D} where
       inr (inl (subst (λ e. IsTrue (is_disk_error e)) (sym fault.0) (named_fault (tally_of_files g (files.log, files.db)) (tally_left left)), omega (arith, fault.1)))
   open_stopped files left image e same known (inr (inr (inr full))) = inr (inr full)
 
-  module _ (image : Image) (FreshLog FreshDb : Files D → Type 0) (same : (files : Files D) → FreshLog files → FreshDb files → image_of g files ≡ image) (e : Error) where
-    abbrev Unopened : Option (Leftover D g) → Type 0
-    Unopened left = left ≡ None → (e ≡ SqliteFailure CannotOpen) ⊎ ((e ≡ SqliteFailure OutOfMemory) ⊎ (e ≡ SqliteFailure DatabaseBusy))
+  pub open_failed : (files : Files D) (left : Leftover D g) (e : Error) → (IsCleanLeft left → FailsToOpenFiles files left e) → FailsToStart (image_of g files) (Sqlite e, left)
+  open_failed files left e cause = λ clean m keeps utf8. open_stopped files left (image_of g files) e refl (inl (keeps.db, keeps.database)) (cause clean)
 
-    abbrev Cause : Option (Leftover D g) → Type 0
-    Cause left = IfSome left (λ left. (files : Files D) × FreshLog files × FreshDb files × (IsCleanLeft left → FailsToOpenFiles files left e × LeavesFiles files left))
+  pub open_failed_first : (files : Files D) (left : Leftover D g) (e : Error) (changes : List Change) → (IsCleanLeft left → FailsToOpenFiles files left e)
+      → FailsToStartFirst (image_of g files) changes (Sqlite e, left)
+  open_failed_first files left e changes cause = λ clean unused. inl (open_stopped files left (image_of g files) e refl (turned unused) (cause clean))
+    where
+      turned : IsUnused (image_of g files) → AreKnown (image_of g files)
+      turned (inl new) = inr new.0
+      turned (inr held) = inl (held.0, held.1)
 
-    pub open_failed : (left : Option (Leftover D g)) → Unopened left → Cause left → FailsToStart image (Sqlite e, left)
-    open_failed None bare cause = unopened e (bare refl)
-    open_failed (Some left) bare cause = λ clean m keeps utf8. open_stopped cause.0 left image e (same cause.0 cause.1 cause.2) (inl (keeps.db, keeps.database)) (cause.3 clean).0
-
-    pub open_failed_first : (changes : List Change) (left : Option (Leftover D g)) → Unopened left → Cause left → FailsToStartFirst image changes (Sqlite e, left)
-    open_failed_first changes None bare cause = unopened e (bare refl)
-    open_failed_first changes (Some left) bare cause = λ clean unused. inl (open_stopped cause.0 left image e (same cause.0 cause.1 cause.2) (turned unused) (cause.3 clean).0)
-      where
-        turned : IsUnused image → AreKnown image
-        turned (inl new) = inr new.0
-        turned (inr held) = inl (held.0, held.1)
+  -- what an open finds
+  pub found_in : (files : Files D) (c : Held (FileStore D g)) → Finds files c → FindsIn (image_of g files) (file_state c)
+  found_in files c found = record { holds = found.holds; reads = found.reads }
 
   -- a load fails for these causes alone
   pub load_stopped : (s new : State) (last : FileStore D g) (e : StartError) → s.step_limit ≡ None → new.faults ≤ faults last → IsExcusedStart s new e → IsStopped (left.Store last) e

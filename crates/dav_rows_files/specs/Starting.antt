@@ -1,5 +1,5 @@
 -- What the files hold.
-use Rattle.std.specs.Prelude.{◌≡◌, ◌⊎◌, ◌<◌, List, [], Any, Option, MatchOption, IsTrue}
+use Rattle.std.specs.Prelude.{◌≡◌, ◌⊎◌, ◌<◌, List, [], Any, IsTrue}
 use Rattle.sqlite_disk.specs.declared.Disk.{Ghosts}
 use Rattle.sqlite_store.specs.declared.store.FileStore.{FileStore}
 use Rattle.sqlite_store.specs.FileStore as store
@@ -10,7 +10,7 @@ use Rattle.sqlite.specs.Files.{HoldsDatabase, IsNothing, AreFoundIn, IsCleanLeft
 use Rattle.sqlite.specs.Tree.{Trees}
 use Rattle.sqlite.specs.State.{State, HasCleanDisk, is_disk_error}
 use Rattle.sqlite.specs.declared.file.Leftover.{Leftover}
-use Rattle.sqlite.specs.declared.error.ErrorCode.TheVariants.{OutOfMemory, CannotOpen, DatabaseBusy, DiskFull, TooBig}
+use Rattle.sqlite.specs.declared.error.ErrorCode.TheVariants.{DiskFull, TooBig}
 use Rattle.sqlite.specs.declared.error.Error.{Error}
 use Rattle.sqlite.specs.declared.error.Error.TheVariants.{SqliteFailure}
 use Rattle.dav_rows.specs.declared.loading.Rows.{Rows}
@@ -41,23 +41,20 @@ IsUnused image = (IsNothing image × IsVacant image) ⊎ ((db : Trees) × HoldsD
 
 -- ---- what a start finds
 
--- the rows are those that the files keep
-abbrev pub Finds : Image → State → Rows → Type 0
-Finds image s rows = HasCleanDisk s → (m : Contents) → Keeps image m → AreAll rows m
+-- the rows are those that the files keep, and if the files have no table, those of these maps
+pub record AreRowsIn (image : Image) (new : Contents) (rows : Rows) : Type 0 where
+  pub kept : (m : Contents) → Keeps image m → AreAll rows m
+  pub first : IsVacant image → AreAll rows new
 
 -- the connection begins at the maps that the files keep
 abbrev pub BeginsAt : Image → State → Type 0
 BeginsAt image s = HasCleanDisk s → (m : Contents) → Keeps image m → IsAt s m
 
 -- where the files had no table, it begins at these maps
-abbrev pub BeginsNew : Image → State → Contents → Rows → Type 0
-BeginsNew image s m rows = HasCleanDisk s → IsVacant image → IsAt s m × AreAll rows m
+abbrev pub BeginsFirst : Image → State → Contents → Type 0
+BeginsFirst image s m = HasCleanDisk s → IsVacant image → IsAt s m
 
 -- ---- how a start fails
-
--- the files cannot be opened, memory ran out, or another connection has the files
-abbrev pub IsUnopened : StartError → Type 0
-IsUnopened e = (e ≡ Sqlite (SqliteFailure CannotOpen)) ⊎ ((e ≡ Sqlite (SqliteFailure OutOfMemory)) ⊎ (e ≡ Sqlite (SqliteFailure DatabaseBusy)))
 
 module _ {D : Type 0} {g : Ghosts D} where
   -- the disk reported a fault after the files were opened, and the error is that of a fault
@@ -75,12 +72,12 @@ module _ {D : Type 0} {g : Ghosts D} where
   IsStoppedFirst left changes (Sqlite e) = IsStopped left (Sqlite e) ⊎ ((e ≡ SqliteFailure TooBig) × Any PutsTooLong changes)
 
   -- Where the files keep maps whose texts are UTF-8, and the disk has returned what was written, nothing else stops a start.
-  abbrev pub FailsToStart : Image → StartError × Option (Leftover D g) → Type 0
-  FailsToStart image e = MatchOption e.1 (IsUnopened e.0) (λ left. IsCleanLeft left → (m : Contents) → Keeps image m → HasUtf8 m → IsStopped left e.0)
+  abbrev pub FailsToStart : Image → StartError × Leftover D g → Type 0
+  FailsToStart image e = IsCleanLeft e.1 → (m : Contents) → Keeps image m → HasUtf8 m → IsStopped e.1 e.0
 
   -- The same, where the files are unused.
-  abbrev pub FailsToStartFirst : Image → List Change → StartError × Option (Leftover D g) → Type 0
-  FailsToStartFirst image changes e = MatchOption e.1 (IsUnopened e.0) (λ left. IsCleanLeft left → IsUnused image → IsStoppedFirst left changes e.0)
+  abbrev pub FailsToStartFirst : Image → List Change → StartError × Leftover D g → Type 0
+  FailsToStartFirst image changes e = IsCleanLeft e.1 → IsUnused image → IsStoppedFirst e.1 changes e.0
 
 -- ---- what the files keep after a run
 

@@ -28,6 +28,7 @@ impl Copied {
         requires { IsTrue (D.Disk.is_usable disk.old) }
         ensures same { OnlyReads D.Disk disk.old disk.new }
         ensures copy { IfOk result (IsCopyOf D.Disk disk.old disk.new) }
+        ensures faults { OnOk result (D.Disk.faults disk.new ≡ D.Disk.faults disk.old) }
         ensures err { IfErr result (IsExcused (D.Disk.faults disk.old) (D.Disk.faults disk.new)) }
     {
         let len = disk.len()?;

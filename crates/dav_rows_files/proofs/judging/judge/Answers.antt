@@ -1,0 +1,50 @@
+use Rattle.std.proofs.Common.{◌≡◌, sym, subst}
+use Rattle.disk_copy.specs.contracts.copied.CopiedDisk.TheImpl as copied
+use Rattle.sqlite.specs.Files.{file_state, image_of}
+use Rattle.dav_rows_files.specs.Starting.{Keeps, IsVacant, IsUnused}
+use Rattle.dav_rows_files.proofs.StartLemmas.{at_start, blank_start, unused_start, found_in, open_failed, open_failed_first, load_stopped, first_stopped}
+use Rattle.dav_rows_files.proofs.JudgeLemmas.{always_clean, clean_left}
+use Rattle.dav_rows_files.proofs.judging.judge.Goals as goal
+
+pub returns-in-Ok-load_or_create-clause-found : goal.returns-in-Ok-load_or_create-clause-found
+returns-in-Ok-load_or_create-clause-found g c clean =
+    let copies = c.in_ok-copies.copies in
+    let conn = c.in-Ok.conn in
+    let same : image_of copied.ghosts copies ≡ image_of g.D.Disk c.args.files.now = c.in_ok-copies.ensures.same clean in
+    let opened = c.in-Ok.ensures.opened (always_clean conn) in
+    let found = found_in copies conn (c.in-Ok.ensures.found (always_clean conn)) in
+    let loaded = c.in-Ok-load_or_create.ensures in
+    let late = always_clean c.load_or_create.new.conn in
+    record {
+      kept = λ m keeps. (loaded.ours late m (at_start (file_state conn) (image_of copied.ghosts copies) m opened.0 opened.1 found (subst (λ image. Keeps image m) (sym same) keeps))).1;
+      first = λ vacant. (loaded.blank late (blank_start (file_state conn) (image_of copied.ghosts copies) opened.0 opened.1 found (subst IsVacant (sym same) vacant))).1;
+    }
+
+pub returns-in-Err-clause-err : goal.returns-in-Err-clause-err
+returns-in-Err-clause-err g c clean =
+    let copies = c.in_ok-copies.copies in
+    let e = c.in-Err.error in let left = c.in-Err.left in
+    let same : image_of copied.ghosts copies ≡ image_of g.D.Disk c.args.files.now = c.in_ok-copies.ensures.same clean in
+    record {
+      kept = λ m keeps utf8. open_failed copies left e c.in-Err.ensures.cause (clean_left left) m (subst (λ image. Keeps image m) (sym same) keeps) utf8;
+      first = λ unused. open_failed_first copies left e c.args.changes.now c.in-Err.ensures.cause (clean_left left) (subst IsUnused (sym same) unused);
+    }
+
+pub returns-in-Err-load_or_create-clause-err : goal.returns-in-Err-load_or_create-clause-err
+returns-in-Err-load_or_create-clause-err g c clean =
+    let copies = c.in_ok-copies.copies in
+    let conn = c.in-Ok.conn in let new = c.load_or_create.new.conn in
+    let e = c.in-Err-load_or_create.error in
+    let same : image_of copied.ghosts copies ≡ image_of g.D.Disk c.args.files.now = c.in_ok-copies.ensures.same clean in
+    let opened = c.in-Ok.ensures.opened (always_clean conn) in
+    let found = found_in copies conn (c.in-Ok.ensures.found (always_clean conn)) in
+    let unlimited = c.in-Ok.ensures.fresh.unlimited in
+    let counts = c.into_store.ensures.quiet.counts in
+    record {
+      kept = λ m keeps utf8.
+          let at = at_start (file_state conn) (image_of copied.ghosts copies) m opened.0 opened.1 found (subst (λ image. Keeps image m) (sym same) keeps) in
+          load_stopped (file_state conn) (file_state new) c.into_store.result e unlimited counts (c.in-Err-load_or_create.ensures.err (always_clean new) m at utf8);
+      first = λ unused.
+          let blank = unused_start (file_state conn) (image_of copied.ghosts copies) opened.0 opened.1 found (subst IsUnused (sym same) unused) in
+          first_stopped (file_state conn) (file_state new) c.into_store.result c.args.changes.now e unlimited counts (c.in-Err-load_or_create.ensures.err_blank (always_clean new) blank);
+    }

@@ -1,0 +1,25 @@
+-- Why the files of a store are not judged, or refused.
+use Rattle.std.specs.Prelude.{ℕ, List}
+use Rattle.sqlite.specs.Recovery.{Image}
+use Rattle.dav_rows.specs.Contents.{Contents}
+use Rattle.dav_rows.specs.Failing.{HasUtf8}
+use Rattle.dav_rows.specs.declared.change.Change.{Change}
+use Rattle.disk_copy.specs.Copies.{IsExcused}
+use Rattle.dav_rows_files.specs.Starting.{Keeps, IsUnused, IsStopped, IsStoppedFirst}
+use Rattle.dav_rows_files.specs.declared.judging.Unjudged.{Unjudged}
+use Rattle.dav_rows_files.specs.declared.judging.Unjudged.TheVariants.{Copy, Start}
+
+-- Memory ran out, a disk reported a fault, whose count was the first of these numbers before and is the second one now, or a file is as long as SQLite allows.
+abbrev pub IsJudgeStopped : ℕ → ℕ → Unjudged → Type 0
+IsJudgeStopped old new (Copy e) = IsExcused old new e
+IsJudgeStopped old new (Start e left) = IsStopped left e
+
+-- the same causes, or a row of the first changes is too long
+abbrev pub IsJudgeStoppedFirst : List Change → ℕ → ℕ → Unjudged → Type 0
+IsJudgeStoppedFirst changes old new (Copy e) = IsExcused old new e
+IsJudgeStoppedFirst changes old new (Start e left) = IsStoppedFirst left changes e
+
+-- Where the files keep maps whose texts are UTF-8, or are unused, nothing else stops it.
+pub record FailsToJudge (image : Image) (changes : List Change) (old new : ℕ) (e : Unjudged) : Type 0 where
+  pub kept : (m : Contents) → Keeps image m → HasUtf8 m → IsJudgeStopped old new e
+  pub first : IsUnused image → IsJudgeStoppedFirst changes old new e

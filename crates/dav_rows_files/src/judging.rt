@@ -1,0 +1,81 @@
+//! Judges the files of a store before anything is written to them.
+ghost use Rattle.std.specs.Prelude.{◌≡◌, IsTrue, IfOk, IfErr};
+ghost use Rattle.sqlite.specs.Files.{image_of, faults_of};
+ghost use Rattle.sqlite_wal.specs.Reads.{AreClean, OnlyReads};
+ghost use Rattle.dav_rows.specs.Creating.{first};
+ghost use Rattle.disk_copy.specs.Copies.{IsExcused};
+ghost use Rattle.dav_rows_files.specs.Starting.{AreRowsIn};
+ghost use Rattle.dav_rows_files.specs.Judging.{FailsToJudge};
+
+use dav_rows::{Change, Rows, StartError, load_or_create};
+use disk_copy::{Copied, CopyError};
+use sqlite::{Connection, Leftover};
+use sqlite_disk::{Disk, Files};
+use sqlite_pager::Options;
+use std::alloc::Global;
+
+/// Why the files of a store are not judged, or refused.
+#[derive(Drop)]
+pub enum Unjudged {
+    /// A file cannot be copied.
+    Copy(CopyError),
+    /// The copies are not those of a store, or memory ran out. They come with the error.
+    Start(StartError, Leftover<Copied>),
+}
+
+impl From<CopyError> for Unjudged {
+    ghost use Rattle.dav_rows_files.specs.declared.judging.Unjudged.TheVariants.{Copy};
+
+    ghost from_gives = { λ error e. e ≡ Copy error };
+
+    fn from(error: CopyError) -> Unjudged {
+        Unjudged::Copy(error)
+    }
+}
+
+/// Loads all rows from copies of the files of a database in memory. It only reads the files themselves. The rows stand for
+/// the maps that the files keep, whatever a crash made of them. If the files have no table, they are the rows of new tables
+/// after these changes.
+///
+/// - `Copy`: memory runs out, or a file cannot be read.
+/// - `Start`: the copies have other tables or hold no database, or memory runs out.
+///
+/// If the files keep the tables of a store, or none, it fails only if memory runs out, a disk reports a fault, a file has
+/// the largest size that SQLite allows, or a row of the changes has more than a billion bytes.
+pub fn judge<D: Disk>(
+    alloc: Global,
+    files: &mut Files<D>,
+    changes: &[Change],
+) -> Result<Rows, Unjudged>
+    requires log_usable { IsTrue (D.Disk.is_usable files.old.log) }
+    requires db_usable { IsTrue (D.Disk.is_usable files.old.db) }
+    ensures log { OnlyReads D.Disk files.old.log files.new.log }
+    ensures db { OnlyReads D.Disk files.old.db files.new.db }
+    ensures found { IfOk result (λ rows. AreClean D.Disk files.new.log files.new.db → AreRowsIn (image_of D.Disk files.old) (first changes.now) rows) }
+    ensures err { IfErr result (λ e. AreClean D.Disk files.new.log files.new.db
+        → FailsToJudge (image_of D.Disk files.old) changes.now (faults_of D.Disk files.old) (faults_of D.Disk files.new) e) }
+{
+    let copies = copy_files(alloc, files)?;
+    let mut conn = match Connection::open_files(alloc, copies, Options::new(0)) {
+        Ok(conn) => conn,
+        Err((error, left)) => return Err(Unjudged::Start(StartError::Sqlite(error), left)),
+    };
+    match load_or_create(&mut conn, alloc, changes) {
+        Ok(rows) => Ok(rows),
+        Err(error) => Err(Unjudged::Start(error, Leftover::Store(conn.into_store()))),
+    }
+}
+
+/// Copies a log and its database file into memory. Errors are those of [`Copied::of`].
+fn copy_files<D: Disk>(alloc: Global, files: &mut Files<D>) -> Result<Files<Copied>, CopyError>
+    requires log_usable { IsTrue (D.Disk.is_usable files.old.log) }
+    requires db_usable { IsTrue (D.Disk.is_usable files.old.db) }
+    ensures log { OnlyReads D.Disk files.old.log files.new.log }
+    ensures db { OnlyReads D.Disk files.old.db files.new.db }
+    ensures same { IfOk result (λ copies. AreClean D.Disk files.new.log files.new.db → image_of ⟦<Copied as Disk>⟧ copies ≡ image_of D.Disk files.old) }
+    ensures err { IfErr result (IsExcused (faults_of D.Disk files.old) (faults_of D.Disk files.new)) }
+{
+    let log = Copied::of(alloc, &mut files.log)?;
+    let db = Copied::of(alloc, &mut files.db)?;
+    Ok(Files { log, db })
+}
