@@ -18,8 +18,17 @@ use Rattle.dav_tree.specs.declared.medium.Medium.{Ghosts}
 use Rattle.dav_tree.specs.declared.tree_fs.TreeFs.{TreeFs}
 use Rattle.dav_keep.specs.Images.{Image, StandForImage, HoldsImage, IsSound, IsImageOf}
 use Rattle.dav_keep.specs.declared.keeping.Keeping.{Keeping}
+use Rattle.dav_keep.specs.declared.loading.Known.{Known}
 
 -- ---- what is kept
+
+-- what was loaded is known of tables that stand for an image: how many rows each resource has, the rows of the locks, the number of changes, and the key
+pub record Knows (known : Known) (image : Image) (tables : Contents) : Type 0 where
+  pub stand : StandForImage tables image
+  pub fits : Fits known.counts tables
+  pub locks : entries tables.locks ≡ known.locks
+  pub version : known.version ≡ image.numbers.counter
+  pub key : known.key ≡ image.numbers.key
 
 module _ {S : Type 0} {rows : store.Ghosts S} where
   abbrev pub connection_of : Keeping S rows → Held S

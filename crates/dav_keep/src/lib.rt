@@ -11,5 +11,5 @@ mod numbers;
 pub use error::KeepError;
 pub use first::first_changes;
 pub use keeping::Keeping;
-pub use loading::Loaded;
+pub use loading::{Known, Loaded, load};
 pub use numbers::Numbers;

@@ -12,7 +12,7 @@ ghost use Rattle.dav_store.specs.declared.lock.DavLock.{DavLock as TheLock};
 ghost use Rattle.dav_store_rows.specs.LockRows.{AreLockRows};
 ghost use Rattle.dav_store_rows.specs.Loads.{IsMemory};
 ghost use Rattle.dav_keep.specs.Images.{Image};
-ghost use Rattle.dav_keep.specs.Keeping.{IsKnown};
+ghost use Rattle.dav_keep.specs.Keeping.{IsKnown, Knows, connection_of};
 ghost use Rattle.dav_keep.specs.Ends.{IsEnd, AreBelow};
 ghost use Rattle.dav_keep.specs.Loading.{AreRowsOfImage, IsLoaded};
 
@@ -42,35 +42,62 @@ pub struct Loaded {
     pub end: usize,
 }
 
+/// What a keeper knows of the tables that it goes on from.
+#[derive(Drop)]
+pub struct Known {
+    /// How many rows each resource has.
+    pub(crate) counts: SavedCounts,
+    /// The rows of the locks.
+    pub(crate) locks: SavedLocks,
+    /// How many changes the store had when it was last kept.
+    pub(crate) version: u64,
+    /// The key of the digests.
+    pub(crate) key: u64,
+}
+
+/// Loads what was kept from the rows of a database.
+///
+/// - `Damaged`: the rows are not those of a store that was kept.
+/// - `Memory`: memory runs out.
+pub fn load(alloc: Global, rows: Rows) -> Result<(Known, Loaded), LoadError>
+    ensures end { IfOk result (λ r. IsEnd (AreBelow r.1.values.items) r.1.end) }
+    ensures loaded { (image : Image) (tables : Contents) → AreRowsOfImage rows image tables → IfOk result (λ r. IsLoaded image r.1) }
+    ensures known { (image : Image) (tables : Contents) → AreRowsOfImage rows image tables → IfOk result (λ r. Knows r.0 image tables) }
+    ensures err { (image : Image) (tables : Contents) → AreRowsOfImage rows image tables → IfErr result IsMemory }
+{
+    let loaded = loaded_of(alloc, &rows)?;
+    let counts = SavedCounts::from_rows(alloc, &rows)?;
+    let known = Known {
+        counts,
+        locks: SavedLocks::from_rows(rows.locks),
+        version: loaded.numbers.counter,
+        key: loaded.numbers.key,
+    };
+    Ok((known, loaded))
+}
+
 impl<S: Alter + Drop> Keeping<S> {
-    /// Loads what was kept from the rows of a database, and goes on from there.
-    ///
-    /// - `Damaged`: the rows are not those of a store that was kept.
-    /// - `Memory`: memory runs out.
-    pub fn load(
-        alloc: Global,
-        conn: Connection<S>,
-        rows: Rows,
-    ) -> Result<(Keeping<S>, Loaded), LoadError>
+    /// Keeps in this database, of whose tables this is known.
+    pub fn new(alloc: Global, conn: Connection<S>, known: Known) -> Keeping<S>
         requires { conn.in_transaction ≡ false }
-        ensures same { IfOk result (λ r. r.0.conn ≡ conn) }
-        ensures end { IfOk result (λ r. IsEnd (AreBelow r.1.values.items) r.1.end) }
-        ensures loaded { (image : Image) (tables : Contents) → AreRowsOfImage rows image tables → IfOk result (λ r. IsLoaded image r.1) }
-        ensures known { (image : Image) (tables : Contents) → AreRowsOfImage rows image tables
-            → (HasCleanDisk (state S.Store conn) → IsAt (state S.Store conn) tables) → IfOk result (λ r. IsKnown r.0 image) }
-        ensures err { (image : Image) (tables : Contents) → AreRowsOfImage rows image tables → IfErr result IsMemory }
+        ensures same { connection_of result ≡ conn }
+        ensures known { (image : Image) (tables : Contents) → Knows known image tables
+            → (HasCleanDisk (state S.Store conn) → IsAt (state S.Store conn) tables) → IsKnown result image }
     {
-        let loaded = loaded_of(alloc, &rows)?;
-        let counts = SavedCounts::from_rows(alloc, &rows)?;
-        let keeping = Keeping {
+        let Known {
+            counts,
+            locks,
+            version,
+            key,
+        } = known;
+        Keeping {
             alloc,
             conn,
             counts,
-            locks: SavedLocks::from_rows(rows.locks),
-            version: loaded.numbers.counter,
-            key: loaded.numbers.key,
-        };
-        Ok((keeping, loaded))
+            locks,
+            version,
+            key,
+        }
     }
 }
 

@@ -11,10 +11,10 @@ use Rattle.sqlite.specs.Held.{Held}
 use Rattle.sqlite.specs.State.{HasCleanDisk}
 use Rattle.sqlite.specs.declared.file.Leftover.{Leftover}
 use Rattle.sqlite.specs.declared.file.Leftover.TheVariants as left
-use Rattle.disk_copy.specs.Copies.{IsExcused}
-use Rattle.disk_copy.specs.declared.copied.Copied.{Copied}
-use Rattle.disk_copy.specs.declared.error.CopyError.{CopyError}
-use Rattle.disk_copy.specs.contracts.copied.CopiedDisk.TheImpl as copied
+use Rattle.disk_readonly.specs.Copies.{IsExcused}
+use Rattle.disk_readonly.specs.declared.copied.Copied.{Copied}
+use Rattle.disk_readonly.specs.declared.error.CopyError.{CopyError}
+use Rattle.disk_readonly.specs.contracts.copied.CopiedDisk.TheImpl as copied
 
 -- memory takes no wrong answer as true
 pub always_clean : (c : Held (FileStore Copied copied.ghosts)) → HasCleanDisk (file_state c)

@@ -4,7 +4,7 @@ use Rattle.sqlite.specs.Recovery.{Image}
 use Rattle.dav_rows.specs.Contents.{Contents}
 use Rattle.dav_rows.specs.Failing.{HasUtf8}
 use Rattle.dav_rows.specs.declared.change.Change.{Change}
-use Rattle.disk_copy.specs.Copies.{IsExcused}
+use Rattle.disk_readonly.specs.Copies.{IsExcused}
 use Rattle.dav_rows_files.specs.Starting.{Keeps, IsUnused, IsStopped, IsStoppedFirst}
 use Rattle.dav_rows_files.specs.declared.judging.Unjudged.{Unjudged}
 use Rattle.dav_rows_files.specs.declared.judging.Unjudged.TheVariants.{Copy, Start}

@@ -3,12 +3,12 @@ ghost use Rattle.std.specs.Prelude.{◌≡◌, IsTrue, IfOk, IfErr};
 ghost use Rattle.sqlite.specs.Files.{image_of, faults_of};
 ghost use Rattle.sqlite_wal.specs.Reads.{AreClean, OnlyReads};
 ghost use Rattle.dav_rows.specs.Creating.{first};
-ghost use Rattle.disk_copy.specs.Copies.{IsExcused};
+ghost use Rattle.disk_readonly.specs.Copies.{IsExcused};
 ghost use Rattle.dav_rows_files.specs.Starting.{AreRowsIn};
 ghost use Rattle.dav_rows_files.specs.Judging.{FailsToJudge};
 
 use dav_rows::{Change, Rows, StartError, load_or_create};
-use disk_copy::{Copied, CopyError};
+use disk_readonly::{Copied, CopyError};
 use sqlite::{Connection, Leftover};
 use sqlite_disk::{Disk, Files};
 use sqlite_pager::Options;

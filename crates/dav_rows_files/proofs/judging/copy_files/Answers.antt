@@ -1,5 +1,5 @@
 use Rattle.std.proofs.Common.{◌+◌, ◌≡◌, sym, subst}
-use Rattle.disk_copy.specs.Copies.{IsExcused}
+use Rattle.disk_readonly.specs.Copies.{IsExcused}
 use Rattle.dav_rows_files.proofs.JudgeLemmas.{excused-behind, if-err-same}
 use Rattle.dav_rows_files.proofs.judging.copy_files.Goals as goal
 

@@ -1,5 +1,5 @@
 use Rattle.std.proofs.Common.{◌≡◌, sym, subst}
-use Rattle.disk_copy.specs.contracts.copied.CopiedDisk.TheImpl as copied
+use Rattle.disk_readonly.specs.contracts.copied.CopiedDisk.TheImpl as copied
 use Rattle.sqlite.specs.Files.{file_state, image_of}
 use Rattle.dav_rows_files.specs.Starting.{Keeps, IsVacant, IsUnused}
 use Rattle.dav_rows_files.proofs.StartLemmas.{at_start, blank_start, unused_start, found_in, open_failed, open_failed_first, load_stopped, first_stopped}

@@ -3,7 +3,7 @@ ghost use Rattle.std.specs.Prelude.{◌≡◌, ◌^◌, ◌<◌, true, false, le
 ghost use Rattle.sqlite_disk.specs.Disk.{Holds, Torn, Cut, CountsFault};
 ghost use Rattle.sqlite_disk.specs.Refusal.{finds_no_room};
 ghost use Rattle.sqlite_wal.specs.Reads.{OnlyReads};
-ghost use Rattle.disk_copy.specs.Copies.{contents_of, IsCopyOf, IsExcused};
+ghost use Rattle.disk_readonly.specs.Copies.{contents_of, IsCopyOf, IsExcused};
 
 use crate::CopyError;
 use sqlite_disk::{Disk, Tally, digest_of};

@@ -16,7 +16,7 @@ pub enum CopyError {
 
 impl From<AllocError> for CopyError {
     ghost use Rattle.std.specs.Prelude.{◌≡◌};
-    ghost use Rattle.disk_copy.specs.declared.error.CopyError.TheVariants.{Memory};
+    ghost use Rattle.disk_readonly.specs.declared.error.CopyError.TheVariants.{Memory};
 
     ghost from_gives = { λ _ e. e ≡ Memory };
 
@@ -27,7 +27,7 @@ impl From<AllocError> for CopyError {
 
 impl From<io::Error> for CopyError {
     ghost use Rattle.std.specs.Prelude.{◌≡◌};
-    ghost use Rattle.disk_copy.specs.declared.error.CopyError.TheVariants.{Disk};
+    ghost use Rattle.disk_readonly.specs.declared.error.CopyError.TheVariants.{Disk};
 
     ghost from_gives = { λ error e. e ≡ Disk error };
 

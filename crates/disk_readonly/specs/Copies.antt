@@ -4,9 +4,9 @@ use Rattle.std.specs.declared.io.Error.{Error}
 use Rattle.sqlite_disk.specs.declared.Disk.{Ghosts}
 use Rattle.sqlite_disk.specs.Disk.{MoreFaults}
 use Rattle.sqlite_wal.specs.Reads.{IsClean}
-use Rattle.disk_copy.specs.declared.copied.Copied.{Copied}
-use Rattle.disk_copy.specs.declared.error.CopyError.{CopyError}
-use Rattle.disk_copy.specs.declared.error.CopyError.TheVariants.{Memory, Disk}
+use Rattle.disk_readonly.specs.declared.copied.Copied.{Copied}
+use Rattle.disk_readonly.specs.declared.error.CopyError.{CopyError}
+use Rattle.disk_readonly.specs.declared.error.CopyError.TheVariants.{Memory, Disk}
 
 abbrev pub contents_of : Copied → List ℕ
 contents_of copy = copy.bytes.items
