@@ -5,7 +5,7 @@ use Rattle.std.specs.Option.{option_map}
 use Rattle.std.specs.Prelude.{IfErr, IsErrAnd}
 use Rattle.std.specs.declared.io.Error.{Error}
 use Rattle.sqlite_disk.specs.declared.Disk as disk
-use Rattle.dav_blocks.specs.Blocks.{IsNotOpened}
+use Rattle.dav_blocks.specs.Settling.{HasNotSettled}
 use Rattle.dav_nodes.specs.Tree.{Tree}
 use Rattle.dav_key.specs.Key.{Key, parent}
 use Rattle.dav_store.specs.Store.{Node, Directory, AreNamed}
@@ -28,10 +28,10 @@ unclean true has end short within = absurd (omega (arith, short refl, within))
 unclean false has end short within = refl
 
 -- a data file that is long enough is opened, unless the disk fails
-pub disk_failed : {D : Type 0} (g : disk.Ghosts D) (old : D) (end : ℕ) (cause : Error) → IsNotOpened g old end cause → end ≤ length (g.seen old) → HasDiskFailed g old
-disk_failed g old end cause refused within = elim refused.cause [
-  | inl short ↦ (refused.left, inl (unclean (g.is_clean refused.left) (length (g.seen old)) end short.short within))
-  | inr more ↦ (refused.left, inr more)
+pub disk_failed : {D : Type 0} (g : disk.Ghosts D) (old left : D) (end : ℕ) (cause : Error) → HasNotSettled g old end left cause → end ≤ length (g.seen old) → HasDiskFailed g old
+disk_failed g old left end cause refused within = elim refused.cause [
+  | inl short ↦ (left, inl (unclean (g.is_clean left) (length (g.seen old)) end short.short within))
+  | inr more ↦ (left, inr more)
 ]
 
 -- ---- whether resources are sound does not depend on what their files have

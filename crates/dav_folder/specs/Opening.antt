@@ -3,6 +3,8 @@ use Rattle.std.specs.Prelude.{◌≡◌, ◌⊎◌, ◌≤◌, ℕ, true, false,
 use Rattle.std.specs.declared.io.Error.{Error}
 use Rattle.sqlite_disk.specs.Disk.{MoreFaults}
 use Rattle.sqlite_disk.specs.declared.Disk as disk
+use Rattle.sqlite_disk.specs.declared.Files.{Files}
+use Rattle.sqlite_wal.specs.Reads.{OnlyReads}
 use Rattle.dav_keep.specs.Images.{Image}
 use Rattle.dav_keep.specs.Loading.{IsWholeImage}
 use Rattle.dav_pieces.specs.declared.piece.Piece.{Piece}
@@ -13,9 +15,9 @@ use Rattle.dav_tree.specs.Memory.{IsSound}
 use Rattle.dav_tree.specs.TreeFs.{memory_of, before_of, honest_of}
 use Rattle.dav_tree.specs.declared.medium.Medium.{Ghosts}
 use Rattle.sqlite_trees.specs.declared.store.Store as store
-use Rattle.dav_folder.specs.Lasting.{At, Lasts}
-use Rattle.dav_folder.specs.declared.opening.OpenError.{OpenError}
-use Rattle.dav_folder.specs.declared.opening.OpenError.TheVariants.{Data, Memory}
+use Rattle.dav_folder.specs.Lasting.{At, Lasts, HasCleanDatabase}
+use Rattle.dav_folder.specs.declared.error.OpenError.{OpenError}
+use Rattle.dav_folder.specs.declared.error.OpenError.TheVariants.{Data, Memory}
 use Rattle.dav_folder.specs.declared.opening.Opened.{Opened}
 
 module _ {S M : Type 0} {rows : store.Ghosts S} {g : Ghosts M (List Piece)} where
@@ -31,6 +33,14 @@ module _ {S M : Type 0} {rows : store.Ghosts S} {g : Ghosts M (List Piece)} wher
   -- if the data file is honest, the store has the resources of an image with the bytes in these contents of the data file
   abbrev pub HasBytes : List ℕ → Image → Opened S M (List Piece) rows g → Type 0
   HasBytes file image opened = honest_of opened.store ≡ true → (memory_of opened.store).resources ≡ resources_by (bytes_of file) image.tree
+
+  -- if the disk of the database is clean, an image is opened
+  abbrev pub OpensImage : Image → Opened S M (List Piece) rows g → Type 0
+  OpensImage image opened = HasCleanDatabase opened.folder → Opens image opened
+
+-- the log and the database file were only read
+abbrev pub AreOnlyRead : {D : Type 0} → disk.Ghosts D → Files D → Files D → Type 0
+AreOnlyRead g old new = OnlyReads g old.log new.log × OnlyReads g old.db new.db
 
 -- ---- when a start fails
 

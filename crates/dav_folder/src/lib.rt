@@ -2,11 +2,15 @@
 #![tactic(auto)]
 
 mod closing;
+mod error;
 mod folder;
 mod laws;
 mod opening;
+mod reading;
 
 pub use closing::close_store;
+pub use error::OpenError;
 pub use folder::Folder;
 pub use laws::show_utf8;
-pub use opening::{OpenError, Opened, open_store};
+pub use opening::{NewStore, Opened, read_files};
+pub use reading::{Found, read_store};

@@ -1,81 +1,36 @@
-//! The store of a folder, made from what was kept.
-ghost use Rattle.std.specs.Prelude.{◌≡◌, true, false, [], IfOk, IfErr};
+//! Opens the store of a folder.
+ghost use Rattle.std.specs.Prelude.{◌≡◌, [], true, false, IsTrue, IfOk, IfErr};
+ghost use Rattle.sqlite.specs.Files.{image_of};
 ghost use Rattle.sqlite.specs.Held.{state};
 ghost use Rattle.sqlite.specs.State.{HasCleanDisk};
-ghost use Rattle.dav_keep.specs.Images.{Image};
+ghost use Rattle.sqlite_wal.specs.Reads.{AreClean};
+ghost use Rattle.dav_tree.specs.TreeFs.{store_of};
+ghost use Rattle.dav_keep.specs.Images.{Image, StandForImage};
 ghost use Rattle.dav_keep.specs.Keeping.{connection_of};
-ghost use Rattle.dav_keep.specs.Loading.{AreRowsOfImage};
+ghost use Rattle.dav_keep.specs.Loading.{IsWholeImage};
 ghost use Rattle.dav_rows.specs.Contents.{Contents};
+ghost use Rattle.dav_rows.specs.Creating.{first};
 ghost use Rattle.dav_rows.specs.Saving.{IsAt};
-ghost use Rattle.dav_tree.specs.TreeFs.{memory_of, store_of};
+ghost use Rattle.dav_rows_files.specs.Starting.{Keeps, IsVacant};
+ghost use Rattle.dav_folder.specs.Errors.{IsLate};
 ghost use Rattle.dav_folder.specs.Folders.{keeping_of};
-ghost use Rattle.dav_folder.specs.Opening.{Opens, HasBytes, HasFiles, IsMemoryOrDisk};
+ghost use Rattle.dav_folder.specs.Lasting.{HasCleanDatabase};
+ghost use Rattle.dav_folder.specs.Reading.{IsReadFrom, ReadsImage, IsEmptyIfHonest};
+ghost use Rattle.dav_folder.specs.Opening.{Opens, OpensImage, AreOnlyRead};
 
-use crate::Folder;
+use crate::error::opening_error;
+use crate::reading::read_store;
+use crate::{Folder, Found, OpenError};
 use dav_data::DataFile;
 use dav_keep::Keeping;
 use dav_memls::MemLs;
-use dav_nodes::RowsError;
-use dav_rows::Rows;
-use dav_store_rows::LoadError;
+use dav_pieces::Body;
+use dav_rows::Change;
+use dav_rows_files::{judge, start};
 use dav_tree::{Medium, TreeFs};
-use sqlite::{Alter, Connection};
-use sqlite_disk::Disk;
+use sqlite::{Alter, Connection, FileStore};
+use sqlite_disk::{Disk, Files};
 use std::alloc::Global;
-use std::io;
-use thiserror::Error;
-
-/// Why the store of a folder is not opened.
-#[derive(Debug, Drop, Error)]
-pub enum OpenError {
-    /// The rows are not those of a store.
-    #[error("the rows are not those of a store")]
-    Damaged,
-    /// The data file cannot be read, or it is shorter than the rows say.
-    #[error("the data file cannot be opened")]
-    Data(io::Error),
-    /// Memory ran out.
-    #[error("out of memory")]
-    Memory,
-}
-
-impl From<LoadError> for OpenError {
-    ghost use Rattle.dav_store_rows.specs.Loads.{IsMemory};
-    ghost use Rattle.dav_folder.specs.declared.opening.OpenError.TheVariants.{Memory};
-
-    ghost from_gives = { λ error e. IsMemory error → e ≡ Memory };
-
-    fn from(error: LoadError) -> OpenError {
-        match error {
-            LoadError::Damaged => OpenError::Damaged,
-            LoadError::Memory => OpenError::Memory,
-        }
-    }
-}
-
-impl From<RowsError> for OpenError {
-    ghost use Rattle.dav_nodes.specs.declared.nodes.loading.RowsError.TheVariants as causes;
-    ghost use Rattle.dav_folder.specs.declared.opening.OpenError.TheVariants.{Memory};
-
-    ghost from_gives = { λ error e. error ≡ causes.Memory → e ≡ Memory };
-
-    fn from(error: RowsError) -> OpenError {
-        match error {
-            RowsError::NotATree => OpenError::Damaged,
-            RowsError::Memory => OpenError::Memory,
-        }
-    }
-}
-
-impl From<io::Error> for OpenError {
-    ghost use Rattle.dav_folder.specs.declared.opening.OpenError.TheVariants.{Data};
-
-    ghost from_gives = { λ error e. e ≡ Data error };
-
-    fn from(error: io::Error) -> OpenError {
-        OpenError::Data(error)
-    }
-}
 
 /// The store of a folder and its locks, as they were kept.
 #[derive(Drop)]
@@ -92,41 +47,117 @@ pub struct Opened<S: Alter, M: Medium> {
     pub last: u64,
 }
 
-/// Opens the store of a folder: over these rows of its database, and over its data file. `limit` is the store's quota.
+/// What a new store begins with.
+#[derive(Clone, Copy)]
+pub struct NewStore<'a> {
+    /// The changes that make its tables of none.
+    pub changes: &'a [Change],
+    /// A random number, for the log of its database.
+    pub seed: u64,
+}
+
+/// A log that is shorter has no page.
+const MIN_LOG: usize = 32 + 24 + 512;
+
+/// Reads the store of a folder, over the files of its database and over its data file. It changes none of them. If there
+/// is nothing, it returns a new store. `limit` is the store's quota.
 ///
-/// - `Damaged`: the rows are not those of a store that was kept.
+/// - `Damaged`: the database is damaged, or its rows are not those of a store that was kept.
+/// - `Foreign`: the database has other tables.
+/// - `NoDatabase`: the database has no table, but the data file has bytes, or the log has pages.
 /// - `Data`: the data file cannot be read, or it is shorter than the rows say.
+/// - `Database`: the database cannot be read.
 /// - `Memory`: memory runs out.
-///
-/// On the rows of a store whose files the data file has, it fails only if memory runs out, or if the disk fails.
-pub fn open_store<S: Alter + Drop, D: Disk + Drop>(
+pub fn read_files<D: Disk, E: Disk + Drop>(
     alloc: Global,
-    conn: Connection<S>,
-    rows: Rows,
-    disk: D,
+    files: &mut Files<D>,
+    disk: E,
+    new: NewStore<'_>,
     limit: Option<Option<u64>>,
-) -> Result<Opened<S, DataFile<D>>, OpenError>
-    requires idle { conn.in_transaction ≡ false }
-    requires usable { D.Disk.is_usable disk ≡ true }
-    ensures same { IfOk result (λ opened. connection_of (keeping_of opened.folder) ≡ conn) }
-    ensures opened { (image : Image) (tables : Contents) → AreRowsOfImage rows image tables
-        → (HasCleanDisk (state S.Store conn) → IsAt (state S.Store conn) tables) → IfOk result (Opens image) }
-    ensures bytes { (image : Image) (tables : Contents) → AreRowsOfImage rows image tables → IfOk result (HasBytes (D.Disk.seen disk) image) }
-    ensures limit { (image : Image) (tables : Contents) → AreRowsOfImage rows image tables → IfOk result (λ opened. (memory_of opened.store).limit ≡ limit) }
-    ensures log { IfOk result (λ opened. (store_of opened.store).log ≡ []) }
-    ensures err { (image : Image) (tables : Contents) (are : AreRowsOfImage rows image tables) → HasFiles (D.Disk.seen disk) image are.whole
-        → IfErr result (IsMemoryOrDisk D.Disk disk) }
+) -> Result<Found<DataFile<E>>, OpenError>
+    requires log_usable { IsTrue (D.Disk.is_usable files.old.log) }
+    requires db_usable { IsTrue (D.Disk.is_usable files.old.db) }
+    requires usable { E.Disk.is_usable disk ≡ true }
+    ensures kept { (image : Image) (tables : Contents) → Keeps (image_of D.Disk files.old) tables → StandForImage tables image → IsWholeImage image
+        → IfOk result (λ found. AreClean D.Disk files.new.log files.new.db → ReadsImage (E.Disk.seen disk) limit image tables found) }
+    ensures new { (image : Image) → IsVacant (image_of D.Disk files.old) → StandForImage (first new.changes.now) image → IsWholeImage image
+        → IfOk result (λ found. AreClean D.Disk files.new.log files.new.db → ReadsImage (E.Disk.seen disk) limit image (first new.changes.now) found) }
+    ensures empty { IsVacant (image_of D.Disk files.old)
+        → IfOk result (λ found. AreClean D.Disk files.new.log files.new.db → IsEmptyIfHonest found (E.Disk.seen disk)) }
+    ensures log { IfOk result (λ found. (store_of found.store).log ≡ []) }
+    ensures only { AreOnlyRead D.Disk files.old files.new }
 {
-    let (keeping, loaded) = Keeping::load(alloc, conn, rows)?;
-    let numbers = loaded.numbers;
-    let medium = DataFile::open(alloc, disk, numbers.key, loaded.end)?;
-    let store = TreeFs::load(alloc, medium, loaded.values, numbers.counter, limit)?;
-    store.show_sound();
-    Ok(Opened {
-        folder: Folder::new(keeping),
-        store,
-        locks: loaded.locks,
-        now: numbers.time,
-        last: numbers.batch,
-    })
+    let mut disk = disk;
+    let judged = judge(alloc, files, new.changes)?;
+    if judged.is_new && has_bytes(&mut files.log, &mut disk)? {
+        return Err(OpenError::NoDatabase);
+    }
+    read_store(alloc, judged.rows, disk, limit)
+}
+
+/// Whether a log has pages, or a data file has bytes.
+///
+/// - `Data`: the data file fails.
+/// - `Database`: the log fails.
+fn has_bytes<D: Disk, E: Disk>(log: &mut D, data: &mut E) -> Result<bool, OpenError>
+{
+    let in_log = match log.len() {
+        Ok(len) => len >= MIN_LOG,
+        Err(error) => return Err(OpenError::Database(error)),
+    };
+    let in_data = data.len()?;
+    Ok(in_log || in_data > 0)
+}
+
+impl<M: Medium<Body = Body>> Found<M> {
+    /// Opens the database from whose files this was read, and goes on from there. If the database has no table, its tables
+    /// are made.
+    ///
+    /// - `Database`: the database cannot be read or written.
+    /// - `Memory`: memory runs out.
+    pub fn open<D: Disk + Drop>(
+        self,
+        alloc: Global,
+        files: Files<D>,
+        new: NewStore<'_>,
+    ) -> Result<Opened<FileStore<D>, M>, OpenError>
+        requires log_usable { IsTrue (D.Disk.is_usable files.log) }
+        requires db_usable { IsTrue (D.Disk.is_usable files.db) }
+        ensures kept { (image : Image) (tables : Contents) → Keeps (image_of D.Disk files) tables
+            → (AreClean D.Disk files.log files.db → IsReadFrom image tables self) → IfOk result (OpensImage image) }
+        ensures new { (image : Image) → IsVacant (image_of D.Disk files)
+            → (AreClean D.Disk files.log files.db → IsReadFrom image (first new.changes.now) self) → IfOk result (OpensImage image) }
+        ensures clean { IfOk result (λ opened. HasCleanDatabase opened.folder → AreClean D.Disk files.log files.db) }
+        ensures store { IfOk result (λ opened. opened.store ≡ self.store) }
+        ensures err { IfErr result IsLate }
+    {
+        match start(alloc, files, new.seed, new.changes) {
+            Ok(conn) => Ok(self.keep_in(alloc, conn)),
+            Err((error, _)) => Err(opening_error(error)),
+        }
+    }
+
+    /// Goes on from what was read, and keeps it in this database.
+    fn keep_in<S: Alter + Drop>(self, alloc: Global, conn: Connection<S>) -> Opened<S, M>
+        requires { conn.in_transaction ≡ false }
+        ensures same { connection_of (keeping_of result.folder) ≡ conn }
+        ensures store { result.store ≡ self.store }
+        ensures opened { (image : Image) (tables : Contents) → IsReadFrom image tables self
+            → (HasCleanDisk (state S.Store conn) → IsAt (state S.Store conn) tables) → Opens image result }
+    {
+        let Found {
+            known,
+            store,
+            locks,
+            now,
+            last,
+        } = self;
+        Opened {
+            folder: Folder::new(Keeping::new(alloc, conn, known)),
+            store,
+            locks,
+            now,
+            last,
+        }
+    }
 }

@@ -1,13 +1,20 @@
--- Why the files of a store are not judged, or refused.
-use Rattle.std.specs.Prelude.{ℕ, List}
+-- What is found in the files of a store before they are opened, and why they are not judged.
+use Rattle.std.specs.Prelude.{◌≡◌, ℕ, true, false, List}
 use Rattle.sqlite.specs.Recovery.{Image}
 use Rattle.dav_rows.specs.Contents.{Contents}
 use Rattle.dav_rows.specs.Failing.{HasUtf8}
 use Rattle.dav_rows.specs.declared.change.Change.{Change}
 use Rattle.disk_readonly.specs.Copies.{IsExcused}
-use Rattle.dav_rows_files.specs.Starting.{Keeps, IsUnused, IsStopped, IsStoppedFirst}
+use Rattle.dav_rows.specs.Loading.{AreAll}
+use Rattle.dav_rows_files.specs.Starting.{Keeps, IsVacant, IsUnused, IsStopped, IsStoppedFirst}
+use Rattle.dav_rows_files.specs.declared.judging.Judged.{Judged}
 use Rattle.dav_rows_files.specs.declared.judging.Unjudged.{Unjudged}
 use Rattle.dav_rows_files.specs.declared.judging.Unjudged.TheVariants.{Copy, Start}
+
+-- the rows are those that the files keep, which are not new; or if the files have no table, those of these maps, which are new
+pub record IsJudged (image : Image) (new : Contents) (judged : Judged) : Type 0 where
+  pub kept : (m : Contents) → Keeps image m → AreAll judged.rows m × (judged.is_new ≡ false)
+  pub first : IsVacant image → AreAll judged.rows new × (judged.is_new ≡ true)
 
 -- Memory ran out, a disk reported a fault, whose count was the first of these numbers before and is the second one now, or a file is as long as SQLite allows.
 abbrev pub IsJudgeStopped : ℕ → ℕ → Unjudged → Type 0

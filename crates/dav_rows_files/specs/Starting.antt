@@ -13,12 +13,10 @@ use Rattle.sqlite.specs.declared.file.Leftover.{Leftover}
 use Rattle.sqlite.specs.declared.error.ErrorCode.TheVariants.{DiskFull, TooBig}
 use Rattle.sqlite.specs.declared.error.Error.{Error}
 use Rattle.sqlite.specs.declared.error.Error.TheVariants.{SqliteFailure}
-use Rattle.dav_rows.specs.declared.loading.Rows.{Rows}
 use Rattle.dav_rows.specs.declared.opening.StartError.{StartError}
 use Rattle.dav_rows.specs.declared.opening.StartError.TheVariants.{Foreign, Sqlite}
 use Rattle.dav_rows.specs.Contents.{Contents, Holds}
 use Rattle.dav_rows.specs.Saving.{IsAt}
-use Rattle.dav_rows.specs.Loading.{AreAll}
 use Rattle.dav_rows.specs.Failing.{IsOutOfMemory, HasUtf8, PutsTooLong}
 use Rattle.dav_rows.specs.declared.change.Change.{Change}
 
@@ -40,11 +38,6 @@ abbrev pub IsUnused : Image → Type 0
 IsUnused image = (IsNothing image × IsVacant image) ⊎ ((db : Trees) × HoldsDatabase image db × (db catalog_tree ≡ []))
 
 -- ---- what a start finds
-
--- the rows are those that the files keep, and if the files have no table, those of these maps
-pub record AreRowsIn (image : Image) (new : Contents) (rows : Rows) : Type 0 where
-  pub kept : (m : Contents) → Keeps image m → AreAll rows m
-  pub first : IsVacant image → AreAll rows new
 
 -- the connection begins at the maps that the files keep
 abbrev pub BeginsAt : Image → State → Type 0

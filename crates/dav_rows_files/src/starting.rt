@@ -1,6 +1,8 @@
 //! Opens the rows of a store in files that were judged.
 ghost use Rattle.std.specs.Prelude.{◌≡◌, false, Some, IsTrue, IfOk, IfErr};
 ghost use Rattle.sqlite.specs.Files.{file_state, image_of};
+ghost use Rattle.sqlite.specs.State.{HasCleanDisk};
+ghost use Rattle.sqlite_wal.specs.Reads.{AreClean};
 ghost use Rattle.dav_rows.specs.Creating.{first};
 ghost use Rattle.dav_rows_files.specs.Starting.{BeginsAt, BeginsFirst, FailsToStart, FailsToStartFirst};
 
@@ -26,6 +28,7 @@ pub fn start<D: Disk + Drop>(
 ) -> Result<Connection<FileStore<D>>, (StartError, Leftover<D>)>
     requires log_usable { IsTrue (D.Disk.is_usable files.log) }
     requires db_usable { IsTrue (D.Disk.is_usable files.db) }
+    ensures honest { IfOk result (λ conn. HasCleanDisk (file_state conn) → AreClean D.Disk files.log files.db) }
     ensures at { IfOk result (λ conn. BeginsAt (image_of D.Disk files) (file_state conn)) }
     ensures new { IfOk result (λ conn. BeginsFirst (image_of D.Disk files) (file_state conn) (first changes.now)) }
     ensures idle { IfOk result (λ conn. conn.in_transaction ≡ false) }

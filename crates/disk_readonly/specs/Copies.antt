@@ -11,6 +11,10 @@ use Rattle.disk_readonly.specs.declared.error.CopyError.TheVariants.{Memory, Dis
 abbrev pub contents_of : Copied → List ℕ
 contents_of copy = copy.bytes.items
 
+-- how many calls have failed
+abbrev pub faults_of : Copied → ℕ
+faults_of copy = copy.faults
+
 -- if no wrong answer was taken as true, the copy has the contents of the disk
 abbrev pub IsCopyOf : {D : Type 0} → Ghosts D → D → D → Copied → Type 0
 IsCopyOf g old new copy = IsClean g new → contents_of copy ≡ g.seen old

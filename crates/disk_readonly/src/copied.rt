@@ -1,9 +1,9 @@
 //! A copy of a file, as a disk.
-ghost use Rattle.std.specs.Prelude.{◌≡◌, ◌^◌, ◌<◌, true, false, length, refl, is_ok, IsTrue, IfOk, IfErr, OnOk, OnErr};
+ghost use Rattle.std.specs.Prelude.{◌≡◌, ◌^◌, ◌<◌, ◌↔◌, true, false, length, refl, is_ok, IsTrue, IfOk, IfErr, OnOk, OnErr};
 ghost use Rattle.sqlite_disk.specs.Disk.{Holds, Torn, Cut, CountsFault};
 ghost use Rattle.sqlite_disk.specs.Refusal.{finds_no_room};
 ghost use Rattle.sqlite_wal.specs.Reads.{OnlyReads};
-ghost use Rattle.disk_readonly.specs.Copies.{contents_of, IsCopyOf, IsExcused};
+ghost use Rattle.disk_readonly.specs.Copies.{contents_of, faults_of, IsCopyOf, IsExcused};
 
 use crate::CopyError;
 use sqlite_disk::{Disk, Tally, digest_of};
@@ -39,6 +39,13 @@ impl Copied {
             faults: 0,
             caught: 0,
         })
+    }
+
+    /// Returns whether a call has failed, as it does when memory runs out.
+    pub fn has_failed(&self) -> bool
+        ensures { IsTrue result ↔ (0 < faults_of self.now) }
+    {
+        self.faults > 0
     }
 
     /// Returns the contents.

@@ -15,9 +15,14 @@ returns-in-Ok-load_or_create-clause-found g c clean =
     let found = found_in copies conn (c.in-Ok.ensures.found (always_clean conn)) in
     let loaded = c.in-Ok-load_or_create.ensures in
     let late = always_clean c.load_or_create.new.conn in
+    let empty = c.has_no_table-is_new.ensures in
     record {
-      kept = λ m keeps. (loaded.ours late m (at_start (file_state conn) (image_of copied.ghosts copies) m opened.0 opened.1 found (subst (λ image. Keeps image m) (sym same) keeps))).1;
-      first = λ vacant. (loaded.blank late (blank_start (file_state conn) (image_of copied.ghosts copies) opened.0 opened.1 found (subst IsVacant (sym same) vacant))).1;
+      kept = λ m keeps.
+          let at = at_start (file_state conn) (image_of copied.ghosts copies) m opened.0 opened.1 found (subst (λ image. Keeps image m) (sym same) keeps) in
+          ((loaded.ours late m at).1, empty.ours m at);
+      first = λ vacant.
+          let blank = blank_start (file_state conn) (image_of copied.ghosts copies) opened.0 opened.1 found (subst IsVacant (sym same) vacant) in
+          ((loaded.blank late blank).1, empty.blank blank);
     }
 
 pub returns-in-Err-clause-err : goal.returns-in-Err-clause-err

@@ -1,0 +1,40 @@
+use Rattle.std.proofs.Common.{◌≡◌, ◌∙◌, refl, sym, ap, subst, inl, inr, arith}
+use Rattle.dav_data.specs.Data.{is_below, body_bytes}
+use Rattle.dav_keep.specs.declared.numbers.Numbers.{Numbers}
+use Rattle.dav_pieces.specs.declared.piece.Piece.{Piece}
+use Rattle.dav_pieces.specs.Pieces.{bytes_of}
+use Rattle.dav_tree.proofs.Keeping.{same-resources}
+use Rattle.dav_tree.specs.Memory.{Memory}
+use Rattle.dav_folder.proofs.LoadedBytes.{tree_below}
+use Rattle.dav_keep.proofs.LoadedImages.{values_below}
+use Rattle.dav_nodes.specs.declared.nodes.loading.RowsError.TheVariants as causes
+use Rattle.dav_folder.proofs.Starts.{err_by, disk_failed, other_bytes}
+use Rattle.dav_folder.specs.Opening.{IsMemoryOrDisk}
+use Rattle.dav_folder.specs.declared.error.OpenError.TheVariants as errors
+use Rattle.dav_folder.proofs.reading.read_store.Goals as goal
+
+pub returns-in-Ok-clause-found : goal.returns-in-Ok-clause-found
+returns-in-Ok-clause-found g c = λ image tables are.
+    let loaded = c.in_ok-known.ensures.loaded image tables are in
+    let store = c.in_ok-store.ensures in
+    record {
+      knows = c.in_ok-known.ensures.known image tables are;
+      sound = are.whole.sound;
+      entries = store.entries image.tree loaded.values;
+      resources = c.show_sound.ensures;
+      saved = store.saved;
+      locks_are = loaded.locks;
+      counter = ap (λ (m : Memory). m.version) (store.memory image.tree loaded.values) ∙ ap (λ (n : Numbers). n.counter) loaded.numbers;
+      time = ap (λ (n : Numbers). n.time) loaded.numbers;
+      batch = ap (λ (n : Numbers). n.batch) loaded.numbers;
+    }
+
+pub returns-in-Ok-clause-bytes : goal.returns-in-Ok-clause-bytes
+returns-in-Ok-clause-bytes g c = λ image tables are honest.
+    let loaded = c.in_ok-known.loaded in
+    let values = (c.in_ok-known.ensures.loaded image tables are).values in
+    let store = c.in_ok-store.ensures in
+    let same = c.in-Ok.ensures.same (sym store.honest ∙ honest) in
+    ap (λ (m : Memory). m.resources) (store.memory image.tree values)
+    ∙ same-resources (bytes_of (g.D.Disk.seen c.args.disk)) (body_bytes c.in-Ok.medium) (is_below loaded.end) (is_below loaded.end) (λ body below. below)
+    (λ body below. ap (λ file. bytes_of file body) same) image.tree (tree_below loaded.values.items image.tree loaded.end values c.in_ok-known.ensures.end.reached)

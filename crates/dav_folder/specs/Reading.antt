@@ -1,0 +1,42 @@
+-- What is read of a folder.
+use Rattle.std.specs.Prelude.{◌≡◌, ℕ, true, List, [], map, Option}
+use Rattle.dav_cells.specs.Locks.{kept_lock}
+use Rattle.dav_keep.specs.Images.{Image, IsSound}
+use Rattle.dav_keep.specs.Keeping.{Knows}
+use Rattle.dav_memls.specs.MemLs.{list_of}
+use Rattle.dav_pieces.specs.Pieces.{bytes_of}
+use Rattle.dav_pieces.specs.declared.piece.Piece.{Piece}
+use Rattle.dav_rows.specs.Contents.{Contents}
+use Rattle.dav_tree.specs.Before.{entries_code, IsSaved}
+use Rattle.dav_tree.specs.Kept.{resources_by}
+use Rattle.dav_tree.specs.Memory as memory
+use Rattle.dav_tree.specs.TreeFs.{memory_of, entries_of, honest_of}
+use Rattle.dav_tree.specs.declared.medium.Medium.{Ghosts}
+use Rattle.dav_folder.specs.declared.reading.Found.{Found}
+
+module _ {M : Type 0} {g : Ghosts M (List Piece)} where
+  -- what was read is an image: its entries, its locks and its numbers, and what is known of the tables that stand for it
+  pub record IsReadFrom (image : Image) (tables : Contents) (found : Found M (List Piece) g) : Type 0 where
+    pub knows : Knows found.known image tables
+    pub sound : IsSound image
+    pub entries : entries_of found.store ≡ entries_code g.body_code image.tree
+    pub resources : memory.IsSound (memory_of found.store).resources
+    pub saved : IsSaved found.store.entries
+    pub locks_are : list_of found.locks ≡ map kept_lock image.locks
+    pub counter : (memory_of found.store).version ≡ image.numbers.counter
+    pub time : found.now ≡ image.numbers.time
+    pub batch : found.last ≡ image.numbers.batch
+
+  -- if the data file is honest, the store has the resources of an image with the bytes in these contents of the data file
+  abbrev pub HasReadBytes : List ℕ → Image → Found M (List Piece) g → Type 0
+  HasReadBytes file image found = honest_of found.store ≡ true → (memory_of found.store).resources ≡ resources_by (bytes_of file) image.tree
+
+  -- an image is read, with the bytes in these contents of the data file, and this limit is set
+  pub record ReadsImage (file : List ℕ) (limit : Option (Option ℕ)) (image : Image) (tables : Contents) (found : Found M (List Piece) g) : Type 0 where
+    pub read : IsReadFrom image tables found
+    pub bytes : HasReadBytes file image found
+    pub limit_is : (memory_of found.store).limit ≡ limit
+
+  -- if the data file is honest, it had no byte
+  abbrev pub IsEmptyIfHonest : Found M (List Piece) g → List ℕ → Type 0
+  IsEmptyIfHonest found file = honest_of found.store ≡ true → file ≡ []

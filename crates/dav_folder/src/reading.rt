@@ -1,0 +1,71 @@
+//! Reads the store of a folder, and writes nothing.
+ghost use Rattle.std.specs.Prelude.{◌≡◌, true, [], IfOk, IfErr};
+ghost use Rattle.dav_keep.specs.Images.{Image};
+ghost use Rattle.dav_keep.specs.Loading.{AreRowsOfImage};
+ghost use Rattle.dav_rows.specs.Contents.{Contents};
+ghost use Rattle.dav_tree.specs.TreeFs.{memory_of, store_of};
+ghost use Rattle.dav_folder.specs.Reading.{IsReadFrom, HasReadBytes};
+ghost use Rattle.dav_folder.specs.Opening.{HasFiles, IsMemoryOrDisk};
+
+use crate::OpenError;
+use dav_data::DataFile;
+use dav_keep::{Known, load};
+use dav_memls::MemLs;
+use dav_rows::Rows;
+use dav_tree::{Medium, TreeFs};
+use sqlite_disk::Disk;
+use std::alloc::Global;
+
+/// The store of a folder and its locks, as they were read.
+#[derive(Drop)]
+pub struct Found<M: Medium> {
+    /// What is known of the tables.
+    pub(crate) known: Known,
+    /// The store.
+    pub store: TreeFs<M>,
+    /// The locks.
+    pub locks: MemLs,
+    /// The time of the last batch that changed something, in whole seconds since 1970.
+    pub now: u64,
+    /// The number of that batch.
+    pub last: u64,
+}
+
+/// Reads the store of a folder from these rows of its database, over its data file. `limit` is the store's quota. The
+/// contents of the data file stay the same.
+///
+/// - `Damaged`: the rows are not those of a store that was kept.
+/// - `Data`: the data file cannot be read, or it is shorter than the rows say.
+/// - `Memory`: memory runs out.
+///
+/// On the rows of a store whose files the data file has, it fails only if memory runs out, or if the disk fails.
+pub fn read_store<D: Disk + Drop>(
+    alloc: Global,
+    rows: Rows,
+    disk: D,
+    limit: Option<Option<u64>>,
+) -> Result<Found<DataFile<D>>, OpenError>
+    requires { D.Disk.is_usable disk ≡ true }
+    ensures found { (image : Image) (tables : Contents) → AreRowsOfImage rows image tables → IfOk result (IsReadFrom image tables) }
+    ensures bytes { (image : Image) (tables : Contents) → AreRowsOfImage rows image tables → IfOk result (HasReadBytes (D.Disk.seen disk) image) }
+    ensures limit { (image : Image) (tables : Contents) → AreRowsOfImage rows image tables → IfOk result (λ found. (memory_of found.store).limit ≡ limit) }
+    ensures log { IfOk result (λ found. (store_of found.store).log ≡ []) }
+    ensures err { (image : Image) (tables : Contents) (are : AreRowsOfImage rows image tables) → HasFiles (D.Disk.seen disk) image are.whole
+        → IfErr result (IsMemoryOrDisk D.Disk disk) }
+{
+    let (known, loaded) = load(alloc, rows)?;
+    let numbers = loaded.numbers;
+    let medium = match DataFile::open(alloc, disk, numbers.key, loaded.end) {
+        Ok(medium) => medium,
+        Err((error, _disk)) => return Err(OpenError::Data(error)),
+    };
+    let store = TreeFs::load(alloc, medium, loaded.values, numbers.counter, limit)?;
+    store.show_sound();
+    Ok(Found {
+        known,
+        store,
+        locks: loaded.locks,
+        now: numbers.time,
+        last: numbers.batch,
+    })
+}
