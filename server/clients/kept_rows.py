@@ -88,7 +88,8 @@ def moved(starter: Starter):
     expect("the directory above", dict((row[0], row[2]) for row in before)[changed[0][1][1]], "f")
 
 
-REFUSED = "davd: the folder is not one of davd, or it is damaged\n"
+DAMAGED = "davd: meta.db or meta.db-wal is damaged, so nothing was changed: restore the folder from a backup\n"
+FOREIGN = "davd: meta.db is not a database of davd, so nothing was changed: choose another folder\n"
 
 DAMAGE = [
     ("a part of no resource", "UPDATE extent SET resource = 9"),
@@ -127,7 +128,7 @@ def damage(starter: Starter):
             connection.execute(change)
         bad = hashlib.sha256(database.read_bytes()).digest()
         checked = PROCESSES.run([starter.programs.davd, "--check", starter.folder / "kept"], seconds=30)
-        expect(what, (checked.returncode, checked.stdout), (4, REFUSED))
+        expect(what, (checked.returncode, checked.stdout), (4, FOREIGN if "DROP TABLE" in change else DAMAGED))
         expect(f"whether the database is as it was with {what}", hashlib.sha256(database.read_bytes()).digest(), bad)
     database.write_bytes(good)
     expect("the good folder", check(starter, "kept", 0), ["1 files, 5 bytes, 0 damaged"])

@@ -53,6 +53,7 @@ impl<D: Disk> BlockFile<D> {
         requires below { end ≤ LIMIT }
         ensures used { IfOk result (λ it. (at n : ℕ) → at + n ≤ end → in_use it at n ≡ true) }
         ensures safe { IfOk result (λ it. (at n : ℕ) → at + n ≤ end → is_safe it at n ≡ true) }
+        ensures honest { IfOk result (λ it. is_honest it ≡ true → D.Disk.is_clean disk ≡ true) }
         ensures same { IfOk result (λ it. is_honest it ≡ true → data_of it ≡ D.Disk.seen disk) }
         ensures free { IfOk result (λ it. (i : ℕ) → end ≤ i → i < LIMIT → IsFree it i) }
         ensures usable { IfOk result (λ it. is_usable it ≡ true) }

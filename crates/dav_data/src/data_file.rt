@@ -59,6 +59,7 @@ impl<D: Disk> DataFile<D> {
         requires usable { D.Disk.is_usable disk ≡ true }
         requires below { end < 2 ^ 63 }
         ensures held { IfOk result (λ it. (body : List Piece) → is_below end body ≡ true → is_synced it body ≡ true) }
+        ensures honest { IfOk result (λ it. is_honest it ≡ true → D.Disk.is_clean disk ≡ true) }
         ensures same { IfOk result (λ it. is_honest it ≡ true → data_of it ≡ D.Disk.seen disk) }
         ensures key { IfOk result (λ it. key_of it ≡ key) }
         ensures swept { IfOk result (λ it. swept_bytes it ≡ 0) }

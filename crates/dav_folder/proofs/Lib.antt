@@ -5,3 +5,4 @@ pub mod Leaving
 pub mod LoadedBytes
 pub mod Utf8Texts
 pub mod Utf8Tables
+pub mod FoundImages

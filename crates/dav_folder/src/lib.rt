@@ -12,5 +12,5 @@ pub use closing::close_store;
 pub use error::OpenError;
 pub use folder::Folder;
 pub use laws::show_utf8;
-pub use opening::{NewStore, Opened, read_files};
+pub use opening::{Opened, read_files};
 pub use reading::{Found, read_store};

@@ -1,9 +1,9 @@
 //! Opens the store of a folder.
-ghost use Rattle.std.specs.Prelude.{◌≡◌, [], true, false, IsTrue, IfOk, IfErr};
+ghost use Rattle.std.specs.Prelude.{◌≡◌, [], true, false, IsTrue, IfOk, IfErr, OnOk};
 ghost use Rattle.sqlite.specs.Files.{image_of};
 ghost use Rattle.sqlite.specs.Held.{state};
 ghost use Rattle.sqlite.specs.State.{HasCleanDisk};
-ghost use Rattle.sqlite_wal.specs.Reads.{AreClean};
+ghost use Rattle.sqlite_wal.specs.Reads.{AreClean, OnlyReads};
 ghost use Rattle.dav_tree.specs.TreeFs.{store_of};
 ghost use Rattle.dav_keep.specs.Images.{Image, StandForImage};
 ghost use Rattle.dav_keep.specs.Keeping.{connection_of};
@@ -47,20 +47,11 @@ pub struct Opened<S: Alter, M: Medium> {
     pub last: u64,
 }
 
-/// What a new store begins with.
-#[derive(Clone, Copy)]
-pub struct NewStore<'a> {
-    /// The changes that make its tables of none.
-    pub changes: &'a [Change],
-    /// A random number, for the log of its database.
-    pub seed: u64,
-}
-
 /// A log that is shorter has no page.
 const MIN_LOG: usize = 32 + 24 + 512;
 
 /// Reads the store of a folder, over the files of its database and over its data file. It changes none of them. If there
-/// is nothing, it returns a new store. `limit` is the store's quota.
+/// is nothing, it returns a new store, whose tables these changes make of none. `limit` is the store's quota.
 ///
 /// - `Damaged`: the database is damaged, or its rows are not those of a store that was kept.
 /// - `Foreign`: the database has other tables.
@@ -72,7 +63,7 @@ pub fn read_files<D: Disk, E: Disk + Drop>(
     alloc: Global,
     files: &mut Files<D>,
     disk: E,
-    new: NewStore<'_>,
+    changes: &[Change],
     limit: Option<Option<u64>>,
 ) -> Result<Found<DataFile<E>>, OpenError>
     requires log_usable { IsTrue (D.Disk.is_usable files.old.log) }
@@ -80,38 +71,54 @@ pub fn read_files<D: Disk, E: Disk + Drop>(
     requires usable { E.Disk.is_usable disk ≡ true }
     ensures kept { (image : Image) (tables : Contents) → Keeps (image_of D.Disk files.old) tables → StandForImage tables image → IsWholeImage image
         → IfOk result (λ found. AreClean D.Disk files.new.log files.new.db → ReadsImage (E.Disk.seen disk) limit image tables found) }
-    ensures new { (image : Image) → IsVacant (image_of D.Disk files.old) → StandForImage (first new.changes.now) image → IsWholeImage image
-        → IfOk result (λ found. AreClean D.Disk files.new.log files.new.db → ReadsImage (E.Disk.seen disk) limit image (first new.changes.now) found) }
+    ensures new { (image : Image) → IsVacant (image_of D.Disk files.old) → StandForImage (first changes.now) image → IsWholeImage image
+        → IfOk result (λ found. AreClean D.Disk files.new.log files.new.db → ReadsImage (E.Disk.seen disk) limit image (first changes.now) found) }
     ensures empty { IsVacant (image_of D.Disk files.old)
         → IfOk result (λ found. AreClean D.Disk files.new.log files.new.db → IsEmptyIfHonest found (E.Disk.seen disk)) }
     ensures log { IfOk result (λ found. (store_of found.store).log ≡ []) }
     ensures only { AreOnlyRead D.Disk files.old files.new }
 {
     let mut disk = disk;
-    let judged = judge(alloc, files, new.changes)?;
-    if judged.is_new && has_bytes(&mut files.log, &mut disk)? {
-        return Err(OpenError::NoDatabase);
-    }
+    let judged = judge(alloc, files, changes)?;
+    expect_empty(judged.is_new, files, &mut disk)?;
     read_store(alloc, judged.rows, disk, limit)
 }
 
-/// Whether a log has pages, or a data file has bytes.
+/// Checks that there is no byte of a store beside a new one. It only reads the files.
 ///
-/// - `Data`: the data file fails.
-/// - `Database`: the log fails.
-fn has_bytes<D: Disk, E: Disk>(log: &mut D, data: &mut E) -> Result<bool, OpenError>
+/// - `NoDatabase`: the store is new, and the data file has bytes, or the log has pages.
+/// - `Data`: the data file cannot be read.
+/// - `Database`: the log cannot be read.
+fn expect_empty<D: Disk, E: Disk>(
+    is_new: bool,
+    files: &mut Files<D>,
+    data: &mut E,
+) -> Result<(), OpenError>
+    requires log_usable { IsTrue (D.Disk.is_usable files.old.log) }
+    requires db_usable { IsTrue (D.Disk.is_usable files.old.db) }
+    requires usable { E.Disk.is_usable data.old ≡ true }
+    ensures log { OnlyReads D.Disk files.old.log files.new.log }
+    ensures db { OnlyReads D.Disk files.old.db files.new.db }
+    ensures data { OnlyReads E.Disk data.old data.new }
+    ensures empty { OnOk result (is_new ≡ true → E.Disk.is_clean data.new ≡ true → E.Disk.seen data.old ≡ []) }
 {
-    let in_log = match log.len() {
-        Ok(len) => len >= MIN_LOG,
+    if !is_new {
+        return Ok(());
+    }
+    let in_log = match files.log.len() {
+        Ok(len) => len,
         Err(error) => return Err(OpenError::Database(error)),
     };
     let in_data = data.len()?;
-    Ok(in_log || in_data > 0)
+    if in_log >= MIN_LOG || in_data > 0 {
+        return Err(OpenError::NoDatabase);
+    }
+    Ok(())
 }
 
 impl<M: Medium<Body = Body>> Found<M> {
     /// Opens the database from whose files this was read, and goes on from there. If the database has no table, its tables
-    /// are made.
+    /// are made with these changes. `seed` is a random number.
     ///
     /// - `Database`: the database cannot be read or written.
     /// - `Memory`: memory runs out.
@@ -119,19 +126,20 @@ impl<M: Medium<Body = Body>> Found<M> {
         self,
         alloc: Global,
         files: Files<D>,
-        new: NewStore<'_>,
+        seed: u64,
+        changes: &[Change],
     ) -> Result<Opened<FileStore<D>, M>, OpenError>
         requires log_usable { IsTrue (D.Disk.is_usable files.log) }
         requires db_usable { IsTrue (D.Disk.is_usable files.db) }
         ensures kept { (image : Image) (tables : Contents) → Keeps (image_of D.Disk files) tables
             → (AreClean D.Disk files.log files.db → IsReadFrom image tables self) → IfOk result (OpensImage image) }
         ensures new { (image : Image) → IsVacant (image_of D.Disk files)
-            → (AreClean D.Disk files.log files.db → IsReadFrom image (first new.changes.now) self) → IfOk result (OpensImage image) }
+            → (AreClean D.Disk files.log files.db → IsReadFrom image (first changes.now) self) → IfOk result (OpensImage image) }
         ensures clean { IfOk result (λ opened. HasCleanDatabase opened.folder → AreClean D.Disk files.log files.db) }
         ensures store { IfOk result (λ opened. opened.store ≡ self.store) }
         ensures err { IfErr result IsLate }
     {
-        match start(alloc, files, new.seed, new.changes) {
+        match start(alloc, files, seed, changes) {
             Ok(conn) => Ok(self.keep_in(alloc, conn)),
             Err((error, _)) => Err(opening_error(error)),
         }

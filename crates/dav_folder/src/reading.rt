@@ -3,7 +3,7 @@ ghost use Rattle.std.specs.Prelude.{◌≡◌, true, [], IfOk, IfErr};
 ghost use Rattle.dav_keep.specs.Images.{Image};
 ghost use Rattle.dav_keep.specs.Loading.{AreRowsOfImage};
 ghost use Rattle.dav_rows.specs.Contents.{Contents};
-ghost use Rattle.dav_tree.specs.TreeFs.{memory_of, store_of};
+ghost use Rattle.dav_tree.specs.TreeFs.{memory_of, store_of, honest_of};
 ghost use Rattle.dav_folder.specs.Reading.{IsReadFrom, HasReadBytes};
 ghost use Rattle.dav_folder.specs.Opening.{HasFiles, IsMemoryOrDisk};
 
@@ -50,6 +50,7 @@ pub fn read_store<D: Disk + Drop>(
     ensures bytes { (image : Image) (tables : Contents) → AreRowsOfImage rows image tables → IfOk result (HasReadBytes (D.Disk.seen disk) image) }
     ensures limit { (image : Image) (tables : Contents) → AreRowsOfImage rows image tables → IfOk result (λ found. (memory_of found.store).limit ≡ limit) }
     ensures log { IfOk result (λ found. (store_of found.store).log ≡ []) }
+    ensures honest { IfOk result (λ found. honest_of found.store ≡ true → D.Disk.is_clean disk ≡ true) }
     ensures err { (image : Image) (tables : Contents) (are : AreRowsOfImage rows image tables) → HasFiles (D.Disk.seen disk) image are.whole
         → IfErr result (IsMemoryOrDisk D.Disk disk) }
 {

@@ -10,6 +10,6 @@ pub(crate) enum Reserve {
     Empty,
     /// It has all the bytes that are to be kept back.
     Filled,
-    /// A call that was to change it failed, so it may have some.
+    /// It may have some: it was not looked at yet, or a call that was to change it failed.
     Unknown,
 }

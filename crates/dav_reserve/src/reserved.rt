@@ -41,24 +41,22 @@ pub struct Reserved<D: Disk, R: Disk> {
 impl<D: Disk, R: Disk> Reserved<D, R> {
     ghost use Rattle.dav_reserve.specs.Reserved.{inner_of, reserve_of, room_of, end_of, is_filled, is_full, unfilled_of, no_room_of, faults_of, tally_of, IsFresh, HasRoom, KeepsRoom, KeepsInner, HasCause, KeepsFrozen, MayLeaveAfter};
 
-    /// Keeps so many bytes back for a disk. The reserve is empty at first, so that a database that is opened next has
-    /// its room. The next write that may make the file longer fills it.
+    /// Keeps so many bytes back for a disk. It leaves the reserve as it is. The next write that may make the file longer
+    /// fills it.
     ///
     /// The file counts as empty until [`Disk::len`] is called, so until then each write fills the reserve.
     pub fn new(inner: D, reserve: R, room: usize) -> Reserved<D, R>
         requires { R.Disk.is_usable reserve ≡ true }
         ensures inner { inner_of result ≡ inner }
+        ensures reserve { reserve_of result ≡ reserve }
         ensures room { room_of result ≡ room }
         ensures fresh { IsFresh result }
-        ensures empty { GivesBack R.Disk reserve (reserve_of result) }
     {
-        let mut reserve = reserve;
-        let known = empty(&mut reserve);
         Reserved {
             inner,
             reserve,
             room,
-            known,
+            known: Reserve::Unknown,
             end: 0,
             is_full: false,
             unfilled: 0,

@@ -11,9 +11,9 @@ use Rattle.dav_keep.specs.Loading.{first_image}
 use Rattle.dav_memls.specs.MemLs.{locks_of}
 use Rattle.dav_memls.specs.declared.memory_locks.MemLs.{MemLs}
 use Rattle.dav_pieces.specs.declared.piece.Piece.{Piece}
-use Rattle.dav_rows.specs.Contents.{Contents}
-use Rattle.dav_rows.specs.declared.loading.Rows.{Rows}
-use Rattle.dav_rows_files.specs.Starting.{IsVacant, BeginsNew}
+use Rattle.dav_rows.specs.Creating.{first}
+use Rattle.dav_rows.specs.declared.change.Change.{Change}
+use Rattle.dav_rows_files.specs.Starting.{IsVacant}
 use Rattle.dav_server.specs.Keeping.{snapshot_of, RunsAndKeeps, StopsAfterKept}
 use Rattle.dav_server.specs.State.{Rules, ServerState, first_rules, state_of, store_in}
 use Rattle.dav_server.specs.Snapshots.{state_at}
@@ -26,7 +26,6 @@ use Rattle.dav_tree.specs.TreeFs.{memory_of, store_of, before_of, honest_of}
 use Rattle.dav_tree.specs.declared.medium.Medium.{Ghosts}
 use Rattle.dav_tree.specs.declared.tree_fs.TreeFs.{TreeFs}
 use Rattle.sqlite.specs.Recovery as files
-use Rattle.sqlite.specs.State.{State}
 use Rattle.sqlite_trees.specs.declared.store.Store as store
 
 -- the rules of a server with these options
@@ -55,9 +54,9 @@ module _ {M : Type 0} where
 abbrev pub first_kept : KeptStore
 first_kept = record { resources = insert empty [] (fresh store_specs.Directory 0 0); counter = 0; locks = []; time = 0; batch = 0 }
 
--- where the files had no table, the rows and the connection are those of a new store
-abbrev pub BeginsFirst : files.Image → State → Rows → Type 0
-BeginsFirst left state rows = (tables : Contents) × (key : ℕ) × StandForImage tables (first_image key) × BeginsNew left state tables rows
+-- the changes make the tables of a new store
+abbrev pub MakesFirst : List Change → Type 0
+MakesFirst changes = (key : ℕ) × StandForImage (first changes) (first_image key)
 
 module _ {S M : Type 0} {rows : store.Ghosts S} {g : Ghosts M (List Piece)} where
   -- what is opened is kept
@@ -69,23 +68,31 @@ module _ {S M : Type 0} {rows : store.Ghosts S} {g : Ghosts M (List Piece)} wher
     pub snapshot : snapshot_of first ≡ Some (opened_at opened)
     pub state : state_now first ≡ state_from (opened_at opened)
 
-  -- this store is opened, with this quota, and it is kept; its files have their bytes if the data file is honest
-  pub record IsFound (quota : Option ℕ) (kept : KeptStore) (opened : Opened S M (List Piece) rows g) : Type 0 where
+  -- this store is opened, with this limit, and it is kept; its files have their bytes if the data file is honest
+  pub record IsFound (limit : Option (Option ℕ)) (kept : KeptStore) (opened : Opened S M (List Piece) rows g) : Type 0 where
     pub lasts : IsOpenedAsKept opened
     pub is : honest_of opened.store ≡ true → kept_at (opened_at opened) ≡ kept
-    pub limit : (memory_of opened.store).limit ≡ option_map Some quota
+    pub limit_is : (memory_of opened.store).limit ≡ limit
 
   -- so it is if the disk of the database is clean
-  abbrev pub IsFoundIfClean : Option ℕ → KeptStore → Opened S M (List Piece) rows g → Type 0
-  IsFoundIfClean quota kept opened = HasCleanDatabase opened.folder → IsFound quota kept opened
+  abbrev pub IsFoundIfClean : Option (Option ℕ) → KeptStore → Opened S M (List Piece) rows g → Type 0
+  IsFoundIfClean limit kept opened = HasCleanDatabase opened.folder → IsFound limit kept opened
 
   -- if the files held a store, it is found
-  abbrev pub FindsKept : files.Image → List ℕ → Option ℕ → Opened S M (List Piece) rows g → Type 0
-  FindsKept left file quota opened = (kept : KeptStore) → Hold left file kept → IsFoundIfClean quota kept opened
+  abbrev pub FindsHeld : files.Image → List ℕ → Option (Option ℕ) → Opened S M (List Piece) rows g → Type 0
+  FindsHeld left file limit opened = (kept : KeptStore) → Hold left file kept → IsFoundIfClean limit kept opened
 
-  -- if the files had no table, a new store is found
-  abbrev pub FindsFirst : files.Image → Option ℕ → Opened S M (List Piece) rows g → Type 0
-  FindsFirst left quota opened = IsVacant left → IsFoundIfClean quota first_kept opened
+  -- if the files had no table, a new store is found, and the data file had no byte if it is honest
+  pub record FindsNew (left : files.Image) (file : List ℕ) (limit : Option (Option ℕ)) (opened : Opened S M (List Piece) rows g) : Type 0 where
+    pub found : IsVacant left → IsFoundIfClean limit first_kept opened
+    pub empty : IsVacant left → HasCleanDatabase opened.folder → honest_of opened.store ≡ true → file ≡ []
+
+  -- the same with a quota
+  abbrev pub FindsKept : files.Image → List ℕ → Option ℕ → Opened S M (List Piece) rows g → Type 0
+  FindsKept left file quota = FindsHeld left file (option_map Some quota)
+
+  abbrev pub FindsFirst : files.Image → List ℕ → Option ℕ → Opened S M (List Piece) rows g → Type 0
+  FindsFirst left file quota = FindsNew left file (option_map Some quota)
 
   -- ---- what a run leaves in the keeper
 

@@ -90,11 +90,12 @@ module _ {D E : Type 0} {d : disk.Ghosts D} {e : disk.Ghosts E} (left : database
   abbrev pub HeldAStore : Type 0
   HeldAStore = IsClean (view files.0) × (((kept : KeptStore) × Hold left file kept) ⊎ IsVacant left)
 
-  -- A run begins with what the files held, or with a new store if they had no table, and with this quota. Its files have their bytes if the data file is
-  -- honest.
+  -- A run begins with what the files held, or with a new store if they had no table, and with this quota. If the data file is honest, the files of the store
+  -- have their bytes, and a new store is one whose data file had none.
   pub record BeginsWith (quota : Option ℕ) {g : Ghosts (DataFile E e) (List Piece)} (first : At g) : Type 0 where
     pub kept : (kept : KeptStore) → IsClean (view files.0) → Hold left file kept → honest_of first.store ≡ true → kept_at first ≡ kept
     pub new : IsClean (view files.0) → IsVacant left → honest_of first.store ≡ true → kept_at first ≡ first_kept
+    pub empty : IsClean (view files.0) → IsVacant left → honest_of first.store ≡ true → file ≡ []
     pub limit : HeldAStore → (memory_of first.store).limit ≡ option_map Some quota
 
   module _ (g : Ghosts (DataFile E e) (List Piece)) (rules : Rules) (quota : Option ℕ) where

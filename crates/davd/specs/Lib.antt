@@ -1,4 +1,5 @@
 pub mod Options
+pub mod Present
 pub mod Folder
 pub mod Leaving
 pub mod Program

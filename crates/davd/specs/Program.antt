@@ -17,7 +17,7 @@ use Rattle.sqlite_store.specs.declared.store.FileStore.{FileStore}
 use Rattle.davd.specs.Leaving.{GoesOn, GoesOnAndStops}
 use Rattle.davd.specs.Options.{OptionsValue, options_of}
 use Rattle.davd.specs.declared.program.Stopped.{Stopped}
-use Rattle.davd.specs.declared.program.Stopped.TheVariants.{Usage, Stream, Memory, NotAStore, InUse, Disk, Full, NotKept, Damaged}
+use Rattle.davd.specs.declared.program.Stopped.TheVariants.{Usage, Stream, Memory, Refused, InUse, Disk, Full, NotKept, Damaged}
 
 -- ---- runs in memory
 
@@ -85,7 +85,7 @@ status_of (Ok done) = 0
 status_of (Err Usage) = 2
 status_of (Err (Stream error)) = 3
 status_of (Err Memory) = 3
-status_of (Err NotAStore) = 4
+status_of (Err (Refused refusal)) = 4
 status_of (Err InUse) = 5
 status_of (Err (Disk error)) = 6
 status_of (Err Full) = 7

@@ -1,20 +1,26 @@
 //! A check of a folder.
-ghost use Rattle.std.specs.Prelude.{IfErr};
+ghost use Rattle.std.specs.Prelude.{◌≡◌, true, IsTrue, IfErr};
+ghost use Rattle.dav_folder.specs.Opening.{AreOnlyRead};
 ghost use Rattle.davd.specs.Program.{IsNotUsage};
 
-use crate::folder::open_folder;
+use crate::files::{DATA, DATABASE, Missing, expect_database};
+use crate::folder::open_pair;
 use crate::program::Stopped;
 use dav_check::{Checked, check};
+use dav_folder::read_files;
 use dav_resource::FsError;
+use disk_readonly::ReadOnly;
 use sqlite::Start;
-use std::fs;
+use sqlite_disk::{Disk, Files};
+use std::alloc::Global;
 use std::io::Write;
 
-/// Opens the store of a folder, reads every byte of every file, and writes a line for each file that cannot be read, and a
-/// last line with the number of files, of the bytes in those that can be read, and of those that cannot.
+/// Reads the store of a folder and every byte of every file, and writes a line for each file that cannot be read, and a
+/// last line with the number of files, of the bytes in those that can be read, and of those that cannot. It changes
+/// nothing in the folder.
 ///
-/// Errors: `Damaged` if a file cannot be read; those of `open_folder`; `Disk` if the folder has no database, and then
-/// nothing is made; `Memory`; `Stream` if the output fails.
+/// Errors: `Damaged` if a file cannot be read; `Refused` as for `open_folder`; `Disk` if the folder has no database, or
+/// cannot be read; `Memory`; `Stream` if the output fails.
 pub fn check_folder<R: Start, T: Start, O: Write>(
     rt: &HostRuntime,
     folder: &str,
@@ -24,12 +30,49 @@ pub fn check_folder<R: Start, T: Start, O: Write>(
     ensures { IfErr result IsNotUsage }
 {
     expect_database(rt, folder)?;
+    let missing = Missing::find(rt, folder)?;
+    let checked = check_pairs(rt, folder, held, output);
+    missing.remove(rt, folder)?;
+    checked
+}
+
+/// The same, over the files that are there. It may leave empty files beside them.
+fn check_pairs<R: Start, T: Start, O: Write>(
+    rt: &HostRuntime,
+    folder: &str,
+    held: (R, T),
+    output: &mut O,
+) -> Result<(), Stopped>
+    ensures { IfErr result IsNotUsage }
+{
     let (left, file) = held;
-    let mut opened = open_folder(rt, folder, None, left, file)?;
-    let checked = match check(rt.alloc(), &mut opened.store) {
+    let data = open_pair(rt, folder, DATA, file)?;
+    let mut files = open_pair(rt, folder, DATABASE, left)?;
+    check_files(rt.alloc(), &mut files, data.db, output)
+}
+
+/// The same, over the files of the database and the data file, from which it only reads.
+fn check_files<D: Disk, E: Disk + Drop, O: Write>(
+    alloc: Global,
+    files: &mut Files<D>,
+    data: E,
+    output: &mut O,
+) -> Result<(), Stopped>
+    requires log_usable { IsTrue (D.Disk.is_usable files.old.log) }
+    requires db_usable { IsTrue (D.Disk.is_usable files.old.db) }
+    requires usable { IsTrue (E.Disk.is_usable data) }
+    ensures only { AreOnlyRead D.Disk files.old files.new }
+    ensures err { IfErr result IsNotUsage }
+{
+    let disk = match ReadOnly::new(data) {
+        Ok(disk) => disk,
+        Err(error) => return Err(Stopped::Disk(error)),
+    };
+    // Without changes a database that has no table gets no store.
+    let mut found = read_files(alloc, files, disk, &[], None)?;
+    let checked = match check(alloc, &mut found.store) {
         Ok(checked) => checked,
-        Err(FsError::Memory) => return Err(Stopped::Memory),
-        Err(_) => return Err(Stopped::NotAStore),
+        Err(error) => return Err(check_error(error)),
     };
     write_checked(output, &checked)?;
     if checked.damaged.is_empty() {
@@ -39,14 +82,13 @@ pub fn check_folder<R: Start, T: Start, O: Write>(
     }
 }
 
-/// Fails with `Disk` if a folder has no database.
-fn expect_database(rt: &HostRuntime, folder: &str) -> Result<(), Stopped>
-    ensures { IfErr result IsNotUsage }
+/// Returns why a check ends before its end.
+fn check_error(error: FsError) -> Stopped
+    ensures { IsNotUsage result }
 {
-    let path = format!(in rt.alloc(); "{folder}/meta.db")?;
-    match fs::metadata(rt, path.as_str()) {
-        Ok(_) => Ok(()),
-        Err(error) => Err(Stopped::Disk(error)),
+    match error {
+        FsError::Memory => Stopped::Memory,
+        _ => Stopped::Damaged,
     }
 }
 

@@ -31,6 +31,7 @@
 #![tactic(auto)]
 
 mod checking;
+mod files;
 mod folder;
 mod options;
 mod program;

@@ -34,8 +34,8 @@ pub enum Stopped {
     Stream(io::Error),
     /// Memory ran out.
     Memory,
-    /// The folder is not one of a store, or it is damaged.
-    NotAStore,
+    /// The folder is not one of a store that can be served. It was left as it was.
+    Refused(Refusal),
     /// Another process has the folder open.
     InUse,
     /// The folder cannot be read or written at the start.
@@ -46,6 +46,21 @@ pub enum Stopped {
     NotKept,
     /// A check has found a damaged file.
     Damaged,
+}
+
+/// Why a folder is refused.
+#[derive(Clone, Copy, Debug, Drop)]
+pub enum Refusal {
+    /// The database is damaged.
+    Damaged,
+    /// The database is not one of a store.
+    Foreign,
+    /// There are bytes of a store, and its database is missing or empty.
+    NoDatabase,
+    /// There is a database, and its data file is missing.
+    NoData,
+    /// The data file is shorter than the database says.
+    ShortData,
 }
 
 impl From<io::Error> for Stopped {
@@ -191,7 +206,7 @@ fn exit_status(stopped: &Stopped) -> u8
     match stopped {
         Stopped::Usage => 2,
         Stopped::Stream(_) | Stopped::Memory => 3,
-        Stopped::NotAStore => 4,
+        Stopped::Refused(_) => 4,
         Stopped::InUse => 5,
         Stopped::Disk(_) => 6,
         Stopped::Full => 7,
@@ -210,12 +225,30 @@ fn line_of(stopped: &Stopped) -> &'static str {
             "usage: davd [-prefix PREFIX] [-anyone-unlocks] [-max-batch BYTES] [-quota BYTES] [FOLDER]\n       davd --check FOLDER",
         Stopped::Stream(error) => cause_of(error),
         Stopped::Memory => OUT_OF_MEMORY,
-        Stopped::NotAStore => "davd: the folder is not one of davd, or it is damaged",
+        Stopped::Refused(refusal) => refusal_of(*refusal),
         Stopped::InUse => "davd: the folder is in use",
+        Stopped::Disk(error) if error.kind() == ErrorKind::PermissionDenied =>
+            "davd: this user may not read and write the folder, or one of its files",
         Stopped::Disk(_) => "davd: the folder cannot be read or written",
         Stopped::Full => "davd: a batch is not kept, because the disk is full",
         Stopped::NotKept => "davd: a batch is not kept",
         Stopped::Damaged => "davd: a file is damaged",
+    }
+}
+
+/// Returns what is said when a folder is refused: what is wrong, and what to do.
+fn refusal_of(refusal: Refusal) -> &'static str {
+    match refusal {
+        Refusal::Damaged =>
+            "davd: meta.db or meta.db-wal is damaged, so nothing was changed: restore the folder from a backup",
+        Refusal::Foreign =>
+            "davd: meta.db is not a database of davd, so nothing was changed: choose another folder",
+        Refusal::NoDatabase =>
+            "davd: meta.db has no store, and the folder has bytes of one, so nothing was changed: restore meta.db, meta.db-wal and data from one backup",
+        Refusal::NoData =>
+            "davd: data is missing, so nothing was changed: restore meta.db, meta.db-wal and data from one backup",
+        Refusal::ShortData =>
+            "davd: data is shorter than meta.db says, so nothing was changed: restore meta.db, meta.db-wal and data from one backup",
     }
 }
 

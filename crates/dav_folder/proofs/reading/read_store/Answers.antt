@@ -13,8 +13,8 @@ use Rattle.dav_folder.specs.Opening.{IsMemoryOrDisk}
 use Rattle.dav_folder.specs.declared.error.OpenError.TheVariants as errors
 use Rattle.dav_folder.proofs.reading.read_store.Goals as goal
 
-pub returns-in-Ok-clause-found : goal.returns-in-Ok-clause-found
-returns-in-Ok-clause-found g c = λ image tables are.
+pub returns-clause-found : goal.returns-clause-found
+returns-clause-found g c = λ image tables are.
     let loaded = c.in_ok-known.ensures.loaded image tables are in
     let store = c.in_ok-store.ensures in
     record {
@@ -29,8 +29,8 @@ returns-in-Ok-clause-found g c = λ image tables are.
       batch = ap (λ (n : Numbers). n.batch) loaded.numbers;
     }
 
-pub returns-in-Ok-clause-bytes : goal.returns-in-Ok-clause-bytes
-returns-in-Ok-clause-bytes g c = λ image tables are honest.
+pub returns-clause-bytes : goal.returns-clause-bytes
+returns-clause-bytes g c = λ image tables are honest.
     let loaded = c.in_ok-known.loaded in
     let values = (c.in_ok-known.ensures.loaded image tables are).values in
     let store = c.in_ok-store.ensures in
@@ -38,3 +38,19 @@ returns-in-Ok-clause-bytes g c = λ image tables are honest.
     ap (λ (m : Memory). m.resources) (store.memory image.tree values)
     ∙ same-resources (bytes_of (g.D.Disk.seen c.args.disk)) (body_bytes c.in-Ok.medium) (is_below loaded.end) (is_below loaded.end) (λ body below. below)
     (λ body below. ap (λ file. bytes_of file body) same) image.tree (tree_below loaded.values.items image.tree loaded.end values c.in_ok-known.ensures.end.reached)
+
+pub returns-in-Err-clause-err : goal.returns-in-Err-clause-err
+returns-in-Err-clause-err g c = λ image tables are has.
+    let values = c.in_ok-known.loaded.values.items in
+    let below = values_below c.args.rows image tables are values (c.in_ok-known.ensures.loaded image tables are).values in
+    let most = c.in_ok-known.ensures.end.least are.whole.end below in
+    let cause = c.in-Err.error in
+    inr (cause, refl, disk_failed g.D.Disk c.args.disk c.in-Err._disk c.in_ok-known.loaded.end cause c.in-Err.ensures.err (omega (arith, most, has.within)))
+
+pub returns-in_err-store-clause-err : goal.returns-in_err-store-clause-err
+returns-in_err-store-clause-err g c = λ image tables are has.
+    let listed = (c.in_ok-known.ensures.loaded image tables are).values in
+    let sound = other_bytes image.tree (bytes_of (g.D.Disk.seen c.args.disk)) (body_bytes c.in-Ok.medium) has.sound in
+    let cause = c.in_err-store.field-0.0 in
+    err_by (λ e. cause ≡ causes.Memory → e ≡ errors.Memory) (IsMemoryOrDisk g.D.Disk c.args.disk) c.from_residual-in_err-store.result
+    c.from_residual-in_err-store.ensures.1 (λ e given. inl (given (c.in_err-store.ensures.err image.tree listed sound)))

@@ -1,0 +1,20 @@
+-- Which files of a store are missing: this project's own choice.
+use Rattle.std.specs.Prelude.{ℕ, Bool, nat_lt, nat_le, ◌&&◌, ◌||◌, not, if◌then◌else◌, unwrap_or, is_none, Option, Some, None}
+use Rattle.davd.specs.declared.program.Refusal.{Refusal}
+use Rattle.davd.specs.declared.program.Refusal.TheVariants.{NoData, NoDatabase}
+use Rattle.davd.specs.declared.files.TheConstants.{MIN_LOG}
+
+-- it is there and has a byte
+abbrev pub has_bytes : Option ℕ → Bool
+has_bytes size = nat_lt 0 (unwrap_or size 0)
+
+-- a log of so many bytes may have a page
+abbrev pub has_page : Option ℕ → Bool
+has_page size = nat_le MIN_LOG (unwrap_or size 0)
+
+-- What is missing beside a database, its log and a data file with so many bytes, where a file that is not there has no size: the data file of a database,
+-- or the database of a log with pages or of a data file with bytes.
+abbrev pub missing_of : Option ℕ → Option ℕ → Option ℕ → Option Refusal
+missing_of database log data =
+    if has_bytes database && is_none data then Some NoData
+    else (if not (has_bytes database) && (has_page log || has_bytes data) then Some NoDatabase else None)

@@ -1,0 +1,159 @@
+//! The files of a folder: which there are, before any is opened.
+ghost use Rattle.std.specs.Prelude.{◌≡◌, IfErr};
+ghost use Rattle.davd.specs.Present.{missing_of};
+ghost use Rattle.davd.specs.Program.{IsNotUsage};
+
+use crate::program::{Refusal, Stopped};
+use std::fs::{self, OpenOptions};
+use std::io::{self, ErrorKind};
+use std::os::unix::fs::MetadataExt;
+
+/// The database of a store.
+pub const DATABASE: &str = "meta.db";
+
+/// The data file of a store.
+pub const DATA: &str = "data";
+
+/// A log of fewer bytes has no page: it has a header, that of a frame, and a page of 512 bytes or more.
+const MIN_LOG: u64 = 32 + 24 + 512;
+
+/// Makes a folder, unless there is something of this name, and brings its name to the disk.
+pub fn make_folder(rt: &HostRuntime, folder: &str) -> Result<(), Stopped>
+    ensures { IfErr result IsNotUsage }
+{
+    match fs::create_dir(rt, folder) {
+        Ok(()) => sync_parent(rt, folder),
+        Err(error) if error.kind() == ErrorKind::AlreadyExists => Ok(()),
+        Err(error) => Err(Stopped::Disk(error)),
+    }
+}
+
+/// Brings the name of a folder to the disk.
+fn sync_parent(rt: &HostRuntime, folder: &str) -> Result<(), Stopped>
+    ensures { IfErr result IsNotUsage }
+{
+    let parent = format!(in rt.alloc(); "{folder}/..")?;
+    match fs::open(rt, parent.as_str()) {
+        Ok(opened) => by_disk(opened.sync_all()),
+        Err(error) => Err(Stopped::Disk(error)),
+    }
+}
+
+/// Checks that no file of a store is missing that was there: a database has its data file, and bytes have their database.
+///
+/// Errors: `Refused` if one is missing; `Disk`; `Memory`.
+pub fn expect_files(rt: &HostRuntime, folder: &str) -> Result<(), Stopped>
+    ensures { IfErr result IsNotUsage }
+{
+    let database = size_of(rt, folder, DATABASE)?;
+    let log = size_of(rt, folder, "meta.db-wal")?;
+    let data = size_of(rt, folder, DATA)?;
+    match missing(database, log, data) {
+        Some(refusal) => Err(Stopped::Refused(refusal)),
+        None => Ok(()),
+    }
+}
+
+/// Returns what is missing beside files with so many bytes, if something is. A file that is not there has no size.
+fn missing(database: Option<u64>, log: Option<u64>, data: Option<u64>) -> Option<Refusal>
+    ensures { result ≡ missing_of database log data }
+{
+    let has_database = database.unwrap_or(0) > 0;
+    let has_rest = log.unwrap_or(0) >= MIN_LOG || data.unwrap_or(0) > 0;
+    if has_database && data.is_none() {
+        Some(Refusal::NoData)
+    } else if !has_database && has_rest {
+        Some(Refusal::NoDatabase)
+    } else {
+        None
+    }
+}
+
+/// Returns how many bytes a file of the folder has, if it is there.
+fn size_of(rt: &HostRuntime, folder: &str, name: &str) -> Result<Option<u64>, Stopped>
+    ensures { IfErr result IsNotUsage }
+{
+    let path = format!(in rt.alloc(); "{folder}/{name}")?;
+    match fs::metadata(rt, path.as_str()) {
+        Ok(found) => Ok(Some(found.len())),
+        Err(error) if error.kind() == ErrorKind::NotFound => Ok(None),
+        Err(error) => Err(Stopped::Disk(error)),
+    }
+}
+
+/// Empties the file that keeps room back, so that a database that is opened next has that room.
+pub fn empty_reserve(rt: &HostRuntime, folder: &str) -> Result<(), Stopped>
+    ensures { IfErr result IsNotUsage }
+{
+    let path = format!(in rt.alloc(); "{folder}/data-wal")?;
+    match OpenOptions::new().write(true).open(rt, path.as_str()) {
+        Ok(reserve) => by_disk(reserve.set_len(0)),
+        Err(error) => Err(Stopped::Disk(error)),
+    }
+}
+
+/// Returns an error of the disk as why the program ends.
+fn by_disk(ended: io::Result<()>) -> Result<(), Stopped>
+    ensures { IfErr result IsNotUsage }
+{
+    match ended {
+        Ok(()) => Ok(()),
+        Err(error) => Err(Stopped::Disk(error)),
+    }
+}
+
+/// Checks that there is a database with bytes, and that no file of its store is missing.
+///
+/// Errors: `Refused` if one is missing; `Disk` if there is no database, or the folder cannot be read; `Memory`.
+pub fn expect_database(rt: &HostRuntime, folder: &str) -> Result<(), Stopped>
+    ensures { IfErr result IsNotUsage }
+{
+    expect_files(rt, folder)?;
+    match size_of(rt, folder, DATABASE)? {
+        None | Some(0) => Err(Stopped::Disk(ErrorKind::NotFound.into())),
+        Some(_) => Ok(()),
+    }
+}
+
+/// The files beside a database and a data file that are not there. To open these makes them, without a byte.
+#[derive(Clone, Copy)]
+pub struct Missing {
+    log: bool,
+    reserve: bool,
+}
+
+impl Missing {
+    /// Finds which are missing. Errors: `Disk`; `Memory`.
+    pub fn find(rt: &HostRuntime, folder: &str) -> Result<Missing, Stopped>
+        ensures { IfErr result IsNotUsage }
+    {
+        Ok(Missing {
+            log: size_of(rt, folder, "meta.db-wal")?.is_none(),
+            reserve: size_of(rt, folder, "data-wal")?.is_none(),
+        })
+    }
+
+    /// Removes the files that were missing, if they are there now without a byte. Errors: `Disk`; `Memory`.
+    pub fn remove(self, rt: &HostRuntime, folder: &str) -> Result<(), Stopped>
+        ensures { IfErr result IsNotUsage }
+    {
+        if self.log {
+            remove_empty(rt, folder, "meta.db-wal")?;
+        }
+        if self.reserve {
+            remove_empty(rt, folder, "data-wal")?;
+        }
+        Ok(())
+    }
+}
+
+/// Removes a file that has no byte.
+fn remove_empty(rt: &HostRuntime, folder: &str, name: &str) -> Result<(), Stopped>
+    ensures { IfErr result IsNotUsage }
+{
+    if size_of(rt, folder, name)? != Some(0) {
+        return Ok(());
+    }
+    let path = format!(in rt.alloc(); "{folder}/{name}")?;
+    by_disk(fs::remove_file(rt, path.as_str()))
+}
