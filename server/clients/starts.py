@@ -90,15 +90,32 @@ LOST = [
     ("data is cut", cut("data", 100_000), SHORT_DATA),
     ("data and meta.db are missing", without("data", "meta.db"), NO_DATABASE),
 ]
-"""What happened to a folder, the change, and what a start says then; `None` if that depends on what the log still has."""
+"""What happened to a folder, the change, and what a start says then; `None` if the log may still have all that was lost."""
+
+WHOLE = "3 files, 370005 bytes, 0 damaged\n"
+
+
+def whole_or_refused(starter: Starter, folder: pathlib.Path) -> subprocess.CompletedProcess:
+    """Checks a folder, which has all files or is refused, and stays as it is. Returns what the check said."""
+    before = sums(folder)
+    checked = run(starter, "--check", folder)
+    if checked.returncode == 0:
+        expect("what a check prints", checked.stdout, WHOLE)
+    else:
+        expect("the exit status", checked.returncode, 4)
+        expect("whether it is one of the refusals", checked.stdout in (NO_DATABASE, DAMAGED, FOREIGN), True)
+    expect("the folder", sums(folder), before)
+    return checked
 
 
 def lost(starter: Starter, change, line: str | None):
     folder = copy_of(starter, filled(starter))
     change(folder)
     if line is None:
-        line = run(starter, "--check", folder).stdout
-        expect("whether it is one of the refusals", line in (NO_DATABASE, DAMAGED, FOREIGN), True)
+        checked = whole_or_refused(starter, folder)
+        if checked.returncode == 0:
+            return
+        line = checked.stdout
     refused(starter, "the folder", folder, line)
 
 
@@ -110,18 +127,14 @@ for what, change, line in LOST:
 def without_log(starter: Starter):
     folder = copy_of(starter, filled(starter))
     (folder / "meta.db-wal").unlink()
-    before = sums(folder)
-    ended = run(starter, "--check", folder)
-    expect("whether it is whole or refused", (ended.returncode, ended.stdout) in (
-        (0, "3 files, 370005 bytes, 0 damaged\n"), (4, NO_DATABASE), (4, DAMAGED)), True)
-    expect("the folder", sums(folder), before)
+    whole_or_refused(starter, folder)
 
 
 @GROUP.check("a check of a good folder changes nothing")
 def good(starter: Starter):
     folder = filled(starter)
     before = sums(folder)
-    expect("what it prints", check(starter, "kept", 0), ["3 files, 370005 bytes, 0 damaged"])
+    expect("what it prints", check(starter, "kept", 0), [WHOLE.strip()])
     expect("the folder", sums(folder), before)
 
 
@@ -144,4 +157,4 @@ def left_behind(starter: Starter):
     server.ask("MKCOL", "/e", status=201)
     expect("the size after a batch", (folder / "data").stat().st_size, end)
     server.stop()
-    expect("the check", check(starter, "kept", 0), ["3 files, 370005 bytes, 0 damaged"])
+    expect("the check", check(starter, "kept", 0), [WHOLE.strip()])

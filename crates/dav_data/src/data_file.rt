@@ -48,12 +48,7 @@ impl<D: Disk> DataFile<D> {
     /// blocks.
     ///
     /// It is an error if the file is shorter, or the disk fails. The disk comes back with the error.
-    pub fn open(
-        alloc: Global,
-        disk: D,
-        key: u64,
-        end: usize,
-    ) -> Result<DataFile<D>, (io::Error, D)>
+    pub fn open(alloc: Global, disk: D, key: u64, end: usize) -> Result<DataFile<D>, (io::Error, D)>
     where
         D: Drop,
         requires usable { D.Disk.is_usable disk ≡ true }

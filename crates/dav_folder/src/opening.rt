@@ -92,15 +92,15 @@ pub fn read_files<D: Disk, E: Disk + Drop>(
 fn expect_empty<D: Disk, E: Disk>(
     is_new: bool,
     files: &mut Files<D>,
-    data: &mut E,
+    file: &mut E,
 ) -> Result<(), OpenError>
     requires log_usable { IsTrue (D.Disk.is_usable files.old.log) }
     requires db_usable { IsTrue (D.Disk.is_usable files.old.db) }
-    requires usable { E.Disk.is_usable data.old ≡ true }
+    requires usable { E.Disk.is_usable file.old ≡ true }
     ensures log { OnlyReads D.Disk files.old.log files.new.log }
     ensures db { OnlyReads D.Disk files.old.db files.new.db }
-    ensures data { OnlyReads E.Disk data.old data.new }
-    ensures empty { OnOk result (is_new ≡ true → E.Disk.is_clean data.new ≡ true → E.Disk.seen data.old ≡ []) }
+    ensures file { OnlyReads E.Disk file.old file.new }
+    ensures empty { OnOk result (is_new ≡ true → E.Disk.is_clean file.new ≡ true → E.Disk.seen file.old ≡ []) }
 {
     if !is_new {
         return Ok(());
@@ -109,8 +109,8 @@ fn expect_empty<D: Disk, E: Disk>(
         Ok(len) => len,
         Err(error) => return Err(OpenError::Database(error)),
     };
-    let in_data = data.len()?;
-    if in_log >= MIN_LOG || in_data > 0 {
+    let in_file = file.len()?;
+    if in_log >= MIN_LOG || in_file > 0 {
         return Err(OpenError::NoDatabase);
     }
     Ok(())

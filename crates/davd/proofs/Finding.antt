@@ -1,38 +1,36 @@
 -- What a start finds of what was kept.
-use Rattle.std.proofs.Common.{◌≡◌, ◌∙◌, ℕ, List, map, Option, Some, Result, Ok, Err, refl, sym, ap, subst}
+use Rattle.std.proofs.Common.{◌≡◌, ◌∙◌, ℕ, true, List, [], map, Option, Some, Result, refl, sym, ap, subst}
 use Rattle.std.specs.Prelude.{IfOk}
-use Rattle.std.specs.Option.{option_map}
 use Rattle.dav_cells.specs.Locks.{kept_lock}
-use Rattle.dav_folder.specs.Files.{KeptStore}
-use Rattle.dav_folder.specs.Folders.{keeping_of}
-use Rattle.dav_folder.specs.Opening.{Opens, HasBytes}
+use Rattle.dav_folder.specs.Files.{KeptStore, Hold}
+use Rattle.dav_folder.specs.Lasting.{HasCleanDatabase}
+use Rattle.dav_folder.specs.Opening.{Opens, OpensImage, HasBytes}
+use Rattle.dav_folder.specs.Reading.{IsReadFrom, ReadsImage, IsEmptyIfHonest}
 use Rattle.dav_folder.specs.declared.opening.Opened.{Opened}
+use Rattle.dav_folder.specs.declared.reading.Found.{Found}
 use Rattle.dav_keep.proofs.NewStore.{first_whole, first_resources}
-use Rattle.dav_keep.specs.Images.{Image}
-use Rattle.dav_keep.specs.Keeping.{connection_of}
-use Rattle.dav_keep.specs.Loading.{AreRowsOfImage, first_image}
+use Rattle.dav_keep.specs.Images.{Image, StandForImage}
+use Rattle.dav_keep.specs.Loading.{first_image, IsWholeImage}
 use Rattle.dav_pieces.specs.Pieces.{bytes_of}
 use Rattle.dav_pieces.specs.declared.piece.Piece.{Piece}
 use Rattle.dav_rows.specs.Contents.{Contents}
-use Rattle.dav_rows.specs.Saving.{IsAt}
-use Rattle.dav_rows.specs.declared.loading.Rows.{Rows}
-use Rattle.dav_rows_files.specs.Starting.{Finds, BeginsAt}
+use Rattle.dav_rows.specs.Creating.{first}
+use Rattle.dav_rows.specs.declared.change.Change.{Change}
+use Rattle.dav_rows_files.specs.Starting.{Keeps, IsVacant}
 use Rattle.dav_tree.specs.Kept.{resources_by}
-use Rattle.dav_tree.specs.TreeFs.{memory_of}
+use Rattle.dav_tree.specs.TreeFs.{memory_of, honest_of}
 use Rattle.dav_tree.specs.declared.medium.Medium.{Ghosts}
-use Rattle.davd.specs.Folder.{IsFound, FindsKept, FindsFirst, BeginsFirst, first_kept}
-use Rattle.davd.specs.declared.program.Stopped.{Stopped}
-use Rattle.sqlite.specs.Held.{Held, state}
+use Rattle.dav_tree.specs.declared.tree_fs.TreeFs.{TreeFs}
+use Rattle.davd.specs.Folder.{IsFound, FindsHeld, FindsNew, MakesFirst, first_kept}
 use Rattle.sqlite.specs.Recovery as files
-use Rattle.sqlite.specs.State.{HasCleanDisk}
 use Rattle.sqlite_trees.specs.declared.store.Store as store
 
-module _ {S M : Type 0} {rows : store.Ghosts S} {g : Ghosts M (List Piece)} (quota : Option ℕ) (file : List ℕ) where
+module _ {S M : Type 0} {rows : store.Ghosts S} {g : Ghosts M (List Piece)} (limit : Option (Option ℕ)) (file : List ℕ) where
   -- the image of what was kept is opened
   found : (image : Image) (kept : KeptStore) (opened : Opened S M (List Piece) rows g) → resources_by (bytes_of file) image.tree ≡ kept.resources
       → image.numbers.counter ≡ kept.counter → map kept_lock image.locks ≡ kept.locks → image.numbers.time ≡ kept.time → image.numbers.batch ≡ kept.batch
-      → Opens image opened → HasBytes file image opened → (memory_of opened.store).limit ≡ option_map Some quota → IsFound quota kept opened
-  found image kept opened resources counter locks_are time batch opens bytes limit =
+      → Opens image opened → HasBytes file image opened → (memory_of opened.store).limit ≡ limit → IsFound limit kept opened
+  found image kept opened resources counter locks_are time batch opens bytes limit_is =
       let at = opens.lasts.at in
       record {
         lasts = opens.lasts;
@@ -43,37 +41,56 @@ module _ {S M : Type 0} {rows : store.Ghosts S} {g : Ghosts M (List Piece)} (quo
           time = (sym at.time ∙ ap (λ (m : Image). m.numbers.time) opens.is ∙ time) i;
           batch = (sym at.batch ∙ ap (λ (m : Image). m.numbers.batch) opens.is ∙ batch) i;
         };
-        limit = limit;
+        limit_is = limit_is;
       }
 
-  -- the connection is that of the files, and each image whose rows were loaded is opened
-  module _ (left : files.Image) (conn : Held S) (all : Rows) where
-    abbrev AreOpened : (Image → Opened S M (List Piece) rows g → Type 0) → Result (Opened S M (List Piece) rows g) Stopped → Type 0
-    AreOpened Holds result = (image : Image) (tables : Contents) → AreRowsOfImage all image tables → IfOk result (Holds image)
+  -- What was read of the files is opened over them. `left` is what they held, and `now` what they hold when they are opened; `Clean` says that they have
+  -- returned what was written.
+  module _ (left now : files.Image) (same : now ≡ left) (Clean : Type 0) (read : Found M (List Piece) g) (opened : Opened S M (List Piece) rows g)
+      (is_store : opened.store ≡ read.store) (was_clean : HasCleanDatabase opened.folder → Clean) where
+    bytes_opened : (image : Image) (tables : Contents) → ReadsImage file limit image tables read → HasBytes file image opened
+    bytes_opened image tables reads =
+        subst (λ (s : TreeFs M (List Piece) g). honest_of s ≡ true → (memory_of s).resources ≡ resources_by (bytes_of file) image.tree) (sym is_store) reads.bytes
+
+    limit_opened : (image : Image) (tables : Contents) → ReadsImage file limit image tables read → (memory_of opened.store).limit ≡ limit
+    limit_opened image tables reads = subst (λ (s : TreeFs M (List Piece) g). (memory_of s).limit ≡ limit) (sym is_store) reads.limit_is
 
     -- if the files held a store, it is found
-    pub finds_kept : (result : Result (Opened S M (List Piece) rows g) Stopped) → Finds left (state rows conn) all → BeginsAt left (state rows conn)
-        → IfOk result (λ opened. connection_of (keeping_of opened.folder) ≡ conn)
-        → ((image : Image) (tables : Contents) → AreRowsOfImage all image tables → (HasCleanDisk (state rows conn) → IsAt (state rows conn) tables) → IfOk result (Opens image))
-        → AreOpened (HasBytes file) result → AreOpened (λ _ opened. (memory_of opened.store).limit ≡ option_map Some quota) result
-        → IfOk result (FindsKept left file quota)
-    finds_kept (Err e) finds begins same opens bytes limit = tt
-    finds_kept (Ok opened) finds begins same opens bytes limit = λ kept hold clean.
-        let was_clean = subst (λ c. HasCleanDisk (state rows c)) same clean in
-        let are : AreRowsOfImage all hold.image hold.tables = record { all = finds was_clean hold.tables hold.keeps; stand = hold.stand; whole = hold.whole } in
+    pub finds_held : ((image : Image) (tables : Contents) → Keeps left tables → StandForImage tables image → IsWholeImage image → Clean → ReadsImage file limit image tables read)
+        → ((image : Image) (tables : Contents) → Keeps now tables → (Clean → IsReadFrom image tables read) → OpensImage image opened)
+        → FindsHeld left file limit opened
+    finds_held reads opens = λ kept hold clean.
+        let read_image = reads hold.image hold.tables hold.keeps hold.stand hold.whole in
+        let still : Keeps now hold.tables = subst (λ image. Keeps image hold.tables) (sym same) hold.keeps in
+        let here = read_image (was_clean clean) in
         found hold.image kept opened hold.bytes hold.counter hold.locks_are hold.time hold.batch_is
-        (opens hold.image hold.tables are (λ c. begins c hold.tables hold.keeps)) (bytes hold.image hold.tables are) (limit hold.image hold.tables are)
+        (opens hold.image hold.tables still (λ is. (read_image is).read) clean) (bytes_opened hold.image hold.tables here) (limit_opened hold.image hold.tables here)
 
-    -- if they had no table, a new store is found
-    pub finds_first : (result : Result (Opened S M (List Piece) rows g) Stopped) → BeginsFirst left (state rows conn) all
-        → IfOk result (λ opened. connection_of (keeping_of opened.folder) ≡ conn)
-        → ((image : Image) (tables : Contents) → AreRowsOfImage all image tables → (HasCleanDisk (state rows conn) → IsAt (state rows conn) tables) → IfOk result (Opens image))
-        → AreOpened (HasBytes file) result → AreOpened (λ _ opened. (memory_of opened.store).limit ≡ option_map Some quota) result
-        → IfOk result (FindsFirst left quota)
-    finds_first (Err e) first same opens bytes limit = tt
-    finds_first (Ok opened) (tables, key, stand, begins) same opens bytes limit = λ vacant clean.
-        let was_clean = subst (λ c. HasCleanDisk (state rows c)) same clean in
-        let new = begins was_clean vacant in
-        let are : AreRowsOfImage all (first_image key) tables = record { all = new.1; stand = stand; whole = first_whole key } in
-        found (first_image key) first_kept opened (first_resources (bytes_of file) key) refl refl refl refl
-        (opens (first_image key) tables are (λ c. new.0)) (bytes (first_image key) tables are) (limit (first_image key) tables are)
+    -- if they had no table, a new store is found, and the data file had no byte
+    pub finds_new : (changes : List Change) → MakesFirst changes
+        → ((image : Image) → IsVacant left → StandForImage (first changes) image → IsWholeImage image → Clean → ReadsImage file limit image (first changes) read)
+        → ((image : Image) → IsVacant now → (Clean → IsReadFrom image (first changes) read) → OpensImage image opened)
+        → (IsVacant left → Clean → IsEmptyIfHonest read file) → FindsNew left file limit opened
+    finds_new changes (key, stand) reads opens empty = record {
+      found = λ vacant clean.
+          let image = first_image key in
+          let tables = first changes in
+          let read_image = reads image vacant stand (first_whole key) in
+          let here = read_image (was_clean clean) in
+          found image first_kept opened (first_resources (bytes_of file) key) refl refl refl refl
+          (opens image (subst IsVacant (sym same) vacant) (λ is. (read_image is).read) clean) (bytes_opened image tables here) (limit_opened image tables here);
+      empty = λ vacant clean honest. empty vacant (was_clean clean) (ap honest_of (sym is_store) ∙ honest);
+    }
+
+-- the same, by what the files held
+module _ {S M X : Type 0} {rows : store.Ghosts S} {g : Ghosts M (List Piece)} (result : Result (Opened S M (List Piece) rows g) X) (left held : files.Image) (file bytes : List ℕ)
+    (limit other : Option (Option ℕ)) (same : left ≡ held) (same_bytes : file ≡ bytes) (same_limit : limit ≡ other) where
+  pub held_as : IfOk result (FindsHeld left file limit) → IfOk result (FindsHeld held bytes other)
+  held_as finds =
+      subst (λ l. IfOk result (FindsHeld held bytes l)) same_limit
+      (subst (λ b. IfOk result (FindsHeld held b limit)) same_bytes (subst (λ i. IfOk result (FindsHeld i file limit)) same finds))
+
+  pub new_as : IfOk result (FindsNew left file limit) → IfOk result (FindsNew held bytes other)
+  new_as finds =
+      subst (λ l. IfOk result (FindsNew held bytes l)) same_limit
+      (subst (λ b. IfOk result (FindsNew held b limit)) same_bytes (subst (λ i. IfOk result (FindsNew i file limit)) same finds))

@@ -130,20 +130,21 @@ module _ {D E : Type 0} {d : disk.Ghosts D} {e : disk.Ghosts E} {rows : store.Gh
 module _ {D E : Type 0} {d : disk.Ghosts D} {e : disk.Ghosts E} {rows : store.Ghosts (FileStore D d)} {g : Ghosts (DataFile E e) (List Piece)} (rules : Rules)
     (opened : Opened (FileStore D d) (DataFile E e) (List Piece) rows g) (files : FileStore D d × DataFile E e) where
   -- `left` and `file` are what the files held
-  module _ (left : database.Image) (file : List ℕ) (quota : Option ℕ) (finds : FindsKept left file quota opened) (finds_new : FindsFirst left quota opened)
+  module _ (left : database.Image) (file : List ℕ) (quota : Option ℕ) (finds : FindsKept left file quota opened) (finds_new : FindsFirst left file quota opened)
       (was_clean : IsClean (view files.0) → HasCleanDatabase opened.folder) where
     lasts_at_start : HeldAStore left file files → IsOpenedAsKept opened
     lasts_at_start (clean, inl (held, hold)) = (finds held hold (was_clean clean)).lasts
-    lasts_at_start (clean, inr vacant) = (finds_new vacant (was_clean clean)).lasts
+    lasts_at_start (clean, inr vacant) = (finds_new.found vacant (was_clean clean)).lasts
 
     limit_at_start : HeldAStore left file files → (memory_of opened.store).limit ≡ option_map Some quota
-    limit_at_start (clean, inl (held, hold)) = (finds held hold (was_clean clean)).limit
-    limit_at_start (clean, inr vacant) = (finds_new vacant (was_clean clean)).limit
+    limit_at_start (clean, inl (held, hold)) = (finds held hold (was_clean clean)).limit_is
+    limit_at_start (clean, inr vacant) = (finds_new.found vacant (was_clean clean)).limit_is
 
     begins_with : BeginsWith left file files quota (opened_at opened)
     begins_with = record {
       kept = λ held clean hold. (finds held hold (was_clean clean)).is;
-      new = λ clean vacant. (finds_new vacant (was_clean clean)).is;
+      new = λ clean vacant. (finds_new.found vacant (was_clean clean)).is;
+      empty = λ clean vacant. finds_new.empty vacant (was_clean clean);
       limit = limit_at_start;
     }
 

@@ -15,6 +15,6 @@ has_page size = nat_le MIN_LOG (unwrap_or size 0)
 -- What is missing beside a database, its log and a data file with so many bytes, where a file that is not there has no size: the data file of a database,
 -- or the database of a log with pages or of a data file with bytes.
 abbrev pub missing_of : Option ℕ → Option ℕ → Option ℕ → Option Refusal
-missing_of database log data =
-    if has_bytes database && is_none data then Some NoData
-    else (if not (has_bytes database) && (has_page log || has_bytes data) then Some NoDatabase else None)
+missing_of database log file =
+    if has_bytes database && is_none file then Some NoData
+    else (if not (has_bytes database) && (has_page log || has_bytes file) then Some NoDatabase else None)

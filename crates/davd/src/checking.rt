@@ -3,7 +3,7 @@ ghost use Rattle.std.specs.Prelude.{◌≡◌, true, IsTrue, IfErr};
 ghost use Rattle.dav_folder.specs.Opening.{AreOnlyRead};
 ghost use Rattle.davd.specs.Program.{IsNotUsage};
 
-use crate::files::{DATA, DATABASE, Missing, expect_database};
+use crate::files::{Absent, DATA, DATABASE, expect_database};
 use crate::folder::open_pair;
 use crate::program::Stopped;
 use dav_check::{Checked, check};
@@ -30,9 +30,9 @@ pub fn check_folder<R: Start, T: Start, O: Write>(
     ensures { IfErr result IsNotUsage }
 {
     expect_database(rt, folder)?;
-    let missing = Missing::find(rt, folder)?;
+    let absent = Absent::find(rt, folder)?;
     let checked = check_pairs(rt, folder, held, output);
-    missing.remove(rt, folder)?;
+    absent.remove(rt, folder)?;
     checked
 }
 
@@ -55,16 +55,16 @@ fn check_pairs<R: Start, T: Start, O: Write>(
 fn check_files<D: Disk, E: Disk + Drop, O: Write>(
     alloc: Global,
     files: &mut Files<D>,
-    data: E,
+    file: E,
     output: &mut O,
 ) -> Result<(), Stopped>
     requires log_usable { IsTrue (D.Disk.is_usable files.old.log) }
     requires db_usable { IsTrue (D.Disk.is_usable files.old.db) }
-    requires usable { IsTrue (E.Disk.is_usable data) }
+    requires usable { IsTrue (E.Disk.is_usable file) }
     ensures only { AreOnlyRead D.Disk files.old files.new }
     ensures err { IfErr result IsNotUsage }
 {
-    let disk = match ReadOnly::new(data) {
+    let disk = match ReadOnly::new(file) {
         Ok(disk) => disk,
         Err(error) => return Err(Stopped::Disk(error)),
     };

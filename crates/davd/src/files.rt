@@ -47,20 +47,20 @@ pub fn expect_files(rt: &HostRuntime, folder: &str) -> Result<(), Stopped>
 {
     let database = size_of(rt, folder, DATABASE)?;
     let log = size_of(rt, folder, "meta.db-wal")?;
-    let data = size_of(rt, folder, DATA)?;
-    match missing(database, log, data) {
+    let file = size_of(rt, folder, DATA)?;
+    match missing(database, log, file) {
         Some(refusal) => Err(Stopped::Refused(refusal)),
         None => Ok(()),
     }
 }
 
 /// Returns what is missing beside files with so many bytes, if something is. A file that is not there has no size.
-fn missing(database: Option<u64>, log: Option<u64>, data: Option<u64>) -> Option<Refusal>
-    ensures { result ≡ missing_of database log data }
+fn missing(database: Option<u64>, log: Option<u64>, file: Option<u64>) -> Option<Refusal>
+    ensures { result ≡ missing_of database log file }
 {
     let has_database = database.unwrap_or(0) > 0;
-    let has_rest = log.unwrap_or(0) >= MIN_LOG || data.unwrap_or(0) > 0;
-    if has_database && data.is_none() {
+    let has_rest = log.unwrap_or(0) >= MIN_LOG || file.unwrap_or(0) > 0;
+    if has_database && file.is_none() {
         Some(Refusal::NoData)
     } else if !has_database && has_rest {
         Some(Refusal::NoDatabase)
@@ -117,17 +117,17 @@ pub fn expect_database(rt: &HostRuntime, folder: &str) -> Result<(), Stopped>
 
 /// The files beside a database and a data file that are not there. To open these makes them, without a byte.
 #[derive(Clone, Copy)]
-pub struct Missing {
+pub struct Absent {
     log: bool,
     reserve: bool,
 }
 
-impl Missing {
+impl Absent {
     /// Finds which are missing. Errors: `Disk`; `Memory`.
-    pub fn find(rt: &HostRuntime, folder: &str) -> Result<Missing, Stopped>
+    pub fn find(rt: &HostRuntime, folder: &str) -> Result<Absent, Stopped>
         ensures { IfErr result IsNotUsage }
     {
-        Ok(Missing {
+        Ok(Absent {
             log: size_of(rt, folder, "meta.db-wal")?.is_none(),
             reserve: size_of(rt, folder, "data-wal")?.is_none(),
         })

@@ -1,5 +1,5 @@
 //! A store in a folder.
-ghost use Rattle.std.specs.Prelude.{◌≡◌, true, IsTrue, IfOk, IfErr};
+ghost use Rattle.std.specs.Prelude.{◌≡◌, true, false, IsTrue, IfOk, IfErr};
 ghost use Rattle.std.specs.Option.{option_map};
 ghost use Rattle.sqlite.specs.Files.{image_of};
 ghost use Rattle.sqlite.specs.WalFiles.{image_at};
@@ -7,7 +7,7 @@ ghost use Rattle.sqlite_std_file.specs.File.{IsFresh, file_is_usable};
 ghost use Rattle.davd.specs.Folder.{FindsKept, FindsFirst, FindsHeld, FindsNew, MakesFirst};
 ghost use Rattle.davd.specs.Program.{IsNotUsage};
 
-use crate::files::{DATA, DATABASE, Missing, empty_reserve, expect_files, make_folder};
+use crate::files::{Absent, DATA, DATABASE, empty_reserve, expect_files, make_folder};
 use crate::program::{Refusal, Stopped};
 use dav_data::DataFile;
 use dav_folder::{OpenError, Opened, read_files};
@@ -49,10 +49,10 @@ pub fn open_folder<R: Start, T: Start>(
 {
     make_folder(rt, folder)?;
     expect_files(rt, folder)?;
-    let missing = Missing::find(rt, folder)?;
+    let absent = Absent::find(rt, folder)?;
     let opened = open_pairs(rt, folder, quota, left, file);
     if opened.is_err() {
-        missing.remove(rt, folder)?;
+        absent.remove(rt, folder)?;
     }
     opened
 }
@@ -72,9 +72,9 @@ fn open_pairs<R: Start, T: Start>(
     let key = random(rt)? >> 1;
     let changes = first_changes(rt.alloc(), key)?;
     // The data file is made first: a database without one is not that of a store that was just made.
-    let data = open_pair(rt, folder, DATA, file)?;
+    let pair = open_pair(rt, folder, DATA, file)?;
     let files = open_pair(rt, folder, DATABASE, left)?;
-    open_over(rt, folder, files, data, &changes, limit_of(quota))
+    open_over(rt, folder, files, pair, &changes, limit_of(quota))
 }
 
 /// Opens the store over the files of a database and a data file. The file that comes with it keeps room back.
@@ -84,23 +84,25 @@ fn open_over<D: Disk + Drop, E: Disk + Drop>(
     rt: &HostRuntime,
     folder: &str,
     files: Files<D>,
-    data: Files<E>,
+    pair: Files<E>,
     changes: &[Change],
     limit: Option<Option<u64>>,
 ) -> Result<OpenedOver<D, E>, Stopped>
     requires log_usable { IsTrue (D.Disk.is_usable files.log) }
     requires db_usable { IsTrue (D.Disk.is_usable files.db) }
-    requires usable { E.Disk.is_usable data.db ≡ true }
-    requires reserve { E.Disk.is_usable data.log ≡ true }
-    ensures kept { IfOk result (FindsHeld (image_of D.Disk files) (E.Disk.seen data.db) limit) }
-    ensures new { MakesFirst changes.now → IfOk result (FindsNew (image_of D.Disk files) (E.Disk.seen data.db) limit) }
+    requires usable { E.Disk.is_usable pair.db ≡ true }
+    requires reserve { E.Disk.is_usable pair.log ≡ true }
+    ensures kept { IfOk result (FindsHeld (image_of D.Disk files) (E.Disk.seen pair.db) limit) }
+    ensures new { MakesFirst changes.now → IfOk result (FindsNew (image_of D.Disk files) (E.Disk.seen pair.db) limit) }
     ensures err { IfErr result IsNotUsage }
 {
     let mut files = files;
-    let disk = Reserved::new(data.db, data.log, ROOM);
+    let disk = Reserved::new(pair.db, pair.log, ROOM);
     let found = read_files(rt.alloc(), &mut files, disk, changes, limit)?;
+    let seed = random(rt)?;
     empty_reserve(rt, folder)?;
-    Ok(found.open(rt.alloc(), files, random(rt)?, changes)?)
+    let opened = found.open(rt.alloc(), files, seed, changes)?;
+    Ok(opened)
 }
 
 /// Opens a file of the folder, and the one that comes with it.

@@ -1,0 +1,23 @@
+use Rattle.std.proofs.Common.{◌≡◌, ℕ, List, sym, subst}
+use Rattle.dav_keep.specs.Images.{StandForImage}
+use Rattle.dav_keep.specs.Loading.{first_image}
+use Rattle.dav_rows.specs.Creating.{first}
+use Rattle.dav_rows.specs.declared.change.Change.{Change}
+use Rattle.davd.proofs.Finding.{held_as, new_as}
+use Rattle.davd.proofs.FreshFiles.{fresh_seen, fresh_image}
+use Rattle.davd.proofs.folder.open_pairs.Goals as goal
+
+stands : {key : ℕ} (read changes : List Change) → read ≡ changes → StandForImage (first changes) (first_image key) → StandForImage (first read) (first_image key)
+stands {key} read changes same stand = subst (λ these. StandForImage (first these) (first_image key)) (sym same) stand
+
+pub returns-clause-kept : goal.returns-clause-kept
+returns-clause-kept g c =
+    let files = c.in_ok-files.files in let fresh = c.in_ok-files.ensures.fresh in
+    held_as c.open_over.result _ _ _ _ _ _ (fresh_image files.log files.db fresh.0 fresh.1) (fresh_seen c.in_ok-pair.pair.db c.in_ok-pair.ensures.fresh.1) c.limit_of.ensures
+    c.open_over.ensures.kept
+
+pub returns-clause-new : goal.returns-clause-new
+returns-clause-new g c =
+    let files = c.in_ok-files.files in let fresh = c.in_ok-files.ensures.fresh in
+    new_as c.open_over.result _ _ _ _ _ _ (fresh_image files.log files.db fresh.0 fresh.1) (fresh_seen c.in_ok-pair.pair.db c.in_ok-pair.ensures.fresh.1) c.limit_of.ensures
+    (c.open_over.ensures.new (_, stands _ _ c.deref.ensures.value c.in_ok-changes.ensures))
