@@ -1,5 +1,5 @@
 -- What is read of a folder, if the files of its database returned what was written.
-use Rattle.std.proofs.Common.{◌≡◌, ℕ, true, false, List, [], Option, Result, Ok, Err, IsTrue, subst}
+use Rattle.std.proofs.Common.{◌≡◌, ℕ, true, List, [], Option, Result, Ok, Err, IsTrue, subst}
 use Rattle.std.specs.Prelude.{Bool, ◌&&◌, IfOk}
 use Rattle.std.proofs.lemmas.Bool.{and_parts, and_from}
 use Rattle.dav_keep.specs.Images.{Image}

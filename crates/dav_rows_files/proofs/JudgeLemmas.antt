@@ -1,5 +1,5 @@
 -- Copies in memory, and a connection over them.
-use Rattle.std.proofs.Common.{◌≡◌, ◌⊎◌, ◌+◌, ℕ, inl, inr, Result, Ok, Err, refl, sym, subst, arith}
+use Rattle.std.proofs.Common.{◌≡◌, ◌+◌, ℕ, inl, inr, Result, Ok, Err, refl, sym, subst, arith}
 use Rattle.std.specs.Prelude.{IfErr}
 use Rattle.std.specs.Result.{IsErrAnd}
 use Rattle.sqlite_disk.specs.Disk.{MoreFaults}

@@ -1,5 +1,5 @@
 -- What an open finds, and what a crash leaves for it.
-use Rattle.std.proofs.Common.{◌≡◌, ◌⊎◌, ◌≤◌, ◌==◌, inl, inr, Bool, true, false, cond, List, [], None, Some, Option, IfSome, Ok, Err, Result, OnOk, IsTrue, arith, refl, sym, ap, subst, ◌∙◌}
+use Rattle.std.proofs.Common.{◌≡◌, ◌⊎◌, ◌≤◌, ◌==◌, inl, inr, Bool, true, false, cond, List, [], None, Ok, Err, Result, OnOk, IsTrue, arith, refl, sym, ap, subst, ◌∙◌}
 use Rattle.std.specs.Prelude.{IsSome}
 use Rattle.std.proofs.Math.Logic.{∥∥₁_map}
 use Rattle.sqlite_disk.specs.declared.Disk.{Ghosts}

@@ -1,8 +1,8 @@
 -- What a start finds of what was kept.
-use Rattle.std.proofs.Common.{◌≡◌, ◌∙◌, ℕ, true, List, [], map, Option, Some, Result, refl, sym, ap, subst}
+use Rattle.std.proofs.Common.{◌≡◌, ◌∙◌, ℕ, true, List, map, Option, Result, refl, sym, ap, subst}
 use Rattle.std.specs.Prelude.{IfOk}
 use Rattle.dav_cells.specs.Locks.{kept_lock}
-use Rattle.dav_folder.specs.Files.{KeptStore, Hold}
+use Rattle.dav_folder.specs.Files.{KeptStore}
 use Rattle.dav_folder.specs.Lasting.{HasCleanDatabase}
 use Rattle.dav_folder.specs.Opening.{Opens, OpensImage, HasBytes}
 use Rattle.dav_folder.specs.Reading.{IsReadFrom, ReadsImage, IsEmptyIfHonest}

@@ -1,4 +1,3 @@
-use Rattle.std.proofs.Common.{◌∙◌, refl}
 use Rattle.dav_keep.specs.Loading.{AreRowsOfImage}
 use Rattle.dav_rows.specs.Creating.{first}
 use Rattle.dav_folder.proofs.FoundImages.{later, reads_image, reads_empty, were_clean}

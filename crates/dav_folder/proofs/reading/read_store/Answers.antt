@@ -1,7 +1,6 @@
-use Rattle.std.proofs.Common.{◌≡◌, ◌∙◌, refl, sym, ap, subst, inl, inr, arith}
+use Rattle.std.proofs.Common.{◌≡◌, ◌∙◌, refl, sym, ap, inl, inr, arith}
 use Rattle.dav_data.specs.Data.{is_below, body_bytes}
 use Rattle.dav_keep.specs.declared.numbers.Numbers.{Numbers}
-use Rattle.dav_pieces.specs.declared.piece.Piece.{Piece}
 use Rattle.dav_pieces.specs.Pieces.{bytes_of}
 use Rattle.dav_tree.proofs.Keeping.{same-resources}
 use Rattle.dav_tree.specs.Memory.{Memory}

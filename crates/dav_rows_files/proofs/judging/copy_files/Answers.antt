@@ -1,4 +1,4 @@
-use Rattle.std.proofs.Common.{◌+◌, ◌≡◌, sym, subst}
+use Rattle.std.proofs.Common.{◌+◌, subst}
 use Rattle.disk_readonly.specs.Copies.{IsExcused}
 use Rattle.dav_rows_files.proofs.JudgeLemmas.{excused-behind, if-err-same}
 use Rattle.dav_rows_files.proofs.judging.copy_files.Goals as goal

@@ -1,4 +1,3 @@
-use Rattle.std.proofs.Common.{◌+◌, refl}
 use Rattle.dav_space.specs.Space.{unused}
 use Rattle.dav_blocks.proofs.Keeping.{cut-bytes}
 use Rattle.dav_blocks.proofs.block_file.BlockFile.trim.Goals as goal
