@@ -1,0 +1,4 @@
+pub mod Batches
+pub mod Crashes
+pub mod Images
+pub mod Slots

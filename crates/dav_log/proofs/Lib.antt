@@ -1,0 +1,2 @@
+pub mod DamageLemmas
+pub mod FrameLemmas
