@@ -1,5 +1,5 @@
 -- What a call of the keeper comes to for a server.
-use Rattle.std.proofs.Common.{◌≡◌, ◌≤◌, ◌∙◌, arith, inl, inr, ℕ, Bool, true, false, List, map, refl, sym, ap, ap₂, subst}
+use Rattle.std.proofs.Common.{◌≡◌, ◌≤◌, ◌∙◌, arith, inl, inr, ℕ, Bool, true, false, cond, List, map, refl, sym, ap, ap₂, subst}
 use base.Stored.{Gv}
 use Rattle.sqlite.specs.State.{HasCleanDisk}
 use Rattle.sqlite_trees.specs.View.{doubt}
@@ -19,7 +19,7 @@ use Rattle.dav_tree.specs.Memory.{Memory, Resources, IsSound}
 use Rattle.dav_tree.specs.TreeFs.{memory_of, before_of, entries_of}
 use Rattle.dav_tree.specs.declared.medium.Medium.{Ghosts}
 use Rattle.dav_tree.specs.declared.tree_fs.TreeFs.{TreeFs}
-use Rattle.dav_folder.specs.Folders.{keeping_of}
+use Rattle.dav_folder.specs.Folders.{keeping_of, batch_of}
 use Rattle.dav_folder.specs.Lasting.{At, IsImageAt, Lasts, LastsEither, IsSameKept}
 use Rattle.dav_folder.specs.declared.folder.Folder.{Folder}
 
@@ -43,8 +43,8 @@ module _ {S M : Type 0} {rows : store.Ghosts S} {g : Ghosts M (List Piece)} (old
   module _ (settles : Settles rows) (saved : IsSaved mid.entries) where
     -- something has changed, and then the medium may have been swept
     keeps_next : IsSound (memory_of mid).resources → (last : TreeFs M (List Piece) g) → KeepsNow true lasts.image (keeping_of new) mid locks now batch → memory_of last ≡ memory_of mid → entries_of last ≡ entries_of mid
-        → KeepsOne Lasts IsSameKept new (before_of last) before (snapshot_at last locks now batch)
-    keeps_next resources last keeps memory entries =
+        → batch_of new ≡ batch → KeepsOne Lasts IsSameKept new (before_of last) before (snapshot_at last locks now batch)
+    keeps_next resources last keeps memory entries number =
         let same : before_of last ≡ before_of mid = ap (λ (m : Memory). m.held.before) memory in
         inl (record {
           image = keeps.image;
@@ -58,12 +58,13 @@ module _ {S M : Type 0} {rows : store.Ghosts S} {g : Ghosts M (List Piece)} (old
           };
           kept = subst (λ b. IsKept g.body_code (keeping_of new) b keeps.image) (sym same) keeps.kept;
           left = leaves_known settles (keeping_of new) (keeping_of new) keeps.image refl keeps.kept.known;
+          number = number;
         })
 
     -- nothing has changed, and then the medium may have been swept
     keeps_same : (last : TreeFs M (List Piece) g) → KeepsNow false lasts.image (keeping_of new) mid locks now batch → before_of mid ≡ before_of first → memory_of last ≡ memory_of mid
-        → KeepsOne Lasts IsSameKept new (before_of last) before (snapshot_at last locks now batch)
-    keeps_same last keeps unchanged memory =
+        → batch_of new ≡ batch_of old → KeepsOne Lasts IsSameKept new (before_of last) before (snapshot_at last locks now batch)
+    keeps_same last keeps unchanged memory number =
         let same : before_of last ≡ before_of mid = ap (λ (m : Memory). m.held.before) memory in
         let kept = subst (IsKept g.body_code (keeping_of new) (before_of mid)) keeps.since keeps.kept in
         inr (
@@ -72,6 +73,7 @@ module _ {S M : Type 0} {rows : store.Ghosts S} {g : Ghosts M (List Piece)} (old
             at = resaved (before_of last) (same ∙ unchanged);
             kept = subst (λ b. IsKept g.body_code (keeping_of new) b lasts.image) (sym same) kept;
             left = leaves_known settles (keeping_of new) (keeping_of new) lasts.image refl kept.known;
+            number = number ∙ lasts.number;
           },
           record {
             resources =
@@ -85,9 +87,9 @@ module _ {S M : Type 0} {rows : store.Ghosts S} {g : Ghosts M (List Piece)} (old
     -- something has changed or not, and then the medium may have been swept
     pub keeps_one : (changed : Bool) → IsSound (memory_of mid).resources → (last : TreeFs M (List Piece) g) → KeepsNow changed lasts.image (keeping_of new) mid locks now batch
         → (changed ≡ false → before_of mid ≡ before_of first) → memory_of last ≡ memory_of mid → entries_of last ≡ entries_of mid
-        → KeepsOne Lasts IsSameKept new (before_of last) before (snapshot_at last locks now batch)
-    keeps_one true resources last keeps unchanged memory entries = keeps_next resources last keeps memory entries
-    keeps_one false resources last keeps unchanged memory entries = keeps_same last keeps (unchanged refl) memory
+        → batch_of new ≡ cond changed batch (batch_of old) → KeepsOne Lasts IsSameKept new (before_of last) before (snapshot_at last locks now batch)
+    keeps_one true resources last keeps unchanged memory entries number = keeps_next resources last keeps memory entries number
+    keeps_one false resources last keeps unchanged memory entries number = keeps_same last keeps (unchanged refl) memory number
 
   -- the call failed
   pub stops : IsSound (memory_of mid).resources → Stops lasts.image (keeping_of new) first mid locks now batch → LastsEither new (before_of mid) before (snapshot_at mid locks now batch)

@@ -1,5 +1,5 @@
 -- What a crash leaves of the files of a folder, from what it leaves of its database.
-use Rattle.std.proofs.Common.{◌≡◌, ◌∙◌, ◌⊎◌, ◌<◌, ◌≤◌, ◌^◌, ℕ, Bool, true, inl, inr, List, length, refl, ap}
+use Rattle.std.proofs.Common.{◌≡◌, ◌∙◌, ◌⊎◌, ◌<◌, ◌≤◌, ◌^◌, ℕ, Bool, true, inl, inr, List, [], length, refl, ap}
 use Rattle.std.proofs.Math.Logic.{∥∥₁_map}
 use base.Stored.{Gv}
 use Rattle.sqlite.specs.Files.{HoldsDatabase}
@@ -17,7 +17,7 @@ use Rattle.dav_keep.specs.Keeping.{Leaves, LeavesEither}
 use Rattle.dav_pieces.specs.Pieces.{bytes_of}
 use Rattle.dav_pieces.specs.declared.piece.Piece.{Piece}
 use Rattle.dav_rows.specs.Contents.{Contents}
-use Rattle.dav_rows_files.specs.Starting.{Keeps, LeavesDatabases}
+use Rattle.dav_rows_files.specs.Starting.{Keeps, LeavesDatabases, LeavesWhole}
 use Rattle.dav_tree.proofs.Keeping.{same-resources}
 use Rattle.dav_tree.specs.Before.{saved_code, IsSafe, HasSaved}
 use Rattle.dav_tree.specs.Entry.{is_held}
@@ -25,7 +25,7 @@ use Rattle.dav_tree.specs.TreeFs.{memory_of}
 use Rattle.dav_tree.specs.declared.entry.Content.TheVariants.{File, Directory}
 use Rattle.dav_tree.specs.declared.entry.Content.{Content}
 use Rattle.dav_tree.specs.declared.medium.Medium.{Ghosts}
-use Rattle.dav_folder.specs.Files.{KeptStore, Hold, Leave, LeaveEither, kept_at}
+use Rattle.dav_folder.specs.Files.{KeptStore, Hold, HoldWhole, Leave, LeaveEither, LeaveWhole, kept_at}
 use Rattle.dav_folder.specs.Lasting.{At, IsImageAt}
 
 -- ---- the database
@@ -73,6 +73,18 @@ module _ {E : Type 0} {h : disk.Ghosts E} (medium : DataFile E h) (end : ℕ) (b
       }
 
   -- ---- both
+
+  module _ {D : Type 0} {d : disk.Ghosts D} (files : FileStore D d) (s : State) (clean : IsClean (view files) → HasCleanDisk s) (leaves : LeavesWhole s files)
+      (bytes : (file : List ℕ) → may_leave medium file → LeavesBytes medium file) (long : (file : List ℕ) → may_leave medium file → end ≤ length file)
+      {M : Type 0} {g : Ghosts M (List Piece)} where
+    pub leave_whole : (saved : Gv) (snapshot : At g) (image : Image) → HasSaved g.body_code (body_bytes medium) (is_synced medium) saved → IsImageAt saved snapshot image
+        → Leaves s image → LeaveWhole (files, medium) (kept_at snapshot)
+    leave_whole saved snapshot image has at left_image = λ is_clean left file may also.
+        ∥∥₁_map (leaves is_clean left may) (λ found.
+        let holds_in = λ (found_left : database.Image) (database : HoldsDatabase found_left found.0).
+        holds saved snapshot image file found_left has at (bytes file also) (long file also)
+        (keeps_image found_left image found.0 database (left_image (clean is_clean) found.0 found.3)) in
+        let whole : HoldWhole left file (kept_at snapshot) = record { both = holds_in left found.1; alone = holds_in (record left { log = [] }) found.2 } in whole)
 
   module _ {D : Type 0} {d : disk.Ghosts D} (files : FileStore D d) (s : State) (clean : IsClean (view files) → HasCleanDisk s) (leaves : LeavesDatabases s files)
       (bytes : (file : List ℕ) → may_leave medium file → LeavesBytes medium file) (long : (file : List ℕ) → may_leave medium file → end ≤ length file)

@@ -17,7 +17,7 @@ use Rattle.dav_tree.specs.Memory as memory
 use Rattle.dav_tree.specs.TreeFs.{memory_of, before_of, entries_of}
 use Rattle.dav_tree.specs.declared.medium.Medium.{Ghosts}
 use Rattle.dav_tree.specs.declared.tree_fs.TreeFs.{TreeFs}
-use Rattle.dav_folder.specs.Folders.{keeping_of}
+use Rattle.dav_folder.specs.Folders.{keeping_of, batch_of}
 use Rattle.dav_folder.specs.Lasting.{Lasts}
 use Rattle.dav_folder.specs.declared.folder.Folder.{Folder}
 
@@ -40,8 +40,8 @@ same_kept locks loaded is = sym (kept_again locks) ∙ sym (ap (map kept_lock) i
 module _ {S M : Type 0} {rows : store.Ghosts S} {g : Ghosts M (List Piece)} (settles : Settles rows) (folder : Folder S rows) (store : TreeFs M (List Piece) g) (locks : MemLs)
     (now last : ℕ) (image : Image) where
   abbrev pub lasts : IsKnown (keeping_of folder) image → IsSound image → memory.IsSound (memory_of store).resources → entries_of store ≡ entries_code g.body_code image.tree → IsSaved store.entries → list_of locks ≡ map kept_lock image.locks
-      → (memory_of store).version ≡ image.numbers.counter → now ≡ image.numbers.time → last ≡ image.numbers.batch → Lasts folder (before_of store) (snapshot_at store locks now last)
-  lasts known sound resources entries saved locks_are counter time batch = record {
+      → (memory_of store).version ≡ image.numbers.counter → now ≡ image.numbers.time → last ≡ image.numbers.batch → batch_of folder ≡ last → Lasts folder (before_of store) (snapshot_at store locks now last)
+  lasts known sound resources entries saved locks_are counter time batch number = record {
     image = image;
     at = record {
       is = record { tree = sym entries; locks_are = same_kept image.locks (list_of locks) locks_are; counter = sym counter };
@@ -53,4 +53,5 @@ module _ {S M : Type 0} {rows : store.Ghosts S} {g : Ghosts M (List Piece)} (set
     };
     kept = record { tree = (store.entries.resources, ap (λ t. saved_code t store.entries.resources) (sym entries) ∙ saved); sound = sound; known = known };
     left = leaves_known settles (keeping_of folder) (keeping_of folder) image refl known;
+    number = number;
   }

@@ -8,7 +8,7 @@ use Rattle.dav_pieces.specs.declared.piece.Piece.{Piece}
 use Rattle.dav_tree.specs.TreeFs.{before_of}
 use Rattle.dav_tree.specs.declared.medium.Medium.{Ghosts}
 use Rattle.dav_tree.specs.declared.tree_fs.TreeFs.{TreeFs}
-use Rattle.dav_folder.specs.Files.{Leave, LeaveEither, kept_at}
+use Rattle.dav_folder.specs.Files.{Leave, LeaveEither, LeaveWhole, kept_at}
 use Rattle.dav_folder.specs.Lasting.{At, LastsAlone, LastsEither}
 use Rattle.dav_folder.specs.declared.folder.Folder.{Folder}
 
@@ -16,6 +16,10 @@ module _ {D E : Type 0} {d : disk.Ghosts D} {e : disk.Ghosts E} {rows : store.Gh
   -- what lasts alone is what a crash leaves of the files
   abbrev pub LeavesAlone : Folder (FileStore D d) rows → TreeFs (DataFile E e) (List Piece) g → FileStore D d × DataFile E e → Type 0
   LeavesAlone folder store files = (snapshot : At g) → LastsAlone folder (before_of store) snapshot → Leave files (kept_at snapshot)
+
+  -- the same, and the database file is whole without its log
+  abbrev pub LeavesWhole : Folder (FileStore D d) rows → TreeFs (DataFile E e) (List Piece) g → FileStore D d × DataFile E e → Type 0
+  LeavesWhole folder store files = (snapshot : At g) → LastsAlone folder (before_of store) snapshot → LeaveWhole files (kept_at snapshot)
 
   -- of two snapshots of which one lasts, a crash leaves one, if the second is that of the store
   abbrev pub LeavesOneOf : Folder (FileStore D d) rows → TreeFs (DataFile E e) (List Piece) g → FileStore D d × DataFile E e → Type 0

@@ -1,5 +1,5 @@
 -- What the files of a folder hold, and what a crash leaves there: this project's own choice.
-use Rattle.std.specs.Prelude.{◌≡◌, ◌⊎◌, ◌≤◌, ℕ, List, length, map}
+use Rattle.std.specs.Prelude.{◌≡◌, ◌⊎◌, ◌≤◌, ℕ, List, [], length, map}
 use Rattle.sqlite.specs.Recovery as database
 use Rattle.sqlite_disk.specs.declared.Disk as disk
 use Rattle.sqlite_store.specs.FileStore.{view, state}
@@ -57,6 +57,11 @@ pub record Hold (left : database.Image) (file : List ℕ) (kept : KeptStore) : T
   pub time : image.numbers.time ≡ kept.time
   pub batch_is : image.numbers.batch ≡ kept.batch
 
+-- the same, and so do the database file without its log and the data file
+pub record HoldWhole (left : database.Image) (file : List ℕ) (kept : KeptStore) : Type 0 where
+  pub both : Hold left file kept
+  pub alone : Hold (record left { log = [] }) file kept
+
 -- Each text in the tables of a store that was kept is UTF-8.
 abbrev pub HoldsUtf8 : Type 0
 HoldsUtf8 = (left : database.Image) (file : List ℕ) (kept : KeptStore) (hold : Hold left file kept) → HasUtf8 hold.tables
@@ -71,6 +76,10 @@ module _ {D E : Type 0} {g : disk.Ghosts D} {h : disk.Ghosts E} (files : FileSto
   -- whatever a crash leaves holds this store
   abbrev pub Leave : KeptStore → Type 0
   Leave kept = LeaveSuch (λ left file. Hold left file kept)
+
+  -- the same, without the log too
+  abbrev pub LeaveWhole : KeptStore → Type 0
+  LeaveWhole kept = LeaveSuch (λ left file. HoldWhole left file kept)
 
   -- whatever a crash leaves holds one of these stores
   abbrev pub LeaveEither : KeptStore → KeptStore → Type 0

@@ -15,7 +15,7 @@ use Rattle.dav_tree.specs.Memory as memory
 use Rattle.dav_tree.specs.TreeFs.{memory_of, entries_of, older_of}
 use Rattle.dav_tree.specs.declared.medium.Medium.{Ghosts}
 use Rattle.dav_tree.specs.declared.tree_fs.TreeFs.{TreeFs}
-use Rattle.dav_folder.specs.Folders.{keeping_of}
+use Rattle.dav_folder.specs.Folders.{keeping_of, batch_of}
 use Rattle.dav_folder.specs.declared.folder.Folder.{Folder}
 
 -- a store over this medium and a lock system, with a time and the number of a batch
@@ -56,6 +56,7 @@ module _ {S M : Type 0} {rows : store.Ghosts S} {g : Ghosts M (List Piece)} wher
     pub at : IsImageAt saved snapshot image
     pub kept : IsKept g.body_code (keeping_of folder) saved image
     pub left : Leaves (database (keeping_of folder)) image
+    pub number : batch_of folder ≡ snapshot.last
 
   -- a crash leaves the image of a snapshot
   pub record LastsAlone (folder : Folder S rows) (saved : Gv) (snapshot : At g) : Type 0 where

@@ -5,3 +5,4 @@ pub mod Errors
 pub mod Reading
 pub mod Opening
 pub mod Closing
+pub mod Numbered

@@ -26,6 +26,7 @@ module _ {M : Type 0} {g : Ghosts M (List Piece)} where
     pub counter : (memory_of found.store).version ≡ image.numbers.counter
     pub time : found.now ≡ image.numbers.time
     pub batch : found.last ≡ image.numbers.batch
+    pub key : found.key ≡ image.numbers.key
 
   -- if the data file is honest, the store has the resources of an image with the bytes in these contents of the data file
   abbrev pub HasReadBytes : List ℕ → Image → Found M (List Piece) g → Type 0

@@ -78,6 +78,7 @@ impl From<Unjudged> for OpenError {
         match error {
             Unjudged::Copy(CopyError::Memory) => OpenError::Memory,
             Unjudged::Copy(CopyError::Disk(error)) => OpenError::Database(error),
+            Unjudged::Log => OpenError::Damaged,
             Unjudged::Start(StartError::Foreign, _) => OpenError::Foreign,
             Unjudged::Start(StartError::Sqlite(error), left) => {
                 if is_out_of_memory(error) || has_failed(left) {

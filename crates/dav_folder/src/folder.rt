@@ -3,8 +3,7 @@ use dav_data::DataFile;
 use dav_keep::{KeepError, Keeping};
 use dav_memls::MemLs;
 use dav_reserve::Roomy;
-use dav_server::Keeper;
-use dav_tree::TreeFs;
+use dav_tree::{Medium, TreeFs};
 use sqlite::{Alter, Connection};
 use std::io::{self, ErrorKind};
 
@@ -14,6 +13,8 @@ use std::io::{self, ErrorKind};
 #[derive(Drop)]
 pub struct Folder<S: Alter> {
     keeping: Keeping<S>,
+    /// The number of the last batch that changed something.
+    batch: u64,
     /// Why the last call failed.
     failure: Option<KeepError>,
     /// Whether there was a sweep since the folder was opened.
@@ -27,14 +28,16 @@ impl<S: Alter> Folder<S> {
     ghost use Rattle.dav_keep.specs.Keeping.{connection_of};
     ghost use Rattle.dav_tree.specs.Before.{IsSaved};
     ghost use Rattle.dav_tree.specs.TreeFs.{memory_of, entries_of, records_of};
-    ghost use Rattle.dav_folder.specs.Folders.{keeping_of};
+    ghost use Rattle.dav_folder.specs.Folders.{keeping_of, batch_of};
 
-    /// Keeps with this keeper.
-    pub fn new(keeping: Keeping<S>) -> Folder<S>
-        ensures { keeping_of result ≡ keeping }
+    /// Keeps with this keeper. `batch` is the number of the last batch that changed something.
+    pub fn new(keeping: Keeping<S>, batch: u64) -> Folder<S>
+        ensures keeping { keeping_of result ≡ keeping }
+        ensures batch { batch_of result ≡ batch }
     {
         Folder {
             keeping,
+            batch,
             failure: None,
             has_swept: false,
             refused: 0,
@@ -44,6 +47,13 @@ impl<S: Alter> Folder<S> {
     /// Returns why a batch could not be kept, if one could not.
     pub fn failure(&self) -> Option<&KeepError> {
         self.failure.as_ref()
+    }
+
+    /// Returns the number of the last batch that changed something.
+    pub fn batch(&self) -> u64
+        ensures { result ≡ batch_of self.now }
+    {
+        self.batch
     }
 
     /// Has the data file use again what nothing needs any more, if it is time for that and nobody copies the files.
@@ -56,6 +66,7 @@ impl<S: Alter> Folder<S> {
     )
         requires { IsSaved store.old.entries }
         ensures keeping { keeping_of self.new ≡ keeping_of self.old }
+        ensures batch { batch_of self.new ≡ batch_of self.old }
         ensures memory { memory_of store.new ≡ memory_of store.old }
         ensures entries { entries_of store.new ≡ entries_of store.old }
         ensures records { records_of store.new ≡ records_of store.old }
@@ -94,34 +105,44 @@ impl<S: Alter> Folder<S> {
     }
 }
 
-impl<D: Roomy + Drop, S: Alter> Keeper<TreeFs<DataFile<D>>, MemLs> for Folder<S> {
-    ghost use Rattle.dav_folder.specs.Lasting.{Lasts, LastsEither, IsSameKept, HasCleanDatabase, as_first, as_second, same_as};
+impl<S: Alter> Folder<S> {
+    ghost use Rattle.std.specs.Prelude.{◌≤◌, OnOk, OnErr};
+    ghost use Rattle.dav_pieces.specs.declared.piece.Piece.{Piece};
+    ghost use Rattle.dav_server.specs.Snapshots.{snapshot_at, OnlySavedDiffers, KeepsOne};
+    ghost use Rattle.dav_tree.specs.TreeFs.{store_of, before_of};
+    ghost use Rattle.dav_folder.specs.Folders.{batch_of};
+    ghost use Rattle.dav_folder.specs.Lasting.{At, Lasts, LastsEither, IsSameKept, HasCleanDatabase};
 
-    ghost lasts = { Lasts };
-
-    ghost lasts_either = { LastsEither };
-
-    ghost same = { IsSameKept };
-
-    ghost is_clean = { HasCleanDatabase };
-
-    ghost as_first = { as_first };
-
-    ghost as_second = { as_second };
-
-    ghost same_as = { same_as };
-
-    fn keep(
+    /// Keeps what a batch has changed, as [`dav_server::Keeper`] wants it. The number of a batch is not less than that of
+    /// an earlier one.
+    ///
+    /// - `InvalidInput`: the number is less. Nothing has changed.
+    /// - `Other`: the batch cannot be kept, for the reason that `failure` returns.
+    pub fn keep_batch<D: Roomy + Drop>(
         &mut self,
         store: &mut TreeFs<DataFile<D>>,
         locks: &MemLs,
         now: u64,
         last: u64,
         in_backup: bool,
-    ) -> io::Result<()> {
+    ) -> io::Result<()>
+        ensures seen { OnlySavedDiffers (store_of store.old) (store_of store.new) }
+        ensures clean { HasCleanDatabase self.new → HasCleanDatabase self.old }
+        ensures rises { batch_of self.old ≤ batch_of self.new }
+        ensures ok { OnOk result ((before : At ⟦<DataFile<D> as Medium>⟧) → Lasts self.old (before_of store.old) before
+            → KeepsOne Lasts IsSameKept self.new (before_of store.new) before (snapshot_at store.new locks.now now last)) }
+        ensures err { OnErr result ((before : At ⟦<DataFile<D> as Medium>⟧) → Lasts self.old (before_of store.old) before
+            → LastsEither self.new (before_of store.new) before (snapshot_at store.new locks.now now last)) }
+    {
+        if last < self.batch {
+            return Err(io::Error::from(ErrorKind::InvalidInput));
+        }
         match self.keeping.keep(store, locks, now, last) {
             Ok(changed) => {
                 store.show_sound();
+                if changed {
+                    self.batch = last;
+                }
                 self.reuse(store, changed, in_backup);
                 Ok(())
             }

@@ -5,12 +5,14 @@ mod closing;
 mod error;
 mod folder;
 mod laws;
+mod numbered;
 mod opening;
 mod reading;
 
-pub use closing::close_store;
+pub use closing::{FolderFiles, close_folder, give_up};
 pub use error::OpenError;
 pub use folder::Folder;
 pub use laws::show_utf8;
+pub use numbered::Numbered;
 pub use opening::{Opened, read_files};
 pub use reading::{Found, read_store};

@@ -4,6 +4,7 @@ ghost use Rattle.sqlite.specs.Files.{image_of};
 ghost use Rattle.sqlite.specs.Held.{state};
 ghost use Rattle.sqlite.specs.State.{HasCleanDisk};
 ghost use Rattle.sqlite_wal.specs.Reads.{AreClean, OnlyReads};
+ghost use Rattle.dav_log.specs.Damage.{IsDamaged};
 ghost use Rattle.dav_tree.specs.TreeFs.{store_of};
 ghost use Rattle.dav_keep.specs.Images.{Image, StandForImage};
 ghost use Rattle.dav_keep.specs.Keeping.{connection_of};
@@ -13,7 +14,7 @@ ghost use Rattle.dav_rows.specs.Creating.{first};
 ghost use Rattle.dav_rows.specs.Saving.{IsAt};
 ghost use Rattle.dav_rows_files.specs.Starting.{Keeps, IsVacant};
 ghost use Rattle.dav_folder.specs.Errors.{IsLate};
-ghost use Rattle.dav_folder.specs.Folders.{keeping_of};
+ghost use Rattle.dav_folder.specs.Folders.{keeping_of, batch_of};
 ghost use Rattle.dav_folder.specs.Lasting.{HasCleanDatabase};
 ghost use Rattle.dav_folder.specs.Reading.{IsReadFrom, ReadsImage, IsEmptyIfHonest};
 ghost use Rattle.dav_folder.specs.Opening.{Opens, OpensImage, AreOnlyRead};
@@ -45,6 +46,8 @@ pub struct Opened<S: Alter, M: Medium> {
     pub now: u64,
     /// The number of that batch.
     pub last: u64,
+    /// The key of the digests.
+    pub key: u64,
 }
 
 /// A log that is shorter has no page.
@@ -76,6 +79,7 @@ pub fn read_files<D: Disk, E: Disk + Drop>(
     ensures empty { IsVacant (image_of D.Disk files.old)
         → IfOk result (λ found. AreClean D.Disk files.new.log files.new.db → IsEmptyIfHonest found (E.Disk.seen disk)) }
     ensures log { IfOk result (λ found. (store_of found.store).log ≡ []) }
+    ensures sound { IfOk result (λ _. AreClean D.Disk files.new.log files.new.db → ¬ IsDamaged (image_of D.Disk files.old).log) }
     ensures only { AreOnlyRead D.Disk files.old files.new }
 {
     let mut disk = disk;
@@ -137,6 +141,9 @@ impl<M: Medium<Body = Body>> Found<M> {
             → (AreClean D.Disk files.log files.db → IsReadFrom image (first changes.now) self) → IfOk result (OpensImage image) }
         ensures clean { IfOk result (λ opened. HasCleanDatabase opened.folder → AreClean D.Disk files.log files.db) }
         ensures store { IfOk result (λ opened. opened.store ≡ self.store) }
+        ensures last { IfOk result (λ opened. opened.last ≡ self.last) }
+        ensures batch { IfOk result (λ opened. batch_of opened.folder ≡ opened.last) }
+        ensures key { IfOk result (λ opened. opened.key ≡ self.key) }
         ensures err { IfErr result IsLate }
     {
         match start(alloc, files, seed, changes) {
@@ -150,6 +157,9 @@ impl<M: Medium<Body = Body>> Found<M> {
         requires { conn.in_transaction ≡ false }
         ensures same { connection_of (keeping_of result.folder) ≡ conn }
         ensures store { result.store ≡ self.store }
+        ensures last { result.last ≡ self.last }
+        ensures batch { batch_of result.folder ≡ result.last }
+        ensures key { result.key ≡ self.key }
         ensures opened { (image : Image) (tables : Contents) → IsReadFrom image tables self
             → (HasCleanDisk (state S.Store conn) → IsAt (state S.Store conn) tables) → Opens image result }
     {
@@ -159,13 +169,15 @@ impl<M: Medium<Body = Body>> Found<M> {
             locks,
             now,
             last,
+            key,
         } = self;
         Opened {
-            folder: Folder::new(Keeping::new(alloc, conn, known)),
+            folder: Folder::new(Keeping::new(alloc, conn, known), last),
             store,
             locks,
             now,
             last,
+            key,
         }
     }
 }

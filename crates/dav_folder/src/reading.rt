@@ -29,6 +29,8 @@ pub struct Found<M: Medium> {
     pub now: u64,
     /// The number of that batch.
     pub last: u64,
+    /// The key of the digests.
+    pub key: u64,
 }
 
 /// Reads the store of a folder from these rows of its database, over its data file. `limit` is the store's quota. The
@@ -68,5 +70,6 @@ pub fn read_store<D: Disk + Drop>(
         locks: loaded.locks,
         now: numbers.time,
         last: numbers.batch,
+        key: numbers.key,
     })
 }

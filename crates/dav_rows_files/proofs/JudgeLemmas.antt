@@ -1,5 +1,5 @@
 -- Copies in memory, and a connection over them.
-use Rattle.std.proofs.Common.{◌≡◌, ◌+◌, ℕ, inl, inr, Result, Ok, Err, refl, sym, subst, arith}
+use Rattle.std.proofs.Common.{◌≡◌, ◌+◌, ℕ, List, inl, inr, Result, Ok, Err, refl, sym, subst, arith}
 use Rattle.std.specs.Prelude.{IfErr}
 use Rattle.std.specs.Result.{IsErrAnd}
 use Rattle.sqlite_disk.specs.Disk.{MoreFaults}
@@ -14,6 +14,11 @@ use Rattle.sqlite.specs.declared.file.Leftover.TheVariants as left
 use Rattle.disk_readonly.specs.Copies.{IsExcused}
 use Rattle.disk_readonly.specs.declared.copied.Copied.{Copied}
 use Rattle.disk_readonly.specs.declared.error.CopyError.{CopyError}
+use Rattle.sqlite.specs.Recovery.{Image}
+use Rattle.dav_rows.specs.declared.change.Change.{Change}
+use Rattle.dav_rows_files.specs.Judging.{IsLogFault, FailsToJudge}
+use Rattle.dav_rows_files.specs.declared.judging.Unjudged.{Unjudged}
+use Rattle.dav_rows_files.specs.declared.judging.Unjudged.TheVariants.{Copy, Log, Start}
 use Rattle.disk_readonly.specs.contracts.copied.CopiedDisk.TheImpl as copied
 
 -- memory takes no wrong answer as true
@@ -41,3 +46,9 @@ excused-before second old new e (inr (cause, is, more)) = inr (cause, is, let bo
 pub if-err-same : {T E : Type 0} (result : Result T E) (e : E) (P : E → Type 0) → IsErrAnd result (λ y. y ≡ e) → P e → IfErr result P
 if-err-same (Ok x) e P is p = tt
 if-err-same (Err y) e P is p = subst P (sym is) p
+
+-- a fault of the log stops a judge for an allowed cause
+pub log_fault : (image : Image) (changes : List Change) (old new : ℕ) (e : Unjudged) → IsLogFault image.log e → FailsToJudge image changes old new e
+log_fault image changes old new (Copy cause) is = record { kept = λ m keeps utf8. inl is; first = λ unused. inl is }
+log_fault image changes old new Log is = record { kept = λ m keeps utf8. is; first = λ unused. is }
+log_fault image changes old new (Start cause left) is = absurd is

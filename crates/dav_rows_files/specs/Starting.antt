@@ -80,6 +80,16 @@ module _ {D : Type 0} {g : Ghosts D} where
   LeavesDatabases s last =
       IsClean (store.view last) → (left : Image) → (store.state last).may_leave left → ∥ ((db : Trees) × HoldsDatabase left db × s.may_leave db) ∥₁
 
+  -- whatever trees the files stand for after a crash, a crash of the connection may leave them
+  abbrev pub LeavesNoOther : State → FileStore D g → Type 0
+  LeavesNoOther s last = IsClean (store.view last) → (db : Trees) → store.recovers last db → s.may_leave db
+
+  -- whatever files a crash leaves hold a database that a crash of the connection may leave, and so does the database file without its log
+  abbrev pub LeavesWhole : State → FileStore D g → Type 0
+  LeavesWhole s last =
+      IsClean (store.view last) → (left : Image) → (store.state last).may_leave left
+      → ∥ ((db : Trees) × HoldsDatabase left db × HoldsDatabase (record left { log = [] }) db × s.may_leave db) ∥₁
+
   -- whatever a crash leaves keeps the old maps, or what `f` makes of them
   abbrev pub NextKeepsEither : State → FileStore D g → (Contents → Contents) → Type 0
   NextKeepsEither s last f = IsClean (store.view last) → (m : Contents) → IsAt s m → (left : Image) → (store.state last).may_leave left → ∥ KeepsEither left m (f m) ∥₁

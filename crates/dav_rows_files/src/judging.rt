@@ -1,19 +1,22 @@
 //! Judges the files of a store before anything is written to them.
-ghost use Rattle.std.specs.Prelude.{◌≡◌, true, false, IsTrue, IfOk, IfErr};
+ghost use Rattle.std.specs.Prelude.{◌≡◌, true, false, IsTrue, IfOk, IfErr, OnOk};
 ghost use Rattle.sqlite.specs.Files.{image_of, faults_of};
 ghost use Rattle.sqlite_wal.specs.Reads.{AreClean, OnlyReads};
 ghost use Rattle.sqlite.specs.Held.{state};
 ghost use Rattle.dav_rows.specs.Contents.{Contents};
 ghost use Rattle.dav_rows.specs.Creating.{first, IsBlank};
 ghost use Rattle.dav_rows.specs.Saving.{IsAt};
-ghost use Rattle.disk_readonly.specs.Copies.{IsExcused};
-ghost use Rattle.dav_rows_files.specs.Judging.{IsJudged, FailsToJudge};
+ghost use Rattle.dav_log.specs.Damage.{IsDamaged};
+ghost use Rattle.disk_readonly.specs.Copies.{contents_of, IsExcused};
+ghost use Rattle.dav_rows_files.specs.Judging.{IsJudged, IsLogFault, FailsToJudge};
 
+use dav_log::is_damaged;
 use dav_rows::{Change, Rows, StartError, load_or_create};
 use disk_readonly::{Copied, CopyError};
 use sqlite::{Alter, Connection, Leftover};
 use sqlite_disk::{Disk, Files};
 use sqlite_pager::Options;
+use sqlite_wal::Error;
 use std::alloc::Global;
 
 /// Why the files of a store are not judged, or refused.
@@ -21,6 +24,8 @@ use std::alloc::Global;
 pub enum Unjudged {
     /// A file cannot be copied.
     Copy(CopyError),
+    /// The log is damaged: it has commits that no recovery would take.
+    Log,
     /// The copies are not those of a store, or memory ran out. They come with the error.
     Start(StartError, Leftover<Copied>),
 }
@@ -49,10 +54,11 @@ pub struct Judged {
 /// after these changes.
 ///
 /// - `Copy`: memory runs out, or a file cannot be read.
+/// - `Log`: the log is damaged.
 /// - `Start`: the copies have other tables or hold no database, or memory runs out.
 ///
-/// If the files keep the tables of a store, or none, it fails only if memory runs out, a disk reports a fault, a file has
-/// the largest size that SQLite allows, or a row of the changes has more than a billion bytes.
+/// If the files keep the tables of a store, or none, it fails only if memory runs out, a disk reports a fault, the log is
+/// damaged, a file has the largest size that SQLite allows, or a row of the changes has more than a billion bytes.
 pub fn judge<D: Disk>(
     alloc: Global,
     files: &mut Files<D>,
@@ -62,11 +68,13 @@ pub fn judge<D: Disk>(
     requires db_usable { IsTrue (D.Disk.is_usable files.old.db) }
     ensures log { OnlyReads D.Disk files.old.log files.new.log }
     ensures db { OnlyReads D.Disk files.old.db files.new.db }
+    ensures sound { IfOk result (λ _. AreClean D.Disk files.new.log files.new.db → ¬ IsDamaged (image_of D.Disk files.old).log) }
     ensures found { IfOk result (λ judged. AreClean D.Disk files.new.log files.new.db → IsJudged (image_of D.Disk files.old) (first changes.now) judged) }
     ensures err { IfErr result (λ e. AreClean D.Disk files.new.log files.new.db
         → FailsToJudge (image_of D.Disk files.old) changes.now (faults_of D.Disk files.old) (faults_of D.Disk files.new) e) }
 {
-    let copies = copy_files(alloc, files)?;
+    let mut copies = copy_files(alloc, files)?;
+    expect_sound(alloc, &mut copies.log)?;
     let mut conn = match Connection::open_files(alloc, copies, Options::new(0)) {
         Ok(conn) => conn,
         Err((error, left)) => return Err(Unjudged::Start(StartError::Sqlite(error), left)),
@@ -75,6 +83,25 @@ pub fn judge<D: Disk>(
     match load_or_create(&mut conn, alloc, changes) {
         Ok(rows) => Ok(Judged { rows, is_new }),
         Err(error) => Err(Unjudged::Start(error, Leftover::Store(conn.into_store()))),
+    }
+}
+
+/// Checks that the copy of a log is not damaged.
+///
+/// - `Log`: it is.
+/// - `Copy`: memory runs out.
+fn expect_sound(alloc: Global, log: &mut Copied) -> Result<(), Unjudged>
+    ensures sound { OnOk result (¬ IsDamaged (contents_of log.old)) }
+    ensures same { contents_of log.new ≡ contents_of log.old }
+    ensures err { IfErr result (IsLogFault (contents_of log.old)) }
+{
+    match is_damaged(alloc, log) {
+        Ok(true) => Err(Unjudged::Log),
+        Ok(false) => Ok(()),
+        // Recovery takes no frames of such a log, and refuses it.
+        Err(Error::Corrupt) => Ok(()),
+        // A copy in memory fails only if that runs out.
+        Err(_) => Err(Unjudged::Copy(CopyError::Memory)),
     }
 }
 

@@ -7,4 +7,4 @@ mod stopping;
 
 pub use judging::{Judged, Unjudged, judge};
 pub use starting::start;
-pub use stopping::{into_files, save_to_the_end};
+pub use stopping::{close, into_files, save_to_the_end};

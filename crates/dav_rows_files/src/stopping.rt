@@ -1,15 +1,16 @@
 //! Gives up the files, and says what a crash leaves there.
-ghost use Rattle.std.specs.Prelude.{◌≡◌, false, OnOk};
+ghost use Rattle.std.specs.Prelude.{◌≡◌, true, false, OnOk};
 ghost use Rattle.sqlite.specs.Files.{file_state};
 ghost use Rattle.sqlite.specs.State.{HasCleanDisk};
 ghost use Rattle.sqlite_store.specs.FileStore.{view};
 ghost use Rattle.sqlite_trees.specs.View.{IsClean};
 ghost use Rattle.dav_rows.specs.Changes.{after};
-ghost use Rattle.dav_rows_files.specs.Starting.{LeavesDatabases, NextKeeps, NextKeepsEither};
+ghost use Rattle.dav_rows_files.specs.Starting.{LeavesDatabases, LeavesNoOther, LeavesWhole, NextKeeps, NextKeepsEither};
 
 use dav_rows::{Change, save};
 use sqlite::{Connection, Error, FileStore};
 use sqlite_disk::Disk;
+use sqlite_trees::store::Store;
 
 /// Gives up the connection, so that what the files hold can be said of the store.
 pub fn into_files<D: Disk + Drop>(conn: Connection<FileStore<D>>) -> FileStore<D>
@@ -17,6 +18,19 @@ pub fn into_files<D: Disk + Drop>(conn: Connection<FileStore<D>>) -> FileStore<D
     ensures left { LeavesDatabases (file_state conn) result }
 {
     conn.into_store()
+}
+
+/// Copies the log into the database file, and gives up the connection. Returns whether the log was copied. If it was, the
+/// database file is whole without it, whatever a crash leaves. If it was not, as when the disk is full, the log is needed.
+pub fn close<D: Disk + Drop>(conn: Connection<FileStore<D>>) -> (bool, FileStore<D>)
+    ensures clean { IsClean (view result.1) → HasCleanDisk (file_state conn) }
+    ensures whole { result.0 ≡ true → LeavesWhole (file_state conn) result.1 }
+    ensures no_other { LeavesNoOther (file_state conn) result.1 }
+{
+    let mut store = conn.into_store();
+    store.rollback();
+    let copied = store.checkpoint().is_ok();
+    (copied, store)
 }
 
 /// Saves the changes and gives up the connection, so that what the files hold can be said of the store.

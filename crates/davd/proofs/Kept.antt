@@ -1,5 +1,5 @@
 -- A run over the files of a folder, with the options that the arguments say.
-use Rattle.std.proofs.Common.{◌≡◌, ◌⊎◌, inr, ℕ, List, Option, Some, Result, subst}
+use Rattle.std.proofs.Common.{◌≡◌, ◌⊎◌, inl, inr, ℕ, List, Option, Some, Result, subst}
 use Rattle.std.specs.Prelude.{OnOk, OnErr}
 use Rattle.dav_data.specs.declared.data_file.DataFile.{DataFile}
 use Rattle.dav_pieces.specs.declared.piece.Piece.{Piece}
@@ -8,9 +8,9 @@ use Rattle.sqlite.specs.Recovery as database
 use Rattle.sqlite_disk.specs.declared.Disk as disk
 use Rattle.sqlite_store.specs.declared.store.FileStore.{FileStore}
 use Rattle.davd.proofs.Leaves.{on_ok, on_err}
-use Rattle.davd.specs.Leaving.{GoesOn, GoesOnAndStops}
+use Rattle.davd.specs.Leaving.{GoesOn, GoesOnWithLog, GoesOnAndStops}
 use Rattle.davd.specs.Options.{OptionsValue}
-use Rattle.davd.specs.Program.{rules_in, ServesFolder, StopsInFolder}
+use Rattle.davd.specs.Program.{rules_in, ServesFolder, ServesWithLog, StopsInFolder}
 use Rattle.davd.specs.declared.program.Stopped.{Stopped}
 
 pub some_same : {X : Type 0} (x y : X) → Some x ≡ Some y → x ≡ y
@@ -23,8 +23,13 @@ module _ {D E : Type 0} {d : disk.Ghosts D} {e : disk.Ghosts E} (medium : Ghosts
   serves_folder input input' output output' goes =
       subst (λ o. OnOk result (ServesFolder d medium left file o input input' output output')) is (on_ok result goes (λ goes_on. record { files = files; goes_on = goes_on }))
 
-  pub stops_in_folder : (Other : Type 0) (output output' : Option (List ℕ)) → OnErr result (GoesOnAndStops left file files medium (rules_in read) read.quota output output')
-      → OnErr result (Other ⊎ StopsInFolder d medium left file options output output')
-  stops_in_folder Other output output' stops =
-      subst (λ o. OnErr result (Other ⊎ StopsInFolder d medium left file o output output')) is
-      (on_err result stops (λ goes_on. inr (record { files = files; stops = goes_on })))
+  pub stops_in_folder : (Other : Type 0) (input input' output output' : Option (List ℕ))
+      → OnErr result (GoesOnAndStops left file files medium (rules_in read) read.quota output output'
+      ⊎ GoesOnWithLog left file files medium (rules_in read) read.quota input input' output output')
+      → OnErr result (Other ⊎ (StopsInFolder d medium left file options output output' ⊎ ServesWithLog d medium left file options input input' output output'))
+  stops_in_folder Other input input' output output' stops =
+      subst (λ o. OnErr result (Other ⊎ (StopsInFolder d medium left file o output output' ⊎ ServesWithLog d medium left file o input input' output output'))) is
+      (on_err result stops (λ either. elim either [
+        | inl goes_on ↦ inr (inl (record { files = files; stops = goes_on }))
+        | inr runs ↦ inr (inr (record { files = files; goes_on = runs }))
+      ]))

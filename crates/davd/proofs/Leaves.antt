@@ -1,10 +1,12 @@
 -- What is left of a run whose keeper keeps each batch.
-use Rattle.std.proofs.Common.{◌≡◌, ◌∙◌, inl, inr, ℕ, List, [], ◌∷◌, ◌++◌, Option, Some, None, Result, Ok, Err, refl, subst}
+use Rattle.std.proofs.Common.{◌≡◌, ◌∙◌, inl, inr, ℕ, List, [], ◌∷◌, ◌++◌, Option, Some, None, Result, Ok, Err, refl, sym, subst}
 use Rattle.std.specs.Prelude.{IfSome, OnOk, OnErr, option_map}
 use Rattle.dav_data.specs.declared.data_file.DataFile.{DataFile}
 use Rattle.dav_engine.specs.DavInner.{lent_locks}
-use Rattle.dav_folder.specs.Closing.{LeavesAlone, LeavesOneOf}
-use Rattle.dav_folder.specs.Lasting.{At, Lasts, LastsEither, IsSameKept, HasCleanDatabase}
+use Rattle.dav_folder.specs.Closing.{LeavesAlone, LeavesWhole, LeavesOneOf}
+use Rattle.dav_folder.specs.Files.{KeptStore, Leave, LeaveWhole, kept_at}
+use Rattle.dav_folder.specs.Lasting.{At, Lasts, LastsAlone, LastsEither, IsSameKept, HasCleanDatabase}
+use Rattle.dav_folder.specs.Numbered.{LastsNumbered, LastsEitherNumbered}
 use Rattle.dav_folder.specs.Opening.{opened_at}
 use Rattle.dav_folder.specs.declared.folder.Folder.{Folder}
 use Rattle.dav_folder.specs.declared.opening.Opened.{Opened}
@@ -24,8 +26,8 @@ use Rattle.sqlite_store.specs.FileStore.{view}
 use Rattle.sqlite_store.specs.declared.store.FileStore.{FileStore}
 use Rattle.sqlite_trees.specs.View.{IsClean}
 use Rattle.sqlite_trees.specs.declared.store.Store as store
-use Rattle.davd.specs.Folder.{Serving, state_now, state_from, IsOpenedAsKept, BeginsOpened, FindsKept, FindsFirst, ServesOpened, StopsOpened}
-use Rattle.davd.specs.Leaving.{LeavesAfter, LeavesAfterOrNow, RunsAndLeaves, StopsAndLeaves, HeldAStore, BeginsWith, GoesOn, GoesOnAndStops}
+use Rattle.davd.specs.Folder.{Serving, state_now, state_from, IsOpenedAsKept, BeginsOpened, FindsKept, FindsFirst, Keep, ServesOpened, StopsOpened}
+use Rattle.davd.specs.Leaving.{LeavesAfter, LeavesAfterOrNow, RunsAndLeaves, RunsWithLog, StopsAndLeaves, HeldAStore, BeginsWith, GoesOn, GoesOnWithLog, GoesOnAndStops}
 
 -- what follows on Ok, or on Err
 pub on_ok : {T E A B : Type 0} (result : Result T E) → OnOk result A → (A → B) → OnOk result B
@@ -35,6 +37,13 @@ on_ok (Err e) a f = tt
 pub on_err : {T E A B : Type 0} (result : Result T E) → OnErr result A → (A → B) → OnErr result B
 on_err (Ok value) a f = tt
 on_err (Err e) a f = f a
+
+-- the result is Ok, or it is Err
+pub is_ok : {T E A : Type 0} (result : Result T E) (value : T) → result ≡ Ok value → OnOk result A → A
+is_ok {T} {E} {A} result value is holds = subst (λ (r : Result T E). OnOk r A) is holds
+
+pub is_err : {T E A : Type 0} (result : Result T E) (e : E) → result ≡ Err e → OnErr result A → A
+is_err {T} {E} {A} result e is holds = subst (λ (r : Result T E). OnErr r A) is holds
 
 module _ {M : Type 0} {g : Ghosts M (List Piece)} where
   has_store : (kept : TreeFs M (List Piece) g) (locks : Option MemLs) (now last : ℕ)
@@ -50,32 +59,42 @@ module _ {M : Type 0} {g : Ghosts M (List Piece)} where
 
 module _ {D E : Type 0} {d : disk.Ghosts D} {e : disk.Ghosts E} {rows : store.Ghosts (FileStore D d)} {g : Ghosts (DataFile E e) (List Piece)} (rules : Rules)
     (opened : Opened (FileStore D d) (DataFile E e) (List Piece) rows g) (folder : Folder (FileStore D d) rows) (kept : TreeFs (DataFile E e) (List Piece) g)
-    (files : FileStore D d × DataFile E e) where
-  begins_kept : (first : Serving g) → BeginsOpened first opened → IsOpenedAsKept opened → IsKept (store_of {g = g}) Lasts opened.folder first
-  begins_kept first begins lasts = record { snapshot = opened_at opened; is = begins.snapshot; kept = lasts }
+    (files : FileStore D d × DataFile E e) {L : Type 0} {l : disk.Ghosts L} where
+  begins_kept : (keep : Keep l opened folder) (first : Serving g) → BeginsOpened first opened → IsOpenedAsKept opened
+      → IsKept (store_of {g = g}) LastsNumbered keep.keeper first
+  begins_kept keep first begins lasts = record {
+    snapshot = opened_at opened;
+    is = begins.snapshot;
+    kept = subst (λ (f : Folder (FileStore D d) rows). Lasts f (before_of opened.store) (opened_at opened)) (sym keep.begins) lasts;
+  }
 
-  module _ (last : Serving g) (ends : store_in last ≡ kept) where
-    after : (exchanges : List Exchange) (old : ServerState) → LeavesAlone folder kept files
-        → IsKeptAfter store_of locks_of Lasts IsSameKept honest_of rules folder exchanges old last → LeavesAfter g rules exchanges old last files
-    after exchanges old alone is_kept =
+  module _ (keep : Keep l opened folder) (last : Serving g) (ends : store_in last ≡ kept) where
+    after : (IsLeft : KeptStore → Type 0) (exchanges : List Exchange) (old : ServerState)
+        → ((snapshot : At g) → LastsAlone folder (before_of kept) snapshot → IsLeft (kept_at snapshot))
+        → IsKeptAfter store_of locks_of LastsNumbered IsSameKept honest_of rules keep.keeper' exchanges old last → LeavesAfter g rules exchanges old last IsLeft
+    after IsLeft exchanges old leaves is_kept =
         let same = snapshot_store last is_kept.since.snapshot is_kept.since.is ∙ ends in
+        let here : Lasts folder (before_of is_kept.since.snapshot.store) is_kept.snapshot =
+        subst (λ (f : Folder (FileStore D d) rows). Lasts f (before_of is_kept.since.snapshot.store) is_kept.snapshot) keep.ends is_kept.since.kept in
         let lasts : Lasts folder (before_of kept) is_kept.snapshot =
-        subst (λ (these : TreeFs (DataFile E e) (List Piece) g). Lasts folder (before_of these) is_kept.snapshot) same is_kept.since.kept in
+        subst (λ (these : TreeFs (DataFile E e) (List Piece) g). Lasts folder (before_of these) is_kept.snapshot) same here in
         record {
           snapshot = is_kept.snapshot;
           passed = is_kept.passed;
           now = is_kept.since.snapshot;
           is = is_kept.since.is;
           unchanged = is_kept.since.unchanged;
-          left = alone is_kept.snapshot (record { image = lasts.image; at = lasts.at; left = lasts.left });
+          left = leaves is_kept.snapshot (record { image = lasts.image; at = lasts.at; left = lasts.left });
         }
 
     after_or_now : (exchanges : List Exchange) (old mid : ServerState) → LeavesOneOf folder kept files
-        → IsKeptOrNow store_of locks_of Lasts LastsEither IsSameKept honest_of rules folder exchanges old mid last
+        → IsKeptOrNow store_of locks_of LastsNumbered LastsEitherNumbered IsSameKept honest_of rules keep.keeper' exchanges old mid last
         → LeavesAfterOrNow g rules exchanges old mid last files
     after_or_now exchanges old mid one_of is_kept =
         let now = is_kept.either.snapshot in
         let same = snapshot_store last now is_kept.either.is ∙ ends in
+        let here : LastsEither folder (before_of now.store) is_kept.snapshot now =
+        subst (λ (f : Folder (FileStore D d) rows). LastsEither f (before_of now.store) is_kept.snapshot now) keep.ends is_kept.either.kept in
         record {
           snapshot = is_kept.snapshot;
           passed = is_kept.passed;
@@ -85,25 +104,30 @@ module _ {D E : Type 0} {d : disk.Ghosts D} {e : disk.Ghosts E} {rows : store.Gh
           now = now;
           is = is_kept.either.is;
           left = one_of is_kept.snapshot now
-              (subst (λ (these : TreeFs (DataFile E e) (List Piece) g). LastsEither folder (before_of these) is_kept.snapshot now) same is_kept.either.kept) same;
+              (subst (λ (these : TreeFs (DataFile E e) (List Piece) g). LastsEither folder (before_of these) is_kept.snapshot now) same here) same;
         }
 
   -- a run whose keeper keeps it leaves it in the files
   module _ (input input' output output' : Option (List ℕ)) where
-    pub runs_and_leaves : LeavesAlone folder kept files → ServesOpened rules opened (folder, kept) input input' output output'
+    pub runs_and_leaves : LeavesWhole folder kept files → ServesOpened l rules opened (folder, kept) input input' output output'
         → RunsAndLeaves g rules (IsOpenedAsKept opened) (state_from (opened_at opened)) files input input' output output'
-    runs_and_leaves alone serves =
+    runs_and_leaves whole serves =
         subst (λ old. RunsAndLeaves g rules (IsOpenedAsKept opened) old files input input' output output') serves.begins.state
         (record {
           last = serves.last;
           run = serves.runs.run;
-          leaves = λ lasts. after serves.last serves.ends serves.runs.run.exchanges (state_now serves.first) alone
-              (serves.runs.kept (begins_kept serves.first serves.begins lasts));
+          leaves = λ lasts. after serves.keep serves.last serves.ends (LeaveWhole files) serves.runs.run.exchanges (state_now serves.first) whole
+              (serves.runs.kept (begins_kept serves.keep serves.first serves.begins lasts));
         })
+
+    pub runs_with_log : ServesOpened l rules opened (folder, kept) input input' output output'
+        → RunsWithLog g rules (state_from (opened_at opened)) input input' output output'
+    runs_with_log serves =
+        subst (λ old. RunsWithLog g rules old input input' output output') serves.begins.state (record { last = serves.last; run = serves.runs.run })
 
   -- so does one that an error stops
   module _ (output output' : Option (List ℕ)) where
-    pub stops_and_leaves : LeavesAlone folder kept files → LeavesOneOf folder kept files → StopsOpened rules opened (folder, kept) output output'
+    pub stops_and_leaves : LeavesAlone folder kept files → LeavesOneOf folder kept files → StopsOpened l rules opened (folder, kept) output output'
         → StopsAndLeaves g rules (IsOpenedAsKept opened) (state_from (opened_at opened)) files output output'
     stops_and_leaves alone one_of serves =
         subst (λ old. StopsAndLeaves g rules (IsOpenedAsKept opened) old files output output') serves.begins.state
@@ -114,15 +138,15 @@ module _ {D E : Type 0} {d : disk.Ghosts D} {e : disk.Ghosts E} {rows : store.Gh
           law = serves.stops.law;
           last = serves.last;
           stopped = serves.stops.stopped;
-          leaves = λ lasts. after_or_now serves.last serves.ends serves.stops.exchanges (state_now serves.first) serves.stops.mid one_of
-              (serves.stops.kept (begins_kept serves.first serves.begins lasts));
+          leaves = λ lasts. after_or_now serves.keep serves.last serves.ends serves.stops.exchanges (state_now serves.first) serves.stops.mid one_of
+              (serves.stops.kept (begins_kept serves.keep serves.first serves.begins lasts));
           in_order = elim serves.stops.in_order [
             | inl written ↦ inl written
             | inr more ↦ inr (record {
               exchange = more.exchange;
               served = more.answered;
-              leaves = λ lasts. after serves.last serves.ends (serves.stops.exchanges ++ more.exchange ∷ []) (state_now serves.first) alone
-                  (more.kept (begins_kept serves.first serves.begins lasts));
+              leaves = λ lasts. after serves.keep serves.last serves.ends (Leave files) (serves.stops.exchanges ++ more.exchange ∷ []) (state_now serves.first) alone
+                  (more.kept (begins_kept serves.keep serves.first serves.begins lasts));
             })
           ];
         })
@@ -158,6 +182,10 @@ module _ {D E : Type 0} {d : disk.Ghosts D} {e : disk.Ghosts E} {rows : store.Gh
           begins = begins_with;
           goes = record { last = runs.last; run = runs.run; leaves = λ held. runs.leaves (lasts_at_start held) };
         }
+
+    pub goes_on_with_log : (input input' output output' : Option (List ℕ)) → RunsWithLog g rules (state_from (opened_at opened)) input input' output output'
+        → GoesOnWithLog left file files g rules quota input input' output output'
+    goes_on_with_log input input' output output' runs = record { first = opened_at opened; begins = begins_with; goes = runs }
 
     pub goes_on_and_stops : (output output' : Option (List ℕ))
         → StopsAndLeaves g rules (IsOpenedAsKept opened) (state_from (opened_at opened)) files output output' → GoesOnAndStops left file files g rules quota output output'

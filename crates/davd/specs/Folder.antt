@@ -1,13 +1,18 @@
 -- What the program does over a folder: what a start finds there, and what a run leaves.
-use Rattle.std.specs.Prelude.{◌≡◌, ℕ, true, List, [], string_bytes, Option, Some, None}
+use Rattle.std.specs.Prelude.{◌≡◌, ◌≤◌, ⊤, ℕ, true, List, [], string_bytes, Option, Some, None}
 use Rattle.std.specs.FinMap.{empty, insert}
 use Rattle.std.specs.Option.{option_map}
 use Rattle.dav_folder.specs.Files.{KeptStore, kept_at, Hold}
-use Rattle.dav_folder.specs.Lasting.{At, Lasts, LastsEither, IsSameKept, HasCleanDatabase}
+use Rattle.dav_folder.specs.Lasting.{At, Lasts, IsSameKept, HasCleanDatabase}
 use Rattle.dav_folder.specs.Opening.{opened_at}
+use Rattle.dav_folder.specs.Numbered.{folder_of, LastsNumbered, LastsEitherNumbered}
+use Rattle.dav_folder.specs.declared.numbered.Numbered.{Numbered}
 use Rattle.dav_folder.specs.declared.opening.Opened.{Opened}
 use Rattle.dav_keep.specs.Images.{StandForImage}
 use Rattle.dav_keep.specs.Loading.{first_image}
+use Rattle.dav_last.specs.Slots.{last_in}
+use Rattle.dav_last.specs.declared.reading.Last.{Last}
+use Rattle.dav_last.specs.declared.reading.Last.TheVariants.{Nothing, Unreadable, Number}
 use Rattle.dav_memls.specs.MemLs.{locks_of}
 use Rattle.dav_memls.specs.declared.memory_locks.MemLs.{MemLs}
 use Rattle.dav_pieces.specs.declared.piece.Piece.{Piece}
@@ -26,6 +31,7 @@ use Rattle.dav_tree.specs.TreeFs.{memory_of, store_of, before_of, honest_of}
 use Rattle.dav_tree.specs.declared.medium.Medium.{Ghosts}
 use Rattle.dav_tree.specs.declared.tree_fs.TreeFs.{TreeFs}
 use Rattle.sqlite.specs.Recovery as files
+use Rattle.sqlite_disk.specs.declared.Disk as disk
 use Rattle.sqlite_trees.specs.declared.store.Store as store
 
 -- the rules of a server with these options
@@ -49,6 +55,16 @@ module _ {M : Type 0} where
     state_from snapshot = state_at (store_of {g = g}) locks_of None snapshot
 
 -- ---- what a start finds
+
+-- what the files of the last number say does not exceed this number: there is nothing in them, or a number up to it
+abbrev pub IsUpTo : ℕ → Last → Type 0
+IsUpTo batch Nothing = ⊤
+IsUpTo batch Unreadable = ⊥
+IsUpTo batch (Number number) = number ≤ batch
+
+-- a store with this key, whose last batch has this number, is not older than these contents of the two files say
+abbrev pub IsNotOlder : ℕ → ℕ → List ℕ → List ℕ → Type 0
+IsNotOlder key batch other last = IsUpTo batch (last_in key other last)
 
 -- a new store: the root, made at time 0, without locks, before batch 1
 abbrev pub first_kept : KeptStore
@@ -96,20 +112,29 @@ module _ {S M : Type 0} {rows : store.Ghosts S} {g : Ghosts M (List Piece)} wher
 
   -- ---- what a run leaves in the keeper
 
+  -- the keepers of a run: it begins with the folder that was opened, and ends with this one; `L` is the disk of the last number
+  pub record Keep {L : Type 0} (l : disk.Ghosts L) (opened : Opened S M (List Piece) rows g) (last : Folder S rows) : Type 0 where
+    pub keeper : Numbered S L rows l
+    pub keeper' : Numbered S L rows l
+    pub begins : folder_of keeper ≡ opened.folder
+    pub ends : folder_of keeper' ≡ last
+
   -- a run of a server that goes on from what was opened, and what its keeper keeps then
-  pub record ServesOpened (rules : Rules) (opened : Opened S M (List Piece) rows g) (kept : Folder S rows × TreeFs M (List Piece) g)
+  pub record ServesOpened {L : Type 0} (l : disk.Ghosts L) (rules : Rules) (opened : Opened S M (List Piece) rows g) (kept : Folder S rows × TreeFs M (List Piece) g)
       (input input' output output' : Option (List ℕ)) : Type 0 where
     pub first : Serving g
     pub last : Serving g
     pub begins : BeginsOpened first opened
     pub ends : store_in last ≡ kept.1
-    pub runs : RunsAndKeeps (store_of {g = g}) locks_of Lasts IsSameKept honest_of rules opened.folder kept.0 first last input input' output output'
+    pub keep : Keep l opened kept.0
+    pub runs : RunsAndKeeps (store_of {g = g}) locks_of LastsNumbered IsSameKept honest_of rules keep.keeper keep.keeper' first last input input' output output'
 
   -- such a run that an error stops
-  pub record StopsOpened (rules : Rules) (opened : Opened S M (List Piece) rows g) (kept : Folder S rows × TreeFs M (List Piece) g)
+  pub record StopsOpened {L : Type 0} (l : disk.Ghosts L) (rules : Rules) (opened : Opened S M (List Piece) rows g) (kept : Folder S rows × TreeFs M (List Piece) g)
       (output output' : Option (List ℕ)) : Type 0 where
     pub first : Serving g
     pub last : Serving g
     pub begins : BeginsOpened first opened
     pub ends : store_in last ≡ kept.1
-    pub stops : StopsAfterKept (store_of {g = g}) locks_of Lasts LastsEither IsSameKept honest_of rules opened.folder kept.0 first last output output'
+    pub keep : Keep l opened kept.0
+    pub stops : StopsAfterKept (store_of {g = g}) locks_of LastsNumbered LastsEitherNumbered IsSameKept honest_of rules keep.keeper keep.keeper' first last output output'

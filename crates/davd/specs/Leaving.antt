@@ -3,7 +3,7 @@ use Rattle.std.specs.Prelude.{◌≡◌, ◌⊎◌, ℕ, true, List, [], ◌∷�
 use Rattle.std.specs.Io.KnownBytes.{Appends}
 use Rattle.std.specs.Option.{option_map}
 use Rattle.dav_data.specs.declared.data_file.DataFile.{DataFile}
-use Rattle.dav_folder.specs.Files.{KeptStore, kept_at, Hold, Leave, LeaveEither}
+use Rattle.dav_folder.specs.Files.{KeptStore, kept_at, Hold, Leave, LeaveWhole, LeaveEither}
 use Rattle.dav_folder.specs.Lasting.{At, IsSameKept}
 use Rattle.dav_memls.specs.MemLs.{locks_of}
 use Rattle.dav_pieces.specs.declared.piece.Piece.{Piece}
@@ -32,18 +32,23 @@ module _ {E : Type 0} {e : disk.Ghosts E} (g : Ghosts (DataFile E e) (List Piece
   abbrev Pass : List Exchange → ServerState → At g → ServerState → Type 0
   Pass exchanges old snapshot new = LeadThrough store_of locks_of honest_of rules exchanges old snapshot new
 
--- `D` is the disk of the database, and `E` that of the data file
-module _ {D E : Type 0} {d : disk.Ghosts D} {e : disk.Ghosts E} (g : Ghosts (DataFile E e) (List Piece)) (rules : Rules) where
-  -- A crash leaves what was in the server after the first ones of these exchanges, with the time and the number of then. Of what is kept, the server has
-  -- the same now.
-  pub record LeavesAfter (exchanges : List Exchange) (old : ServerState) (last : Serving g) (files : FileStore D d × DataFile E e) : Type 0 where
+  -- What was in the server after the first ones of these exchanges is left, with the time and the number of then. Of what is kept, the server has the same
+  -- now.
+  pub record LeavesAfter (exchanges : List Exchange) (old : ServerState) (last : Serving g) (IsLeft : KeptStore → Type 0) : Type 0 where
     pub snapshot : At g
-    pub passed : Pass g rules exchanges old snapshot (state_now last)
+    pub passed : Pass exchanges old snapshot (state_now last)
     pub now : At g
     pub is : snapshot_of last ≡ Some now
     pub unchanged : IsSameKept snapshot now
-    pub left : Leave files (kept_at snapshot)
+    pub left : IsLeft (kept_at snapshot)
 
+  -- A run to the end of the input, after which the log is not copied into the database file.
+  pub record RunsWithLog (old : ServerState) (input input' output output' : Option (List ℕ)) : Type 0 where
+    pub last : Serving g
+    pub run : RunsAndSaves (store_of {g = g}) honest_of rules old (state_now last) input input' output output'
+
+-- `D` is the disk of the database, and `E` that of the data file
+module _ {D E : Type 0} {d : disk.Ghosts D} {e : disk.Ghosts E} (g : Ghosts (DataFile E e) (List Piece)) (rules : Rules) where
   -- a crash leaves what is in the server now, or what was in it after the first ones of these exchanges; of what is kept, it had the same after all of them
   pub record LeavesAfterOrNow (exchanges : List Exchange) (old mid : ServerState) (last : Serving g) (files : FileStore D d × DataFile E e) : Type 0 where
     pub snapshot : At g
@@ -58,17 +63,17 @@ module _ {D E : Type 0} {d : disk.Ghosts D} {e : disk.Ghosts E} (g : Ghosts (Dat
   -- ---- runs from this state; `If` is what has to hold at the start for the run to be kept
 
   module _ (If : Type 0) (old : ServerState) where
-    -- a run to the end of the input, and what a crash leaves of the files then
+    -- a run to the end of the input; whatever a crash leaves of the files then has all that was kept, also without the log
     pub record RunsAndLeaves (files : FileStore D d × DataFile E e) (input input' output output' : Option (List ℕ)) : Type 0 where
       pub last : Serving g
       pub run : RunsAndSaves (store_of {g = g}) honest_of rules old (state_now last) input input' output output'
-      pub leaves : If → LeavesAfter run.exchanges old last files
+      pub leaves : If → LeavesAfter g rules run.exchanges old last (LeaveWhole files)
 
     -- one more batch is served and kept after these exchanges
     pub record LeavesLast (exchanges : List Exchange) (mid : ServerState) (last : Serving g) (files : FileStore D d × DataFile E e) : Type 0 where
       pub exchange : Exchange
       pub served : Serves g rules exchange mid (state_now last)
-      pub leaves : If → LeavesAfter (exchanges ++ exchange ∷ []) old last files
+      pub leaves : If → LeavesAfter g rules (exchanges ++ exchange ∷ []) old last (Leave files)
 
     -- An error stops a run, after these exchanges and in this state. Nothing changed since, or one more batch was served (`stopped`). Nothing but the
     -- answers of the exchanges was written, or the last batch was kept as well (`in_order`).
@@ -104,6 +109,12 @@ module _ {D E : Type 0} {d : disk.Ghosts D} {e : disk.Ghosts E} (left : database
       pub first : At g
       pub begins : BeginsWith quota first
       pub goes : RunsAndLeaves g rules HeldAStore (state_from first) files input input' output output'
+
+    -- a run that goes on from what the files held, after which the log is not copied into the database file
+    pub record GoesOnWithLog (input input' output output' : Option (List ℕ)) : Type 0 where
+      pub first : At g
+      pub begins : BeginsWith quota first
+      pub goes : RunsWithLog g rules (state_from first) input input' output output'
 
     -- an error stops such a run
     pub record GoesOnAndStops (output output' : Option (List ℕ)) : Type 0 where

@@ -8,18 +8,19 @@ use Rattle.davd.specs.declared.program.Stopped.{Stopped}
 use Rattle.davd.specs.declared.program.Stopped.TheVariants.{Memory, Usage}
 
 -- the options of a run: the path prefix, whether anyone may remove and refresh a lock, how many bytes the content of a batch may have, the quota, and the
--- folder in which everything is kept, and whether this is checked and not served
+-- folder in which everything is kept, whether it is served if it has lost its last batches, and whether it is checked and not served
 pub record OptionsValue : Type 0 where
   pub prefix : List ℕ
   pub anyone_unlocks : Bool
   pub max_batch : ℕ
   pub quota : Option ℕ
   pub folder : Option (List ℕ)
+  pub accepts_loss : Bool
   pub checks : Bool
 
 -- the options without arguments
 abbrev pub first_options : OptionsValue
-first_options = record { prefix = []; anyone_unlocks = false; max_batch = 2 ^ 30; quota = None; folder = None; checks = false }
+first_options = record { prefix = []; anyone_unlocks = false; max_batch = 2 ^ 30; quota = None; folder = None; accepts_loss = false; checks = false }
 
 abbrev pub is_unlocks : List ℕ → Bool
 is_unlocks name = bytes_eq name (codes "-anyone-unlocks")
@@ -27,6 +28,13 @@ is_unlocks name = bytes_eq name (codes "-anyone-unlocks")
 -- the options after `-anyone-unlocks`
 abbrev pub unlocking : OptionsValue → OptionsValue
 unlocking options = record options { anyone_unlocks = true }
+
+abbrev pub is_loss : List ℕ → Bool
+is_loss name = bytes_eq name (codes "-accept-loss")
+
+-- the options after `-accept-loss`
+abbrev pub accepting : OptionsValue → OptionsValue
+accepting options = record options { accepts_loss = true }
 
 -- the options after an option with a value: a prefix is one that can be parsed, and bytes are a decimal number below 2 ^ 64
 abbrev pub with_value : List ℕ → List ℕ → OptionsValue → Option OptionsValue
@@ -48,10 +56,12 @@ with_folder name options = if is_folder name then Some (record options { folder 
 -- last argument may be a folder
 abbrev pub with_arguments : List (List ℕ) → OptionsValue → Option OptionsValue
 with_arguments [] options = Some options
-with_arguments (name ∷ []) options = if is_unlocks name then Some (unlocking options) else with_folder name options
+with_arguments (name ∷ []) options =
+    if is_unlocks name then Some (unlocking options) else (if is_loss name then Some (accepting options) else with_folder name options)
 with_arguments (name ∷ value ∷ rest) options =
     if is_unlocks name then with_arguments (value ∷ rest) (unlocking options)
-    else option_and_then (with_arguments rest) (with_value name value options)
+    else (if is_loss name then with_arguments (value ∷ rest) (accepting options)
+    else option_and_then (with_arguments rest) (with_value name value options))
 
 -- the options of a server that the arguments say, unless they are wrong
 abbrev pub server_options_of : List (List ℕ) → Option OptionsValue
@@ -74,7 +84,7 @@ options_of (name ∷ folder ∷ next ∷ rest) = server_options_of (name ∷ fol
 -- the options that the program has read
 abbrev pub value_of : ProgramOptions → OptionsValue
 value_of options =
-    record { prefix = string_bytes options.server.prefix; anyone_unlocks = options.server.anyone_unlocks; max_batch = options.server.max_batch; quota = options.quota; folder = option_map string_bytes options.folder; checks = options.checks }
+    record { prefix = string_bytes options.server.prefix; anyone_unlocks = options.server.anyone_unlocks; max_batch = options.server.max_batch; quota = options.quota; folder = option_map string_bytes options.folder; accepts_loss = options.accepts_loss; checks = options.checks }
 
 -- why arguments are not read: memory runs out, or they are wrong as `Wrong` says
 abbrev pub IsFault : Type 0 → Stopped → Type 0

@@ -12,9 +12,9 @@ has_bytes size = nat_lt 0 (unwrap_or size 0)
 abbrev pub has_page : Option ℕ → Bool
 has_page size = nat_le MIN_LOG (unwrap_or size 0)
 
--- What is missing beside a database, its log and a data file with so many bytes, where a file that is not there has no size: the data file of a database,
--- or the database of a log with pages or of a data file with bytes.
-abbrev pub missing_of : Option ℕ → Option ℕ → Option ℕ → Option Refusal
-missing_of database log file =
+-- What is missing beside a database, its log, a data file, and the two files of the last number with so many bytes, where a file that is not there has no
+-- size: the data file of a database, or the database of a log with pages, of a data file with bytes, or of a number.
+abbrev pub missing_of : Option ℕ → Option ℕ → Option ℕ → Option ℕ × Option ℕ → Option Refusal
+missing_of database log file number =
     if has_bytes database && is_none file then Some NoData
-    else (if not (has_bytes database) && (has_page log || has_bytes file) then Some NoDatabase else None)
+    else (if not (has_bytes database) && (has_page log || has_bytes file || (has_bytes number.0 || has_bytes number.1)) then Some NoDatabase else None)

@@ -14,10 +14,10 @@ use Rattle.dav_pieces.specs.declared.piece.Piece.{Piece}
 use Rattle.sqlite.specs.Recovery as database
 use Rattle.sqlite_disk.specs.declared.Disk as disk
 use Rattle.sqlite_store.specs.declared.store.FileStore.{FileStore}
-use Rattle.davd.specs.Leaving.{GoesOn, GoesOnAndStops}
+use Rattle.davd.specs.Leaving.{GoesOn, GoesOnWithLog, GoesOnAndStops}
 use Rattle.davd.specs.Options.{OptionsValue, options_of}
 use Rattle.davd.specs.declared.program.Stopped.{Stopped}
-use Rattle.davd.specs.declared.program.Stopped.TheVariants.{Usage, Stream, Memory, Refused, InUse, Disk, Full, NotKept, Damaged}
+use Rattle.davd.specs.declared.program.Stopped.TheVariants.{Usage, Stream, Memory, Refused, InUse, Disk, Full, NotKept, Damaged, WithLog}
 
 -- ---- runs in memory
 
@@ -62,6 +62,11 @@ module _ {D E : Type 0} (d : disk.Ghosts D) {e : disk.Ghosts E} (medium : Ghosts
     pub files : FileStore D d × DataFile E e
     pub goes_on : GoesOn left file files medium (rules_in options) options.quota input input' output output'
 
+  -- such a run, after which the log is not copied into the database file
+  pub record ServesWithLog (input input' output output' : Option (List ℕ)) : Type 0 where
+    pub files : FileStore D d × DataFile E e
+    pub goes_on : GoesOnWithLog left file files medium (rules_in options) options.quota input input' output output'
+
   -- an error stops such a run
   pub record StopsInFolder (output output' : Option (List ℕ)) : Type 0 where
     pub files : FileStore D d × DataFile E e
@@ -79,7 +84,7 @@ IsNotUsage stopped = stopped ≡ Usage → ⊥
 
 -- the exit status: 0 at the end of the input, 2 for wrong arguments, 3 if a stream failed or memory ran out; over a folder 4 if it is not one of a store,
 -- 5 if it is in use, 6 if its disk fails, 7 if the disk is full, and 8 if a batch is not kept for another reason; 1 if a check
--- has found a damaged file
+-- has found a damaged file; 9 at the end of the input if the log is not copied into the database file
 abbrev pub status_of : Result (Unit {0}) Stopped → ℕ
 status_of (Ok done) = 0
 status_of (Err Usage) = 2
@@ -91,3 +96,4 @@ status_of (Err (Disk error)) = 6
 status_of (Err Full) = 7
 status_of (Err NotKept) = 8
 status_of (Err Damaged) = 1
+status_of (Err WithLog) = 9

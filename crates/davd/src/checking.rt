@@ -1,10 +1,10 @@
 //! A check of a folder.
-ghost use Rattle.std.specs.Prelude.{◌≡◌, true, IsTrue, IfErr};
+ghost use Rattle.std.specs.Prelude.{◌≡◌, IsTrue, IfErr};
 ghost use Rattle.dav_folder.specs.Opening.{AreOnlyRead};
 ghost use Rattle.davd.specs.Program.{IsNotUsage};
 
-use crate::files::{Absent, DATA, DATABASE, expect_database};
-use crate::folder::open_pair;
+use crate::files::{Absent, DATA, DATABASE, LAST, expect_database};
+use crate::folder::{Held, expect_up_to_date, open_pair};
 use crate::program::Stopped;
 use dav_check::{Checked, check};
 use dav_folder::read_files;
@@ -21,47 +21,66 @@ use std::io::Write;
 ///
 /// Errors: `Damaged` if a file cannot be read; `Refused` as for `open_folder`; `Disk` if the folder has no database, or
 /// cannot be read; `Memory`; `Stream` if the output fails.
-pub fn check_folder<R: Start, T: Start, O: Write>(
+pub fn check_folder<R: Start, T: Start, N: Start, O: Write>(
     rt: &HostRuntime,
     folder: &str,
-    held: (R, T),
+    held: Held<R, T, N>,
     output: &mut O,
 ) -> Result<(), Stopped>
     ensures { IfErr result IsNotUsage }
 {
     expect_database(rt, folder)?;
     let absent = Absent::find(rt, folder)?;
-    let checked = check_pairs(rt, folder, held, output);
-    absent.remove(rt, folder)?;
+    let (left, file, number) = held;
+    let mut last = open_pair(rt, folder, LAST, number)?;
+    let checked = check_pairs(rt, folder, absent, (left, file), &mut last, output);
+    absent.remove_last(rt, folder)?;
     checked
 }
 
-/// The same, over the files that are there. It may leave empty files beside them.
-fn check_pairs<R: Start, T: Start, O: Write>(
+/// The same, over the files that are there. `absent` are those that are missing.
+fn check_pairs<R: Start, T: Start, L: Disk, O: Write>(
     rt: &HostRuntime,
     folder: &str,
+    absent: Absent,
     held: (R, T),
+    last: &mut Files<L>,
     output: &mut O,
 ) -> Result<(), Stopped>
+    requires other { IsTrue (L.Disk.is_usable last.old.log) }
+    requires last { IsTrue (L.Disk.is_usable last.old.db) }
     ensures { IfErr result IsNotUsage }
 {
     let (left, file) = held;
     let data = open_pair(rt, folder, DATA, file)?;
-    let mut files = open_pair(rt, folder, DATABASE, left)?;
-    check_files(rt.alloc(), &mut files, data.db, output)
+    let mut files = match open_pair(rt, folder, DATABASE, left) {
+        Ok(files) => files,
+        Err(stopped) => {
+            absent.remove_reserve(rt, folder)?;
+            return Err(stopped);
+        }
+    };
+    let checked = check_files(rt.alloc(), &mut files, data.db, last, output);
+    // The database is still locked, so nobody serves the files that are removed.
+    absent.remove(rt, folder)?;
+    checked
 }
 
-/// The same, over the files of the database and the data file, from which it only reads.
-fn check_files<D: Disk, E: Disk + Drop, O: Write>(
+/// The same, over the files of the database, the data file and those of the last number, from which it only reads.
+fn check_files<D: Disk, E: Disk + Drop, L: Disk, O: Write>(
     alloc: Global,
     files: &mut Files<D>,
     file: E,
+    last: &mut Files<L>,
     output: &mut O,
 ) -> Result<(), Stopped>
     requires log_usable { IsTrue (D.Disk.is_usable files.old.log) }
     requires db_usable { IsTrue (D.Disk.is_usable files.old.db) }
     requires usable { IsTrue (E.Disk.is_usable file) }
+    requires other { IsTrue (L.Disk.is_usable last.old.log) }
+    requires last { IsTrue (L.Disk.is_usable last.old.db) }
     ensures only { AreOnlyRead D.Disk files.old files.new }
+    ensures only_last { AreOnlyRead L.Disk last.old last.new }
     ensures err { IfErr result IsNotUsage }
 {
     let disk = match ReadOnly::new(file) {
@@ -70,6 +89,7 @@ fn check_files<D: Disk, E: Disk + Drop, O: Write>(
     };
     // Without changes a database that has no table gets no store.
     let mut found = read_files(alloc, files, disk, &[], None)?;
+    expect_up_to_date(last, found.key, found.last, false)?;
     let checked = match check(alloc, &mut found.store) {
         Ok(checked) => checked,
         Err(error) => return Err(check_error(error)),

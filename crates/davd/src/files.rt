@@ -14,6 +14,9 @@ pub const DATABASE: &str = "meta.db";
 /// The data file of a store.
 pub const DATA: &str = "data";
 
+/// The number of the last batch of a store. The file that comes with it has the number a second time.
+pub const LAST: &str = "last";
+
 /// A log of fewer bytes has no page: it has a header, that of a frame, and a page of 512 bytes or more.
 const MIN_LOG: u64 = 32 + 24 + 512;
 
@@ -48,18 +51,27 @@ pub fn expect_files(rt: &HostRuntime, folder: &str) -> Result<(), Stopped>
     let database = size_of(rt, folder, DATABASE)?;
     let log = size_of(rt, folder, "meta.db-wal")?;
     let file = size_of(rt, folder, DATA)?;
-    match missing(database, log, file) {
+    let last = size_of(rt, folder, LAST)?;
+    let other = size_of(rt, folder, "last-wal")?;
+    match missing(database, log, file, (last, other)) {
         Some(refusal) => Err(Stopped::Refused(refusal)),
         None => Ok(()),
     }
 }
 
 /// Returns what is missing beside files with so many bytes, if something is. A file that is not there has no size.
-fn missing(database: Option<u64>, log: Option<u64>, file: Option<u64>) -> Option<Refusal>
-    ensures { result ≡ missing_of database log file }
+/// `number` are the two files of the last number.
+fn missing(
+    database: Option<u64>,
+    log: Option<u64>,
+    file: Option<u64>,
+    number: (Option<u64>, Option<u64>),
+) -> Option<Refusal>
+    ensures { result ≡ missing_of database log file number }
 {
     let has_database = database.unwrap_or(0) > 0;
-    let has_rest = log.unwrap_or(0) >= MIN_LOG || file.unwrap_or(0) > 0;
+    let has_number = number.0.unwrap_or(0) > 0 || number.1.unwrap_or(0) > 0;
+    let has_rest = log.unwrap_or(0) >= MIN_LOG || file.unwrap_or(0) > 0 || has_number;
     if has_database && file.is_none() {
         Some(Refusal::NoData)
     } else if !has_database && has_rest {
@@ -120,6 +132,8 @@ pub fn expect_database(rt: &HostRuntime, folder: &str) -> Result<(), Stopped>
 pub struct Absent {
     log: bool,
     reserve: bool,
+    last: bool,
+    other: bool,
 }
 
 impl Absent {
@@ -130,18 +144,41 @@ impl Absent {
         Ok(Absent {
             log: size_of(rt, folder, "meta.db-wal")?.is_none(),
             reserve: size_of(rt, folder, "data-wal")?.is_none(),
+            last: size_of(rt, folder, LAST)?.is_none(),
+            other: size_of(rt, folder, "last-wal")?.is_none(),
         })
     }
 
-    /// Removes the files that were missing, if they are there now without a byte. Errors: `Disk`; `Memory`.
+    /// Removes the log and the file that keeps room back, if they were missing and are there now without a byte. The
+    /// caller holds the lock of the database meanwhile, so no other process serves them. Errors: `Disk`; `Memory`.
     pub fn remove(self, rt: &HostRuntime, folder: &str) -> Result<(), Stopped>
         ensures { IfErr result IsNotUsage }
     {
         if self.log {
             remove_empty(rt, folder, "meta.db-wal")?;
         }
+        self.remove_reserve(rt, folder)
+    }
+
+    /// The same, of the file that keeps room back alone. The caller holds the lock of the data file meanwhile.
+    pub fn remove_reserve(self, rt: &HostRuntime, folder: &str) -> Result<(), Stopped>
+        ensures { IfErr result IsNotUsage }
+    {
         if self.reserve {
             remove_empty(rt, folder, "data-wal")?;
+        }
+        Ok(())
+    }
+
+    /// The same, of the files of the last number. The caller holds their locks meanwhile.
+    pub fn remove_last(self, rt: &HostRuntime, folder: &str) -> Result<(), Stopped>
+        ensures { IfErr result IsNotUsage }
+    {
+        if self.last {
+            remove_empty(rt, folder, LAST)?;
+        }
+        if self.other {
+            remove_empty(rt, folder, "last-wal")?;
         }
         Ok(())
     }

@@ -1,22 +1,34 @@
 //! A store in a folder.
-ghost use Rattle.std.specs.Prelude.{◌≡◌, true, false, IsTrue, IfOk, IfErr};
+ghost use Rattle.std.specs.Prelude.{◌≡◌, true, false, IsTrue, IfOk, IfErr, OnOk};
 ghost use Rattle.std.specs.Option.{option_map};
 ghost use Rattle.sqlite.specs.Files.{image_of};
 ghost use Rattle.sqlite.specs.WalFiles.{image_at};
+ghost use Rattle.sqlite_wal.specs.Reads.{AreClean, OnlyReadsBoth};
 ghost use Rattle.sqlite_std_file.specs.File.{IsFresh, file_is_usable};
-ghost use Rattle.davd.specs.Folder.{FindsKept, FindsFirst, FindsHeld, FindsNew, MakesFirst};
+ghost use Rattle.dav_folder.specs.Folders.{batch_of};
+ghost use Rattle.dav_folder.specs.Opening.{AreOnlyRead};
+ghost use Rattle.dav_folder.specs.Reading.{ReadsImage, IsEmptyIfHonest};
+ghost use Rattle.dav_keep.specs.Images.{Image, StandForImage};
+ghost use Rattle.dav_keep.specs.Loading.{IsWholeImage};
+ghost use Rattle.dav_last.specs.Batches.{number_of};
+ghost use Rattle.dav_rows.specs.Contents.{Contents};
+ghost use Rattle.dav_rows.specs.Creating.{first};
+ghost use Rattle.dav_rows_files.specs.Starting.{Keeps, IsVacant};
+ghost use Rattle.davd.specs.Folder.{FindsKept, FindsFirst, FindsHeld, FindsNew, MakesFirst, IsNotOlder};
 ghost use Rattle.davd.specs.Program.{IsNotUsage};
 
-use crate::files::{Absent, DATA, DATABASE, empty_reserve, expect_files, make_folder};
+use crate::files::{Absent, DATA, DATABASE, LAST, empty_reserve, expect_files, make_folder};
 use crate::program::{Refusal, Stopped};
 use dav_data::DataFile;
-use dav_folder::{OpenError, Opened, read_files};
+use dav_folder::{Found, OpenError, Opened, read_files};
 use dav_keep::first_changes;
+use dav_last::{Last, LastBatch, read_last};
 use dav_reserve::{ROOM, Reserved};
 use dav_rows::Change;
 use dav_store_rows::SaveError;
 use sqlite::{FileFrom, FileStore, Start};
 use sqlite_disk::{Disk, Files};
+use std::alloc::Global;
 use std::hash::{BuildHasher, RandomState};
 use std::io::{self, ErrorKind};
 
@@ -26,83 +38,196 @@ pub type OpenedFiles<R, T> = OpenedOver<FileFrom<R>, FileFrom<T>>;
 /// A store in a database and a data file, beside which room is kept back on such a disk.
 type OpenedOver<D, E> = Opened<FileStore<D>, DataFile<Reserved<E, E>>>;
 
+/// What is supposed of the files of a folder: those of the database, the data file, and those of the last number.
+pub type Held<R, T, N> = (R, T, N);
+
+/// How the files of a folder are opened.
+#[derive(Clone, Copy)]
+struct Opening {
+    /// The limit of the store.
+    limit: Option<Option<u64>>,
+    /// Whether a store is opened that has lost its last batches.
+    accepts_loss: bool,
+    /// The files that are missing.
+    absent: Absent,
+}
+
 /// Opens the store of a folder. If the folder is not there, or has neither a database nor bytes in its data file, it makes
 /// a new store there. The database is `meta.db`, and the data file is `data`. Beside that, `data-wal` keeps room back: when
-/// the disk is full, it is emptied, and the database has its room. `left` and `file` stand for what the files of the
-/// database and the data file held.
+/// the disk is full, it is emptied, and the database has its room. `last` and `last-wal` have the number of the last batch.
+/// `held` stands for what the files held.
 ///
 /// If they held a store, it is found. If they held no table, a new store is found. Everything is read and judged before
-/// anything is written.
+/// anything is written. A store of an earlier batch than that number is opened only if `accepts_loss`.
 ///
-/// Errors: `Refused` if a file of the store is missing, or the folder is not one of a store, or is damaged; `InUse` if
-/// another process has it open; `Disk` if it cannot be read or written; `Memory`.
-pub fn open_folder<R: Start, T: Start>(
+/// Errors: `Refused` if a file of the store is missing, or the folder is not one of a store, is damaged or has lost
+/// batches; `InUse` if another process has it open; `Disk` if it cannot be read or written; `Memory`.
+pub fn open_folder<R: Start, T: Start, N: Start>(
     rt: &HostRuntime,
     folder: &str,
     quota: Option<u64>,
-    left: R,
-    file: T,
-) -> Result<OpenedFiles<R, T>, Stopped>
-    ensures kept { IfOk result (FindsKept (image_at R.Start) T.Start.db quota) }
-    ensures new { IfOk result (FindsFirst (image_at R.Start) T.Start.db quota) }
+    accepts_loss: bool,
+    held: Held<R, T, N>,
+) -> Result<(OpenedFiles<R, T>, LastBatch<FileFrom<N>>), Stopped>
+    ensures kept { IfOk result (λ found. FindsKept (image_at R.Start) T.Start.db quota found.0) }
+    ensures new { IfOk result (λ found. FindsFirst (image_at R.Start) T.Start.db quota found.0) }
+    ensures last { IfOk result (λ found. number_of found.1 ≡ batch_of found.0.folder) }
     ensures err { IfErr result IsNotUsage }
 {
     make_folder(rt, folder)?;
     expect_files(rt, folder)?;
     let absent = Absent::find(rt, folder)?;
-    let opened = open_pairs(rt, folder, quota, left, file);
-    if opened.is_err() {
-        absent.remove(rt, folder)?;
+    let (left, file, number) = held;
+    let mut last = open_pair(rt, folder, LAST, number)?;
+    let how = Opening {
+        limit: limit_of(quota),
+        accepts_loss,
+        absent,
+    };
+    let opened = match open_pairs(rt, folder, how, left, file, &mut last) {
+        Ok(opened) => opened,
+        Err(stopped) => {
+            absent.remove_last(rt, folder)?;
+            return Err(stopped);
+        }
+    };
+    match LastBatch::begin(last, opened.key, opened.last) {
+        Ok(last) => Ok((opened, last)),
+        Err((error, _)) => Err(Stopped::Disk(error)),
     }
-    opened
 }
 
-/// The same, over the files that are there. If it fails, it may leave empty files beside them.
-fn open_pairs<R: Start, T: Start>(
+/// The same, over the files that are there. `last` are those of the number of the last batch, which are only read.
+fn open_pairs<R: Start, T: Start, L: Disk>(
     rt: &HostRuntime,
     folder: &str,
-    quota: Option<u64>,
+    how: Opening,
     left: R,
     file: T,
+    last: &mut Files<L>,
 ) -> Result<OpenedFiles<R, T>, Stopped>
-    ensures kept { IfOk result (FindsKept (image_at R.Start) T.Start.db quota) }
-    ensures new { IfOk result (FindsFirst (image_at R.Start) T.Start.db quota) }
+    requires other { IsTrue (L.Disk.is_usable last.old.log) }
+    requires last { IsTrue (L.Disk.is_usable last.old.db) }
+    ensures kept { IfOk result (FindsHeld (image_at R.Start) T.Start.db how.limit) }
+    ensures new { IfOk result (FindsNew (image_at R.Start) T.Start.db how.limit) }
+    ensures batch { IfOk result (λ opened. batch_of opened.folder ≡ opened.last) }
+    ensures up_to_date { IfOk result (λ opened. how.accepts_loss ≡ false → AreClean L.Disk last.new.log last.new.db
+        → IsNotOlder opened.key opened.last (L.Disk.seen last.old.log) (L.Disk.seen last.old.db)) }
+    ensures only { OnlyReadsBoth L.Disk (last.old.log, last.old.db) (last.new.log, last.new.db) }
     ensures err { IfErr result IsNotUsage }
 {
     let key = random(rt)? >> 1;
     let changes = first_changes(rt.alloc(), key)?;
     // The data file is made first: a database without one is not that of a store that was just made.
     let pair = open_pair(rt, folder, DATA, file)?;
-    let files = open_pair(rt, folder, DATABASE, left)?;
-    open_over(rt, folder, files, pair, &changes, limit_of(quota))
+    let files = match open_pair(rt, folder, DATABASE, left) {
+        Ok(files) => files,
+        Err(stopped) => {
+            how.absent.remove_reserve(rt, folder)?;
+            return Err(stopped);
+        }
+    };
+    open_over(rt, folder, how, (files, pair), last, &changes)
 }
 
 /// Opens the store over the files of a database and a data file. The file that comes with it keeps room back.
 ///
 /// Errors: `Refused`, `Disk` and `Memory`, as for `open_folder`.
-fn open_over<D: Disk + Drop, E: Disk + Drop>(
+fn open_over<D: Disk + Drop, E: Disk + Drop, L: Disk>(
     rt: &HostRuntime,
     folder: &str,
-    files: Files<D>,
-    pair: Files<E>,
+    how: Opening,
+    pairs: (Files<D>, Files<E>),
+    last: &mut Files<L>,
     changes: &[Change],
-    limit: Option<Option<u64>>,
 ) -> Result<OpenedOver<D, E>, Stopped>
-    requires log_usable { IsTrue (D.Disk.is_usable files.log) }
-    requires db_usable { IsTrue (D.Disk.is_usable files.db) }
-    requires usable { E.Disk.is_usable pair.db ≡ true }
-    requires reserve { E.Disk.is_usable pair.log ≡ true }
-    ensures kept { IfOk result (FindsHeld (image_of D.Disk files) (E.Disk.seen pair.db) limit) }
-    ensures new { MakesFirst changes.now → IfOk result (FindsNew (image_of D.Disk files) (E.Disk.seen pair.db) limit) }
+    requires log_usable { IsTrue (D.Disk.is_usable pairs.0.log) }
+    requires db_usable { IsTrue (D.Disk.is_usable pairs.0.db) }
+    requires usable { E.Disk.is_usable pairs.1.db ≡ true }
+    requires reserve { E.Disk.is_usable pairs.1.log ≡ true }
+    requires other { IsTrue (L.Disk.is_usable last.old.log) }
+    requires last { IsTrue (L.Disk.is_usable last.old.db) }
+    ensures kept { IfOk result (FindsHeld (image_of D.Disk pairs.0) (E.Disk.seen pairs.1.db) how.limit) }
+    ensures new { MakesFirst changes.now → IfOk result (FindsNew (image_of D.Disk pairs.0) (E.Disk.seen pairs.1.db) how.limit) }
+    ensures batch { IfOk result (λ opened. batch_of opened.folder ≡ opened.last) }
+    ensures up_to_date { IfOk result (λ opened. how.accepts_loss ≡ false → AreClean L.Disk last.new.log last.new.db
+        → IsNotOlder opened.key opened.last (L.Disk.seen last.old.log) (L.Disk.seen last.old.db)) }
+    ensures only { OnlyReadsBoth L.Disk (last.old.log, last.old.db) (last.new.log, last.new.db) }
     ensures err { IfErr result IsNotUsage }
 {
-    let mut files = files;
+    let (mut files, pair) = pairs;
     let disk = Reserved::new(pair.db, pair.log, ROOM);
-    let found = read_files(rt.alloc(), &mut files, disk, changes, limit)?;
+    let found = match read_up_to_date(rt.alloc(), &mut files, disk, last, changes, how) {
+        Ok(found) => found,
+        Err(stopped) => {
+            // The database is still locked, so nobody serves the files that are removed.
+            how.absent.remove(rt, folder)?;
+            return Err(stopped);
+        }
+    };
     let seed = random(rt)?;
     empty_reserve(rt, folder)?;
     let opened = found.open(rt.alloc(), files, seed, changes)?;
     Ok(opened)
+}
+
+/// Reads the store of a folder, and checks that it has lost no batch. It only reads the files.
+///
+/// Errors: `Refused`, `Disk` and `Memory`, as for `open_folder`.
+fn read_up_to_date<D: Disk, E: Disk + Drop, L: Disk>(
+    alloc: Global,
+    files: &mut Files<D>,
+    disk: E,
+    last: &mut Files<L>,
+    changes: &[Change],
+    how: Opening,
+) -> Result<Found<DataFile<E>>, Stopped>
+    requires log_usable { IsTrue (D.Disk.is_usable files.old.log) }
+    requires db_usable { IsTrue (D.Disk.is_usable files.old.db) }
+    requires usable { E.Disk.is_usable disk ≡ true }
+    requires other { IsTrue (L.Disk.is_usable last.old.log) }
+    requires last { IsTrue (L.Disk.is_usable last.old.db) }
+    ensures kept { (image : Image) (tables : Contents) → Keeps (image_of D.Disk files.old) tables → StandForImage tables image → IsWholeImage image
+        → IfOk result (λ found. AreClean D.Disk files.new.log files.new.db → ReadsImage (E.Disk.seen disk) how.limit image tables found) }
+    ensures new { (image : Image) → IsVacant (image_of D.Disk files.old) → StandForImage (first changes.now) image → IsWholeImage image
+        → IfOk result (λ found. AreClean D.Disk files.new.log files.new.db → ReadsImage (E.Disk.seen disk) how.limit image (first changes.now) found) }
+    ensures empty { IsVacant (image_of D.Disk files.old)
+        → IfOk result (λ found. AreClean D.Disk files.new.log files.new.db → IsEmptyIfHonest found (E.Disk.seen disk)) }
+    ensures only { AreOnlyRead D.Disk files.old files.new }
+    ensures up_to_date { IfOk result (λ found. how.accepts_loss ≡ false → AreClean L.Disk last.new.log last.new.db
+        → IsNotOlder found.key found.last (L.Disk.seen last.old.log) (L.Disk.seen last.old.db)) }
+    ensures only_last { OnlyReadsBoth L.Disk (last.old.log, last.old.db) (last.new.log, last.new.db) }
+    ensures err { IfErr result IsNotUsage }
+{
+    let found = read_files(alloc, files, disk, changes, how.limit)?;
+    expect_up_to_date(last, found.key, found.last, how.accepts_loss)?;
+    Ok(found)
+}
+
+/// Checks that a store with this key, whose last batch has this number, has lost no batch. It only reads the files of the
+/// number. A store that has none yet is one of an earlier version, or new.
+///
+/// Errors: `Refused` if the files say a greater number or none, unless `accepts_loss`; `Disk` if they cannot be read.
+pub(crate) fn expect_up_to_date<L: Disk>(
+    files: &mut Files<L>,
+    key: u64,
+    batch: u64,
+    accepts_loss: bool,
+) -> Result<(), Stopped>
+    requires other { IsTrue (L.Disk.is_usable files.old.log) }
+    requires last { IsTrue (L.Disk.is_usable files.old.db) }
+    ensures only { OnlyReadsBoth L.Disk (files.old.log, files.old.db) (files.new.log, files.new.db) }
+    ensures up_to_date { OnOk result (accepts_loss ≡ false → AreClean L.Disk files.new.log files.new.db
+        → IsNotOlder key batch (L.Disk.seen files.old.log) (L.Disk.seen files.old.db)) }
+    ensures err { IfErr result IsNotUsage }
+{
+    match read_last(files, key) {
+        Ok(_) if accepts_loss => Ok(()),
+        Ok(Last::Number(number)) if number > batch => Err(Stopped::Refused(Refusal::Older)),
+        Ok(Last::Unreadable) => Err(Stopped::Refused(Refusal::NoNumber)),
+        Ok(_) => Ok(()),
+        Err(error) => Err(Stopped::Disk(error)),
+    }
 }
 
 /// Opens a file of the folder, and the one that comes with it.

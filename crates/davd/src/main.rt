@@ -1,5 +1,5 @@
-//! `davd [-prefix PREFIX] [-anyone-unlocks] [-max-batch BYTES] [-quota BYTES] [FOLDER]`: serves WebDAV requests. The
-//! requests come as frames on standard input, and the replies go to standard output.
+//! `davd [-prefix PREFIX] [-anyone-unlocks] [-max-batch BYTES] [-quota BYTES] [-accept-loss] [FOLDER]`: serves WebDAV
+//! requests. The requests come as frames on standard input, and the replies go to standard output.
 //!
 //! `davd --check FOLDER`: reads every byte of every file in a folder, and writes a line on standard output for each file that
 //! cannot be read, and last how many files and bytes there are. It serves nothing and reads no input.
@@ -9,6 +9,7 @@
 //! - `-max-batch` is the number of bytes that the content of a batch may have, 1 GiB without it.
 //! - `-quota` is the number of bytes that all files may have together. It is reported and not enforced. Without it
 //!   there is no quota.
+//! - With `-accept-loss` a folder is served whose database has lost its last batches, or may have lost them.
 //!
 //! - With `FOLDER` the store and its locks are kept in this folder: each batch is kept before it is answered. The folder
 //!   is made if it is not there. Its name does not begin with `-`. Without a folder everything is in memory, and lost at
@@ -28,6 +29,7 @@
 //! - 6 if the folder cannot be read or written at the start, or if there is none to check.
 //! - 7 if a batch cannot be kept because the disk is full, and 8 if it cannot be kept for another reason. The batch is
 //!   not answered.
+//! - 9 at the end of the input, if everything was kept, and the log of the database could not be copied into its file.
 #![tactic(auto)]
 
 mod checking;
@@ -57,7 +59,13 @@ fn run(rt: &HostRuntime) -> Result<(), Stopped> {
     let arguments = arguments_of(rt)?;
     let mut input = BufReader::with_capacity(alloc, BUFFERED, rt.stdin())?;
     let mut output = BufWriter::with_capacity(alloc, BUFFERED, rt.stdout())?;
-    run_program(rt, &arguments, (Unknown, Unknown), &mut input, &mut output)
+    run_program(
+        rt,
+        &arguments,
+        (Unknown, Unknown, Unknown),
+        &mut input,
+        &mut output,
+    )
 }
 
 /// Returns the arguments without the program's name. One that is not UTF-8 is wrong.

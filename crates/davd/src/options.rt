@@ -23,6 +23,8 @@ pub struct ProgramOptions {
     pub quota: Option<u64>,
     /// The folder in which everything is kept. `None` keeps everything in memory alone.
     pub folder: Option<String>,
+    /// Whether a folder is served that has lost its last batches.
+    pub accepts_loss: bool,
     /// Whether the folder is checked, and nothing is served.
     pub checks: bool,
 }
@@ -40,6 +42,7 @@ impl ProgramOptions {
             },
             quota: None,
             folder: None,
+            accepts_loss: false,
             checks: false,
         }
     }
@@ -128,6 +131,10 @@ fn read_server_options(alloc: Global, arguments: &[String]) -> Result<ProgramOpt
         rest = match (name.as_str(), others) {
             ("-anyone-unlocks", _) => {
                 options.server.anyone_unlocks = true;
+                others
+            }
+            ("-accept-loss", _) => {
+                options.accepts_loss = true;
                 others
             }
             (name, [value, others @ ..]) => {

@@ -9,11 +9,12 @@ ghost use Rattle.sqlite.specs.WalFiles.{image_at};
 ghost use Rattle.davd.specs.Folder.{rules_for};
 ghost use Rattle.davd.specs.Options.{OptionsValue, options_of};
 ghost use Rattle.davd.specs.Program.{DoCheck, HaveNoFolder, SayFolder, ServesAll, ServesInMemory, IsNotUsage, status_of};
-ghost use Rattle.davd.specs.Program.{ServesFolder, StopsInFolder, HasNotBegun};
+ghost use Rattle.davd.specs.Program.{ServesFolder, ServesWithLog, StopsInFolder, HasNotBegun};
 
 use crate::checking::check_folder;
+use crate::folder::Held;
 use crate::options::{ProgramOptions, read_options};
-use crate::serving::{FolderData, serve_folder};
+use crate::serving::{FolderData, FolderOptions, serve_folder};
 use dav_guarding::Guarding;
 use dav_memls::MemLs;
 use dav_resource::{FsError, FsResult};
@@ -46,6 +47,8 @@ pub enum Stopped {
     NotKept,
     /// A check has found a damaged file.
     Damaged,
+    /// Each batch was kept, and at the end the log could not be copied into the database file.
+    WithLog,
 }
 
 /// Why a folder is refused.
@@ -61,6 +64,10 @@ pub enum Refusal {
     NoData,
     /// The data file is shorter than the database says.
     ShortData,
+    /// The database is of an earlier batch than the number that was kept beside it.
+    Older,
+    /// The number of the last batch cannot be read, or is that of another folder.
+    NoNumber,
 }
 
 impl From<io::Error> for Stopped {
@@ -111,10 +118,10 @@ impl From<FsError> for Stopped {
 /// Errors: `Usage` if the arguments are wrong; `Memory` if memory runs out before the first batch; `Stream` if a stream
 /// fails, or if the input ends inside a batch; over a folder those of `serve_folder`; of a check those of `check_folder`.
 /// With wrong arguments nothing is read or written.
-pub fn run_program<R: Start, T: Start, I: Read, O: Write>(
+pub fn run_program<R: Start, T: Start, N: Start, I: Read, O: Write>(
     rt: &HostRuntime,
     arguments: &[String],
-    held: (R, T),
+    held: Held<R, T, N>,
     input: &mut I,
     output: &mut O,
 ) -> Result<(), Stopped>
@@ -125,8 +132,10 @@ pub fn run_program<R: Start, T: Start, I: Read, O: Write>(
         (I.remaining input.old) (I.remaining input.new) (O.contents output.old) (O.contents output.new)) }
     ensures stopped { (options : OptionsValue) → SayFolder (texts arguments.now) options
         → OnErr result (HasNotBegun input.old input.new output.old output.new
-        ⊎ StopsInFolder ⟦<FileFrom<R> as Disk>⟧ ⟦<FolderData<T> as Medium>⟧ (image_at R.Start) T.Start.db options
-        (O.contents output.old) (O.contents output.new)) }
+        ⊎ (StopsInFolder ⟦<FileFrom<R> as Disk>⟧ ⟦<FolderData<T> as Medium>⟧ (image_at R.Start) T.Start.db options
+        (O.contents output.old) (O.contents output.new)
+        ⊎ ServesWithLog ⟦<FileFrom<R> as Disk>⟧ ⟦<FolderData<T> as Medium>⟧ (image_at R.Start) T.Start.db options
+        (I.remaining input.old) (I.remaining input.new) (O.contents output.old) (O.contents output.new))) }
     ensures end { OnOk result (DoCheck (texts arguments.now) ⊎ IsAtEnd (I.remaining input.new)) }
     ensures checked { DoCheck (texts arguments.now) → input.new ≡ input.old }
     ensures usage { result ≡ Err Stopped.Usage → options_of (texts arguments.now) ≡ None }
@@ -138,12 +147,17 @@ pub fn run_program<R: Start, T: Start, I: Read, O: Write>(
         server,
         quota,
         folder,
+        accepts_loss,
         checks,
     } = read_options(rt.alloc(), arguments)?;
     match folder {
         Some(folder) if checks => check_folder(rt, folder.as_str(), held, output),
         Some(folder) => {
-            let served = serve_folder(rt, folder.as_str(), quota, held, server, input, output)?;
+            let options = FolderOptions {
+                server,
+                accepts_loss,
+            };
+            let served = serve_folder(rt, folder.as_str(), quota, held, options, input, output)?;
             served.0
         }
         None => serve_in_memory(rt.alloc(), quota, server, input, output),
@@ -212,6 +226,7 @@ fn exit_status(stopped: &Stopped) -> u8
         Stopped::Full => 7,
         Stopped::NotKept => 8,
         Stopped::Damaged => 1,
+        Stopped::WithLog => 9,
     }
 }
 
@@ -222,7 +237,7 @@ const OUT_OF_MEMORY: &str = "davd: out of memory";
 fn line_of(stopped: &Stopped) -> &'static str {
     match stopped {
         Stopped::Usage =>
-            "usage: davd [-prefix PREFIX] [-anyone-unlocks] [-max-batch BYTES] [-quota BYTES] [FOLDER]\n       davd --check FOLDER",
+            "usage: davd [-prefix PREFIX] [-anyone-unlocks] [-max-batch BYTES] [-quota BYTES] [-accept-loss] [FOLDER]\n       davd --check FOLDER",
         Stopped::Stream(error) => cause_of(error),
         Stopped::Memory => OUT_OF_MEMORY,
         Stopped::Refused(refusal) => refusal_of(*refusal),
@@ -233,6 +248,8 @@ fn line_of(stopped: &Stopped) -> &'static str {
         Stopped::Full => "davd: a batch is not kept, because the disk is full",
         Stopped::NotKept => "davd: a batch is not kept",
         Stopped::Damaged => "davd: a file is damaged",
+        Stopped::WithLog =>
+            "davd: everything is kept, but meta.db-wal could not be copied into meta.db: keep both files together",
     }
 }
 
@@ -249,6 +266,10 @@ fn refusal_of(refusal: Refusal) -> &'static str {
             "davd: data is missing, so nothing was changed: restore meta.db, meta.db-wal and data from one backup",
         Refusal::ShortData =>
             "davd: data is shorter than meta.db says, so nothing was changed: restore meta.db, meta.db-wal and data from one backup",
+        Refusal::Older =>
+            "davd: meta.db and meta.db-wal have lost the last batches, so nothing was changed: restore the folder from a backup, or serve what is left with -accept-loss",
+        Refusal::NoNumber =>
+            "davd: last and last-wal are damaged or of another folder, so nothing was changed: restore the folder from a backup, or serve it with -accept-loss",
     }
 }
 

@@ -1,21 +1,24 @@
 //! Serving over a store in a folder.
-ghost use Rattle.std.specs.Prelude.{◌≡◌, IfOk, OnOk, OnErr, IfErr};
+ghost use Rattle.std.specs.Prelude.{◌≡◌, ◌≤◌, ◌⊎◌, IfOk, OnOk, OnErr, IfErr};
 ghost use Rattle.std.specs.Io.KnownBytes.{IsAtEnd};
 ghost use Rattle.sqlite.specs.WalFiles.{image_at};
 ghost use Rattle.sqlite_store.specs.FileStore.{view};
 ghost use Rattle.sqlite_trees.specs.View.{IsClean};
+ghost use Rattle.dav_folder.specs.Folders.{batch_of};
 ghost use Rattle.dav_folder.specs.Lasting.{HasCleanDatabase};
 ghost use Rattle.dav_folder.specs.Opening.{opened_at};
+ghost use Rattle.dav_last.specs.Batches.{number_of};
 ghost use Rattle.davd.specs.Folder.{IsOpenedAsKept, ServesOpened, StopsOpened, rules_for, state_from};
-ghost use Rattle.davd.specs.Leaving.{RunsAndLeaves, StopsAndLeaves, GoesOn, GoesOnAndStops};
+ghost use Rattle.davd.specs.Leaving.{RunsAndLeaves, RunsWithLog, StopsAndLeaves, GoesOn, GoesOnWithLog, GoesOnAndStops};
 ghost use Rattle.davd.specs.Program.{IsNotUsage};
 
-use crate::folder::open_folder;
+use crate::folder::{Held, open_folder};
 use crate::program::Stopped;
 use dav_data::DataFile;
-use dav_folder::{Folder, Opened, close_store};
+use dav_folder::{Folder, FolderFiles, Numbered, Opened, close_folder, give_up};
 use dav_guarding::Guarding;
 use dav_keep::KeepError;
+use dav_last::LastBatch;
 use dav_reserve::{Reserved, Roomy};
 use dav_resource::FsError;
 use dav_rights::Access;
@@ -24,110 +27,162 @@ use dav_tree::{Medium, TreeFs};
 use sqlite::{Alter, Error, ErrorCode, FileFrom, FileStore, Start};
 use sqlite_disk::Disk;
 use std::alloc::Global;
-use std::io::{self, ErrorKind, Read, Write};
+use std::io::{self, Read, Write};
 
 /// The data file of a folder, beside which a third file keeps room back.
 pub type FolderData<T> = DataFile<Reserved<FileFrom<T>, FileFrom<T>>>;
 
+/// How a folder is served.
+#[derive(Drop)]
+pub struct FolderOptions {
+    /// How the server serves.
+    pub server: Options,
+    /// Whether a store is served that has lost its last batches.
+    pub accepts_loss: bool,
+}
+
 /// How serving over a folder ended, and the files of the database and the data file that it leaves.
-pub type Ended<R, T> = (Result<(), Stopped>, (FileStore<FileFrom<R>>, FolderData<T>));
+pub type Ended<R, T> = (
+    Result<(), Stopped>,
+    FolderFiles<FileFrom<R>, Reserved<FileFrom<T>, FileFrom<T>>>,
+);
 
 /// Opens the store of a folder, or makes a new one, and serves the batches of the input over it, and keeps each before its
-/// answer is written, until the input ends. Then the files of the folder are given up. `held` stands for what the files of
-/// the database and the data file held.
+/// answer is written, until the input ends. Then the log of the database is copied into its file, and the files of the
+/// folder are given up. `held` stands for what the files of the folder held.
 ///
 /// If they held a store, the run goes on from it; if they held no table, from a new one. At its end a crash leaves what was
 /// in the server after some of the batches, with the time and the number of then, and the later ones have changed nothing
-/// of what is kept. After an error it leaves this of the batches that were answered, or what was in the server at last.
+/// of what is kept; and the database is whole without its log. After an error it leaves this of the batches that were
+/// answered, or what was in the server at last.
 ///
-/// Errors at the start are those of `open_folder`, and later ones those of `serve_opened`.
-pub fn serve_folder<R: Start, T: Start, I: Read, O: Write>(
+/// Errors at the start are those of `open_folder`, and later ones those of `serve_to_the_end`.
+pub fn serve_folder<R: Start, T: Start, N: Start, I: Read, O: Write>(
     rt: &HostRuntime,
     folder: &str,
     quota: Option<u64>,
-    held: (R, T),
-    options: Options,
+    held: Held<R, T, N>,
+    options: FolderOptions,
     input: &mut I,
     output: &mut O,
 ) -> Result<Ended<R, T>, Stopped>
-    ensures served { IfOk result (λ ended. OnOk ended.0 (GoesOn (image_at R.Start) T.Start.db ended.1 ⟦<FolderData<T> as Medium>⟧ (rules_for options) quota
+    ensures served { IfOk result (λ ended. OnOk ended.0 (GoesOn (image_at R.Start) T.Start.db ended.1 ⟦<FolderData<T> as Medium>⟧ (rules_for options.server) quota
         (I.remaining input.old) (I.remaining input.new) (O.contents output.old) (O.contents output.new))) }
     ensures stopped { IfOk result (λ ended. OnErr ended.0 (GoesOnAndStops (image_at R.Start) T.Start.db ended.1 ⟦<FolderData<T> as Medium>⟧
-        (rules_for options) quota (O.contents output.old) (O.contents output.new))) }
+        (rules_for options.server) quota (O.contents output.old) (O.contents output.new)
+        ⊎ GoesOnWithLog (image_at R.Start) T.Start.db ended.1 ⟦<FolderData<T> as Medium>⟧ (rules_for options.server) quota
+        (I.remaining input.old) (I.remaining input.new) (O.contents output.old) (O.contents output.new))) }
     ensures end { IfOk result (λ ended. OnOk ended.0 (IsAtEnd (I.remaining input.new))) }
     ensures unread { OnErr result (input.new ≡ input.old) }
     ensures unwritten { OnErr result (output.new ≡ output.old) }
     ensures err { IfErr result IsNotUsage }
     ensures later { IfOk result (λ ended. IfErr ended.0 IsNotUsage) }
 {
-    let (left, file) = held;
-    let opened = open_folder(rt, folder, quota, left, file)?;
-    Ok(serve_to_the_end(rt.alloc(), opened, options, input, output))
+    let FolderOptions {
+        server,
+        accepts_loss,
+    } = options;
+    let (opened, last) = open_folder(rt, folder, quota, accepts_loss, held)?;
+    Ok(serve_to_the_end(rt.alloc(), opened, last, server, input, output))
 }
 
-/// Serves the batches of the input over what was opened, as `serve_opened` does, and then gives up the files of the
-/// folder. Errors are those of `serve_opened`.
-pub fn serve_to_the_end<D: Disk + Drop, E: Roomy + Drop, I: Read, O: Write>(
+/// Serves the batches of the input over what was opened, as `serve_opened` does. At the end of the input it copies the log
+/// of the database into its file, and brings the number of the last batch to the disk. Then it gives up the files of the
+/// folder.
+///
+/// Errors: `WithLog` if the log cannot be copied; otherwise those of `serve_opened`, and then nothing more is written.
+pub fn serve_to_the_end<D: Disk + Drop, E: Roomy + Drop, L: Disk + Drop, I: Read, O: Write>(
     alloc: Global,
     opened: Opened<FileStore<D>, DataFile<E>>,
+    last: LastBatch<L>,
     options: Options,
     input: &mut I,
     output: &mut O,
-) -> (Result<(), Stopped>, (FileStore<D>, DataFile<E>))
+) -> (Result<(), Stopped>, FolderFiles<D, E>)
+    requires { number_of last ≤ batch_of opened.folder }
     ensures served { OnOk result.0 (RunsAndLeaves ⟦<DataFile<E> as Medium>⟧ (rules_for options) (IsOpenedAsKept opened)
         (state_from (opened_at opened)) result.1 (I.remaining input.old) (I.remaining input.new) (O.contents output.old) (O.contents output.new)) }
     ensures stopped { OnErr result.0 (StopsAndLeaves ⟦<DataFile<E> as Medium>⟧ (rules_for options) (IsOpenedAsKept opened)
-        (state_from (opened_at opened)) result.1 (O.contents output.old) (O.contents output.new)) }
+        (state_from (opened_at opened)) result.1 (O.contents output.old) (O.contents output.new)
+        ⊎ RunsWithLog ⟦<DataFile<E> as Medium>⟧ (rules_for options) (state_from (opened_at opened))
+        (I.remaining input.old) (I.remaining input.new) (O.contents output.old) (O.contents output.new)) }
     ensures clean { IsClean (view result.1.0) → HasCleanDatabase opened.folder }
     ensures end { OnOk result.0 (IsAtEnd (I.remaining input.new)) }
     ensures err { IfErr result.0 IsNotUsage }
 {
-    let (ended, (folder, store)) = serve_opened(alloc, opened, options, input, output);
-    (ended, close_store(folder, store))
+    let (ended, (folder, store), mut last) = serve_opened(
+        alloc, opened, last, options, input, output,
+    );
+    match ended {
+        Ok(()) => {
+            let (copied, files) = close_folder(folder, store);
+            // If this fails, the next start may not notice that the database was replaced by an older one.
+            let _ = last.sync();
+            let ended = if copied {
+                Ok(())
+            } else {
+                Err(Stopped::WithLog)
+            };
+            (ended, files)
+        }
+        Err(stopped) => (Err(stopped), give_up(folder, store)),
+    }
 }
 
+/// How serving ended over what was opened: why, the folder and the store as they are then, and the number that was noted.
+type EndedOpen<S, D, L> = (
+    Result<(), Stopped>,
+    (Folder<S>, TreeFs<DataFile<D>>),
+    LastBatch<L>,
+);
+
 /// Serves the batches of the input over what was opened, and keeps each before its answer is written, until the input
-/// ends. Returns the folder and the store as they are then.
+/// ends. After each batch that changed something it notes its number.
 ///
 /// Errors: `Full` or `NotKept` if a batch cannot be kept; `Stream` if a stream fails, or if the input ends inside a batch.
-pub fn serve_opened<S: Alter + Drop, D: Roomy + Drop, I: Read, O: Write>(
+pub fn serve_opened<S: Alter + Drop, D: Roomy + Drop, L: Disk + Drop, I: Read, O: Write>(
     alloc: Global,
     opened: Opened<S, DataFile<D>>,
+    last: LastBatch<L>,
     options: Options,
     input: &mut I,
     output: &mut O,
-) -> (Result<(), Stopped>, (Folder<S>, TreeFs<DataFile<D>>))
-    ensures served { OnOk result.0 (ServesOpened (rules_for options) opened result.1
+) -> EndedOpen<S, D, L>
+    requires { number_of last ≤ batch_of opened.folder }
+    ensures served { OnOk result.0 (ServesOpened L.Disk (rules_for options) opened result.1
         (I.remaining input.old) (I.remaining input.new) (O.contents output.old) (O.contents output.new)) }
-    ensures stopped { OnErr result.0 (StopsOpened (rules_for options) opened result.1
+    ensures stopped { OnErr result.0 (StopsOpened L.Disk (rules_for options) opened result.1
         (O.contents output.old) (O.contents output.new)) }
     ensures clean { HasCleanDatabase result.1.0 → HasCleanDatabase opened.folder }
     ensures end { OnOk result.0 (IsAtEnd (I.remaining input.new)) }
     ensures err { IfErr result.0 IsNotUsage }
 {
     let Opened {
-        mut folder,
+        folder,
         store,
         mut locks,
         now,
-        last,
+        last: number,
+        key: _,
     } = opened;
+    let mut keeper = Numbered::new(folder, last, now);
     let mut store = Guarding::new(alloc, store, Access::Full);
-    let mut server = Server::resume(alloc, &mut store, &mut locks, options, now, last);
-    let ended = server.serve_kept(&mut folder, input, output);
+    let mut server = Server::resume(alloc, &mut store, &mut locks, options, now, number);
+    let ended = server.serve_kept(&mut keeper, input, output);
     let _store = server.into_store();
     let ended = match ended {
         Ok(()) => Ok(()),
-        Err(error) => Err(stopped_by(&folder, error)),
+        Err(error) => Err(stopped_by(&keeper, error)),
     };
-    (ended, (folder, store.into_inner()))
+    let (folder, last) = keeper.into_parts();
+    (ended, (folder, store.into_inner()), last)
 }
 
 /// Returns why serving ended with this error: the keeper says so, or else a stream failed.
-fn stopped_by<S: Alter>(folder: &Folder<S>, error: io::Error) -> Stopped
+fn stopped_by<S: Alter, L: Disk>(keeper: &Numbered<S, L>, error: io::Error) -> Stopped
     ensures { IsNotUsage result }
 {
-    match folder.failure() {
+    match keeper.failure() {
         Some(failure) if is_full(failure) => Stopped::Full,
         Some(_) => Stopped::NotKept,
         None => Stopped::Stream(error),

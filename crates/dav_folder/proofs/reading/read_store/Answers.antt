@@ -26,6 +26,7 @@ returns-clause-found g c = λ image tables are.
       counter = ap (λ (m : Memory). m.version) (store.memory image.tree loaded.values) ∙ ap (λ (n : Numbers). n.counter) loaded.numbers;
       time = ap (λ (n : Numbers). n.time) loaded.numbers;
       batch = ap (λ (n : Numbers). n.batch) loaded.numbers;
+      key = ap (λ (n : Numbers). n.key) loaded.numbers;
     }
 
 pub returns-clause-bytes : goal.returns-clause-bytes

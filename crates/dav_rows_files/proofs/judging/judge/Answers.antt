@@ -1,16 +1,20 @@
-use Rattle.std.proofs.Common.{◌≡◌, sym, subst}
+use Rattle.std.proofs.Common.{◌≡◌, ◌∙◌, ap, sym, subst}
+use Rattle.dav_log.specs.Damage.{IsDamaged}
 use Rattle.disk_readonly.specs.contracts.copied.CopiedDisk.TheImpl as copied
 use Rattle.sqlite.specs.Files.{file_state, image_of}
+use Rattle.sqlite.specs.Recovery.{Image}
 use Rattle.dav_rows_files.specs.Starting.{Keeps, IsVacant, IsUnused}
 use Rattle.dav_rows_files.proofs.StartLemmas.{at_start, blank_start, unused_start, found_in, open_failed, open_failed_first, load_stopped, first_stopped}
-use Rattle.dav_rows_files.proofs.JudgeLemmas.{always_clean, clean_left}
+use Rattle.dav_rows_files.proofs.JudgeLemmas.{always_clean, clean_left, if-err-same, log_fault}
+use Rattle.dav_rows_files.specs.Judging.{IsLogFault}
 use Rattle.dav_rows_files.proofs.judging.judge.Goals as goal
 
 pub returns-in-Ok-load_or_create-clause-found : goal.returns-in-Ok-load_or_create-clause-found
 returns-in-Ok-load_or_create-clause-found g c clean =
-    let copies = c.in_ok-copies.copies in
+    let copies = record c.in_ok-copies.copies { log = c.expect_sound.new.log } in
     let conn = c.in-Ok.conn in
-    let same : image_of copied.ghosts copies ≡ image_of g.D.Disk c.args.files.now = c.in_ok-copies.ensures.same clean in
+    let same : image_of copied.ghosts copies ≡ image_of g.D.Disk c.args.files.now =
+    (λ i. record { log = c.expect_sound.ensures.same i; db = copied.ghosts.seen c.in_ok-copies.copies.db }) ∙ c.in_ok-copies.ensures.same clean in
     let opened = c.in-Ok.ensures.opened (always_clean conn) in
     let found = found_in copies conn (c.in-Ok.ensures.found (always_clean conn)) in
     let loaded = c.in-Ok-load_or_create.ensures in
@@ -27,9 +31,10 @@ returns-in-Ok-load_or_create-clause-found g c clean =
 
 pub returns-in-Err-clause-err : goal.returns-in-Err-clause-err
 returns-in-Err-clause-err g c clean =
-    let copies = c.in_ok-copies.copies in
+    let copies = record c.in_ok-copies.copies { log = c.expect_sound.new.log } in
     let e = c.in-Err.error in let left = c.in-Err.left in
-    let same : image_of copied.ghosts copies ≡ image_of g.D.Disk c.args.files.now = c.in_ok-copies.ensures.same clean in
+    let same : image_of copied.ghosts copies ≡ image_of g.D.Disk c.args.files.now =
+    (λ i. record { log = c.expect_sound.ensures.same i; db = copied.ghosts.seen c.in_ok-copies.copies.db }) ∙ c.in_ok-copies.ensures.same clean in
     record {
       kept = λ m keeps utf8. open_failed copies left e c.in-Err.ensures.cause (clean_left left) m (subst (λ image. Keeps image m) (sym same) keeps) utf8;
       first = λ unused. open_failed_first copies left e c.args.changes.now c.in-Err.ensures.cause (clean_left left) (subst IsUnused (sym same) unused);
@@ -37,10 +42,11 @@ returns-in-Err-clause-err g c clean =
 
 pub returns-in-Err-load_or_create-clause-err : goal.returns-in-Err-load_or_create-clause-err
 returns-in-Err-load_or_create-clause-err g c clean =
-    let copies = c.in_ok-copies.copies in
+    let copies = record c.in_ok-copies.copies { log = c.expect_sound.new.log } in
     let conn = c.in-Ok.conn in let new = c.load_or_create.new.conn in
     let e = c.in-Err-load_or_create.error in
-    let same : image_of copied.ghosts copies ≡ image_of g.D.Disk c.args.files.now = c.in_ok-copies.ensures.same clean in
+    let same : image_of copied.ghosts copies ≡ image_of g.D.Disk c.args.files.now =
+    (λ i. record { log = c.expect_sound.ensures.same i; db = copied.ghosts.seen c.in_ok-copies.copies.db }) ∙ c.in_ok-copies.ensures.same clean in
     let opened = c.in-Ok.ensures.opened (always_clean conn) in
     let found = found_in copies conn (c.in-Ok.ensures.found (always_clean conn)) in
     let unlimited = c.in-Ok.ensures.fresh.unlimited in
@@ -53,3 +59,15 @@ returns-in-Err-load_or_create-clause-err g c clean =
           let blank = unused_start (file_state conn) (image_of copied.ghosts copies) opened.0 opened.1 found (subst IsUnused (sym same) unused) in
           first_stopped (file_state conn) (file_state new) c.into_store.result c.args.changes.now e unlimited counts (c.in-Err-load_or_create.ensures.err_blank (always_clean new) blank);
     }
+
+pub returns-in-Ok-load_or_create-clause-sound : goal.returns-in-Ok-load_or_create-clause-sound
+returns-in-Ok-load_or_create-clause-sound g c = λ clean damaged.
+    c.in_ok-expect_sound.ensures.sound (subst IsDamaged (sym (ap (λ (image : Image). image.log) (c.in_ok-copies.ensures.same clean))) damaged)
+
+pub returns-in_err-expect_sound-clause-err : goal.returns-in_err-expect_sound-clause-err
+returns-in_err-expect_sound-clause-err g c =
+    let e = c.in_err-expect_sound.field-0.0 in
+    if-err-same c.from_residual-in_err-expect_sound.result e _ c.from_residual-in_err-expect_sound.ensures.1
+    (λ clean.
+    let same = ap (λ (image : Image). image.log) (c.in_ok-copies.ensures.same clean) in
+    log_fault (image_of g.D.Disk c.args.files.now) c.args.changes.now _ _ e (subst (λ log. IsLogFault log e) same c.in_err-expect_sound.ensures.err))

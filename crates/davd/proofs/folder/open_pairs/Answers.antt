@@ -1,4 +1,4 @@
-use Rattle.std.proofs.Common.{◌≡◌, ℕ, List, sym, subst}
+use Rattle.std.proofs.Common.{◌≡◌, ℕ, List, refl, sym, subst}
 use Rattle.dav_keep.specs.Images.{StandForImage}
 use Rattle.dav_keep.specs.Loading.{first_image}
 use Rattle.dav_rows.specs.Creating.{first}
@@ -12,12 +12,12 @@ stands {key} read changes same stand = subst (λ these. StandForImage (first the
 
 pub returns-clause-kept : goal.returns-clause-kept
 returns-clause-kept g c =
-    let files = c.in_ok-files.files in let fresh = c.in_ok-files.ensures.fresh in
-    held_as c.open_over.result _ _ _ _ _ _ (fresh_image files.log files.db fresh.0 fresh.1) (fresh_seen c.in_ok-pair.pair.db c.in_ok-pair.ensures.fresh.1) c.limit_of.ensures
+    let files = c.in-Ok.files in let fresh = c.in-Ok.ensures.fresh in
+    held_as c.open_over.result _ _ _ _ _ _ (fresh_image files.log files.db fresh.0 fresh.1) (fresh_seen c.in_ok-pair.pair.db c.in_ok-pair.ensures.fresh.1) refl
     c.open_over.ensures.kept
 
 pub returns-clause-new : goal.returns-clause-new
 returns-clause-new g c =
-    let files = c.in_ok-files.files in let fresh = c.in_ok-files.ensures.fresh in
-    new_as c.open_over.result _ _ _ _ _ _ (fresh_image files.log files.db fresh.0 fresh.1) (fresh_seen c.in_ok-pair.pair.db c.in_ok-pair.ensures.fresh.1) c.limit_of.ensures
+    let files = c.in-Ok.files in let fresh = c.in-Ok.ensures.fresh in
+    new_as c.open_over.result _ _ _ _ _ _ (fresh_image files.log files.db fresh.0 fresh.1) (fresh_seen c.in_ok-pair.pair.db c.in_ok-pair.ensures.fresh.1) refl
     (c.open_over.ensures.new (_, stands _ _ c.deref.ensures.value c.in_ok-changes.ensures))

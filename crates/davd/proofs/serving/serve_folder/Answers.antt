@@ -1,5 +1,6 @@
+use Rattle.std.proofs.Common.{inl, inr}
 use Rattle.sqlite.specs.WalFiles.{image_at}
-use Rattle.davd.proofs.Leaves.{on_ok, on_err, goes_on, goes_on_and_stops}
+use Rattle.davd.proofs.Leaves.{on_ok, on_err, goes_on, goes_on_with_log, goes_on_and_stops}
 use Rattle.davd.specs.Folder.{rules_for}
 use Rattle.davd.proofs.serving.serve_folder.Goals as goal
 
@@ -8,13 +9,16 @@ returns-clause-served g c =
     let served = c.serve_to_the_end in
     let opened = c.in_ok-opened in
     on_ok served.result.0 served.ensures.served
-    (goes_on (rules_for c.args.options) opened.opened served.result.1 (image_at g.R.Start) g.T.Start.db c.args.quota opened.ensures.kept opened.ensures.new
+    (goes_on (rules_for c.args.options.server) opened.opened served.result.1 (image_at g.R.Start) g.T.Start.db c.args.quota opened.ensures.kept opened.ensures.new
     served.ensures.clean _ _ _ _)
 
 pub returns-clause-stopped : goal.returns-clause-stopped
 returns-clause-stopped g c =
     let served = c.serve_to_the_end in
     let opened = c.in_ok-opened in
-    on_err served.result.0 served.ensures.stopped
-    (goes_on_and_stops (rules_for c.args.options) opened.opened served.result.1 (image_at g.R.Start) g.T.Start.db c.args.quota opened.ensures.kept opened.ensures.new
-    served.ensures.clean _ _)
+    on_err served.result.0 served.ensures.stopped (λ either. elim either [
+      | inl stops ↦ inl (goes_on_and_stops (rules_for c.args.options.server) opened.opened served.result.1 (image_at g.R.Start) g.T.Start.db c.args.quota
+          opened.ensures.kept opened.ensures.new served.ensures.clean _ _ stops)
+      | inr runs ↦ inr (goes_on_with_log (rules_for c.args.options.server) opened.opened served.result.1 (image_at g.R.Start) g.T.Start.db c.args.quota
+          opened.ensures.kept opened.ensures.new served.ensures.clean _ _ _ _ runs)
+    ])

@@ -9,6 +9,7 @@ returns-clause-served g c = elim c.match-ended.branch [
     last = c.serve_kept-ended.new.self;
     begins = record { snapshot = rw c.new-store.ensures.inner at c.resume-server.ensures.snapshot; state = rw c.new-store.ensures.inner at c.resume-server.ensures.state };
     ends = search rules;
+    keep = record { keeper = c.new-keeper.result; keeper' = c.serve_kept-ended.new.keeper; begins = c.new-keeper.ensures; ends = search rules };
     runs = rw c.resume-server.ensures.rules at w.in-Ok.ensures.ran;
   })
   | in-Err w ↦ rw w.ended-is tt
@@ -22,6 +23,7 @@ returns-clause-stopped g c = elim c.match-ended.branch [
     last = c.serve_kept-ended.new.self;
     begins = record { snapshot = rw c.new-store.ensures.inner at c.resume-server.ensures.snapshot; state = rw c.new-store.ensures.inner at c.resume-server.ensures.state };
     ends = search rules;
+    keep = record { keeper = c.new-keeper.result; keeper' = c.serve_kept-ended.new.keeper; begins = c.new-keeper.ensures; ends = search rules };
     stops = rw c.resume-server.ensures.rules at w.in-Err.ensures.stopped;
   })
 ]

@@ -9,7 +9,7 @@ returns-clause-opened g c = λ image tables read at.
     record {
       lasts =
           lasts g.met.S.Store.settled c.new-2.result found.store found.locks found.now found.last image
-          (subst (λ keeping. IsKnown keeping image) (sym c.new-2.ensures) (c.new.ensures.known image tables read.knows at))
-          read.sound read.resources read.entries read.saved read.locks_are read.counter read.time read.batch;
+          (subst (λ keeping. IsKnown keeping image) (sym c.new-2.ensures.keeping) (c.new.ensures.known image tables read.knows at))
+          read.sound read.resources read.entries read.saved read.locks_are read.counter read.time read.batch c.new-2.ensures.batch;
       is = refl;
     }

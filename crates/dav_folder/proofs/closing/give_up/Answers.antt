@@ -13,7 +13,7 @@ use Rattle.dav_tree.specs.TreeFs.{before_of, older_of}
 use Rattle.dav_folder.specs.Files.{kept_at}
 use Rattle.dav_folder.specs.Folders.{keeping_of}
 use Rattle.dav_folder.proofs.Leaving.{leave, leave_either, leave_first, leave_second}
-use Rattle.dav_folder.proofs.closing.close_store.Goals as goal
+use Rattle.dav_folder.proofs.closing.give_up.Goals as goal
 
 pub returns-clause-alone : goal.returns-clause-alone
 returns-clause-alone g c = λ snapshot lasts.

@@ -1,0 +1,40 @@
+-- What contracts see of a keeper that notes how far its folder is.
+use Rattle.std.specs.Prelude.{List}
+use base.Stored.{Gv}
+use Rattle.sqlite_disk.specs.declared.Disk as disk
+use Rattle.sqlite_trees.specs.declared.store.Store as store
+use Rattle.dav_last.specs.declared.last_batch.LastBatch.{LastBatch}
+use Rattle.dav_pieces.specs.declared.piece.Piece.{Piece}
+use Rattle.dav_tree.specs.declared.medium.Medium.{Ghosts}
+use Rattle.dav_folder.specs.Lasting as folders
+use Rattle.dav_folder.specs.Lasting.{At, Lasts, LastsEither, HasCleanDatabase}
+use Rattle.dav_folder.specs.declared.folder.Folder.{Folder}
+use Rattle.dav_folder.specs.declared.numbered.Numbered.{Numbered}
+
+module _ {S L : Type 0} {rows : store.Ghosts S} {l : disk.Ghosts L} where
+  -- the folder that it keeps
+  abbrev pub folder_of : Numbered S L rows l → Folder S rows
+  folder_of keeper = keeper.folder
+
+  -- the number that it notes
+  abbrev pub last_of : Numbered S L rows l → LastBatch L l
+  last_of keeper = keeper.last
+
+  -- the disk of the folder's database is clean
+  abbrev pub HasCleanFolder : Numbered S L rows l → Type 0
+  HasCleanFolder keeper = HasCleanDatabase (folder_of keeper)
+
+  module _ {M : Type 0} {g : Ghosts M (List Piece)} where
+    -- its folder keeps the image of a snapshot
+    abbrev pub LastsNumbered : Numbered S L rows l → Gv → At g → Type 0
+    LastsNumbered keeper saved snapshot = Lasts (folder_of keeper) saved snapshot
+
+    -- a crash leaves one of two snapshots of its folder
+    abbrev pub LastsEitherNumbered : Numbered S L rows l → Gv → At g → At g → Type 0
+    LastsEitherNumbered keeper saved one other = LastsEither (folder_of keeper) saved one other
+
+    pub as_first : (keeper : Numbered S L rows l) (saved : Gv) (one other : At g) → LastsNumbered keeper saved one → LastsEitherNumbered keeper saved one other
+    as_first keeper saved one other lasts = folders.as_first (folder_of keeper) saved one other lasts
+
+    pub as_second : (keeper : Numbered S L rows l) (saved : Gv) (one other : At g) → LastsNumbered keeper saved other → LastsEitherNumbered keeper saved one other
+    as_second keeper saved one other lasts = folders.as_second (folder_of keeper) saved one other lasts

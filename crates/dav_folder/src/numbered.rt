@@ -1,0 +1,106 @@
+//! A keeper of a folder that notes how far it is.
+ghost use Rattle.std.specs.Prelude.{◌≡◌, ◌≤◌};
+ghost use Rattle.dav_folder.specs.Folders.{batch_of};
+ghost use Rattle.dav_last.specs.Batches.{number_of};
+
+use crate::Folder;
+use dav_data::DataFile;
+use dav_keep::KeepError;
+use dav_last::LastBatch;
+use dav_memls::MemLs;
+use dav_reserve::Roomy;
+use dav_server::Keeper;
+use dav_tree::TreeFs;
+use sqlite::Alter;
+use sqlite_disk::Disk;
+use std::io;
+
+/// Keeps a folder, and writes the number of each batch that was kept beside its database. So a start notices if the
+/// database has lost batches.
+///
+/// It does not wait until the disk has the number, except in the first batch that changes nothing in a later second. If
+/// the number cannot be written, the batch is kept all the same.
+#[derive(Drop)]
+pub struct Numbered<S: Alter, L: Disk> {
+    folder: Folder<S>,
+    last: LastBatch<L>,
+    /// The time of the batch that was noted last.
+    noted: u64,
+    ghost kept: { number_of last ≤ batch_of folder },
+}
+
+impl<S: Alter, L: Disk> Numbered<S, L> {
+    ghost use Rattle.dav_folder.specs.Numbered.{folder_of, last_of};
+
+    /// Notes how far this folder is. `now` is the time of its last batch.
+    pub fn new(folder: Folder<S>, last: LastBatch<L>, now: u64) -> Numbered<S, L>
+        requires { number_of last ≤ batch_of folder }
+        ensures { folder_of result ≡ folder }
+    {
+        Numbered {
+            folder,
+            last,
+            noted: now,
+        }
+    }
+
+    /// Returns why a batch could not be kept, if one could not.
+    pub fn failure(&self) -> Option<&KeepError> {
+        self.folder.failure()
+    }
+
+    /// Notes the number of the last batch that changed something, or brings it to the disk if it was noted in an earlier
+    /// second.
+    fn note(&mut self, now: u64)
+        ensures { folder_of self.new ≡ folder_of self.old }
+    {
+        let batch = self.folder.batch();
+        if self.last.number() < batch {
+            self.noted = now;
+            let _ = self.last.note(batch);
+        } else if self.noted < now {
+            let _ = self.last.sync();
+        }
+    }
+
+    /// Returns the folder, and the number that was noted.
+    pub fn into_parts(self) -> (Folder<S>, LastBatch<L>)
+        ensures folder { result.0 ≡ folder_of self }
+        ensures last { result.1 ≡ last_of self }
+        ensures kept { number_of result.1 ≤ batch_of result.0 }
+    {
+        (self.folder, self.last)
+    }
+}
+
+impl<D: Roomy + Drop, S: Alter, L: Disk> Keeper<TreeFs<DataFile<D>>, MemLs> for Numbered<S, L> {
+    ghost use Rattle.dav_folder.specs.Lasting.{IsSameKept, same_as};
+    ghost use Rattle.dav_folder.specs.Numbered.{LastsNumbered, LastsEitherNumbered, HasCleanFolder, as_first, as_second};
+
+    ghost lasts = { LastsNumbered };
+
+    ghost lasts_either = { LastsEitherNumbered };
+
+    ghost same = { IsSameKept };
+
+    ghost is_clean = { HasCleanFolder };
+
+    ghost as_first = { as_first };
+
+    ghost as_second = { as_second };
+
+    ghost same_as = { same_as };
+
+    fn keep(
+        &mut self,
+        store: &mut TreeFs<DataFile<D>>,
+        locks: &MemLs,
+        now: u64,
+        last: u64,
+        in_backup: bool,
+    ) -> io::Result<()> {
+        self.folder.keep_batch(store, locks, now, last, in_backup)?;
+        self.note(now);
+        Ok(())
+    }
+}
