@@ -46,6 +46,7 @@ func New(ctx context.Context, options Options) (*Handler, error) {
 		Program: options.Davd,
 		Args:    arguments(options),
 		Folder:  options.Folder,
+		Lossy:   options.AcceptLoss,
 		Memory:  options.Memory,
 		Rights:  options.Rights,
 		Log:     options.Log,

@@ -12,7 +12,7 @@ import (
 )
 
 // folderFiles are the files that davd makes in its folder.
-var folderFiles = []string{"data", "data-wal", "meta.db", "meta.db-wal"}
+var folderFiles = []string{"data", "data-wal", "last", "last-wal", "meta.db", "meta.db-wal"}
 
 // WriteMetrics writes what is known of davd and its folder, in the text format of Prometheus. It asks davd how many locks
 // there are. If davd does not answer before ctx is done, their metrics are left out.

@@ -17,6 +17,9 @@ type Options struct {
 	Davd string
 	// Folder is where davd keeps everything. Empty: davd holds everything in memory.
 	Folder string
+	// AcceptLoss serves a folder whose database has lost its last changes, as after a restore that was not complete.
+	// Without it such a folder is refused.
+	AcceptLoss bool
 	// Prefix is what the path of each URL begins with, such as "/dav". The handler gets requests with the prefix.
 	Prefix string
 	// PublicURL is the URL by which clients reach the server, if a proxy changes the header field Host. A Destination

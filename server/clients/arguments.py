@@ -8,7 +8,7 @@ GROUP = Group("davd alone", is_shared=False)
 GROUPS = [GROUP]
 
 USAGE = b"""\
-usage: davd [-prefix PREFIX] [-anyone-unlocks] [-max-batch BYTES] [-quota BYTES] [FOLDER]
+usage: davd [-prefix PREFIX] [-anyone-unlocks] [-max-batch BYTES] [-quota BYTES] [-accept-loss] [FOLDER]
        davd --check FOLDER
 """
 CUT = b"davd: the input ends inside a batch\n"
@@ -17,7 +17,7 @@ RIGHT = (
     [],
     ["-prefix", ""],
     ["-prefix", "/a", "-anyone-unlocks", "-prefix", "/b"],
-    ["-max-batch", "0", "-anyone-unlocks"],
+    ["-max-batch", "0", "-anyone-unlocks", "-accept-loss"],
     ["-quota", "007"],
     ["-quota", str(2**64 - 1)],
 )
@@ -28,6 +28,7 @@ WRONG = (
     ["--check", "-prefix"],
     ["--check", "folder", "folder"],
     ["-anyone-unlocks", "--check", "folder"],
+    ["-accept-loss", "--check", "folder"],
     ["-help"],
     [""],
     ["folder", "-anyone-unlocks"],

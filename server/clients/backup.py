@@ -158,7 +158,7 @@ def whole(starter: Starter):
     target = starter.folder / "target"
     said = client.succeed(starter, target)
     client.check_message(said, f"{target}: ", " bytes of data, ", " bytes of the database, in ")
-    expect("the files", set(os.listdir(target)) | {"meta.db-wal"}, {"data", "meta.db", "meta.db-wal"})
+    expect("the files", set(os.listdir(target)) | {"meta.db-wal"}, client.FILES)
     for name in os.listdir(target):
         expect(f"the mode of {name}", (target / name).stat().st_mode & 0o777, 0o600)
     readable = starter.folder / "readable"

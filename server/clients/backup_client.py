@@ -14,6 +14,8 @@ from harness import Starter
 from server import PROCESSES, Server, expect
 
 SECONDS = 20
+FILES = {"meta.db", "meta.db-wal", "last", "last-wal", "data"}
+"""The files of a backup, of which a database that is whole may lack its log."""
 
 
 def socket_of(starter: Starter) -> pathlib.Path:
@@ -157,7 +159,7 @@ def unpack(archive: pathlib.Path, folder: pathlib.Path):
     """Unpacks an archive, which has the files of a backup and no other."""
     with tarfile.open(archive) as opened:
         names = opened.getnames()
-        if set(names) | {"meta.db-wal"} != {"meta.db", "meta.db-wal", "data"} or names[-1] != "data":
+        if set(names) | {"meta.db-wal"} != FILES or names[-1] != "data":
             raise Wrong(f"expected the files of a backup with data as the last, got {names}")
         folder.mkdir()
         opened.extractall(folder)

@@ -4,10 +4,11 @@ import pathlib
 import random
 import shutil
 import subprocess
+import time
 
 from harness import Group, Starter
 from kept import check, start
-from server import PROCESSES, expect
+from server import PROCESSES, Server, expect
 
 GROUP = Group("a folder with a file missing or damaged", is_shared=False)
 GROUPS = [GROUP]
@@ -18,6 +19,10 @@ NO_DATA = f"davd: data is missing, {RESTORE}"
 SHORT_DATA = f"davd: data is shorter than meta.db says, {RESTORE}"
 DAMAGED = "davd: meta.db or meta.db-wal is damaged, so nothing was changed: restore the folder from a backup\n"
 FOREIGN = "davd: meta.db is not a database of davd, so nothing was changed: choose another folder\n"
+OLDER = ("davd: meta.db and meta.db-wal have lost the last batches, so nothing was changed: "
+         "restore the folder from a backup, or serve what is left with -accept-loss\n")
+NO_NUMBER = ("davd: last and last-wal are damaged or of another folder, so nothing was changed: "
+             "restore the folder from a backup, or serve it with -accept-loss\n")
 
 
 def sums(folder: pathlib.Path) -> dict[str, str]:
@@ -25,13 +30,18 @@ def sums(folder: pathlib.Path) -> dict[str, str]:
     return {file.name: hashlib.sha256(file.read_bytes()).hexdigest() for file in sorted(folder.iterdir())}
 
 
-def filled(starter: Starter) -> pathlib.Path:
-    """A folder with three files and a directory, whose server was stopped."""
-    server = start(starter)
+def fill(server: Server):
+    """Makes three files and a directory."""
     content = random.Random(1)
     server.ask("MKCOL", "/d", status=201)
     for path, size in (("/a", 5), ("/b", 70_000), ("/d/c", 300_000)):
         server.ask("PUT", path, content.randbytes(size), status=201)
+
+
+def filled(starter: Starter) -> pathlib.Path:
+    """A folder with three files and a directory, whose server was stopped."""
+    server = start(starter)
+    fill(server)
     server.stop()
     return starter.folder / "kept"
 
@@ -40,7 +50,7 @@ def copy_of(starter: Starter, folder: pathlib.Path) -> pathlib.Path:
     """A new copy of a folder."""
     copy = starter.folder / "copy"
     shutil.rmtree(copy, ignore_errors=True)
-    shutil.copytree(folder, copy)
+    shutil.copytree(folder, copy, ignore=shutil.ignore_patterns("control"))
     return copy
 
 
@@ -85,6 +95,7 @@ LOST = [
     ("meta.db is other bytes", garbled("meta.db"), None),
     ("meta.db and meta.db-wal are missing", without("meta.db", "meta.db-wal"), NO_DATABASE),
     ("all but data is missing", without("meta.db", "meta.db-wal", "data-wal"), NO_DATABASE),
+    ("all but the number of the last batch is missing", without("meta.db", "meta.db-wal", "data", "data-wal"), NO_DATABASE),
     ("data is missing", without("data"), NO_DATA),
     ("data is empty", emptied("data"), SHORT_DATA),
     ("data is cut", cut("data", 100_000), SHORT_DATA),
@@ -93,6 +104,9 @@ LOST = [
 """What happened to a folder, the change, and what a start says then; `None` if the log may still have all that was lost."""
 
 WHOLE = "3 files, 370005 bytes, 0 damaged\n"
+
+REST = 2.5
+"""Seconds after which the number of the last batch is on the disk: the server syncs it when it has rested for 1.5."""
 
 
 def whole_or_refused(starter: Starter, folder: pathlib.Path) -> subprocess.CompletedProcess:
@@ -103,7 +117,7 @@ def whole_or_refused(starter: Starter, folder: pathlib.Path) -> subprocess.Compl
         expect("what a check prints", checked.stdout, WHOLE)
     else:
         expect("the exit status", checked.returncode, 4)
-        expect("whether it is one of the refusals", checked.stdout in (NO_DATABASE, DAMAGED, FOREIGN), True)
+        expect("whether it is one of the refusals", checked.stdout in (NO_DATABASE, DAMAGED, FOREIGN, OLDER), True)
     expect("the folder", sums(folder), before)
     return checked
 
@@ -123,11 +137,114 @@ for what, change, line in LOST:
     GROUP.add(f"{what}: the start and the check are refused, and change nothing", lost, change, line)
 
 
-@GROUP.check("a folder without its log is never served as an empty one")
+@GROUP.check("after a clean end meta.db is whole without its log")
 def without_log(starter: Starter):
     folder = copy_of(starter, filled(starter))
     (folder / "meta.db-wal").unlink()
-    whole_or_refused(starter, folder)
+    whole(starter, folder)
+
+
+def whole(starter: Starter, folder: pathlib.Path):
+    """A check finds each file, and leaves the folder as it is."""
+    before = sums(folder)
+    checked = run(starter, "--check", folder)
+    expect("what a check says", (checked.returncode, checked.stdout), (0, WHOLE))
+    expect("the folder", sums(folder), before)
+
+
+def killed(starter: Starter) -> pathlib.Path:
+    """A folder like that of `filled`, whose server was killed when it had rested: all rows are in the log."""
+    server = start(starter)
+    fill(server)
+    time.sleep(REST)
+    server.kill()
+    return starter.folder / "kept"
+
+
+@GROUP.check("after a second without changes a kill loses nothing that a lost or cut log can hide")
+def lost_tail(starter: Starter):
+    folder = killed(starter)
+    log = (folder / "meta.db-wal").read_bytes()
+    places = random.Random(3)
+    for left in [0, 1, 31, 32, 33, len(log) // 2, *(places.randrange(len(log)) for _ in range(20))]:
+        copy = copy_of(starter, folder)
+        (copy / "meta.db-wal").write_bytes(log[:left])
+        whole_or_refused(starter, copy)
+    copy = copy_of(starter, folder)
+    (copy / "meta.db-wal").unlink()
+    whole_or_refused(starter, copy)
+
+
+@GROUP.check("after a kill each flipped bit of the log is found, or the folder is whole")
+def flipped_log(starter: Starter):
+    folder = killed(starter)
+    log = (folder / "meta.db-wal").read_bytes()
+    places = random.Random(4)
+    for place in [0, 8, 16, 24, 31, 32, 40, *(places.randrange(len(log)) for _ in range(40))]:
+        copy = copy_of(starter, folder)
+        flipped = bytearray(log)
+        flipped[place] ^= 1 << places.randrange(8)
+        (copy / "meta.db-wal").write_bytes(flipped)
+        whole_or_refused(starter, copy)
+
+
+def older(starter: Starter) -> pathlib.Path:
+    """A copy of a folder, whose database is of before a last file was made there."""
+    folder = filled(starter)
+    early = copy_of(starter, folder)
+    server = start(starter)
+    server.ask("PUT", "/late", b"late", status=201)
+    server.stop()
+    for name in ("last", "last-wal"):
+        shutil.copyfile(folder / name, early / name)
+    return early
+
+
+@GROUP.check("an older database is refused, and is served with -accept-loss, after which it is not lost again")
+def older_database(starter: Starter):
+    folder = older(starter)
+    refused(starter, "the folder", folder, OLDER)
+    shutil.rmtree(starter.folder / "kept")
+    folder.rename(starter.folder / "kept")
+    server = start(starter, "-accept-loss")
+    server.ask("GET", "/late", status=404)
+    server.ask("GET", "/b", status=200)
+    server.ask("MKCOL", "/new", status=201)
+    server.stop()
+    server = start(starter)
+    server.ask("PROPFIND", "/new", fields=[("Depth", "0")], status=207)
+    server.stop()
+
+
+@GROUP.check("the number of another folder, or one that is damaged, is refused, and is replaced with -accept-loss")
+def other_number(starter: Starter):
+    folder = filled(starter)
+    copy = copy_of(starter, folder)
+    for name in ("last", "last-wal"):
+        garbled(name)(copy)
+    refused(starter, "with a damaged number", copy, NO_NUMBER)
+    shutil.rmtree(folder)
+    other = filled(starter)
+    for name in ("last", "last-wal"):
+        shutil.copyfile(other / name, copy / name)
+    refused(starter, "with the number of another folder", copy, NO_NUMBER)
+    shutil.rmtree(other)
+    copy.rename(other)
+    start(starter, "-accept-loss").stop()
+    whole(starter, other)
+
+
+@GROUP.check("a folder of which one of the two files of the number is missing or damaged is whole")
+def half_number(starter: Starter):
+    folder = filled(starter)
+    for name in ("last", "last-wal"):
+        for change in (without(name), emptied(name), cut(name, 5), garbled(name)):
+            copy = copy_of(starter, folder)
+            change(copy)
+            whole(starter, copy)
+    copy = copy_of(starter, folder)
+    without("last", "last-wal")(copy)
+    whole(starter, copy)
 
 
 @GROUP.check("a check of a good folder changes nothing")

@@ -125,6 +125,7 @@ func (c *config) addServing(flags *flag.FlagSet) {
 	flags.StringVar(&c.options.Davd, "davd", "", "the `program` davd (default: beside this program, or in PATH)")
 	flags.Func("folder", "`folder` in which everything is kept (default: none, and everything is in memory)",
 		notEmpty(&c.options.Folder))
+	flags.BoolVar(&c.options.AcceptLoss, "accept-loss", false, "serve a folder that has lost its last changes")
 	flags.Func("socket", "`path` of the socket for davserve backup and locks (default: control in the folder)",
 		notEmpty(&c.socket))
 	flags.StringVar(&c.options.Prefix, "prefix", "", "what the path of each URL begins with, such as /dav")

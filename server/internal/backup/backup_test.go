@@ -100,6 +100,7 @@ func write(t *testing.T, snapshot *Snapshot) io.Reader {
 func TestABackupHasTheFilesOfTheFolder(t *testing.T) {
 	tests := map[string]contents{
 		"with a log":    {"meta.db": random(40960), "meta.db-wal": random(3000), "data": random(3 << 20)},
+		"with a number": {"meta.db": random(40960), "last": random(16), "last-wal": random(17), "data": random(3000)},
 		"without a log": {"meta.db": random(40960), "data": random(pieceSize)},
 		"without files": {"meta.db": random(4096), "meta.db-wal": {}, "data": {}},
 	}
@@ -116,6 +117,11 @@ func TestABackupHasTheFilesOfTheFolder(t *testing.T) {
 			changed := contents{
 				"meta.db": random(50000), "meta.db-wal": random(10), "data": append(files["data"][:], random(5000)...),
 				"data-wal": nil, "control": nil,
+			}
+			for _, name := range []string{"last", "last-wal"} {
+				if _, ok := files[name]; ok {
+					changed[name] = random(5)
+				}
 			}
 			changed.write(t, folder)
 			changed.check(t, folder) // The copies have no names there.

@@ -1,8 +1,8 @@
 // Package backup copies the folder of a davd that goes on serving, as a tar archive, and makes a folder of the archive.
 //
 // davd keeps what files contain in data, and everything else in the SQLite database meta.db and its log meta.db-wal. The
-// archive has these files and no other. data is the last of them: davd refuses a folder whose data is too short, so that
-// an archive that was cut is not taken for a backup.
+// files last and last-wal have the number of the last batch. The archive has these files and no other. data is the last of
+// them: davd refuses a folder whose data is too short, so that an archive that was cut is not taken for a backup.
 package backup
 
 import (
@@ -22,8 +22,19 @@ import (
 const (
 	databaseName = "meta.db"
 	logName      = "meta.db-wal"
+	lastName     = "last"
+	otherName    = "last-wal"
 	dataName     = "data"
 )
+
+// parts are the files in the order in which an archive has them.
+var parts = []string{databaseName, logName, lastName, otherName, dataName}
+
+// isOptional reports whether a folder need not have a file: a database may be whole without its log, and an older davd
+// kept no number.
+func isOptional(name string) bool {
+	return name == logName || name == lastName || name == otherName
+}
 
 const (
 	pieceSize = 256 << 10 // bytes that are read and written at once
@@ -50,7 +61,7 @@ type part struct {
 // The copies are files without a name, on the disk of the folder or, if that has not enough room, in os.TempDir.
 func Take(folder string) (*Snapshot, error) {
 	s := &Snapshot{taken: time.Now()}
-	for _, name := range []string{databaseName, logName, dataName} {
+	for _, name := range parts {
 		if err := s.add(folder, name); err != nil {
 			s.Close()
 			return nil, fmt.Errorf("a snapshot of the folder: %w", err)
@@ -59,10 +70,10 @@ func Take(folder string) (*Snapshot, error) {
 	return s, nil
 }
 
-// add adds a file of the folder. There may be no log.
+// add adds a file of the folder, if it has it or must have it.
 func (s *Snapshot) add(folder, name string) error {
 	file, err := os.Open(filepath.Join(folder, name))
-	if name == logName && errors.Is(err, fs.ErrNotExist) {
+	if isOptional(name) && errors.Is(err, fs.ErrNotExist) {
 		return nil
 	}
 	if err != nil {

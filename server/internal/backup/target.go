@@ -80,9 +80,9 @@ func (t *Target) Unpack(source io.Reader) (Sizes, error) {
 		return Sizes{}, err
 	}
 	// The database is the last, so that a folder with one is whole.
-	for _, name := range []string{dataName, logName, databaseName} {
-		if _, ok := lengths[name]; ok {
-			if err := t.place(name); err != nil {
+	for i := len(parts) - 1; i >= 0; i-- {
+		if _, ok := lengths[parts[i]]; ok {
+			if err := t.place(parts[i]); err != nil {
 				return Sizes{}, err
 			}
 		}
@@ -127,7 +127,12 @@ func (t *Target) unpackAll(source io.Reader) (map[string]int64, error) {
 }
 
 func isPart(name string) bool {
-	return name == databaseName || name == logName || name == dataName
+	for _, part := range parts {
+		if name == part {
+			return true
+		}
+	}
+	return false
 }
 
 // unpackOne makes a file with this content, on the disk.

@@ -64,6 +64,7 @@ type Config struct {
 	Program string   // a path, or a name to look up in PATH
 	Args    []string // as docs/FRAMES.md lists them
 	Folder  string   // the folder that it keeps, its last argument; empty: it holds everything in memory
+	Lossy   bool     // the first davd serves its folder even if that has lost its last batches
 	Memory  int64    // limit of its address space in bytes, over a folder once it is loaded; 0: none
 	Rights  string   // the text of the access rules, in TOML; empty: none, and each principal may do everything
 	Log     *log.Logger
@@ -78,6 +79,15 @@ func (c Config) arguments() []string {
 		arguments = append(arguments, c.Folder)
 	}
 	return arguments
+}
+
+// first returns how the first davd is run. Only that one may serve a folder that has lost something: a loss later on has to
+// be noticed.
+func (c Config) first() Config {
+	if c.Lossy {
+		c.Args = append(append([]string(nil), c.Args...), "-accept-loss")
+	}
+	return c
 }
 
 // An Engine is a davd that is started again whenever it ends. Its methods may be called at the same time.
@@ -116,7 +126,7 @@ func Start(ctx context.Context, config Config) (*Engine, error) {
 	if config.Rights != "" {
 		rights = &config.Rights
 	}
-	process, err := open(config, rights, ctx.Done(), now)
+	process, err := open(config.first(), rights, ctx.Done(), now)
 	if errors.Is(err, errStopped) {
 		return nil, ctx.Err()
 	}
@@ -269,6 +279,7 @@ func (e *Engine) next() *batch {
 	for _, c := range b.calls {
 		c.sentTo, c.number = p, b.number
 		p.removed = p.removed || c.frees
+		p.changed = p.changed || c.lasts && !c.reads
 	}
 	p.sent <- b
 	return b
@@ -301,6 +312,7 @@ func (e *Engine) answered(p *process) {
 		close(e.idle)
 		e.idle = nil
 	}
+	e.awaitRest(p)
 	b := e.next()
 	e.mu.Unlock()
 	if b != nil {

@@ -15,6 +15,7 @@ var exitReasons = map[int]error{
 	6: ErrNoAccess,
 	7: ErrFull,
 	8: errors.New("the last batch could not be kept"),
+	9: errors.New("everything is kept, but meta.db needs its log"),
 }
 
 // reasonOf returns why davd ended, or nil if its exit status does not say.

@@ -32,6 +32,8 @@ type process struct {
 	loaded  time.Time     // when it had loaded its folder
 	isFull  bool          // it has more memory than it may, so that nothing is added to its folder
 	removed bool          // it was sent what removes something
+	changed bool          // it was sent what may change its folder, and then nothing that lets it note how far it is
+	resting *time.Timer   // sends that when nothing was sent for a while; nil: nothing was ever to be noted
 	renewed bool          // it gets no more batches and ends, so that the next one needs less memory
 	kept    uint64        // the number of the last batch that it had kept in its folder when it was started
 	number  uint64        // of the last batch

@@ -15,6 +15,7 @@ type pauses struct {
 	load            time.Duration // how long a davd may take to load its folder
 	patience        time.Duration // how long calls wait for the next davd over a folder
 	full            time.Duration // how long a davd serves at least that is full, until the next one is tried
+	rest            time.Duration // how long nothing changes until davd brings to the disk how far its folder is; 0: never
 }
 
 var defaultPauses = pauses{
@@ -24,6 +25,7 @@ var defaultPauses = pauses{
 	load:     5 * time.Minute,
 	patience: 40 * time.Second, // the greatest pause, and ten seconds to load the folder
 	full:     time.Minute,
+	rest:     1500 * time.Millisecond, // more than a second by a clock of whole seconds
 }
 
 // after returns the pause after a davd that ran for so long and was started after the pause last.
@@ -58,6 +60,7 @@ func (e *Engine) supervise(p *process) {
 		end := p.wait()
 		lost := e.detach(p, end)
 		if e.isClosing() {
+			e.reportEnd(end)
 			return
 		}
 		e.report(p, err, end, lost)
@@ -151,6 +154,13 @@ func (e *Engine) report(p *process, err, end error, lost []string) {
 	}
 	e.config.Log.Printf("davd ended (%s). %s that it held in memory are lost.", how, held)
 	e.reportCalls("davd had not answered %d frames that change something: %q", lost)
+}
+
+// reportEnd logs why a davd that was to end has another exit status than 0.
+func (e *Engine) reportEnd(end error) {
+	if reason := reasonOf(end); reason != nil {
+		e.config.Log.Printf("davd ended (%s).", howEnded(end))
+	}
 }
 
 // reportCalls logs how many calls there are, and what they are, if there are any.
