@@ -47,7 +47,7 @@ class Kept(Tree):
         self.locks = {it: lock for it, lock in self.locks.items() if not is_at_or_below(it, path)}
 
     def move(self, source: str, target: str):
-        """Moves a resource with everything below it. Files keep their entity tags (docs/DECISIONS.md)."""
+        """Moves a resource with everything below it. Files keep their entity tags (docs/DECISIONS-STORE.md)."""
         tags = {rest: it.tag for rest, it in self.below(source) if isinstance(it, File)}
         super().move(source, target)
         for rest, tag in tags.items():

@@ -14,12 +14,17 @@ import (
 // starts how many davds were started, and backup whether one is under way.
 type fakeFolder string
 
-func (f fakeFolder) get(name string) uint64 {
+// read returns the number in a file, or 0 if there is no file.
+func (f fakeFolder) read(name string) (uint64, error) {
 	text, err := os.ReadFile(filepath.Join(string(f), name))
 	if err != nil {
-		return 0
+		return 0, nil
 	}
-	n, err := strconv.ParseUint(string(text), 10, 64)
+	return strconv.ParseUint(string(text), 10, 64)
+}
+
+func (f fakeFolder) get(name string) uint64 {
+	n, err := f.read(name)
 	if err != nil {
 		panic(err)
 	}

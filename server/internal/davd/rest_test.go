@@ -1,9 +1,6 @@
 package davd
 
 import (
-	"os"
-	"path/filepath"
-	"strconv"
 	"testing"
 	"time"
 
@@ -19,11 +16,7 @@ func quickRest() pauses {
 
 // settled returns the number in a file that a davd may be writing, or 0.
 func (f fakeFolder) settled(name string) uint64 {
-	text, err := os.ReadFile(filepath.Join(string(f), name))
-	if err != nil {
-		return 0
-	}
-	n, err := strconv.ParseUint(string(text), 10, 64)
+	n, err := f.read(name)
 	if err != nil {
 		return 0
 	}
