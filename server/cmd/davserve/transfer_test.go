@@ -174,12 +174,21 @@ func TestAScreenHasItsMessagesInThePlaceOfTheProgress(t *testing.T) {
 	measured := func(context.Context) int64 { return 10 }
 	line := func(total int64, _ float64) string { return strings.Repeat("=", int(total)) }
 	stop := s.show(context.Background(), line, measured, &done)
-	time.Sleep(2*showPause + showPause/2)
+	shown := eraseLine + "=========="
+	for deadline := time.Now().Add(time.Minute); !strings.HasSuffix(said.String(), shown+shown); {
+		if time.Now().After(deadline) {
+			t.Fatalf("%q after a minute", said.String())
+		}
+		time.Sleep(showPause / 10)
+	}
 	s.say("%d failed", 1)
 	stop()
-	shown := eraseLine + "=========="
-	if got, want := said.String(), shown+shown+eraseLine+"1 failed\n"; got != want {
-		t.Errorf("%q, want %q", got, want)
+	got := said.String()
+	if want := shown + eraseLine + "1 failed\n"; !strings.Contains(got, want) {
+		t.Errorf("%q, want %q in it", got, want)
+	}
+	if !strings.HasSuffix(got, "failed\n") && !strings.HasSuffix(got, eraseLine) {
+		t.Errorf("%q ends with a line of progress", got)
 	}
 }
 
