@@ -29,19 +29,20 @@ use Rattle.sqlite.specs.Tree.{Trees}
 use Rattle.std.specs.Prelude.{IsSome, IsUtf8, nat_lt, slice_index}
 use Rattle.dav_rows.specs.declared.change.Table.{Table as Name}
 use Rattle.dav_rows.specs.Texts.{creation}
-use Rattle.dav_rows.specs.Creating.{place, schema_of, nothing, first, IsBlank, IsBare, IsBuilt}
-use Rattle.dav_rows.specs.Failing.{IsExcusedPut, PutsTooLong, AreUtf8, HasUtf8, IsUtf8Resource, IsUtf8Property, IsUtf8Lock, FailsExcused, FailsToApply, FailsToBuild, FailsToFill, FailsToCreate}
-use Rattle.dav_rows.specs.declared.change.Table.TheVariants.{Resource, Extent, Property, Lock, State as TheState}
+use Rattle.dav_rows.specs.Creating.{place, schema_of, nothing, first, IsBlank, IsInside, IsBare, IsBuilt, Adds}
+use Rattle.dav_rows.specs.Failing.{IsExcusedPut, PutsTooLong, AreUtf8, HasUtf8, IsUtf8Resource, IsUtf8Property, IsUtf8Lock, FailsExcused, FailsToApply, FailsToBuild, FailsToFill, FailsToCreate, FailsToFillNotes}
+use Rattle.dav_rows.specs.Tables.{older_schema}
+use Rattle.dav_rows.specs.declared.change.Table.TheVariants.{Resource, Extent, Property, Lock, State as TheState, Note}
 use Rattle.dav_rows.specs.declared.loading.Rows.{Rows}
 use Rattle.dav_rows.specs.declared.change.Change.{Change}
-use Rattle.dav_rows.specs.declared.change.Change.TheVariants.{PutResource, PutExtent, PutProperty, PutLock, PutState, Remove}
+use Rattle.dav_rows.specs.declared.change.Change.TheVariants.{PutResource, PutExtent, PutProperty, PutLock, PutState, PutNote, Remove}
 use Rattle.dav_rows.specs.Stored.{Numbered}
 use Rattle.dav_rows.specs.Contents.{Contents}
 use Rattle.dav_rows.specs.Changes.{resource_entry, property_entry, lock_entry, after, after_one}
 use Rattle.dav_rows.specs.Saving.{IsReady, IsAt, Edits}
 use Rattle.dav_rows.proofs.RowLemmas.{is_other, entries-remove}
 use Rattle.dav_rows.proofs.ChangeLemmas.{ours}
-use Rattle.dav_rows.proofs.CreateLemmas.{Makes, makes, none_built, all_built, holds_nothing, none_long}
+use Rattle.dav_rows.proofs.CreateLemmas.{Makes, makes, none_built, all_built, all_there, holds_nothing, holds_on, none_long}
 use Rattle.dav_rows.proofs.FailLemmas.{failed, passed, excused_after}
 use Rattle.dav_rows.proofs.RefuseLemmas.{stops, stopped, not_ok, caused_by}
 
@@ -112,12 +113,12 @@ module _ (count : ℕ) (text : List ℕ) (it : Makes count text) where
   builds_fail : (old new : State) (r : Result ℕ Error) → (HasCleanDisk new → IsTrue old.in_transaction → ExecutesInside 0 text [] old new r) → FailsToBuild count old new r
   builds_fail old new (Ok rows) ran = λ clean. tt
   builds_fail old new (Err e) ran = λ clean built.
-      elim (stops (schema_of count) text [] it.plain it.alone old new built.schema CreateTable it.command refl (refl, refl) e (ran clean built.inside)) [
+      elim (stops (schema_of count) text [] it.plain it.alone old new built.schema_is CreateTable it.command refl (refl, refl) e (ran clean built.inside)) [
         | inl fails ↦ failed old new e built.is_open fails
-        | inr (inl does) ↦ absurd (builds_on old built.schema (Some e) (subst (λ t. Does old.step_limit (mode_of old) [] old.now t None CreateTable (Err (Some e))) it.whole does))
+        | inr (inl does) ↦ absurd (builds_on old built.schema_is (Some e) (subst (λ t. Does old.step_limit (mode_of old) [] old.now t None CreateTable (Err (Some e))) it.whole does))
         | inr (inr fails) ↦ elim (caused_by old new e _ fails.0 built.is_open fails.1 fails.2) [
           | inl excused ↦ excused
-          | inr big ↦ absurd (builds_on old built.schema None (subst (λ t. Does old.step_limit (mode_of old) [] old.now t None CreateTable (Err None)) it.whole big.1))
+          | inr big ↦ absurd (builds_on old built.schema_is None (subst (λ t. Does old.step_limit (mode_of old) [] old.now t None CreateTable (Err None)) it.whole big.1))
         ]
       ]
 
@@ -139,25 +140,42 @@ applied_fails a b c f Long Longer e r same survives still edits fails longer = �
     excused_put_after a b c Long Longer e survives.counts survives.limit longer (fails clean was.ready (f m) (was.holds m holds)))
 
 -- tables were made, and the next one fails
+inside_of : (at : ℕ) (s : State) → IsBuilt at s → IsInside (schema_of at) s
+inside_of at s built = record { is_open = built.is_open; inside = built.inside; schema_is = built.schema }
+
 pub built_fails : {X : Type 0} (a b c : State) (at : ℕ) (e : Error) (r : Result X Error) → IsErrAnd r (λ f. f ≡ e) → Survives a b (λ _. ⊥) → doubt b.is_clean ≤ doubt c.is_clean
     → (HasCleanDisk b → IsBuilt 0 a → IsBuilt at b) → FailsToBuild {X = X} at b c (Err e) → FailsToBuild 0 a c r
-built_fails a b c at e r same survives still builds fails = λ clean. passed e r _ same (λ built.
+built_fails a b c at e r same survives still builds fails = λ clean. passed e r _ same (λ begun.
     let early : HasCleanDisk b = omega (arith, still, clean) in
-    excused_after a b c e survives.counts survives.limit (fails clean (builds early built)))
+    let bare : IsBare a = record { is_open = begun.is_open; inside = begun.inside; schema = begun.schema_is } in
+    excused_after a b c e survives.counts survives.limit (fails clean (inside_of at b (builds early (none_built a bare)))))
 
 -- no table was made
 pub fill_fails : {X : Type 0} (a b : State) (changes : List Change) (e : Error) (r : Result X Error) → IsErrAnd r (λ f. f ≡ e) → FailsToBuild {X = X} 0 a b (Err e) → FailsToFill a b changes r
-fill_fails a b changes e r same fails = λ clean. passed e r _ same (λ bare. inl (fails clean (none_built a bare)))
+fill_fails a b changes e r same fails = λ clean. passed e r _ same (λ bare. inl (fails clean (record { is_open = bare.is_open; inside = bare.inside; schema_is = bare.schema })))
 
 -- all tables were made, and a change fails
 pub filled_fails : {X : Type 0} (a b c : State) (changes : List Change) (r : Result X Error) → Survives a b (λ _. ⊥) → doubt b.is_clean ≤ doubt c.is_clean
-    → (HasCleanDisk b → IsBare a → IsBuilt 5 b) → FailsToApply b c (Any PutsTooLong changes) r → FailsToFill a c changes r
+    → (HasCleanDisk b → IsBare a → IsBuilt 6 b) → FailsToApply b c (Any PutsTooLong changes) r → FailsToFill a c changes r
 filled_fails a b c changes (Ok x) survives still builds fails = λ clean. tt
 filled_fails a b c changes (Err e) survives still builds fails = λ clean bare.
     let early : HasCleanDisk b = omega (arith, still, clean) in
     let built = builds early bare in
     let held = holds_nothing b.now built.schema (ours b.now built.schema (built.sound (omega arith))) built.empty in
     excused_put_after a b c _ _ e survives.counts survives.limit (λ long. long) (fails clean (all_built b built) nothing held)
+
+-- the table of the notes is not made
+pub notes_fail : {X : Type 0} (a b : State) (changes : List Change) (e : Error) (r : Result X Error) → IsErrAnd r (λ f. f ≡ e) → FailsToBuild {X = X} 5 a b (Err e) → FailsToFillNotes a b changes r
+notes_fail a b changes e r same fails = λ clean. passed e r _ same (λ begun m was. inl (fails clean begun))
+
+-- the table of the notes was made, and a change fails
+pub filled_notes_fail : {X : Type 0} (a b c : State) (changes : List Change) (r : Result X Error) → Survives a b (λ _. ⊥) → doubt b.is_clean ≤ doubt c.is_clean
+    → (HasCleanDisk b → IsInside older_schema a → Adds 5 a b) → FailsToApply b c (Any PutsTooLong changes) r → FailsToFillNotes a c changes r
+filled_notes_fail a b c changes (Ok x) survives still adds fails = λ clean. tt
+filled_notes_fail a b c changes (Err e) survives still adds fails = λ clean begun m was.
+    let early : HasCleanDisk b = omega (arith, still, clean) in
+    let added = adds early begun in
+    excused_put_after a b c _ _ e survives.counts survives.limit (λ long. long) (fails clean (all_there a b added) m (holds_on a b m added was))
 
 -- ---- texts
 
@@ -195,11 +213,13 @@ utf8_after_one (PutProperty r) m is = record {
 }
 utf8_after_one (PutLock r) m is = record { resources = is.resources; properties = is.properties; locks = utf8_insert IsUtf8Lock m.locks is.locks r.number (lock_entry r).1 (IsUtf8-string_bytes r.token, IsUtf8-string_bytes r.path) }
 utf8_after_one (PutState r) m is = record { resources = is.resources; properties = is.properties; locks = is.locks }
+utf8_after_one (PutNote r) m is = record { resources = is.resources; properties = is.properties; locks = is.locks }
 utf8_after_one (Remove Resource n) m is = record { resources = utf8_remove IsUtf8Resource m.resources is.resources n; properties = is.properties; locks = is.locks }
 utf8_after_one (Remove Extent n) m is = record { resources = is.resources; properties = is.properties; locks = is.locks }
 utf8_after_one (Remove Property n) m is = record { resources = is.resources; properties = utf8_remove IsUtf8Property m.properties is.properties n; locks = is.locks }
 utf8_after_one (Remove Lock n) m is = record { resources = is.resources; properties = is.properties; locks = utf8_remove IsUtf8Lock m.locks is.locks n }
 utf8_after_one (Remove TheState n) m is = record { resources = is.resources; properties = is.properties; locks = is.locks }
+utf8_after_one (Remove Note n) m is = record { resources = is.resources; properties = is.properties; locks = is.locks }
 
 -- changes put texts that are UTF-8
 pub utf8_after : (changes : List Change) (m : Contents) → HasUtf8 m → HasUtf8 (after changes m)

@@ -9,6 +9,7 @@ pub mod ExtentTexts
 pub mod PropertyTexts
 pub mod LockTexts
 pub mod StateTexts
+pub mod NoteTexts
 pub mod PutLemmas
 pub mod SavingLemmas
 pub mod LoadingLemmas

@@ -10,16 +10,18 @@ use Rattle.dav_rows.specs.declared.extent.ExtentRow.{ExtentRow}
 use Rattle.dav_rows.specs.declared.property.PropertyRow.{PropertyRow}
 use Rattle.dav_rows.specs.declared.lock.LockRow.{LockRow}
 use Rattle.dav_rows.specs.declared.state.StateRow.{StateRow}
+use Rattle.dav_rows.specs.declared.note.NoteRow.{NoteRow}
 use Rattle.dav_rows.specs.Stored.{shown}
-use Rattle.dav_rows.specs.Contents.{flag, resource_cells, ResourceValues, extent_cells, property_cells, lock_cells, state_cells}
-use Rattle.dav_rows.specs.Changes.{resource_entry, extent_entry, property_entry, lock_entry, state_entry}
-use Rattle.dav_rows.specs.Loading.{Reads, ReadsText, flag_in, resource_in, extent_in, property_in, lock_in, state_in}
+use Rattle.dav_rows.specs.Contents.{flag, resource_cells, ResourceValues, extent_cells, property_cells, lock_cells, state_cells, note_cells}
+use Rattle.dav_rows.specs.Changes.{resource_entry, extent_entry, property_entry, lock_entry, state_entry, note_entry}
+use Rattle.dav_rows.specs.Loading.{Reads, ReadsText, flag_in, resource_in, extent_in, property_in, lock_in, state_in, note_in}
 use Rattle.dav_rows.proofs.LoadingLemmas.{all_read}
 use Rattle.dav_rows.proofs.ResourceTexts as resource
 use Rattle.dav_rows.proofs.ExtentTexts as extent
 use Rattle.dav_rows.proofs.PropertyTexts as property
 use Rattle.dav_rows.proofs.LockTexts as lock
 use Rattle.dav_rows.proofs.StateTexts as state
+use Rattle.dav_rows.proofs.NoteTexts as note
 
 flag_back : (b : Bool) → flag_in (Int (flag b)) ≡ b
 flag_back true = refl
@@ -42,3 +44,6 @@ locks_read = all_read lock_cells lock_entry lock_in (λ e. refl) (λ m. m.locks)
 
 pub states_read : (old new : State) (r : Result (Vec StateRow Global) Error) → ReadsText state_entry state_in state.select_text old new r → Reads old new r (λ all m. map state_entry all.items ≡ entries m.states)
 states_read = all_read state_cells state_entry state_in (λ e. refl) (λ m. m.states) 4 state.select_text state.suits.seen state.selects (λ db m holds. holds.states)
+
+pub notes_read : (old new : State) (r : Result (Vec NoteRow Global) Error) → ReadsText note_entry note_in note.select_text old new r → Reads old new r (λ all m. map note_entry all.items ≡ entries m.notes)
+notes_read = all_read note_cells note_entry note_in (λ e. refl) (λ m. m.notes) 5 note.select_text note.suits.seen note.selects (λ db m holds. holds.notes)

@@ -5,17 +5,18 @@ use Rattle.sqlite.specs.declared.types.Value.TheVariants.{Int}
 use Rattle.sqlite.specs.declared.error.Error.{Error}
 use Rattle.sqlite.specs.State.{State, ExecutesInside, Shows}
 use Rattle.dav_rows.specs.declared.change.Table.{Table}
-use Rattle.dav_rows.specs.declared.change.Table.TheVariants.{Resource, Extent, Property, Lock, State as TheState}
+use Rattle.dav_rows.specs.declared.change.Table.TheVariants.{Resource, Extent, Property, Lock, State as TheState, Note}
 use Rattle.dav_rows.specs.declared.resource.ResourceRow.{ResourceRow}
 use Rattle.dav_rows.specs.declared.extent.ExtentRow.{ExtentRow}
 use Rattle.dav_rows.specs.declared.property.PropertyRow.{PropertyRow}
 use Rattle.dav_rows.specs.declared.lock.LockRow.{LockRow}
 use Rattle.dav_rows.specs.declared.state.StateRow.{StateRow}
-use Rattle.dav_rows.specs.Tables.{rows_schema, resource_columns, extent_columns, property_columns, lock_columns, state_columns}
+use Rattle.dav_rows.specs.declared.note.NoteRow.{NoteRow}
+use Rattle.dav_rows.specs.Tables.{rows_schema, resource_columns, extent_columns, property_columns, lock_columns, state_columns, note_columns}
 use Rattle.dav_rows.specs.Stored.{Numbered, shown}
 use Rattle.dav_rows.specs.Texts.{removal}
-use Rattle.dav_rows.specs.Contents.{Contents, Holds, resource_cells, ResourceValues, extent_cells, ExtentValues, property_cells, PropertyValues, lock_cells, LockValues, state_cells, StateValues}
-use Rattle.dav_rows.specs.Changes.{resource_entry, put_resource, extent_entry, put_extent, property_entry, put_property, lock_entry, put_lock, state_entry, put_state, removed}
+use Rattle.dav_rows.specs.Contents.{Contents, Holds, resource_cells, ResourceValues, extent_cells, ExtentValues, property_cells, PropertyValues, lock_cells, LockValues, state_cells, StateValues, note_cells, NoteValues}
+use Rattle.dav_rows.specs.Changes.{resource_entry, put_resource, extent_entry, put_extent, property_entry, put_property, lock_entry, put_lock, state_entry, put_state, note_entry, put_note, removed}
 use Rattle.dav_rows.specs.Saving.{IsReady, Edits}
 use Rattle.dav_rows.proofs.ChangeLemmas.{Alters, puts}
 use Rattle.dav_rows.proofs.RemoveLemmas.{removes}
@@ -24,6 +25,7 @@ use Rattle.dav_rows.proofs.ExtentTexts as extent
 use Rattle.dav_rows.proofs.PropertyTexts as property
 use Rattle.dav_rows.proofs.LockTexts as lock
 use Rattle.dav_rows.proofs.StateTexts as state
+use Rattle.dav_rows.proofs.NoteTexts as note
 
 edited : (old new : State) (f : Contents → Contents) → Shows old new new.now old.committed true → new.now.schema ≡ rows_schema → ((m : Contents) → Holds old.now.trees m → Holds new.now.trees (f m)) → Edits old new f
 edited old new f shown schema holds = record {
@@ -40,6 +42,7 @@ in_resources old new f it m was = record {
   properties = it.others 2 (λ e. cc) ∙ was.properties;
   locks = it.others 3 (λ e. cc) ∙ was.locks;
   states = it.others 4 (λ e. cc) ∙ was.states;
+  notes = it.others 5 (λ e. cc) ∙ was.notes;
   sound = it.sound;
 }
 
@@ -57,6 +60,7 @@ in_extents old new f it m was = record {
   properties = it.others 2 (λ e. cc) ∙ was.properties;
   locks = it.others 3 (λ e. cc) ∙ was.locks;
   states = it.others 4 (λ e. cc) ∙ was.states;
+  notes = it.others 5 (λ e. cc) ∙ was.notes;
   sound = it.sound;
 }
 
@@ -74,6 +78,7 @@ in_properties old new f it m was = record {
   properties = it.rows m.properties was.properties;
   locks = it.others 3 (λ e. cc) ∙ was.locks;
   states = it.others 4 (λ e. cc) ∙ was.states;
+  notes = it.others 5 (λ e. cc) ∙ was.notes;
   sound = it.sound;
 }
 
@@ -91,6 +96,7 @@ in_locks old new f it m was = record {
   properties = it.others 2 (λ e. cc) ∙ was.properties;
   locks = it.rows m.locks was.locks;
   states = it.others 4 (λ e. cc) ∙ was.states;
+  notes = it.others 5 (λ e. cc) ∙ was.notes;
   sound = it.sound;
 }
 
@@ -108,6 +114,7 @@ in_states old new f it m was = record {
   properties = it.others 2 (λ e. cc) ∙ was.properties;
   locks = it.others 3 (λ e. cc) ∙ was.locks;
   states = it.rows m.states was.states;
+  notes = it.others 5 (λ e. cc) ∙ was.notes;
   sound = it.sound;
 }
 
@@ -116,6 +123,24 @@ put_state_edits old new row (Ok count) ran ready =
     let it = puts state_cells (codes "state") 4 state_columns state.suits state.put_text state.puts old new row.number (state_entry row).1 count ready.schema ran.0 in
     edited old new (put_state row) ran.1 it.schema (in_states old new (λ m. insert m row.number (state_entry row).1) it)
 put_state_edits old new row (Err e) ran ready = tt
+
+in_notes : (old new : State) (f : Numbered NoteValues → Numbered NoteValues) → Alters note_cells 5 old.now new.now f
+    → (m : Contents) → Holds old.now.trees m → Holds new.now.trees (record m { notes = f m.notes })
+in_notes old new f it m was = record {
+  resources = it.others 0 (λ e. cc) ∙ was.resources;
+  extents = it.others 1 (λ e. cc) ∙ was.extents;
+  properties = it.others 2 (λ e. cc) ∙ was.properties;
+  locks = it.others 3 (λ e. cc) ∙ was.locks;
+  states = it.others 4 (λ e. cc) ∙ was.states;
+  notes = it.rows m.notes was.notes;
+  sound = it.sound;
+}
+
+pub put_note_edits : (old new : State) (row : NoteRow) (r : Result ℕ Error) → ExecutesInside 0 note.put_text (shown note_cells (note_entry row)) old new r → IsReady old → OnOk r (Edits old new (put_note row))
+put_note_edits old new row (Ok count) ran ready =
+    let it = puts note_cells (codes "note") 5 note_columns note.suits note.put_text note.puts old new row.number (note_entry row).1 count ready.schema ran.0 in
+    edited old new (put_note row) ran.1 it.schema (in_notes old new (λ m. insert m row.number (note_entry row).1) it)
+put_note_edits old new row (Err e) ran ready = tt
 
 pub remove_edits : (old new : State) (table : Table) (n : ℤ) (r : Result ℕ Error) → ExecutesInside 0 (removal table) (Int n ∷ []) old new r → IsReady old → OnOk r (Edits old new (removed table n))
 remove_edits old new Resource n (Ok count) ran ready =
@@ -133,4 +158,7 @@ remove_edits old new Lock n (Ok count) ran ready =
 remove_edits old new TheState n (Ok count) ran ready =
     let it = removes state_cells (codes "state") 4 state_columns state.suits state.remove_text state.removes old new n count ready.schema ran.0 in
     edited old new (removed TheState n) ran.1 it.schema (in_states old new (λ m. remove m n) it)
+remove_edits old new Note n (Ok count) ran ready =
+    let it = removes note_cells (codes "note") 5 note_columns note.suits note.remove_text note.removes old new n count ready.schema ran.0 in
+    edited old new (removed Note n) ran.1 it.schema (in_notes old new (λ m. remove m n) it)
 remove_edits old new table n (Err e) ran ready = tt

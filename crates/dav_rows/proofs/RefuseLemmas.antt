@@ -54,18 +54,19 @@ use Rattle.sqlite.specs.Rows.{Part, Written, Task, Queried, Sourced, Edited, Put
 use Rattle.sqlite.specs.Listing.{understood}
 use Rattle.sqlite.specs.State.{State, HasCleanDisk, mode_of, store_error, is_disk_error, HasCause, Fails, IsMisplaced, IsUnchanged, IsStatement, IsNotRun, Escapes, EndsScope, ExecutesIn, ExecutesInside, RunsAlone, shows_rows, is_pragma}
 use Rattle.sqlite.proofs.Callers.{IsPlain, command_of, statement_of}
-use Rattle.dav_rows.specs.Tables.{numbered, rows_schema, resource_columns, extent_columns, property_columns, lock_columns, state_columns}
+use Rattle.dav_rows.specs.Tables.{numbered, rows_schema, resource_columns, extent_columns, property_columns, lock_columns, state_columns, note_columns}
 use Rattle.dav_rows.specs.Stored.{Numbered, stored, shown, AreRows}
 use Rattle.dav_rows.specs.Failing.{IsExcused, IsExcusedPut, IsTooLong, FailsToApply}
-use Rattle.dav_rows.specs.Contents.{Contents, Holds, resource_cells, extent_cells, property_cells, lock_cells, state_cells}
+use Rattle.dav_rows.specs.Contents.{Contents, Holds, resource_cells, extent_cells, property_cells, lock_cells, state_cells, note_cells}
 use Rattle.dav_rows.specs.declared.change.Table.{Table as Name}
-use Rattle.dav_rows.specs.declared.change.Table.TheVariants.{Resource, Extent, Property, Lock, State as TheState}
+use Rattle.dav_rows.specs.declared.change.Table.TheVariants.{Resource, Extent, Property, Lock, State as TheState, Note}
 use Rattle.dav_rows.specs.Texts.{removal}
 use Rattle.dav_rows.proofs.ResourceTexts as resource
 use Rattle.dav_rows.proofs.ExtentTexts as extent
 use Rattle.dav_rows.proofs.PropertyTexts as property
 use Rattle.dav_rows.proofs.LockTexts as lock
 use Rattle.dav_rows.proofs.StateTexts as state
+use Rattle.dav_rows.proofs.NoteTexts as note
 use Rattle.std.specs.Prelude.{FitsSigned, pos, negsuc}
 use Rattle.std.specs.Int.{w64}
 use Rattle.std.proofs.lemmas.Bool.{lt-ltb}
@@ -179,10 +180,10 @@ all_pass [] = tt
 all_pass (r ∷ rows) = (refl, all_pass rows)
 
 no_unique : (db : Trees) → Keeps Unique rows_schema db
-no_unique db = (all_pass (db 0), (all_pass (db 1), (all_pass (db 2), (all_pass (db 3), (all_pass (db 4), tt)))))
+no_unique db = (all_pass (db 0), (all_pass (db 1), (all_pass (db 2), (all_pass (db 3), (all_pass (db 4), (all_pass (db 5), tt))))))
 
 no_reference : (among : Among) (db : Trees) → Refers among rows_schema db
-no_reference among db = (all_pass (db 0), (all_pass (db 1), (all_pass (db 2), (all_pass (db 3), (all_pass (db 4), tt)))))
+no_reference among db = (all_pass (db 0), (all_pass (db 1), (all_pass (db 2), (all_pass (db 3), (all_pass (db 4), (all_pass (db 5), tt))))))
 
 either_way : (a b : Bool) → ((not a || true) && (not b || true)) ≡ true
 either_way true true = refl
@@ -496,3 +497,4 @@ removal_excused old new Extent n = remove_excused extent_cells (codes "extent") 
 removal_excused old new Property n = remove_excused property_cells (codes "property") 2 property_columns property.suits (λ m. m.properties) (λ db m holds. holds.properties) old new property.remove_text property.removes n
 removal_excused old new Lock n = remove_excused lock_cells (codes "lock") 3 lock_columns lock.suits (λ m. m.locks) (λ db m holds. holds.locks) old new lock.remove_text lock.removes n
 removal_excused old new TheState n = remove_excused state_cells (codes "state") 4 state_columns state.suits (λ m. m.states) (λ db m holds. holds.states) old new state.remove_text state.removes n
+removal_excused old new Note n = remove_excused note_cells (codes "note") 5 note_columns note.suits (λ m. m.notes) (λ db m holds. holds.notes) old new note.remove_text note.removes n

@@ -36,12 +36,18 @@ pub record StateValues : Type 0 where
   pub batch : ℤ
   pub digest_key : ℤ
 
+pub record NoteValues : Type 0 where
+  pub kind : ℤ
+  pub owner : ℤ
+  pub value : List ℕ
+
 pub record Contents : Type 0 where
   pub resources : Numbered ResourceValues
   pub extents : Numbered ExtentValues
   pub properties : Numbered PropertyValues
   pub locks : Numbered LockValues
   pub states : Numbered StateValues
+  pub notes : Numbered NoteValues
 
 -- ---- the cells that hold the values
 
@@ -63,6 +69,9 @@ lock_cells v = Text v.token ∷ Text v.path ∷ Blob v.lock ∷ []
 abbrev pub state_cells : StateValues → Row
 state_cells v = Int v.counter ∷ Int v.time ∷ Int v.batch ∷ Int v.digest_key ∷ []
 
+abbrev pub note_cells : NoteValues → Row
+note_cells v = Int v.kind ∷ Int v.owner ∷ Blob v.value ∷ []
+
 -- The trees are our database, and the rows of each table are those of its map.
 pub record Holds (db : Trees) (m : Contents) : Type 0 where
   pub resources : AreRows resource_cells (db 0) m.resources
@@ -70,4 +79,5 @@ pub record Holds (db : Trees) (m : Contents) : Type 0 where
   pub properties : AreRows property_cells (db 2) m.properties
   pub locks : AreRows lock_cells (db 3) m.locks
   pub states : AreRows state_cells (db 4) m.states
+  pub notes : AreRows note_cells (db 5) m.notes
   pub sound : IsOurs db

@@ -15,14 +15,15 @@ use Rattle.sqlite.specs.Given.{IsPlain, Advances, FailsToAdvance}
 use Rattle.sqlite.specs.Listing.{understood}
 use Rattle.dav_rows.specs.declared.opening.StartError.{StartError}
 use Rattle.dav_rows.specs.declared.opening.StartError.TheVariants.{Foreign, Sqlite}
-use Rattle.dav_rows.specs.Tables.{rows_schema}
+use Rattle.dav_rows.specs.Tables.{rows_schema, older_schema}
 use Rattle.dav_rows.specs.Stored.{Numbered, stored, shown}
-use Rattle.dav_rows.specs.Contents.{Contents, Holds, ResourceValues, PropertyValues, LockValues, resource_cells, extent_cells, property_cells, lock_cells, state_cells}
-use Rattle.dav_rows.specs.Changes.{resource_entry, extent_entry, property_entry, lock_entry, state_entry}
+use Rattle.dav_rows.specs.Contents.{Contents, Holds, ResourceValues, PropertyValues, LockValues, resource_cells, extent_cells, property_cells, lock_cells, state_cells, note_cells}
+use Rattle.dav_rows.specs.Changes.{resource_entry, extent_entry, property_entry, lock_entry, state_entry, note_entry}
 use Rattle.dav_rows.specs.declared.change.Change.{Change}
-use Rattle.dav_rows.specs.declared.change.Change.TheVariants.{PutResource, PutExtent, PutProperty, PutLock, PutState, Remove}
+use Rattle.dav_rows.specs.declared.change.Change.TheVariants.{PutResource, PutExtent, PutProperty, PutLock, PutState, PutNote, Remove}
 use Rattle.dav_rows.specs.Saving.{IsAt, IsReady}
-use Rattle.dav_rows.specs.Creating.{IsBlank, IsBare, IsBuilt}
+use Rattle.dav_rows.specs.Creating.{IsBlank, IsInside, IsBare, schema_of}
+use Rattle.dav_rows.specs.Upgrading.{HoldsOlder, IsOlder}
 
 -- ---- causes
 
@@ -86,6 +87,7 @@ PutsTooLong (PutExtent r) = IsTooLong extent_cells (extent_entry r)
 PutsTooLong (PutProperty r) = IsTooLong property_cells (property_entry r)
 PutsTooLong (PutLock r) = IsTooLong lock_cells (lock_entry r)
 PutsTooLong (PutState r) = IsTooLong state_cells (state_entry r)
+PutsTooLong (PutNote r) = IsTooLong note_cells (note_entry r)
 PutsTooLong (Remove table n) = ⊥
 
 -- the same causes, or a row is too long
@@ -106,7 +108,7 @@ FailsToSave old new changes result =
 
 -- behind the first so many tables, it fails for these causes alone
 abbrev pub FailsToBuild : {X : Type 0} → ℕ → State → State → Result X Error → Type 0
-FailsToBuild from old new result = HasCleanDisk new → IfErr result (λ e. IsBuilt from old → IsExcused old new e)
+FailsToBuild from old new result = HasCleanDisk new → IfErr result (λ e. IsInside (schema_of from) old → IsExcused old new e)
 
 -- in a transaction over nothing, it fails for these causes alone
 abbrev pub FailsToFill : {X : Type 0} → State → State → List Change → Result X Error → Type 0
@@ -120,6 +122,15 @@ FailsToCreate old new changes result = HasCleanDisk new → IfErr result (λ e. 
 abbrev pub IsExcusedFirst : State → State → List Change → StartError → Type 0
 IsExcusedFirst old new changes Foreign = ⊥
 IsExcusedFirst old new changes (Sqlite e) = IsExcusedPut old new (Any PutsTooLong changes) e
+
+-- in a transaction over the tables of version 1, it fails for these causes alone
+abbrev pub FailsToFillNotes : {X : Type 0} → State → State → List Change → Result X Error → Type 0
+FailsToFillNotes old new changes result =
+    HasCleanDisk new → IfErr result (λ e. IsInside older_schema old → (m : Contents) → HoldsOlder old.now.trees m → IsExcusedPut old new (Any PutsTooLong changes) e)
+
+-- over the tables of version 1, it fails for these causes alone
+abbrev pub FailsToUpgrade : {X : Type 0} → State → State → List Change → Result X Error → Type 0
+FailsToUpgrade old new changes result = HasCleanDisk new → IfErr result (λ e. (m : Contents) → IsOlder old m → IsExcusedPut old new (Any PutsTooLong changes) e)
 
 -- ---- calls
 

@@ -5,5 +5,6 @@ pub mod Contents
 pub mod Changes
 pub mod Saving
 pub mod Creating
+pub mod Upgrading
 pub mod Loading
 pub mod Failing

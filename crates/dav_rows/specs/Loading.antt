@@ -1,5 +1,5 @@
 -- What is read back.
-use Rattle.std.specs.Prelude.{◌≡◌, ◌≤◌, ℕ, ℤ, Bool, not, pos, List, [], map, Vec, Option, option_map, Result, IfOk, IsTrue}
+use Rattle.std.specs.Prelude.{◌≡◌, ◌↔◌, ◌≤◌, ℕ, ℤ, Bool, not, pos, List, [], map, Vec, Option, option_map, Result, IfOk, IsTrue}
 use Rattle.std.specs.Ordering.{int_eq}
 use Rattle.std.specs.FinMap.{entries}
 use Rattle.sqlite_trees.specs.View.{doubt}
@@ -14,10 +14,13 @@ use Rattle.sqlite.specs.Held.{Held, state}
 use Rattle.sqlite.specs.Given.{IsPlain, Advances}
 use Rattle.sqlite.specs.Listing.{understood}
 use Rattle.std.specs.declared.alloc.Global.{Global}
-use Rattle.dav_rows.specs.Tables.{rows_schema}
+use Rattle.sqlite.specs.Schema.{Schema}
+use Rattle.dav_rows.specs.Tables.{rows_schema, older_schema, no_schema}
+use Rattle.dav_rows.specs.declared.opening.Version.{Version}
+use Rattle.dav_rows.specs.declared.opening.Version.TheVariants.{New, Older, Current}
 use Rattle.dav_rows.specs.declared.loading.Rows.{Rows}
-use Rattle.dav_rows.specs.Contents.{Contents, ResourceValues, ExtentValues, PropertyValues, LockValues, StateValues}
-use Rattle.dav_rows.specs.Changes.{resource_entry, extent_entry, property_entry, lock_entry, state_entry}
+use Rattle.dav_rows.specs.Contents.{Contents, ResourceValues, ExtentValues, PropertyValues, LockValues, StateValues, NoteValues}
+use Rattle.dav_rows.specs.Changes.{resource_entry, extent_entry, property_entry, lock_entry, state_entry, note_entry}
 use Rattle.dav_rows.specs.Saving.{IsAt}
 use Rattle.dav_rows.specs.Creating.{IsBlank}
 
@@ -41,6 +44,9 @@ lock_in row = (id_in (column row 0), record { token = bytes (column row 1); path
 abbrev pub state_in : Row → ℤ × StateValues
 state_in row = (id_in (column row 0), record { counter = id_in (column row 1); time = id_in (column row 2); batch = id_in (column row 3); digest_key = id_in (column row 4) })
 
+abbrev pub note_in : Row → ℤ × NoteValues
+note_in row = (id_in (column row 0), record { kind = id_in (column row 1); owner = id_in (column row 2); value = bytes (column row 3) })
+
 -- the rows are the entries of the maps, in the order of the numbers
 pub record AreAll (rows : Rows) (m : Contents) : Type 0 where
   pub resources : map resource_entry rows.resources.items ≡ entries m.resources
@@ -48,6 +54,16 @@ pub record AreAll (rows : Rows) (m : Contents) : Type 0 where
   pub properties : map property_entry rows.properties.items ≡ entries m.properties
   pub locks : map lock_entry rows.locks.items ≡ entries m.locks
   pub states : map state_entry rows.states.items ≡ entries m.states
+  pub notes : map note_entry rows.notes.items ≡ entries m.notes
+
+-- the rows are the entries of the maps of version 1, and there is no note
+pub record AreOlder (rows : Rows) (m : Contents) : Type 0 where
+  pub resources : map resource_entry rows.resources.items ≡ entries m.resources
+  pub extents : map extent_entry rows.extents.items ≡ entries m.extents
+  pub properties : map property_entry rows.properties.items ≡ entries m.properties
+  pub locks : map lock_entry rows.locks.items ≡ entries m.locks
+  pub states : map state_entry rows.states.items ≡ entries m.states
+  pub none : rows.notes.items ≡ []
 
 -- the rows are those that the state stands for, and still does
 abbrev pub AreHeld : State → State → Rows → Type 0
@@ -100,3 +116,9 @@ pub record LeavesAlone (old new : State) : Type 0 where
 -- where there was nothing, the rows and the state are those of these maps
 abbrev pub AreNew : State → State → Contents → Rows → Type 0
 AreNew old new m rows = IsBlank old → IsAt new m × AreAll rows m
+
+-- the tables of the schema have this version
+pub record IsVersion (schema : Schema) (version : Version) : Type 0 where
+  pub new : schema ≡ no_schema → version ≡ New
+  pub older : (version ≡ Older) ↔ (schema ≡ older_schema)
+  pub current : (version ≡ Current) ↔ (schema ≡ rows_schema)

@@ -1,5 +1,5 @@
 -- The tables of the store, and their schema.
-use Rattle.std.specs.Prelude.{◌≡◌, ℕ, true, false, List, [], ◌∷◌, codes, Some}
+use Rattle.std.specs.Prelude.{◌≡◌, ℕ, true, false, List, [], ◌∷◌, take, codes, Some}
 use Rattle.std.specs.Borrow.{Bor}
 use Rattle.sqlite.specs.Collation.TheVariants.{Binary}
 use Rattle.sqlite.specs.declared.types.Value.TheVariants.{Null}
@@ -64,16 +64,26 @@ lock_columns = filled (codes "token") Text ∷ filled (codes "path") Text ∷ fi
 abbrev pub state_columns : List Column
 state_columns = filled (codes "counter") Integer ∷ filled (codes "time") Integer ∷ filled (codes "batch") Integer ∷ filled (codes "digest_key") Integer ∷ []
 
+abbrev pub note_columns : List Column
+note_columns = filled (codes "kind") Integer ∷ filled (codes "owner") Integer ∷ filled (codes "value") Blob ∷ []
+
 abbrev pub with_tables : List Table → Schema
 with_tables tables = record { tables = tables; indexes = []; views = [] }
 
 abbrev pub rows_tables : List Table
 rows_tables =
     numbered (codes "resource") 0 resource_columns ∷ numbered (codes "extent") 1 extent_columns ∷ numbered (codes "property") 2 property_columns
-    ∷ numbered (codes "lock") 3 lock_columns ∷ numbered (codes "state") 4 state_columns ∷ []
+    ∷ numbered (codes "lock") 3 lock_columns ∷ numbered (codes "state") 4 state_columns ∷ numbered (codes "note") 5 note_columns ∷ []
 
 abbrev pub rows_schema : Schema
 rows_schema = with_tables rows_tables
+
+-- the tables of version 1, which are all but the last
+abbrev pub older_tables : List Table
+older_tables = take 5 rows_tables
+
+abbrev pub older_schema : Schema
+older_schema = with_tables older_tables
 
 abbrev pub no_schema : Schema
 no_schema = with_tables []

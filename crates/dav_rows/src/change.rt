@@ -1,6 +1,7 @@
 //! A change of the rows.
 use crate::extent::ExtentRow;
 use crate::lock::LockRow;
+use crate::note::NoteRow;
 use crate::property::PropertyRow;
 use crate::resource::ResourceRow;
 use crate::state::StateRow;
@@ -13,6 +14,7 @@ pub enum Table {
     Property,
     Lock,
     State,
+    Note,
 }
 
 /// A row to be put under its number, in place of any that is there, or a number to be removed from a table.
@@ -23,5 +25,6 @@ pub enum Change {
     PutProperty(PropertyRow),
     PutLock(LockRow),
     PutState(StateRow),
+    PutNote(NoteRow),
     Remove(Table, i64),
 }

@@ -4,8 +4,12 @@ ghost use Rattle.sqlite_trees.specs.View.{doubt};
 ghost use Rattle.sqlite.specs.State.{HasCleanDisk, KeepsCommit, Survives};
 ghost use Rattle.sqlite.specs.Held.{state};
 ghost use Rattle.dav_rows.specs.Texts.{creation};
-ghost use Rattle.dav_rows.specs.Failing.{FailsToBuild, FailsToFill, FailsToCreate};
-ghost use Rattle.dav_rows.specs.Creating.{place, first, IsBare, Builds, Makes, IsFilled, StaysBlank, LeavesBlankOr};
+ghost use Rattle.dav_rows.specs.Failing.{FailsToBuild, FailsToFill, FailsToCreate, FailsToFillNotes, FailsToUpgrade};
+ghost use Rattle.dav_rows.specs.Tables.{older_schema};
+ghost use Rattle.dav_rows.specs.Contents.{Contents};
+ghost use Rattle.dav_rows.specs.Changes.{after};
+ghost use Rattle.dav_rows.specs.Upgrading.{HoldsOlder, Upgrades, LeavesOlderOr};
+ghost use Rattle.dav_rows.specs.Creating.{place, first, schema_of, IsInside, IsBare, Adds, Builds, Makes, IsFilled, StaysBlank, LeavesBlankOr};
 
 use crate::change::{Change, Table};
 use crate::execute::execute;
@@ -31,6 +35,9 @@ pub(crate) fn creation_of(table: Table) -> &'static str
         Table::State => {
             "CREATE TABLE state (number INTEGER PRIMARY KEY, counter INTEGER NOT NULL, time INTEGER NOT NULL, batch INTEGER NOT NULL, digest_key INTEGER NOT NULL) STRICT"
         }
+        Table::Note => {
+            "CREATE TABLE note (number INTEGER PRIMARY KEY, kind INTEGER NOT NULL, owner INTEGER NOT NULL, value BLOB NOT NULL) STRICT"
+        }
     }
 }
 
@@ -38,6 +45,8 @@ pub(crate) fn creation_of(table: Table) -> &'static str
 fn create_table<S: Alter>(tx: &mut Transaction<'_, S>, table: Table) -> Result<usize, Error>
     ensures same_reference { tx.new.conn.ghost_name ≡ tx.old.conn.ghost_name }
     ensures made { Builds (state S.Store tx.old.conn.now) (state S.Store tx.new.conn.now) (place table) (place table + 1) result }
+    ensures added { HasCleanDisk (state S.Store tx.new.conn.now) → IsInside (schema_of (place table)) (state S.Store tx.old.conn.now)
+        → OnOk result (Adds (place table) (state S.Store tx.old.conn.now) (state S.Store tx.new.conn.now)) }
     ensures err { FailsToBuild (place table) (state S.Store tx.old.conn.now) (state S.Store tx.new.conn.now) result }
     ensures kept { HasCleanDisk (state S.Store tx.new.conn.now) → KeepsCommit (state S.Store tx.old.conn.now) (state S.Store tx.new.conn.now) }
     ensures survives { Survives (state S.Store tx.old.conn.now) (state S.Store tx.new.conn.now) (λ _. ⊥) }
@@ -48,7 +57,7 @@ fn create_table<S: Alter>(tx: &mut Transaction<'_, S>, table: Table) -> Result<u
 
 fn create_tables<S: Alter>(tx: &mut Transaction<'_, S>) -> Result<(), Error>
     ensures same_reference { tx.new.conn.ghost_name ≡ tx.old.conn.ghost_name }
-    ensures made { Builds (state S.Store tx.old.conn.now) (state S.Store tx.new.conn.now) 0 5 result }
+    ensures made { Builds (state S.Store tx.old.conn.now) (state S.Store tx.new.conn.now) 0 6 result }
     ensures err { FailsToBuild 0 (state S.Store tx.old.conn.now) (state S.Store tx.new.conn.now) result }
     ensures kept { HasCleanDisk (state S.Store tx.new.conn.now) → KeepsCommit (state S.Store tx.old.conn.now) (state S.Store tx.new.conn.now) }
     ensures survives { Survives (state S.Store tx.old.conn.now) (state S.Store tx.new.conn.now) (λ _. ⊥) }
@@ -59,6 +68,7 @@ fn create_tables<S: Alter>(tx: &mut Transaction<'_, S>) -> Result<(), Error>
         Table::Property,
         Table::Lock,
         Table::State,
+        Table::Note,
     ];
     'tables: for table in &tables {
         create_table(tx, *table)?;
@@ -96,5 +106,36 @@ pub fn create<S: Alter>(conn: &mut Connection<S>, changes: &[Change]) -> Result<
 {
     let mut tx = conn.transaction();
     fill(&mut tx, changes)?;
+    tx.commit()
+}
+
+/// Makes the table of the notes behind those of version 1, and applies the changes.
+fn fill_notes<S: Alter>(tx: &mut Transaction<'_, S>, changes: &[Change]) -> Result<(), Error>
+    ensures same_reference { tx.new.conn.ghost_name ≡ tx.old.conn.ghost_name }
+    ensures made { HasCleanDisk (state S.Store tx.new.conn.now) → IsInside older_schema (state S.Store tx.old.conn.now)
+        → (m : Contents) → HoldsOlder (state S.Store tx.old.conn.now).now.trees m
+        → OnOk result (IsFilled (state S.Store tx.old.conn.now) (state S.Store tx.new.conn.now) (after changes.now m)) }
+    ensures err { FailsToFillNotes (state S.Store tx.old.conn.now) (state S.Store tx.new.conn.now) changes.now result }
+    ensures kept { HasCleanDisk (state S.Store tx.new.conn.now) → KeepsCommit (state S.Store tx.old.conn.now) (state S.Store tx.new.conn.now) }
+    ensures survives { Survives (state S.Store tx.old.conn.now) (state S.Store tx.new.conn.now) (λ _. ⊥) }
+{
+    create_table(tx, Table::Note)?;
+    apply_all(tx, changes)
+}
+
+/// Makes the table of the notes behind those of version 1 and applies the changes, in one transaction.
+/// A crash leaves the old tables as they were, or all tables with all of the changes.
+/// Over the tables of version 1 it fails only if memory runs out, the disk reports a fault, a query reaches the caller's step limit,
+/// or a row is too long.
+pub(crate) fn add_notes<S: Alter>(conn: &mut Connection<S>, changes: &[Change]) -> Result<(), Error>
+    requires { conn.old.in_transaction ≡ false }
+    ensures idle { conn.new.in_transaction ≡ false }
+    ensures ok { HasCleanDisk (state S.Store conn.new) → OnOk result (Upgrades (state S.Store conn.old) (state S.Store conn.new) (after changes.now)) }
+    ensures crash { HasCleanDisk (state S.Store conn.new) → LeavesOlderOr (state S.Store conn.old) (state S.Store conn.new) (after changes.now) }
+    ensures err { FailsToUpgrade (state S.Store conn.old) (state S.Store conn.new) changes.now result }
+    ensures clean { doubt (state S.Store conn.old).is_clean ≤ doubt (state S.Store conn.new).is_clean }
+{
+    let mut tx = conn.transaction();
+    fill_notes(&mut tx, changes)?;
     tx.commit()
 }

@@ -2,7 +2,7 @@
 ghost use Rattle.std.specs.Prelude.{◌≡◌, ◌↔◌, [], ◌∷◌, true, map, codes, IsTrue};
 ghost use Rattle.sqlite.specs.Collation.TheVariants.{Binary};
 ghost use Rattle.sqlite.specs.declared.types.Value.TheVariants.{Null};
-ghost use Rattle.dav_rows.specs.Tables.{key, filled_by, HasNoRules, numbered, resource_columns, extent_columns, property_columns, lock_columns, state_columns, rows_tables, rows_schema};
+ghost use Rattle.dav_rows.specs.Tables.{key, filled_by, HasNoRules, numbered, resource_columns, extent_columns, property_columns, lock_columns, state_columns, note_columns, rows_tables, rows_schema, older_tables, older_schema};
 
 use sqlite_schema::schema::{Column, Kind, Schema, Table};
 use sqlite_value::keys::Collation;
@@ -15,8 +15,27 @@ pub(crate) fn is_ours(schema: &Schema) -> bool
     are_ours(schema.tables.as_slice()) && schema.indexes.is_empty() && schema.views.is_empty()
 }
 
+/// Whether the database has the tables of version 1, and nothing else.
+pub(crate) fn is_older(schema: &Schema) -> bool
+    ensures { IsTrue result ↔ (schema.now ≡ older_schema) }
+{
+    are_older(schema.tables.as_slice()) && schema.indexes.is_empty() && schema.views.is_empty()
+}
+
 fn are_ours(tables: &[Table]) -> bool
     ensures { IsTrue result ↔ (tables.now ≡ rows_tables) }
+{
+    tables.len() == 6
+        && is_resource(&tables[0])
+        && is_extent(&tables[1])
+        && is_property(&tables[2])
+        && is_lock(&tables[3])
+        && is_state(&tables[4])
+        && is_note(&tables[5])
+}
+
+fn are_older(tables: &[Table]) -> bool
+    ensures { IsTrue result ↔ (tables.now ≡ older_tables) }
 {
     tables.len() == 5
         && is_resource(&tables[0])
@@ -103,6 +122,21 @@ fn is_state(table: &Table) -> bool
             ("time", Kind::Integer),
             ("batch", Kind::Integer),
             ("digest_key", Kind::Integer),
+        ],
+    )
+}
+
+fn is_note(table: &Table) -> bool
+    ensures { IsTrue result ↔ (table.now ≡ numbered (codes "note") 5 note_columns) }
+{
+    is_numbered(
+        table,
+        "note",
+        5,
+        &[
+            ("kind", Kind::Integer),
+            ("owner", Kind::Integer),
+            ("value", Kind::Blob),
         ],
     )
 }

@@ -10,7 +10,7 @@ ghost use Rattle.dav_rows.specs.Saving.{Applies, Moves, Stays, Leaves, LeavesEit
 
 use crate::change::{Change, Table};
 use crate::execute::execute;
-use crate::{extent, lock, property, resource, state};
+use crate::{extent, lock, note, property, resource, state};
 use sqlite::{Alter, Connection, Error, Transaction, params};
 
 fn removal_of(table: Table) -> &'static str
@@ -22,6 +22,7 @@ fn removal_of(table: Table) -> &'static str
         Table::Property => "DELETE FROM property WHERE number = ?1",
         Table::Lock => "DELETE FROM lock WHERE number = ?1",
         Table::State => "DELETE FROM state WHERE number = ?1",
+        Table::Note => "DELETE FROM note WHERE number = ?1",
     }
 }
 
@@ -49,6 +50,7 @@ fn apply<S: Alter>(tx: &mut Transaction<'_, S>, change: &Change) -> Result<usize
         Change::PutProperty(row) => property::put(tx, row),
         Change::PutLock(row) => lock::put(tx, row),
         Change::PutState(row) => state::put(tx, row),
+        Change::PutNote(row) => note::put(tx, row),
         Change::Remove(table, number) => remove(tx, *table, number),
     }
 }

@@ -23,11 +23,12 @@ use Rattle.sqlite_schema.specs.declared.schema.Schema.{Schema}
 use Rattle.sqlite.specs.State.{State, Opens, IsLive, store_error, is_disk_error}
 use Rattle.sqlite.specs.Start.{FindsIn}
 use Rattle.sqlite.specs.Held.{Held, AreDatabases}
-use Rattle.sqlite.specs.Files.{HoldsDatabase, IsNothing, Finds, FailsToOpenFiles, IsCleanLeft, tally_left, image_of, file_state}
+use Rattle.sqlite.specs.Files.{HoldsDatabase, IsNothing, AreFoundIn, Finds, FailsToOpenFiles, IsCleanLeft, tally_left, image_of, file_state}
 use Rattle.sqlite_wal.specs.Reads.{tally_of_files}
 use Rattle.sqlite.proofs.ListingLemmas.{empty_is_sound}
 use Rattle.sqlite.proofs.Theorems.{opens_again}
-use Rattle.dav_rows.specs.Tables.{rows_schema, no_schema}
+use Rattle.dav_rows.specs.Tables.{rows_schema, older_schema, no_schema}
+use Rattle.dav_rows.specs.Upgrading.{IsOlder, HoldsOlder}
 use Rattle.dav_rows.specs.Stored.{IsOurs}
 use Rattle.dav_rows.specs.Contents.{Contents, Holds}
 use Rattle.dav_rows.specs.Saving.{IsAt, Leaves}
@@ -36,7 +37,7 @@ use Rattle.dav_rows.specs.declared.opening.StartError.{StartError}
 use Rattle.dav_rows.specs.declared.opening.StartError.TheVariants.{Foreign, Sqlite}
 use Rattle.dav_rows.specs.Failing.{IsExcusedStart, IsExcusedFirst}
 use Rattle.dav_rows.specs.declared.change.Change.{Change}
-use Rattle.dav_rows_files.specs.Starting.{Keeps, KeepsEither, IsVacant, IsUnused, IsStopped, IsStoppedFirst, FailsToStart, FailsToStartFirst, NextKeeps}
+use Rattle.dav_rows_files.specs.Starting.{Keeps, KeepsOlder, KeepsEither, IsVacant, IsUnused, IsStopped, IsStoppedFirst, FailsToStart, FailsToStartFirst, FailsToStartOlder, NextKeeps}
 
 -- the trees tell the schema
 sole : (schema : Schema) (db : Trees) → IsSound schema db → IsOurs db → schema ≡ rows_schema
@@ -57,6 +58,24 @@ at_start s image m opens live found keeps =
     let now : s.now.trees ≡ keeps.db = ap (λ (d : Database). d.trees) opens.clean ∙ committed in
     let holds : Holds s.now.trees m = subst (λ db. Holds db m) (sym now) keeps.holds in
     record { is_open = opens.is_open; schema = sole s.now.schema s.now.trees (live opens.is_open).0 holds.sound; settled = opens.clean; holds = holds }
+
+pub older_start : (s : State) (image : Image) (m : Contents) → Opens s → IsLive s → FindsIn image s → KeepsOlder image m → IsOlder s m
+older_start s image m opens live found keeps =
+    let committed : s.committed.trees ≡ keeps.db = found.holds keeps.db keeps.database in
+    let now : s.now.trees ≡ keeps.db = ap (λ (d : Database). d.trees) opens.clean ∙ committed in
+    let sound : IsSound older_schema s.now.trees = subst (IsSound older_schema) (sym now) keeps.sound in
+    record {
+      is_open = opens.is_open;
+      schema = lists_once (s.now.trees catalog_tree) s.now.schema older_schema (live opens.is_open).0.lists sound.lists;
+      settled = opens.clean;
+      holds = subst (λ db. HoldsOlder db m) (sym now) keeps.holds;
+    }
+
+-- a schema of version 1 is what was found
+pub older_found : (s : State) (image : Image) → Opens s → IsLive s → FindsIn image s → s.now.schema ≡ older_schema → (db : Trees) × AreFoundIn image db × IsSound older_schema db
+older_found s image opens live found is =
+    let now : IsSound older_schema s.now.trees = subst (λ schema. IsSound schema s.now.trees) is (live opens.is_open).0 in
+    (s.committed.trees, found.reads, subst (λ (d : Database). IsSound older_schema d.trees) opens.clean now)
 
 blank_over : (s : State) → Opens s → IsLive s → s.committed.trees catalog_tree ≡ [] → IsBlank s
 blank_over s opens live none =
@@ -134,6 +153,10 @@ module _ {D : Type 0} {g : Ghosts D} where
       turned : IsUnused (image_of g files) → AreKnown (image_of g files)
       turned (inl new) = inr new.0
       turned (inr held) = inl (held.0, held.1)
+
+  pub open_failed_older : (files : Files D) (left : Leftover D g) (e : Error) (changes : List Change) → (IsCleanLeft left → FailsToOpenFiles files left e)
+      → FailsToStartOlder (image_of g files) changes (Sqlite e, left)
+  open_failed_older files left e changes cause = λ clean m keeps. inl (open_stopped files left (image_of g files) e refl (inl (keeps.db, keeps.database)) (cause clean))
 
   -- what an open finds
   pub found_in : (files : Files D) (c : Held (FileStore D g)) → Finds files c → FindsIn (image_of g files) (file_state c)

@@ -1,6 +1,10 @@
 -- What is found in the files of a store before they are opened, and why they are not judged.
-use Rattle.std.specs.Prelude.{◌≡◌, ℕ, true, false, List}
+use Rattle.std.specs.Prelude.{◌≡◌, ℕ, List}
+use Rattle.sqlite_catalog.specs.Listing.{IsSound}
 use Rattle.sqlite.specs.Recovery.{Image}
+use Rattle.sqlite.specs.Tree.{Trees}
+use Rattle.sqlite.specs.Files.{AreFoundIn}
+use Rattle.dav_rows.specs.Tables.{older_schema}
 use Rattle.dav_rows.specs.Contents.{Contents}
 use Rattle.dav_rows.specs.Failing.{HasUtf8}
 use Rattle.dav_rows.specs.declared.change.Change.{Change}
@@ -8,15 +12,19 @@ use Rattle.dav_log.specs.Damage.{IsDamaged}
 use Rattle.disk_readonly.specs.Copies.{IsExcused}
 use Rattle.disk_readonly.specs.declared.error.CopyError.TheVariants.{Memory}
 use Rattle.dav_rows.specs.Loading.{AreAll}
-use Rattle.dav_rows_files.specs.Starting.{Keeps, IsVacant, IsUnused, IsStopped, IsStoppedFirst}
-use Rattle.dav_rows_files.specs.declared.judging.Judged.{Judged}
+use Rattle.dav_rows_files.specs.Starting.{Keeps, KeepsOlder, IsVacant, IsUnused, IsStopped, IsStoppedFirst}
+use Rattle.dav_rows.specs.declared.opening.Loaded.{Loaded}
+use Rattle.dav_rows.specs.declared.opening.Version.TheVariants.{New, Older, Current}
 use Rattle.dav_rows_files.specs.declared.judging.Unjudged.{Unjudged}
 use Rattle.dav_rows_files.specs.declared.judging.Unjudged.TheVariants.{Copy, Log, Start}
 
--- the rows are those that the files keep, which are not new; or if the files have no table, those of these maps, which are new
-pub record IsJudged (image : Image) (new : Contents) (judged : Judged) : Type 0 where
-  pub kept : (m : Contents) → Keeps image m → AreAll judged.rows m × (judged.is_new ≡ false)
-  pub first : IsVacant image → AreAll judged.rows new × (judged.is_new ≡ true)
+-- The rows are those that the files keep, of the current version; or if the files have no table, those of these maps, which are new.
+-- The version is `Older` if the files have the tables of version 1, and only if an open finds these.
+pub record IsJudged (image : Image) (new : Contents) (loaded : Loaded) : Type 0 where
+  pub kept : (m : Contents) → Keeps image m → AreAll loaded.rows m × (loaded.version ≡ Current)
+  pub first : IsVacant image → AreAll loaded.rows new × (loaded.version ≡ New)
+  pub older : (m : Contents) → KeepsOlder image m → loaded.version ≡ Older
+  pub only_older : loaded.version ≡ Older → (db : Trees) × AreFoundIn image db × IsSound older_schema db
 
 -- a log is damaged, or memory ran out while it was looked at
 abbrev pub IsLogFault : List ℕ → Unjudged → Type 0

@@ -5,6 +5,7 @@ use Rattle.sqlite_store.specs.declared.store.FileStore.{FileStore}
 use Rattle.sqlite_store.specs.FileStore as store
 use Rattle.sqlite_trees.specs.View.{IsClean}
 use Rattle.sqlite_trees.specs.Objects.{catalog_tree}
+use Rattle.sqlite_catalog.specs.Listing.{IsSound}
 use Rattle.sqlite.specs.Recovery.{Image}
 use Rattle.sqlite.specs.Files.{HoldsDatabase, IsNothing, AreFoundIn, IsCleanLeft, IsFullLeft, faults_left}
 use Rattle.sqlite.specs.Tree.{Trees}
@@ -17,6 +18,8 @@ use Rattle.dav_rows.specs.declared.opening.StartError.{StartError}
 use Rattle.dav_rows.specs.declared.opening.StartError.TheVariants.{Foreign, Sqlite}
 use Rattle.dav_rows.specs.Contents.{Contents, Holds}
 use Rattle.dav_rows.specs.Saving.{IsAt}
+use Rattle.dav_rows.specs.Tables.{older_schema}
+use Rattle.dav_rows.specs.Upgrading.{HoldsOlder}
 use Rattle.dav_rows.specs.Failing.{IsOutOfMemory, HasUtf8, PutsTooLong}
 use Rattle.dav_rows.specs.declared.change.Change.{Change}
 
@@ -25,6 +28,13 @@ pub record Keeps (image : Image) (m : Contents) : Type 0 where
   pub db : Trees
   pub database : HoldsDatabase image db
   pub holds : Holds db m
+
+-- the files hold a database with the tables of version 1, which stand for the maps with no note
+pub record KeepsOlder (image : Image) (m : Contents) : Type 0 where
+  pub db : Trees
+  pub database : HoldsDatabase image db
+  pub sound : IsSound older_schema db
+  pub holds : HoldsOlder db m
 
 abbrev pub KeepsEither : Image → Contents → Contents → Type 0
 KeepsEither image m n = Keeps image m ⊎ Keeps image n
@@ -47,6 +57,10 @@ BeginsAt image s = HasCleanDisk s → (m : Contents) → Keeps image m → IsAt 
 abbrev pub BeginsFirst : Image → State → Contents → Type 0
 BeginsFirst image s m = HasCleanDisk s → IsVacant image → IsAt s m
 
+-- where the files had the tables of version 1, it begins at what `f` makes of their maps
+abbrev pub BeginsUpgraded : Image → State → (Contents → Contents) → Type 0
+BeginsUpgraded image s f = HasCleanDisk s → (m : Contents) → KeepsOlder image m → IsAt s (f m)
+
 -- ---- how a start fails
 
 module _ {D : Type 0} {g : Ghosts D} where
@@ -59,7 +73,7 @@ module _ {D : Type 0} {g : Ghosts D} where
   IsStopped left Foreign = ⊥
   IsStopped left (Sqlite e) = IsOutOfMemory e ⊎ (IsFaultLeft left e ⊎ ((e ≡ SqliteFailure DiskFull) × IsFullLeft left))
 
-  -- the same causes, or a row of the first changes is too long
+  -- the same causes, or a row of the changes is too long
   abbrev pub IsStoppedFirst : Leftover D g → List Change → StartError → Type 0
   IsStoppedFirst left changes Foreign = ⊥
   IsStoppedFirst left changes (Sqlite e) = IsStopped left (Sqlite e) ⊎ ((e ≡ SqliteFailure TooBig) × Any PutsTooLong changes)
@@ -97,3 +111,7 @@ module _ {D : Type 0} {g : Ghosts D} where
   -- whatever a crash leaves keeps what `f` makes of the old maps
   abbrev pub NextKeeps : State → FileStore D g → (Contents → Contents) → Type 0
   NextKeeps s last f = IsClean (store.view last) → (m : Contents) → IsAt s m → (left : Image) → (store.state last).may_leave left → ∥ Keeps left (f m) ∥₁
+
+  -- The same, where the files keep the tables of version 1.
+  abbrev pub FailsToStartOlder : Image → List Change → StartError × Leftover D g → Type 0
+  FailsToStartOlder image changes e = IsCleanLeft e.1 → (m : Contents) → KeepsOlder image m → IsStoppedFirst e.1 changes e.0

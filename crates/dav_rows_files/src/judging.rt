@@ -1,19 +1,16 @@
 //! Judges the files of a store before anything is written to them.
-ghost use Rattle.std.specs.Prelude.{◌≡◌, true, false, IsTrue, IfOk, IfErr, OnOk};
+ghost use Rattle.std.specs.Prelude.{◌≡◌, IsTrue, IfOk, IfErr, OnOk};
 ghost use Rattle.sqlite.specs.Files.{image_of, faults_of};
 ghost use Rattle.sqlite_wal.specs.Reads.{AreClean, OnlyReads};
-ghost use Rattle.sqlite.specs.Held.{state};
-ghost use Rattle.dav_rows.specs.Contents.{Contents};
-ghost use Rattle.dav_rows.specs.Creating.{first, IsBlank};
-ghost use Rattle.dav_rows.specs.Saving.{IsAt};
+ghost use Rattle.dav_rows.specs.Creating.{first};
 ghost use Rattle.dav_log.specs.Damage.{IsDamaged};
 ghost use Rattle.disk_readonly.specs.Copies.{contents_of, IsExcused};
 ghost use Rattle.dav_rows_files.specs.Judging.{IsJudged, IsLogFault, FailsToJudge};
 
 use dav_log::is_damaged;
-use dav_rows::{Change, Rows, StartError, load_or_create};
+use dav_rows::{Change, Loaded, StartError, load_or_create};
 use disk_readonly::{Copied, CopyError};
-use sqlite::{Alter, Connection, Leftover};
+use sqlite::{Connection, Leftover};
 use sqlite_disk::{Disk, Files};
 use sqlite_pager::Options;
 use sqlite_wal::Error;
@@ -40,18 +37,9 @@ impl From<CopyError> for Unjudged {
     }
 }
 
-/// What was found in the files of a database.
-#[derive(Drop)]
-pub struct Judged {
-    /// All rows.
-    pub rows: Rows,
-    /// Whether the files have no table, so that the rows are those of new tables.
-    pub is_new: bool,
-}
-
 /// Loads all rows from copies of the files of a database in memory. It only reads the files themselves. The rows stand for
 /// the maps that the files keep, whatever a crash made of them. If the files have no table, they are the rows of new tables
-/// after these changes.
+/// after these changes, and the version is `New`. If they have the tables of version 1, there are no notes.
 ///
 /// - `Copy`: memory runs out, or a file cannot be read.
 /// - `Log`: the log is damaged.
@@ -63,13 +51,13 @@ pub fn judge<D: Disk>(
     alloc: Global,
     files: &mut Files<D>,
     changes: &[Change],
-) -> Result<Judged, Unjudged>
+) -> Result<Loaded, Unjudged>
     requires log_usable { IsTrue (D.Disk.is_usable files.old.log) }
     requires db_usable { IsTrue (D.Disk.is_usable files.old.db) }
     ensures log { OnlyReads D.Disk files.old.log files.new.log }
     ensures db { OnlyReads D.Disk files.old.db files.new.db }
     ensures sound { IfOk result (λ _. AreClean D.Disk files.new.log files.new.db → ¬ IsDamaged (image_of D.Disk files.old).log) }
-    ensures found { IfOk result (λ judged. AreClean D.Disk files.new.log files.new.db → IsJudged (image_of D.Disk files.old) (first changes.now) judged) }
+    ensures found { IfOk result (λ loaded. AreClean D.Disk files.new.log files.new.db → IsJudged (image_of D.Disk files.old) (first changes.now) loaded) }
     ensures err { IfErr result (λ e. AreClean D.Disk files.new.log files.new.db
         → FailsToJudge (image_of D.Disk files.old) changes.now (faults_of D.Disk files.old) (faults_of D.Disk files.new) e) }
 {
@@ -79,9 +67,8 @@ pub fn judge<D: Disk>(
         Ok(conn) => conn,
         Err((error, left)) => return Err(Unjudged::Start(StartError::Sqlite(error), left)),
     };
-    let is_new = has_no_table(&conn);
     match load_or_create(&mut conn, alloc, changes) {
-        Ok(rows) => Ok(Judged { rows, is_new }),
+        Ok(loaded) => Ok(loaded),
         Err(error) => Err(Unjudged::Start(error, Leftover::Store(conn.into_store()))),
     }
 }
@@ -103,14 +90,6 @@ fn expect_sound(alloc: Global, log: &mut Copied) -> Result<(), Unjudged>
         // A copy in memory fails only if that runs out.
         Err(_) => Err(Unjudged::Copy(CopyError::Memory)),
     }
-}
-
-/// Whether a database has no table.
-fn has_no_table<S: Alter>(conn: &Connection<S>) -> bool
-    ensures ours { (m : Contents) → IsAt (state S.Store conn.now) m → result ≡ false }
-    ensures blank { IsBlank (state S.Store conn.now) → result ≡ true }
-{
-    conn.schema().tables.is_empty()
 }
 
 /// Copies a log and its database file into memory. Errors are those of [`Copied::of`].

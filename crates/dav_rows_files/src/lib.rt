@@ -5,6 +5,6 @@ mod judging;
 mod starting;
 mod stopping;
 
-pub use judging::{Judged, Unjudged, judge};
+pub use judging::{Unjudged, judge};
 pub use starting::start;
 pub use stopping::{close, into_files, save_to_the_end};

@@ -63,6 +63,7 @@ saved_maps number row extents properties old m = record {
   properties = replaced number properties old.properties m.properties;
   locks = m.locks;
   states = m.states;
+  notes = m.notes;
 }
 
 is_saved : (number : ℕ) (row : Option (Row Kept)) (extents : List ExtentValues) (properties : List PropertyValues) (old new : Counts) (old_counts new_counts : List Counts) (m : Contents)

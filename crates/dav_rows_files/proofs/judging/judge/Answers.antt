@@ -1,10 +1,10 @@
 use Rattle.std.proofs.Common.{◌≡◌, ◌∙◌, ap, sym, subst}
 use Rattle.dav_log.specs.Damage.{IsDamaged}
 use Rattle.disk_readonly.specs.contracts.copied.CopiedDisk.TheImpl as copied
-use Rattle.sqlite.specs.Files.{file_state, image_of}
+use Rattle.sqlite.specs.Files.{file_state, image_of, AreFoundIn}
 use Rattle.sqlite.specs.Recovery.{Image}
-use Rattle.dav_rows_files.specs.Starting.{Keeps, IsVacant, IsUnused}
-use Rattle.dav_rows_files.proofs.StartLemmas.{at_start, blank_start, unused_start, found_in, open_failed, open_failed_first, load_stopped, first_stopped}
+use Rattle.dav_rows_files.specs.Starting.{Keeps, KeepsOlder, IsVacant, IsUnused}
+use Rattle.dav_rows_files.proofs.StartLemmas.{at_start, blank_start, older_start, older_found, unused_start, found_in, open_failed, open_failed_first, load_stopped, first_stopped}
 use Rattle.dav_rows_files.proofs.JudgeLemmas.{always_clean, clean_left, if-err-same, log_fault}
 use Rattle.dav_rows_files.specs.Judging.{IsLogFault}
 use Rattle.dav_rows_files.proofs.judging.judge.Goals as goal
@@ -19,14 +19,21 @@ returns-in-Ok-load_or_create-clause-found g c clean =
     let found = found_in copies conn (c.in-Ok.ensures.found (always_clean conn)) in
     let loaded = c.in-Ok-load_or_create.ensures in
     let late = always_clean c.load_or_create.new.conn in
-    let empty = c.has_no_table-is_new.ensures in
+    let here = file_state conn in
+    let there = image_of copied.ghosts copies in
     record {
       kept = λ m keeps.
-          let at = at_start (file_state conn) (image_of copied.ghosts copies) m opened.0 opened.1 found (subst (λ image. Keeps image m) (sym same) keeps) in
-          ((loaded.ours late m at).1, empty.ours m at);
+          let at = at_start here there m opened.0 opened.1 found (subst (λ image. Keeps image m) (sym same) keeps) in
+          ((loaded.ours late m at).1, loaded.version.current.1 at.schema);
       first = λ vacant.
-          let blank = blank_start (file_state conn) (image_of copied.ghosts copies) opened.0 opened.1 found (subst IsVacant (sym same) vacant) in
-          ((loaded.blank late blank).1, empty.blank blank);
+          let blank = blank_start here there opened.0 opened.1 found (subst IsVacant (sym same) vacant) in
+          ((loaded.blank late blank).1, loaded.version.new blank.schema);
+      older = λ m keeps.
+          let was = older_start here there m opened.0 opened.1 found (subst (λ image. KeepsOlder image m) (sym same) keeps) in
+          loaded.version.older.1 was.schema;
+      only_older = λ is.
+          let it = older_found here there opened.0 opened.1 found (loaded.version.older.0 is) in
+          (it.0, subst (λ image. AreFoundIn image it.0) same it.1, it.2);
     }
 
 pub returns-in-Err-clause-err : goal.returns-in-Err-clause-err

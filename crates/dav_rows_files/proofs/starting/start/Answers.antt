@@ -2,22 +2,29 @@ use Rattle.std.proofs.Common.{arith}
 use Rattle.sqlite_trees.proofs.Doubt.{no_doubt}
 use Rattle.sqlite.specs.State.{HasCleanDisk}
 use Rattle.sqlite.specs.Files.{file_state, image_of}
-use Rattle.dav_rows_files.proofs.StartLemmas.{at_start, blank_start, unused_start, found_in, open_failed, open_failed_first, load_stopped, first_stopped}
+use Rattle.dav_rows_files.proofs.StartLemmas.{at_start, blank_start, older_start, unused_start, found_in, open_failed, open_failed_first, open_failed_older, load_stopped, first_stopped}
 use Rattle.dav_rows_files.proofs.starting.start.Goals as goal
 
-pub returns-in-Ok-create_if_empty-clause-at : goal.returns-in-Ok-create_if_empty-clause-at
-returns-in-Ok-create_if_empty-clause-at g c clean m keeps =
-    let early : HasCleanDisk (file_state c.in-Ok.conn) = omega (arith, c.create_if_empty.ensures.clean) in
+pub returns-in-Ok-bring_up_to_date-clause-at : goal.returns-in-Ok-bring_up_to_date-clause-at
+returns-in-Ok-bring_up_to_date-clause-at g c clean m keeps =
+    let early : HasCleanDisk (file_state c.in-Ok.conn) = omega (arith, c.bring_up_to_date.ensures.clean) in
     let opened = c.in-Ok.ensures.opened early in
     let found = found_in c.args.files c.in-Ok.conn (c.in-Ok.ensures.found early) in
-    c.in-Ok-create_if_empty.ensures.ours clean m (at_start (file_state c.in-Ok.conn) (image_of g.D.Disk c.args.files) m opened.0 opened.1 found keeps)
+    c.in-Ok-bring_up_to_date.ensures.ours clean m (at_start (file_state c.in-Ok.conn) (image_of g.D.Disk c.args.files) m opened.0 opened.1 found keeps)
 
-pub returns-in-Ok-create_if_empty-clause-new : goal.returns-in-Ok-create_if_empty-clause-new
-returns-in-Ok-create_if_empty-clause-new g c clean vacant =
-    let early : HasCleanDisk (file_state c.in-Ok.conn) = omega (arith, c.create_if_empty.ensures.clean) in
+pub returns-in-Ok-bring_up_to_date-clause-new : goal.returns-in-Ok-bring_up_to_date-clause-new
+returns-in-Ok-bring_up_to_date-clause-new g c clean vacant =
+    let early : HasCleanDisk (file_state c.in-Ok.conn) = omega (arith, c.bring_up_to_date.ensures.clean) in
     let opened = c.in-Ok.ensures.opened early in
     let found = found_in c.args.files c.in-Ok.conn (c.in-Ok.ensures.found early) in
-    c.in-Ok-create_if_empty.ensures.blank clean (blank_start (file_state c.in-Ok.conn) (image_of g.D.Disk c.args.files) opened.0 opened.1 found vacant)
+    c.in-Ok-bring_up_to_date.ensures.blank clean (blank_start (file_state c.in-Ok.conn) (image_of g.D.Disk c.args.files) opened.0 opened.1 found vacant)
+
+pub returns-in-Ok-bring_up_to_date-clause-upgraded : goal.returns-in-Ok-bring_up_to_date-clause-upgraded
+returns-in-Ok-bring_up_to_date-clause-upgraded g c clean m keeps =
+    let early : HasCleanDisk (file_state c.in-Ok.conn) = omega (arith, c.bring_up_to_date.ensures.clean) in
+    let opened = c.in-Ok.ensures.opened early in
+    let found = found_in c.args.files c.in-Ok.conn (c.in-Ok.ensures.found early) in
+    c.in-Ok-bring_up_to_date.ensures.older clean m (older_start (file_state c.in-Ok.conn) (image_of g.D.Disk c.args.files) m opened.0 opened.1 found keeps)
 
 pub returns-in-Err-clause-err : goal.returns-in-Err-clause-err
 returns-in-Err-clause-err g c = open_failed c.args.files c.in-Err.left c.in-Err.error c.in-Err.ensures.cause
@@ -25,26 +32,41 @@ returns-in-Err-clause-err g c = open_failed c.args.files c.in-Err.left c.in-Err.
 pub returns-in-Err-clause-err_first : goal.returns-in-Err-clause-err_first
 returns-in-Err-clause-err_first g c = open_failed_first c.args.files c.in-Err.left c.in-Err.error c.args.changes.now c.in-Err.ensures.cause
 
-pub returns-in-Err-create_if_empty-clause-err : goal.returns-in-Err-create_if_empty-clause-err
-returns-in-Err-create_if_empty-clause-err g c = λ clean m keeps utf8.
+pub returns-in-Err-bring_up_to_date-clause-err : goal.returns-in-Err-bring_up_to_date-clause-err
+returns-in-Err-bring_up_to_date-clause-err g c = λ clean m keeps utf8.
     let conn = file_state c.in-Ok.conn in
-    let new = file_state c.create_if_empty.new.conn in
+    let new = file_state c.bring_up_to_date.new.conn in
     let quiet = c.into_store.ensures.quiet in
     let late : HasCleanDisk new = omega (arith, quiet.clean, no_doubt _ clean) in
-    let early : HasCleanDisk conn = omega (arith, late, c.create_if_empty.ensures.clean) in
+    let early : HasCleanDisk conn = omega (arith, late, c.bring_up_to_date.ensures.clean) in
     let opened = c.in-Ok.ensures.opened early in
     let found = found_in c.args.files c.in-Ok.conn (c.in-Ok.ensures.found early) in
     let at = at_start conn (image_of g.D.Disk c.args.files) m opened.0 opened.1 found keeps in
-    load_stopped conn new c.into_store.result c.in-Err-create_if_empty.error c.in-Ok.ensures.fresh.unlimited quiet.counts (c.in-Err-create_if_empty.ensures.err late m at utf8)
+    load_stopped conn new c.into_store.result c.in-Err-bring_up_to_date.error c.in-Ok.ensures.fresh.unlimited quiet.counts (c.in-Err-bring_up_to_date.ensures.err late m at utf8)
 
-pub returns-in-Err-create_if_empty-clause-err_first : goal.returns-in-Err-create_if_empty-clause-err_first
-returns-in-Err-create_if_empty-clause-err_first g c = λ clean unused.
+pub returns-in-Err-bring_up_to_date-clause-err_first : goal.returns-in-Err-bring_up_to_date-clause-err_first
+returns-in-Err-bring_up_to_date-clause-err_first g c = λ clean unused.
     let conn = file_state c.in-Ok.conn in
-    let new = file_state c.create_if_empty.new.conn in
+    let new = file_state c.bring_up_to_date.new.conn in
     let quiet = c.into_store.ensures.quiet in
     let late : HasCleanDisk new = omega (arith, quiet.clean, no_doubt _ clean) in
-    let early : HasCleanDisk conn = omega (arith, late, c.create_if_empty.ensures.clean) in
+    let early : HasCleanDisk conn = omega (arith, late, c.bring_up_to_date.ensures.clean) in
     let opened = c.in-Ok.ensures.opened early in
     let found = found_in c.args.files c.in-Ok.conn (c.in-Ok.ensures.found early) in
     let blank = unused_start conn (image_of g.D.Disk c.args.files) opened.0 opened.1 found unused in
-    first_stopped conn new c.into_store.result c.args.changes.now c.in-Err-create_if_empty.error c.in-Ok.ensures.fresh.unlimited quiet.counts (c.in-Err-create_if_empty.ensures.err_blank late blank)
+    first_stopped conn new c.into_store.result c.args.changes.now c.in-Err-bring_up_to_date.error c.in-Ok.ensures.fresh.unlimited quiet.counts (c.in-Err-bring_up_to_date.ensures.err_blank late blank)
+
+pub returns-in-Err-clause-err_older : goal.returns-in-Err-clause-err_older
+returns-in-Err-clause-err_older g c = open_failed_older c.args.files c.in-Err.left c.in-Err.error c.args.upgrade.now c.in-Err.ensures.cause
+
+pub returns-in-Err-bring_up_to_date-clause-err_older : goal.returns-in-Err-bring_up_to_date-clause-err_older
+returns-in-Err-bring_up_to_date-clause-err_older g c = λ clean m keeps.
+    let conn = file_state c.in-Ok.conn in
+    let new = file_state c.bring_up_to_date.new.conn in
+    let quiet = c.into_store.ensures.quiet in
+    let late : HasCleanDisk new = omega (arith, quiet.clean, no_doubt _ clean) in
+    let early : HasCleanDisk conn = omega (arith, late, c.bring_up_to_date.ensures.clean) in
+    let opened = c.in-Ok.ensures.opened early in
+    let found = found_in c.args.files c.in-Ok.conn (c.in-Ok.ensures.found early) in
+    let was = older_start conn (image_of g.D.Disk c.args.files) m opened.0 opened.1 found keeps in
+    first_stopped conn new c.into_store.result c.args.upgrade.now c.in-Err-bring_up_to_date.error c.in-Ok.ensures.fresh.unlimited quiet.counts (c.in-Err-bring_up_to_date.ensures.err_older late m was)

@@ -1,0 +1,43 @@
+-- The table of notes: what its texts mean.
+use Rattle.std.proofs.Common.{ℕ, List, [], ◌∷◌, codes, arith, refl}
+use Rattle.sqlite.specs.declared.types.Value.TheVariants.{Null}
+use Rattle.sqlite.specs.Term.{Term, lit, col}
+use Rattle.sqlite_tied.specs.Compute.{everything}
+use Rattle.sqlite.specs.Listing.{understood}
+use Rattle.dav_rows.specs.Contents.{note_cells}
+use Rattle.dav_rows.specs.Tables.{note_columns}
+use Rattle.dav_rows.proofs.ChangeLemmas.{cast_int}
+use Rattle.dav_rows.proofs.Suits.{Suits, Puts, Removes, Selects}
+
+pub suits : Suits note_cells (codes "note") 5 note_columns
+suits = record { there = refl; cast = λ v. simp cast_int; filled = λ v. refl; seen = λ db. refl; typed = λ v. refl; present = λ n v. refl; reals = refl }
+
+abbrev pub put_text : List ℕ
+put_text = codes "INSERT OR REPLACE INTO note (number, kind, owner, value) VALUES (?1, ?2, ?3, ?4)"
+
+abbrev terms : List Term
+terms = col 0 0 ∷ lit Null ∷ col 0 1 ∷ col 0 2 ∷ col 0 3 ∷ []
+
+pub puts : Puts note_cells 5 put_text
+unfolding understood everything
+puts = record { terms = terms; width = 5; is = refl; plain = (refl, refl); alone = λ n v. (omega arith, refl); typed = λ n v. refl; given = λ n v. refl }
+
+abbrev pub remove_text : List ℕ
+remove_text = codes "DELETE FROM note WHERE number = ?1"
+
+pub removes : Removes 5 remove_text
+unfolding understood everything
+removes = record { is = refl; plain = (refl, refl); alone = (omega arith, refl); accepted = λ n. refl }
+
+abbrev pub select_text : List ℕ
+select_text = codes "SELECT number, kind, owner, value FROM note ORDER BY number"
+
+abbrev project : List Term
+project = col 1 0 ∷ col 1 2 ∷ col 1 3 ∷ col 1 4 ∷ []
+
+abbrev names : List (List ℕ)
+names = codes "number" ∷ codes "kind" ∷ codes "owner" ∷ codes "value" ∷ []
+
+pub selects : Selects note_cells 5 select_text
+unfolding understood everything
+selects = record { project = project; names = names; is = refl; unlisted = refl; plain = (refl, refl); alone = (omega arith, refl); accepted = refl; shows = λ e. refl }
