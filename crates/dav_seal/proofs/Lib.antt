@@ -1,0 +1,6 @@
+pub mod TotalLemmas
+pub mod EntryLemmas
+pub mod SealLemmas
+pub mod StoreLemmas
+pub mod FrontLemmas
+pub mod LawLemmas

@@ -1,0 +1,15 @@
+use Rattle.dav_seal.proofs.LawLemmas.{seals_tell, sums_tell_one}
+use Rattle.dav_seal.proofs.laws.show_collision.Goals as goal
+
+pub returns : goal.returns
+returns c = record {
+  seals = seals_tell;
+  one_row = sums_tell_one;
+  whole = λ key m seals are. record {
+    resources = are.resources.whole;
+    extents = are.extents.whole;
+    properties = are.properties.whole;
+    locks = are.locks.whole;
+    states = are.states.whole;
+  };
+}

@@ -1,0 +1,7 @@
+pub mod RowBytes
+pub mod Digests
+pub mod Sums
+pub mod Puts
+pub mod Notes
+pub mod Seals
+pub mod Laws

@@ -1,0 +1,23 @@
+//! What a seal shows of the rows.
+ghost use Rattle.dav_rows.specs.declared.change.Table.TheVariants.{Resource, Extent, Property, Lock, State};
+ghost use Rattle.dav_rows.specs.Contents.{resource_cells, extent_cells, property_cells, lock_cells, state_cells};
+ghost use Rattle.dav_seal.specs.Seals.{AreSealsOf};
+ghost use Rattle.dav_seal.specs.Laws.{IsWhole, SealsTell, SumsTellOne, BytesTell};
+
+/// Where two stores differ and have one seal, two different lists of rows have one sum of their digests. Where such lists differ
+/// in one row alone, two different rows have one digest: so one damaged row is found, but for a collision of digests.
+/// It does nothing: callers learn this of all rows.
+pub fn show_collision()
+    ensures seals { SealsTell }
+    ensures one_row { SumsTellOne }
+    ensures whole { (key : _) (m : _) (seals : _) → AreSealsOf key m seals → IsWhole m }
+{}
+
+/// Rows of a table with the same bytes are the same row. It does nothing: callers learn this of all rows.
+pub fn show_bytes()
+    ensures resources { BytesTell Resource resource_cells }
+    ensures extents { BytesTell Extent extent_cells }
+    ensures properties { BytesTell Property property_cells }
+    ensures locks { BytesTell Lock lock_cells }
+    ensures states { BytesTell State state_cells }
+{}

@@ -1,0 +1,12 @@
+//! A seal over all rows of a store: for each table the number of its rows and the sum of their digests under a key. A start
+//! compares it with the rows that it reads, and so finds a damaged row.
+#![tactic(auto)]
+
+mod laws;
+mod row_bytes;
+mod sealed_row;
+mod seals;
+mod table_seal;
+
+pub use laws::{show_bytes, show_collision};
+pub use seals::Seals;
