@@ -16,23 +16,25 @@ use Rattle.dav_rows.specs.Saving.{IsAt}
 use Rattle.dav_rows.specs.declared.change.Change.TheVariants.{PutState}
 use Rattle.dav_rows.specs.declared.change.Change.{Change}
 use Rattle.dav_rows.specs.declared.state.StateRow.{StateRow}
+use Rattle.dav_seal.specs.Seals.{AreSealsOf, seal_note, sealed, sealed_after}
 use Rattle.dav_store.specs.declared.lock.DavLock.{DavLock}
 use Rattle.dav_store_rows.proofs.SameTables.{same_saved}
 use Rattle.dav_store_rows.specs.Stands.{KeepsTreeTables}
 use Rattle.dav_store_rows.specs.Updates.{IsSavedIn}
 use Rattle.dav_keep.specs.Images.{Image, values_of, StandForImage, HoldsImage}
 use Rattle.dav_keep.specs.Keeping.{database, IsKnown, IsKept, Leaves, LeavesEither}
-use Rattle.dav_keep.specs.Steps.{AreSavedIn, OnlyRowsDiffer, OnlyDatabaseDiffers, IsPrepared, saved_with, Commits, MayCommit}
+use Rattle.dav_keep.specs.Steps.{AreSavedIn, OnlyRowsDiffer, OnlyDatabaseDiffers, IsPrepared, saved_with, Follows, Commits, MayCommit}
 use Rattle.dav_keep.specs.declared.keeping.Keeping.{Keeping}
 use Rattle.dav_keep.specs.declared.numbers.Numbers.{Numbers}
-use Rattle.dav_keep.proofs.Images.{Settles, state_put, left_at}
+use Rattle.dav_keep.proofs.Images.{Settles, put_again, left_at}
 
--- the changes, and then the row of the state
+-- the changes, then the row of the state, and then the note of the seal
 pub saved_is : (changes all : List Change) (row : StateRow) (numbers : Numbers) → state_entry row ≡ (pos 0, values_of numbers) → all ≡ changes ++ PutState row ∷ []
-    → (m : Contents) → after all m ≡ saved_with changes numbers m
+    → (m : Contents) → sealed_after numbers.key all m ≡ saved_with changes numbers m
 saved_is changes all row numbers is pushed m =
     let changed = after changes m in
-    ap (λ cs. after cs m) pushed ∙ after-append changes (PutState row ∷ []) m ∙ ap (λ e. record changed { states = insert changed.states e.0 e.1 }) is
+    ap (sealed numbers.key)
+    (ap (λ cs. after cs m) pushed ∙ after-append changes (PutState row ∷ []) m ∙ ap (λ e. record changed { states = insert changed.states e.0 e.1 }) is)
 
 cleaner : (old new : State) → doubt old.is_clean ≤ doubt new.is_clean → HasCleanDisk new → HasCleanDisk old
 cleaner old new less clean = omega (arith, less, clean)
@@ -69,11 +71,17 @@ module _ {S : Type 0} {rows : store.Ghosts S} where
     next_stands = record {
       resources = resources.stands;
       locks = saved.stand;
-      state = state_put (after changes was).states (values_of image.numbers) (values_of numbers) (ap entries (prepared.states was kept.known.locks) ∙ kept.known.stand.state);
+      state = put_again (after changes was).states (values_of image.numbers) (values_of numbers) (ap entries (prepared.states was kept.known.locks) ∙ kept.known.stand.state);
+      sealed = put_again (after changes was).notes (seal_note image.numbers.key was).1 (seal_note numbers.key next_tables).1
+          (ap entries (prepared.notes was kept.known.locks) ∙ kept.known.stand.sealed);
     }
 
     pub next_key : numbers.key ≡ prepared_keeper.key → numbers.key ≡ image.numbers.key
     next_key is = is ∙ same.key ∙ kept.known.key
+
+    -- the seals of the keeper are those of its tables
+    was_sealed : numbers.key ≡ prepared_keeper.key → AreSealsOf numbers.key was prepared_keeper.seals
+    was_sealed is = subst (AreSealsOf numbers.key was) (sym same.seals) (subst (λ key. AreSealsOf key was old.seals) (sym (next_key is)) kept.known.seals)
 
     was_clean : doubt (database prepared_keeper).is_clean ≤ doubt (database new).is_clean → HasCleanDisk (database new) → HasCleanDisk (database prepared_keeper)
     was_clean less clean = cleaner (database prepared_keeper) (database new) less clean
@@ -84,22 +92,24 @@ module _ {S : Type 0} {rows : store.Ghosts S} where
     -- after the commit the keeper knows the next image
     pub next_known : doubt (database prepared_keeper).is_clean ≤ doubt (database new).is_clean
         → Commits prepared_keeper new changes numbers
+        → Follows prepared_keeper new changes numbers
         → new.version ≡ numbers.counter → numbers.key ≡ prepared_keeper.key → IsKnown new next_image
-    next_known less moves counted keyed = record {
+    next_known less moves follows counted keyed = record {
       tables = next_tables;
       stand = next_stands;
       fits = (subst (λ counts. IsSavedIn next_tables prepared.tree counts) (sym other.counts) resources).fits;
       locks = saved.rows_are ∙ sym other.locks;
       version = counted;
       key = other.key ∙ sym keyed;
-      at = λ clean. moves clean was (was_at (was_clean less clean));
+      seals = follows was (was_sealed keyed);
+      at = λ clean. moves clean was (was_sealed keyed) (was_at (was_clean less clean));
     }
 
     -- a crash leaves the image before, or the next one
     pub next_left : doubt (database prepared_keeper).is_clean ≤ doubt (database new).is_clean
-        → MayCommit prepared_keeper new changes numbers
+        → MayCommit prepared_keeper new changes numbers → numbers.key ≡ prepared_keeper.key
         → LeavesEither (database new) image next_image
-    next_left less crash clean db may = either (crash clean was (was_at (was_clean less clean)) db may)
+    next_left less crash keyed clean db may = either (crash clean was (was_sealed keyed) (was_at (was_clean less clean)) db may)
       where
         either : Holds db was ⊎ Holds db next_tables → HoldsImage db image ⊎ HoldsImage db next_image
         either (inl holds) = inl (record { contents = was; holds = holds; stand = kept.known.stand })

@@ -11,7 +11,7 @@ use Rattle.sqlite.specs.Effect.{Database}
 use Rattle.sqlite.specs.Tree.{Trees}
 use Rattle.sqlite_trees.specs.declared.store.Store as store
 use Rattle.dav_cells.specs.Locks.{lock_codec, kept_lock}
-use Rattle.dav_rows.specs.Contents.{Contents, StateValues, LockValues, Holds}
+use Rattle.dav_rows.specs.Contents.{Contents, LockValues, Holds}
 use Rattle.dav_rows.specs.Saving.{IsAt}
 use Rattle.dav_rows.specs.Stored.{Numbered}
 use Rattle.dav_store.specs.declared.lock.DavLock.{DavLock}
@@ -37,9 +37,9 @@ same_all (k ∷ ks) (l ∷ ls) same valid also =
 pub same_locks : (m : Numbered LockValues) (ks ls : List DavLock) → LocksStand m ks → LocksStand m ls → AreSameLocks ks ls
 same_locks m ks ls one other = same_all ks ls (sym one.values_are ∙ other.values_are) one.valid other.valid
 
--- the row of the state takes the place of the one before
-pub state_put : (m : Numbered StateValues) (old new : StateValues) → entries m ≡ (pos 0, old) ∷ [] → entries (insert m (pos 0) new) ≡ (pos 0, new) ∷ []
-state_put m old new is = entries-insert int_cmp_total m (pos 0) new ∙ ap (put int_cmp (pos 0) new) is
+-- a row takes the place of the only one before
+pub put_again : {V : Type 0} (m : Numbered V) (old new : V) → entries m ≡ (pos 0, old) ∷ [] → entries (insert m (pos 0) new) ≡ (pos 0, new) ∷ []
+put_again m old new is = entries-insert int_cmp_total m (pos 0) new ∙ ap (put int_cmp (pos 0) new) is
 
 module _ {S : Type 0} (rows : store.Ghosts S) where
   -- the law of a store that while it is open a crash leaves its last commit

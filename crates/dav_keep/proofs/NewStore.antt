@@ -22,10 +22,11 @@ use Rattle.dav_rows.specs.Creating.{first, nothing}
 use Rattle.dav_rows.specs.declared.change.Change.TheVariants.{PutState}
 use Rattle.dav_rows.specs.declared.change.Change.{Change}
 use Rattle.dav_rows.specs.declared.state.StateRow.{StateRow}
+use Rattle.dav_seal.specs.Seals.{seal_note, sealed, sealed_after}
 use Rattle.dav_store.specs.Store as store
 use Rattle.dav_store.specs.Store.{AreNamed}
 use Rattle.dav_store_rows.proofs.Empty.{no_tree, saved_none}
-use Rattle.dav_store_rows.proofs.SameTables.{same_saved, state_keeps}
+use Rattle.dav_store_rows.proofs.SameTables.{same_saved}
 use Rattle.dav_store_rows.proofs.Updating.{freshens_none, freshens_next, stale_last}
 use Rattle.dav_store_rows.specs.LockRows.{LocksStand}
 use Rattle.dav_store_rows.specs.Resources.{Kept}
@@ -64,6 +65,10 @@ nil_of (x ∷ xs) e = absurd (omega (arith, e))
 
 no_entries : {V : Type 0} → entries (empty {X = V} {R = int_cmp}) ≡ []
 no_entries {V} = nil_of (entries (empty {X = V} {R = int_cmp})) (sym (len-entries (empty {X = V} {R = int_cmp})) ∙ len-empty int_cmp V)
+
+-- a row is put in an empty table
+put_first : {V : Type 0} (m : Numbered V) (values : V) → m ≡ empty → entries (insert m (pos 0) values) ≡ (pos 0, values) ∷ []
+put_first m values none = entries-insert int_cmp_total m (pos 0) values ∙ ap (put int_cmp (pos 0) values) (ap entries none ∙ no_entries)
 
 -- ---- the tree of a new store
 
@@ -167,25 +172,25 @@ module _ (counts : List Counts) (of_root : List Change) (saves : Saves 0 (Some r
   saved : IsSavedIn made tree counts
   saved = stale_last made tree counts (freshens.does tree nothing refl first_sound.distinct at_first)
 
-  pub first_stands : (key : ℕ) (row : StateRow) (changes : List Change) → state_entry row ≡ (pos 0, values_of (first_image key).numbers) → changes ≡ of_root ++ PutState row ∷ []
-      → StandForImage (first changes) (first_image key)
-  first_stands key row changes is pushed =
-      subst (λ m. StandForImage m (first_image key)) (sym in_order)
+  pub first_stands : (key : ℕ) (row : StateRow) (changes all : List Change) → state_entry row ≡ (pos 0, values_of (first_image key).numbers)
+      → changes ≡ of_root ++ PutState row ∷ [] → first all ≡ sealed_after key changes nothing → StandForImage (first all) (first_image key)
+  first_stands key row changes all is pushed made_are =
+      subst (λ m. StandForImage m (first_image key)) (sym (made_are ∙ ap (sealed key) in_order))
       (record {
-        resources = (same_saved made with_state (state_keeps row made) tree counts saved).stands;
+        resources = (same_saved made (sealed key with_state) (record { resources = refl; extents = refl; properties = refl }) tree counts saved).stands;
         locks = subst (λ t. LocksStand t []) (sym (freshens.tables nothing).locks) (record { values_are = ap (map (λ (e : ℤ × LockValues). e.1)) no_entries; valid = tt });
         state = rows;
+        sealed = put_first made.notes (seal_note key with_state).1 (freshens.tables nothing).notes;
       })
     where
       with_state : Contents
       with_state = after_one (PutState row) made
 
-      in_order : first changes ≡ with_state
+      in_order : after changes nothing ≡ with_state
       in_order =
           ap (λ cs. after cs nothing) (pushed ∙ ap (λ cs. cs ++ PutState row ∷ []) freshens.is) ∙ after-append freshens.more (PutState row ∷ []) nothing
 
       rows : entries {R = int_cmp} with_state.states ≡ (pos 0, values_of (first_image key).numbers) ∷ []
       rows =
-          ap (λ (t : Numbered StateValues). entries (insert t (state_entry row).0 (state_entry row).1)) (freshens.tables nothing).states
-          ∙ ap (λ (e : ℤ × StateValues). entries (insert (empty {X = StateValues} {R = int_cmp}) e.0 e.1)) is
-          ∙ entries-insert int_cmp_total empty (pos 0) (values_of (first_image key).numbers) ∙ ap (put int_cmp (pos 0) (values_of (first_image key).numbers)) no_entries
+          ap (λ (e : ℤ × StateValues). entries (insert made.states e.0 e.1)) is
+          ∙ put_first made.states (values_of (first_image key).numbers) (freshens.tables nothing).states

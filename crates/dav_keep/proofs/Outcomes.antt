@@ -12,6 +12,7 @@ use Rattle.dav_nodes.specs.Tree.{Tree}
 use Rattle.dav_pieces.specs.declared.piece.Piece.{Piece}
 use Rattle.dav_rows.specs.Saving.{IsAt}
 use Rattle.dav_rows.specs.declared.change.Change.{Change}
+use Rattle.dav_seal.specs.Seals.{AreSealsOf}
 use Rattle.dav_store_rows.specs.Resources.{Kept}
 use Rattle.dav_store_rows.specs.Saves.{Fits}
 use Rattle.dav_tree.specs.Before.{entries_code, saved_code, IsSaved, IsTreeIn}
@@ -21,7 +22,7 @@ use Rattle.dav_tree.specs.declared.medium.Medium.{Ghosts}
 use Rattle.dav_tree.specs.declared.tree_fs.TreeFs.{TreeFs}
 use Rattle.dav_keep.specs.Images.{Image, IsSoundTree, IsSound, IsImageOf}
 use Rattle.dav_keep.specs.Keeping.{database, IsKept, KeepsNow, Stops}
-use Rattle.dav_keep.specs.Steps.{OnlyRowsDiffer, OnlyDatabaseDiffers, IsPrepared, IsUnchanged, IsAskedOrNot, Commits, MayCommit}
+use Rattle.dav_keep.specs.Steps.{OnlyRowsDiffer, OnlyDatabaseDiffers, IsPrepared, IsUnchanged, IsAskedOrNot, Follows, Commits, MayCommit}
 use Rattle.dav_keep.specs.declared.keeping.Keeping.{Keeping}
 use Rattle.dav_keep.specs.declared.numbers.Numbers.{Numbers}
 use Rattle.dav_keep.proofs.Images.{Settles, same_locks}
@@ -85,6 +86,7 @@ module _ {S M : Type 0} {rows : store.Ghosts S} {g : Ghosts M (List Piece)} (set
             locks = kept.known.locks ∙ sym stand.1;
             version = same.version ∙ kept.known.version;
             key = same.key ∙ kept.known.key;
+            seals = subst (AreSealsOf image.numbers.key tables) (sym same.seals) kept.known.seals;
             at = subst (λ conn. HasCleanDisk (state rows conn) → IsAt (state rows conn) tables) (sym same.conn) kept.known.at;
           };
         };
@@ -105,14 +107,14 @@ module _ {S M : Type 0} {rows : store.Ghosts S} {g : Ghosts M (List Piece)} (set
     keyed = same.key ∙ kept.known.key
 
     -- the changes are committed
-    pub keeps_next : Commits between new changes numbers → new.version ≡ numbers.counter
+    pub keeps_next : Commits between new changes numbers → Follows between new changes numbers → new.version ≡ numbers.counter
         → KeepsNow true image new last locks now batch
-    keeps_next moves counted = record {
+    keeps_next moves follows counted = record {
       image = image_now last locks now batch between.key prepared.tree;
       kept = record {
         tree = tree_now last locks now batch between.key prepared.tree prepared.is prepared.sound saved;
         sound = sound_now last locks now batch between.key prepared.tree prepared.is prepared.sound;
-        known = next_known g.body_code old between new (before_of first) (entries_of last) (list_of locks) changes numbers image kept same other prepared clean moves counted refl;
+        known = next_known g.body_code old between new (before_of first) (entries_of last) (list_of locks) changes numbers image kept same other prepared clean moves follows counted refl;
       };
       is = is_now last locks now batch between.key prepared.tree prepared.is prepared.sound;
       since = record { time = refl; batch_is = refl; key = keyed };
@@ -128,5 +130,5 @@ module _ {S M : Type 0} {rows : store.Ghosts S} {g : Ghosts M (List Piece)} (set
       sound = sound_now last locks now batch between.key prepared.tree prepared.is prepared.sound;
       saved = saved;
       older = older;
-      left = next_left g.body_code old between new (before_of first) (entries_of last) (list_of locks) changes numbers image kept same other prepared clean crash;
+      left = next_left g.body_code old between new (before_of first) (entries_of last) (list_of locks) changes numbers image kept same other prepared clean crash refl;
     })

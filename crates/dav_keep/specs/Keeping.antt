@@ -11,6 +11,7 @@ use Rattle.dav_memls.specs.declared.memory_locks.MemLs.{MemLs}
 use Rattle.dav_pieces.specs.declared.piece.Piece.{Piece}
 use Rattle.dav_rows.specs.Contents.{Contents}
 use Rattle.dav_rows.specs.Saving.{IsAt}
+use Rattle.dav_seal.specs.Seals.{AreSealsOf}
 use Rattle.dav_store_rows.specs.Saves.{Fits}
 use Rattle.dav_tree.specs.Before.{entries_code, IsSaved, IsTreeIn}
 use Rattle.dav_tree.specs.TreeFs.{before_of, older_of}
@@ -22,13 +23,15 @@ use Rattle.dav_keep.specs.declared.loading.Known.{Known}
 
 -- ---- what is kept
 
--- what was loaded is known of tables that stand for an image: how many rows each resource has, the rows of the locks, the number of changes, and the key
+-- what was loaded is known of tables that stand for an image: how many rows each resource has, the rows of the locks, the number of changes, the key, and
+-- the seals
 pub record Knows (known : Known) (image : Image) (tables : Contents) : Type 0 where
   pub stand : StandForImage tables image
   pub fits : Fits known.counts tables
   pub locks : entries tables.locks ≡ known.locks
   pub version : known.version ≡ image.numbers.counter
   pub key : known.key ≡ image.numbers.key
+  pub seals : AreSealsOf image.numbers.key tables known.seals
 
 module _ {S : Type 0} {rows : store.Ghosts S} where
   abbrev pub connection_of : Keeping S rows → Held S
@@ -38,8 +41,8 @@ module _ {S : Type 0} {rows : store.Ghosts S} where
   abbrev pub database : Keeping S rows → State
   database keeping = state rows (connection_of keeping)
 
-  -- The keeper knows tables that stand for an image: how many rows each resource has, the rows of the locks, the number of changes, and the key. If the
-  -- disk is clean, they are the tables of its database.
+  -- The keeper knows tables that stand for an image: how many rows each resource has, the rows of the locks, the number of changes, the key, and the
+  -- seals. If the disk is clean, they are the tables of its database.
   pub record IsKnown (keeping : Keeping S rows) (image : Image) : Type 0 where
     pub tables : Contents
     pub stand : StandForImage tables image
@@ -47,6 +50,7 @@ module _ {S : Type 0} {rows : store.Ghosts S} where
     pub locks : entries tables.locks ≡ keeping.locks
     pub version : keeping.version ≡ image.numbers.counter
     pub key : keeping.key ≡ image.numbers.key
+    pub seals : AreSealsOf image.numbers.key tables keeping.seals
     pub at : HasCleanDisk (database keeping) → IsAt (database keeping) tables
 
   -- the same, and the tree of the image is the one that is saved of a store

@@ -10,6 +10,7 @@ use Rattle.dav_nodes.specs.TreeRows.{AreRowsOf}
 use Rattle.dav_rows.specs.Contents.{Contents}
 use Rattle.dav_rows.specs.Loading.{AreAll}
 use Rattle.dav_rows.specs.declared.loading.Rows.{Rows}
+use Rattle.dav_seal.specs.Seals.{IsSealed}
 use Rattle.dav_store_rows.specs.Resources.{Kept}
 use Rattle.dav_tree.specs.Entry.{is_held}
 use Rattle.dav_tree.specs.declared.entry.Content.TheVariants.{Directory}
@@ -32,6 +33,10 @@ pub record AreRowsOfImage (rows : Rows) (image : Image) (tables : Contents) : Ty
   pub all : AreAll rows tables
   pub stand : StandForImage tables image
   pub whole : IsWholeImage image
+
+-- the rows have the seal under the key that their notes hold, and no other note
+abbrev pub AreSealed : ℕ → Rows → Type 0
+AreSealed key rows = (m : Contents) → AreAll rows m → IsSealed key m
 
 -- what was loaded is what is in an image
 pub record IsLoaded (image : Image) (loaded : Loaded) : Type 0 where

@@ -5,15 +5,17 @@ use Rattle.std.specs.FinMap.{entries, insert}
 use Rattle.std.specs.declared.alloc.Global.{Global}
 use base.Stored.{Gv}
 use Rattle.sqlite.specs.State.{HasCleanDisk}
+use Rattle.sqlite.specs.Tree.{Trees}
 use Rattle.sqlite_trees.specs.declared.store.Store as store
 use Rattle.dav_memls.specs.MemLs.{list_of}
 use Rattle.dav_memls.specs.declared.memory_locks.MemLs.{MemLs}
 use Rattle.dav_nodes.specs.Tree.{Tree}
 use Rattle.dav_pieces.specs.declared.piece.Piece.{Piece}
 use Rattle.dav_rows.specs.Changes.{after}
-use Rattle.dav_rows.specs.Contents.{Contents, LockValues}
-use Rattle.dav_rows.specs.Saving.{Moves, LeavesEither}
+use Rattle.dav_rows.specs.Contents.{Contents, LockValues, Holds}
+use Rattle.dav_rows.specs.Saving.{IsAt}
 use Rattle.dav_rows.specs.declared.change.Change.{Change}
+use Rattle.dav_seal.specs.Seals.{AreSealsOf, sealed}
 use Rattle.dav_store.specs.declared.lock.DavLock.{DavLock}
 use Rattle.dav_store_rows.specs.LockRows.{LocksStand}
 use Rattle.dav_store_rows.specs.Resources.{Kept}
@@ -42,15 +44,16 @@ module _ {S : Type 0} {rows : store.Ghosts S} where
     pub conn : new.conn ≡ old.conn
     pub version : new.version ≡ old.version
     pub key : new.key ≡ old.key
+    pub seals : new.seals ≡ old.seals
 
-  -- the keepers differ in the database and the number of changes
+  -- the keepers differ in the database, the seals and the number of changes
   pub record OnlyDatabaseDiffers (old new : Keeping S rows) : Type 0 where
     pub counts : new.counts ≡ old.counts
     pub locks : new.locks ≡ old.locks
     pub key : new.key ≡ old.key
 
   module _ (body : Coded (List Piece)) (old new : Keeping S rows) (before now : Gv) (locks : List DavLock) where
-    -- the changes bring tables of the tree that was saved up to date with the tree of entries and the locks, and leave the state
+    -- the changes bring tables of the tree that was saved up to date with the tree of entries and the locks, and leave the state and the notes
     pub record IsPrepared (changes : List Change) : Type 0 where
       pub tree : Tree Kept
       pub is : entries_code body tree ≡ now
@@ -58,6 +61,7 @@ module _ {S : Type 0} {rows : store.Ghosts S} where
       pub saves : (was : Tree Kept) (m : Contents) → IsTreeIn before (entries_code body was) → IsSavedIn m was old.counts → entries m.locks ≡ old.locks
           → AreSavedIn (after changes m) tree locks new.counts new.locks
       pub states : (m : Contents) → entries m.locks ≡ old.locks → (after changes m).states ≡ m.states
+      pub notes : (m : Contents) → entries m.locks ≡ old.locks → (after changes m).notes ≡ m.notes
 
     -- nothing has changed: tables of the tree that was saved have the locks already
     pub record IsUnchanged (version : ℕ) : Type 0 where
@@ -95,15 +99,23 @@ module _ {M : Type 0} {g : Ghosts M (List Piece)} where
 
 -- ---- commits
 
--- what the tables are after the changes, with these numbers as the row of the state
+-- what the tables are after the changes, with these numbers as the row of the state, and then sealed
 abbrev pub saved_with : List Change → Numbers → Contents → Contents
-saved_with changes numbers m = let changed = after changes m in record changed { states = insert changed.states (pos 0) (values_of numbers) }
+saved_with changes numbers m =
+    let changed = after changes m in
+    sealed numbers.key (record changed { states = insert changed.states (pos 0) (values_of numbers) })
 
 module _ {S : Type 0} {rows : store.Ghosts S} (old new : Keeping S rows) (changes : List Change) (numbers : Numbers) where
-  -- if the disk is clean, the tables are what they were, with the changes and these numbers
+  -- the seals are those of the tables with the changes and these numbers, if they were those of the tables
+  abbrev pub Follows : Type 0
+  Follows = (m : Contents) → AreSealsOf numbers.key m old.seals → AreSealsOf numbers.key (saved_with changes numbers m) new.seals
+
+  -- if the disk is clean, the tables of these seals are what they were, with the changes and these numbers
   abbrev pub Commits : Type 0
-  Commits = HasCleanDisk (database new) → Moves (database old) (database new) (saved_with changes numbers)
+  Commits = HasCleanDisk (database new) → (m : Contents) → AreSealsOf numbers.key m old.seals → IsAt (database old) m
+      → IsAt (database new) (saved_with changes numbers m)
 
   -- if the disk is clean, a crash leaves tables that are what they were, or that have the changes and these numbers
   abbrev pub MayCommit : Type 0
-  MayCommit = HasCleanDisk (database new) → LeavesEither (database old) (database new) (saved_with changes numbers)
+  MayCommit = HasCleanDisk (database new) → (m : Contents) → AreSealsOf numbers.key m old.seals → IsAt (database old) m → (db : Trees)
+      → (database new).may_leave db → Holds db m ⊎ Holds db (saved_with changes numbers m)

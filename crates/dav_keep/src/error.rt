@@ -3,7 +3,7 @@ ghost use Rattle.std.specs.Prelude.{◌≡◌};
 
 use dav_resource::FsError;
 use dav_store_rows::SaveError;
-use std::alloc::AllocFailed;
+use std::alloc::{AllocError, AllocFailed};
 use thiserror::Error;
 
 /// Why a store is not kept.
@@ -47,6 +47,18 @@ impl From<sqlite::Error> for KeepError {
 
     fn from(error: sqlite::Error) -> KeepError {
         KeepError::Database(error)
+    }
+}
+
+/// A failed allocation is one of saving.
+impl From<AllocError> for KeepError {
+    ghost use Rattle.dav_store_rows.specs.declared.saving.error.SaveError.TheVariants.{Memory};
+    ghost use Rattle.dav_keep.specs.declared.error.KeepError.TheVariants.{Rows};
+
+    ghost from_gives = { λ _ e. e ≡ Rows Memory };
+
+    fn from(_: AllocError) -> KeepError {
+        KeepError::Rows(SaveError::Memory)
     }
 }
 

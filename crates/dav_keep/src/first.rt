@@ -7,12 +7,13 @@ ghost use Rattle.dav_keep.specs.Loading.{first_image};
 use crate::numbers::{Numbers, row_of};
 use dav_nodes::PlacedValue;
 use dav_rows::Change;
+use dav_seal::Seals;
 use dav_store_rows::{SaveError, SavedCounts};
 use dav_tree::{Content, Entry};
 use std::alloc::Global;
 
 /// Returns the changes that make tables of a new store of no tables: it has the root, made at time 0, and no locks, and no
-/// batch has changed it. `key` is the key of the digests of its data file.
+/// batch has changed it. `key` is the key of the digests.
 ///
 /// - `TooLarge`: the key does not fit in 63 bits.
 /// - `Memory`: memory runs out.
@@ -34,5 +35,5 @@ pub fn first_changes(alloc: Global, key: u64) -> Result<Vec<Change>, SaveError>
         key,
     };
     changes.push(Change::PutState(row_of(numbers)?))?;
-    Ok(changes)
+    Ok(Seals::new(alloc, key).with_seal(changes)?)
 }

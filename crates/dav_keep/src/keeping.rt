@@ -6,6 +6,7 @@ use crate::numbers::{Numbers, row_of};
 use dav_memls::MemLs;
 use dav_pieces::Body;
 use dav_rows::{Change, save};
+use dav_seal::Seals;
 use dav_store_rows::{SavedCounts, SavedLocks, save_changes};
 use dav_tree::{Medium, TreeFs};
 use sqlite::{Alter, Connection};
@@ -24,6 +25,8 @@ pub struct Keeping<S: Alter> {
     pub(crate) version: u64,
     /// The key of the digests.
     pub(crate) key: u64,
+    /// The seals of all rows. After an error they may be of other rows.
+    pub(crate) seals: Seals,
     ghost idle: { conn.in_transaction ≡ false },
 }
 
@@ -35,7 +38,7 @@ impl<S: Alter> Keeping<S> {
     ghost use Rattle.dav_tree.specs.TreeFs.{memory_of, records_of, before_of, older_of, entries_of};
     ghost use Rattle.dav_keep.specs.Images.{Image};
     ghost use Rattle.dav_keep.specs.Keeping.{connection_of, database, IsKept, KeepsNow, Stops};
-    ghost use Rattle.dav_keep.specs.Steps.{Prepares, OnlyRowsDiffer, OnlyDatabaseDiffers, IsAskedOrNot, Commits, MayCommit};
+    ghost use Rattle.dav_keep.specs.Steps.{Prepares, OnlyRowsDiffer, OnlyDatabaseDiffers, IsAskedOrNot, Follows, Commits, MayCommit};
 
     /// Makes safe what files contain, and saves what has changed since the last call, with this time and the number of
     /// this batch. Returns whether anything has changed. If nothing has, it neither syncs nor commits, and the time and the
@@ -114,18 +117,20 @@ impl<S: Alter> Keeping<S> {
         Ok(Some(changes))
     }
 
-    /// Saves the changes, and these numbers with them.
+    /// Saves the changes, and with them these numbers and the seal.
     ///
     /// - `Rows`: a number does not fit in 63 bits, or memory runs out.
     /// - `Database`: the database fails.
     fn commit(&mut self, mut changes: Vec<Change>, numbers: Numbers) -> Result<(), KeepError>
         ensures same { OnlyDatabaseDiffers self.old self.new }
         ensures version { OnOk result (self.new.version ≡ numbers.counter) }
+        ensures follows { OnOk result (Follows self.old self.new changes.items numbers) }
         ensures ok { OnOk result (Commits self.old self.new changes.items numbers) }
         ensures crash { MayCommit self.old self.new changes.items numbers }
         ensures clean { doubt (database self.old).is_clean ≤ doubt (database self.new).is_clean }
     {
         changes.push(Change::PutState(row_of(numbers)?))?;
+        let changes = self.seals.with_seal(changes)?;
         save(&mut self.conn, &changes)?;
         self.version = numbers.counter;
         Ok(())

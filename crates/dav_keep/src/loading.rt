@@ -1,11 +1,15 @@
 //! What is loaded of a store that was kept.
-ghost use Rattle.std.specs.Prelude.{◌≡◌, List, [], map, false, IfOk, IfErr, OnOk};
+ghost use Rattle.std.specs.Prelude.{◌≡◌, ◌≢◌, ℕ, List, [], map, false, IfOk, IfErr, OnOk};
 ghost use Rattle.sqlite.specs.Held.{state};
 ghost use Rattle.sqlite.specs.State.{HasCleanDisk};
 ghost use Rattle.dav_cells.specs.Locks.{kept_lock};
 ghost use Rattle.dav_memls.specs.MemLs.{list_of};
+ghost use Rattle.dav_rows.specs.Changes.{after};
 ghost use Rattle.dav_rows.specs.Contents.{Contents};
+ghost use Rattle.dav_rows.specs.Loading.{AreAll};
 ghost use Rattle.dav_rows.specs.Saving.{IsAt};
+ghost use Rattle.dav_rows.specs.declared.opening.Version.TheVariants.{Older};
+ghost use Rattle.dav_seal.specs.Seals.{AreSealsOf, AreTables, IsSealed, sealed};
 ghost use Rattle.dav_store.specs.LockCalls.{HasDistinctTokens};
 ghost use Rattle.dav_store.specs.Locks.{AreCompatible};
 ghost use Rattle.dav_store.specs.declared.lock.DavLock.{DavLock as TheLock};
@@ -14,7 +18,7 @@ ghost use Rattle.dav_store_rows.specs.Loads.{IsMemory};
 ghost use Rattle.dav_keep.specs.Images.{Image};
 ghost use Rattle.dav_keep.specs.Keeping.{IsKnown, Knows, connection_of};
 ghost use Rattle.dav_keep.specs.Ends.{IsEnd, AreBelow};
-ghost use Rattle.dav_keep.specs.Loading.{AreRowsOfImage, IsLoaded};
+ghost use Rattle.dav_keep.specs.Loading.{AreRowsOfImage, IsLoaded, AreSealed};
 
 use crate::Keeping;
 use crate::ends::end_of;
@@ -22,12 +26,13 @@ use crate::numbers::{Numbers, numbers_of};
 use dav_memls::MemLs;
 use dav_nodes::NumberedValue;
 use dav_pieces::Body;
-use dav_rows::{LockRow, Rows};
+use dav_rows::{Change, LockRow, Rows, Version};
+use dav_seal::Seals;
 use dav_store::{DavLock, LockError};
 use dav_store_rows::{LoadError, SavedCounts, SavedLocks, load_locks, load_resources};
 use dav_tree::Entry;
 use sqlite::{Alter, Connection};
-use std::alloc::Global;
+use std::alloc::{AllocError, Global};
 
 /// What was kept of a store and a lock system.
 #[derive(Drop)]
@@ -53,27 +58,61 @@ pub struct Known {
     pub(crate) version: u64,
     /// The key of the digests.
     pub(crate) key: u64,
+    /// The seals of all rows.
+    pub(crate) seals: Seals,
 }
 
-/// Loads what was kept from the rows of a database.
+impl Known {
+    /// Returns the changes that seal tables of version 1, which have no seal. Fails only if memory runs out.
+    pub fn sealing(&self, alloc: Global) -> Result<Vec<Change>, AllocError>
+        ensures { (key : ℕ) (m : Contents) → AreSealsOf key m self.now.seals → IfOk result (λ changes. after changes.items m ≡ sealed key m) }
+    {
+        let mut changes = Vec::new(alloc);
+        changes.push(Change::PutNote(self.seals.note()?))?;
+        Ok(changes)
+    }
+}
+
+/// Loads what was kept from the rows of a database of this version. The rows have the seal that their notes hold, unless they
+/// are of version 1, which has none.
 ///
-/// - `Damaged`: the rows are not those of a store that was kept.
+/// - `Damaged`: the rows are not those of a store that was kept, or have another seal.
 /// - `Memory`: memory runs out.
-pub fn load(alloc: Global, rows: Rows) -> Result<(Known, Loaded), LoadError>
+pub fn load(alloc: Global, rows: Rows, version: Version) -> Result<(Known, Loaded), LoadError>
     ensures end { IfOk result (λ r. IsEnd (AreBelow r.1.values.items) r.1.end) }
+    ensures seals { (m : Contents) → AreTables rows m → IfOk result (λ r. AreSealsOf r.1.numbers.key m r.0.seals) }
+    ensures sealed { version ≢ Older → IfOk result (λ r. AreSealed r.1.numbers.key rows) }
     ensures loaded { (image : Image) (tables : Contents) → AreRowsOfImage rows image tables → IfOk result (λ r. IsLoaded image r.1) }
     ensures known { (image : Image) (tables : Contents) → AreRowsOfImage rows image tables → IfOk result (λ r. Knows r.0 image tables) }
     ensures err { (image : Image) (tables : Contents) → AreRowsOfImage rows image tables → IfErr result IsMemory }
 {
     let loaded = loaded_of(alloc, &rows)?;
+    let seals = seals_of(alloc, loaded.numbers.key, &rows, version)?;
     let counts = SavedCounts::from_rows(alloc, &rows)?;
     let known = Known {
         counts,
         locks: SavedLocks::from_rows(rows.locks),
         version: loaded.numbers.counter,
         key: loaded.numbers.key,
+        seals,
     };
     Ok((known, loaded))
+}
+
+/// Returns the seals of the rows under the key. The rows have the seal that their notes hold, unless they are of version 1.
+///
+/// - `Damaged`: they have another seal.
+/// - `Memory`: memory runs out.
+fn seals_of(alloc: Global, key: u64, rows: &Rows, version: Version) -> Result<Seals, LoadError>
+    ensures seals { (m : Contents) → AreTables rows.now m → IfOk result (AreSealsOf key m) }
+    ensures sealed { version ≢ Older → OnOk result (AreSealed key rows.now) }
+    ensures err { (m : Contents) → AreAll rows.now m → IsSealed key m → IfErr result IsMemory }
+{
+    let seals = Seals::of_rows(alloc, key, rows)?;
+    if version != Version::Older && !seals.check(&rows.notes)? {
+        return Err(LoadError::Damaged);
+    }
+    Ok(seals)
 }
 
 impl<S: Alter + Drop> Keeping<S> {
@@ -89,6 +128,7 @@ impl<S: Alter + Drop> Keeping<S> {
             locks,
             version,
             key,
+            seals,
         } = known;
         Keeping {
             alloc,
@@ -97,6 +137,7 @@ impl<S: Alter + Drop> Keeping<S> {
             locks,
             version,
             key,
+            seals,
         }
     }
 }

@@ -1,4 +1,4 @@
--- The bytes of rows tell the rows apart.
+-- The bytes of rows determine the rows.
 use Rattle.std.proofs.Common.{◌≡◌, ◌≢◌, ℕ, ℤ, List, [], ◌∷◌, ◌++◌, length, take, drop, ◌<◌, ◌^◌, refl, sym, ap, ◌∙◌, append_assoc, w64, to_z}
 use Rattle.std.specs.Prelude.{FitsSigned}
 use Rattle.std.specs.Int.{cast_unsigned, from_be_bytes}

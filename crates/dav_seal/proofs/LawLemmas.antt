@@ -17,7 +17,7 @@ use Rattle.dav_seal.specs.RowBytes.{number_bytes, AreCells}
 use Rattle.dav_seal.specs.Digests.{entry_bytes, entry_digest, numbered_by, digests_of}
 use Rattle.dav_seal.specs.Sums.{TableSum, total_of, sum_of, sum_bytes}
 use Rattle.dav_seal.specs.Seals.{seal_of, HasCells}
-use Rattle.dav_seal.specs.Laws.{texts_of, sum_of_texts, DiffersByCollision, SealsTell, SumsTellOne, BytesTell}
+use Rattle.dav_seal.specs.Laws.{texts_of, sum_of_texts, DiffersByCollision, SealsDetermine, SumsDetermineOne, BytesDetermine}
 use Rattle.dav_seal.proofs.FrontLemmas.{fronts, length-number_bytes, number_bytes-injective, row_bytes-injective}
 
 -- ---- rows with the same bytes
@@ -75,25 +75,25 @@ same_state a b e =
     let digest_key : a.1.digest_key ≡ b.1.digest_key = cc in
     λ i. (number i, record { counter = counter i; time = time i; batch = batch i; digest_key = digest_key i })
 
-pub resources_told : BytesTell Resource resource_cells
+pub resources_told : BytesDetermine Resource resource_cells
 resources_told a b p q e = same_resource a b (row_bytes-injective 0 (shown resource_cells a) (shown resource_cells b) p q e)
 
-pub extents_told : BytesTell Extent extent_cells
+pub extents_told : BytesDetermine Extent extent_cells
 extents_told a b p q e = same_extent a b (row_bytes-injective 1 (shown extent_cells a) (shown extent_cells b) p q e)
 
-pub properties_told : BytesTell Property property_cells
+pub properties_told : BytesDetermine Property property_cells
 properties_told a b p q e = same_property a b (row_bytes-injective 2 (shown property_cells a) (shown property_cells b) p q e)
 
-pub locks_told : BytesTell Lock lock_cells
+pub locks_told : BytesDetermine Lock lock_cells
 locks_told a b p q e = same_lock a b (row_bytes-injective 3 (shown lock_cells a) (shown lock_cells b) p q e)
 
-pub states_told : BytesTell State state_cells
+pub states_told : BytesDetermine State state_cells
 states_told a b p q e = same_state a b (row_bytes-injective 4 (shown state_cells a) (shown state_cells b) p q e)
 
 -- ---- a table
 
 module _ {V : Type 0} (table : Table) (cells : V → Row) where
-  entries_told : BytesTell table cells → (xs ys : List (ℤ × V)) → AllByRecursion (λ e. AreCells (shown cells e)) xs → AllByRecursion (λ e. AreCells (shown cells e)) ys
+  entries_told : BytesDetermine table cells → (xs ys : List (ℤ × V)) → AllByRecursion (λ e. AreCells (shown cells e)) xs → AllByRecursion (λ e. AreCells (shown cells e)) ys
       → map (entry_bytes table cells) xs ≡ map (entry_bytes table cells) ys → xs ≡ ys
   entries_told told [] [] p q e = refl
   entries_told told [] (y ∷ ys) p q e = cc
@@ -120,7 +120,7 @@ module _ {V : Type 0} (table : Table) (cells : V → Row) where
       let sum = ap (λ n. n % 2 ^ 64) (summed key (entries m)) in
       λ i. record { rows = rows i; sum = sum i }
 
-  differs : BytesTell table cells → (key : ℕ) (m n : Numbered V) → HasCells cells m → HasCells cells n
+  differs : BytesDetermine table cells → (key : ℕ) (m n : Numbered V) → HasCells cells m → HasCells cells n
       → sum_bytes (sum_of (digests_of key table cells m)) ≡ sum_bytes (sum_of (digests_of key table cells n)) → DiffersByCollision key table cells m n
   differs told key m n p q e other = record {
     different = λ same. other (same_entries_map m n (entries_told told (entries m) (entries n) p q same));
@@ -138,8 +138,8 @@ length-sum_bytes s =
 sum_fronts : (a b : TableSum) (r s : List ℕ) → sum_bytes a ++ r ≡ sum_bytes b ++ s → (sum_bytes a ≡ sum_bytes b) × (r ≡ s)
 sum_fronts a b r s e = fronts 16 (sum_bytes a) (sum_bytes b) r s (length-sum_bytes a) (length-sum_bytes b) e
 
-pub seals_tell : SealsTell
-seals_tell key m n p q e =
+pub seals_determine : SealsDetermine
+seals_determine key m n p q e =
     let a = seal_of key m in
     let b = seal_of key n in
     let resources = sum_fronts a.resources b.resources _ _ e in
@@ -174,8 +174,8 @@ one_apart f before after a =
     let second = sum_by-cons f a after in
     omega arith
 
-pub sums_tell_one : SumsTellOne
-sums_tell_one key before after a b p q collide =
+pub sums_determine_one : SumsDetermineOne
+sums_determine_one key before after a b p q collide =
     let m : ℕ = 2 ^ 64 in
     let others = sum_by (digest key) before + sum_by (digest key) after in
     let sum_a = sum_by (digest key) (before ++ a ∷ after) % 2 ^ 64 in

@@ -29,7 +29,7 @@ pub record CollideSums (key : ℕ) (a b : List (List ℕ)) : Type 0 where
 abbrev pub DiffersByCollision : {V : Type 0} → ℕ → Table → (V → Row) → Numbered V → Numbered V → Type 0
 DiffersByCollision key table cells m n = m ≢ n → CollideSums key (texts_of table cells m) (texts_of table cells n)
 
--- each row of the five tables has such cells as its bytes can tell apart
+-- each row of the five tables has cells that its bytes determine
 pub record IsWhole (m : Contents) : Type 0 where
   pub resources : HasCells resource_cells m.resources
   pub extents : HasCells extent_cells m.extents
@@ -46,14 +46,14 @@ pub record DifferByCollision (key : ℕ) (m n : Contents) : Type 0 where
   pub states : DiffersByCollision key State state_cells m.states n.states
 
 -- Maps with one seal are the same, but for a collision.
-abbrev pub SealsTell : Type 0
-SealsTell = (key : ℕ) (m n : Contents) → IsWhole m → IsWhole n → seal_bytes (seal_of key m) ≡ seal_bytes (seal_of key n) → DifferByCollision key m n
+abbrev pub SealsDetermine : Type 0
+SealsDetermine = (key : ℕ) (m n : Contents) → IsWhole m → IsWhole n → seal_bytes (seal_of key m) ≡ seal_bytes (seal_of key n) → DifferByCollision key m n
 
 -- Lists of texts that differ in one text alone, and have one sum, have two different texts with one digest.
-abbrev pub SumsTellOne : Type 0
-SumsTellOne = (key : ℕ) (before after : List (List ℕ)) (a b : List ℕ) → digest key a < 2 ^ 64 → digest key b < 2 ^ 64
+abbrev pub SumsDetermineOne : Type 0
+SumsDetermineOne = (key : ℕ) (before after : List (List ℕ)) (a b : List ℕ) → digest key a < 2 ^ 64 → digest key b < 2 ^ 64
     → CollideSums key (before ++ a ∷ after) (before ++ b ∷ after) → Collide key a b
 
 -- rows of a table with the same bytes are the same row
-abbrev pub BytesTell : {V : Type 0} → Table → (V → Row) → Type 0
-BytesTell {V} table cells = (a b : ℤ × V) → AreCells (shown cells a) → AreCells (shown cells b) → entry_bytes table cells a ≡ entry_bytes table cells b → a ≡ b
+abbrev pub BytesDetermine : {V : Type 0} → Table → (V → Row) → Type 0
+BytesDetermine {V} table cells = (a b : ℤ × V) → AreCells (shown cells a) → AreCells (shown cells b) → entry_bytes table cells a ≡ entry_bytes table cells b → a ≡ b

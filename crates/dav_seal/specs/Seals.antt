@@ -1,14 +1,15 @@
 -- The seal over all rows of a store, and the seals that a program keeps of them.
 use Rattle.std.specs.Prelude.{◌≡◌, ℕ, ℤ, List, [], ◌∷◌, map}
 use Rattle.std.specs.List.{AllByRecursion, flat_map}
-use Rattle.std.specs.FinMap.{entries}
+use Rattle.std.specs.FinMap.{entries, insert}
 use Rattle.sqlite_value.specs.Order.{Row}
+use Rattle.dav_rows.specs.declared.change.Change.{Change}
 use Rattle.dav_rows.specs.declared.change.Table.{Table}
 use Rattle.dav_rows.specs.declared.change.Table.TheVariants.{Resource, Extent, Property, Lock, State}
 use Rattle.dav_rows.specs.declared.loading.Rows.{Rows}
 use Rattle.dav_rows.specs.Stored.{Numbered, shown}
 use Rattle.dav_rows.specs.Contents.{Contents, NoteValues, resource_cells, extent_cells, property_cells, lock_cells, state_cells}
-use Rattle.dav_rows.specs.Changes.{resource_entry, extent_entry, property_entry, lock_entry, state_entry}
+use Rattle.dav_rows.specs.Changes.{resource_entry, extent_entry, property_entry, lock_entry, state_entry, after}
 use Rattle.dav_seal.specs.RowBytes.{AreCells}
 use Rattle.dav_seal.specs.Digests.{digests_of}
 use Rattle.dav_seal.specs.Sums.{TableSum, sum_of, sum_bytes}
@@ -41,7 +42,19 @@ seal_bytes s = flat_map sum_bytes (s.resources ∷ s.extents ∷ s.properties �
 abbrev pub seal_note : ℕ → Contents → ℤ × NoteValues
 seal_note key m = note_of (seal_bytes (seal_of key m))
 
--- each row of the table has such cells as its bytes can tell apart
+-- the note of the seal of these maps under the key is their only note
+abbrev pub IsSealed : ℕ → Contents → Type 0
+IsSealed key m = entries m.notes ≡ seal_note key m ∷ []
+
+-- the maps with the note of their seal under the key
+abbrev pub sealed : ℕ → Contents → Contents
+sealed key m = let note = seal_note key m in record m { notes = insert m.notes note.0 note.1 }
+
+-- the maps after the changes, with the note of the seal that they have then
+abbrev pub sealed_after : ℕ → List Change → Contents → Contents
+sealed_after key changes m = sealed key (after changes m)
+
+-- each row of the table has cells that its bytes determine
 abbrev pub HasCells : {V : Type 0} → (V → Row) → Numbered V → Type 0
 HasCells cells m = AllByRecursion (λ e. AreCells (shown cells e)) (entries m)
 

@@ -17,7 +17,7 @@ pub(crate) trait SealedRow {
 
     ghost digest_of: { ℕ → Self → ℕ };
 
-    /// Such cells as its bytes can tell apart.
+    /// Cells that its bytes determine.
     ghost HasCells: { Self → Type 0 };
 
     /// Returns the number of the row.

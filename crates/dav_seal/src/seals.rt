@@ -3,7 +3,7 @@ ghost use Rattle.std.specs.Prelude.{◌≡◌, ◌↔◌, ℤ, ℕ, List, [], �
 ghost use Rattle.std.specs.Ordering.{int_cmp};
 ghost use Rattle.std.specs.BTreeMap.{insert_entry};
 ghost use Rattle.std.specs.List.{AllByRecursion, flat_map};
-ghost use Rattle.dav_rows.specs.Changes.{note_entry, after_one, removed};
+ghost use Rattle.dav_rows.specs.Changes.{note_entry, after, after_one, removed};
 ghost use Rattle.dav_rows.specs.Creating.{nothing};
 ghost use Rattle.dav_seal.specs.Puts.{put_all};
 ghost use Rattle.dav_seal.specs.RowBytes.{number_bytes};
@@ -29,7 +29,7 @@ pub struct Seals {
 }
 
 impl Seals {
-    ghost use Rattle.dav_seal.specs.Seals.{seal_of, seal_bytes, seal_note, AreSealsOf, AreTables};
+    ghost use Rattle.dav_seal.specs.Seals.{seal_of, seal_bytes, seal_note, sealed_after, AreSealsOf, AreTables};
 
     /// Returns the seals of no rows.
     pub fn new(alloc: Global, key: u64) -> Seals
@@ -79,6 +79,27 @@ impl Seals {
                 Ok(())
             }
         }
+    }
+
+    /// Changes the seals as the changes change the rows, the first of them first. Fails only if memory runs out.
+    pub fn apply_all(&mut self, changes: &[Change]) -> Result<(), AllocError>
+        ensures { (key : _) (m : _) → AreSealsOf key m self.old → OnOk result (AreSealsOf key (after changes.now m) self.new) }
+    {
+        'changes: for change in changes {
+            self.apply(change)?;
+        }
+        Ok(())
+    }
+
+    /// Changes the seals as these changes change the rows, and returns the changes with one more behind them, which puts the
+    /// note of the seal that there is then. Fails only if memory runs out.
+    pub fn with_seal(&mut self, mut changes: Vec<Change>) -> Result<Vec<Change>, AllocError>
+        ensures seals { (key : _) (m : _) → AreSealsOf key m self.old → OnOk result (AreSealsOf key (sealed_after key changes.items m) self.new) }
+        ensures sealed { (key : _) (m : _) → AreSealsOf key m self.old → IfOk result (λ all. after all.items m ≡ sealed_after key changes.items m) }
+    {
+        self.apply_all(&changes)?;
+        changes.push(Change::PutNote(self.note()?))?;
+        Ok(changes)
     }
 
     /// Removes the digest of a row.

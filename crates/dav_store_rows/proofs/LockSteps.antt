@@ -21,7 +21,7 @@ pub brings_none : (es : List (ℤ × LockValues)) (a : List Change) → BringsLo
 brings_none es a = record {
   more = [];
   is = sym (append-nil a);
-  makes = λ m is. record { locks = is; resources = refl; extents = refl; properties = refl; states = refl };
+  makes = λ m is. record { locks = is; resources = refl; extents = refl; properties = refl; states = refl; notes = refl };
 }
 
 pub brings_then : (es fs gs : List (ℤ × LockValues)) (a b c : List Change) → BringsLocks es fs a b → BringsLocks fs gs b c → BringsLocks es gs a c
@@ -37,6 +37,7 @@ brings_then es fs gs a b c p q = record {
         extents = second.extents ∙ first.extents;
         properties = second.properties ∙ first.properties;
         states = second.states ∙ first.states;
+        notes = second.notes ∙ first.notes;
       });
 }
 
@@ -52,6 +53,7 @@ brings_put done k v rest row w a b is appended = record {
     extents = refl;
     properties = refl;
     states = refl;
+    notes = refl;
   };
 }
 
@@ -61,7 +63,7 @@ pub brings_removal : (done : List (ℤ × LockValues)) (k : ℤ) (v : LockValues
 brings_removal done k v rest a b appended = record {
   more = Remove Lock k ∷ [];
   is = appended;
-  makes = λ m at. record { locks = remove_middle m.locks done k v rest at; resources = refl; extents = refl; properties = refl; states = refl };
+  makes = λ m at. record { locks = remove_middle m.locks done k v rest at; resources = refl; extents = refl; properties = refl; states = refl; notes = refl };
 }
 
 -- a row is added under a new number
@@ -76,6 +78,7 @@ brings_added es k row w a b is appended low = record {
     extents = refl;
     properties = refl;
     states = refl;
+    notes = refl;
   };
 }
 

@@ -100,7 +100,7 @@ is_saved number row extents properties old new old_counts new_counts m are exten
 saved_maps-tables : (number : ℕ) (row : Option (Row Kept)) (extents : List ExtentValues) (properties : List PropertyValues) (old : Counts) (m : Contents)
     → KeepsOtherTables m (saved_maps number row extents properties old m)
 unfolding saved_maps
-saved_maps-tables number row extents properties old m = record { locks = refl; states = refl }
+saved_maps-tables number row extents properties old m = record { locks = refl; states = refl; notes = refl }
 
 -- the rows put and the others removed, in one
 all_made : (number : ℕ) (row : Option (Row Kept)) (extents : List ExtentValues) (properties : List PropertyValues) (old new : Counts) (m : Contents)

@@ -128,10 +128,10 @@ stands_next stale later number row old_counts new_counts m n tree fewer distinct
 -- ---- many numbers
 
 keeps_tables : (m : Contents) → KeepsOtherTables m m
-keeps_tables m = record { locks = refl; states = refl }
+keeps_tables m = record { locks = refl; states = refl; notes = refl }
 
 keeps_tables_then : (a b c : Contents) → KeepsOtherTables a b → KeepsOtherTables b c → KeepsOtherTables a c
-keeps_tables_then a b c p q = record { locks = q.locks ∙ p.locks; states = q.states ∙ p.states }
+keeps_tables_then a b c p q = record { locks = q.locks ∙ p.locks; states = q.states ∙ p.states; notes = q.notes ∙ p.notes }
 
 pub freshens_none : (body : Coded (List Piece)) (now : Gv) (stale : ℕ → Type 0) (counts : List Counts) (before : List Change) → Freshens body now stale stale counts before counts before
 freshens_none body now stale counts before = record { more = []; is = sym (append-nil before); does = λ tree m is distinct but. but; tables = keeps_tables }

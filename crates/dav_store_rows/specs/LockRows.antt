@@ -41,6 +41,7 @@ pub record LocksBecome (rows : List (ℤ × LockValues)) (old new : Contents) : 
   pub extents : new.extents ≡ old.extents
   pub properties : new.properties ≡ old.properties
   pub states : new.states ≡ old.states
+  pub notes : new.notes ≡ old.notes
 
 -- changes are appended that make the new rows of the old ones
 pub record BringsLocks (old new : List (ℤ × LockValues)) (before now : List Change) : Type 0 where

@@ -55,10 +55,11 @@ pub record KeepsOthers (number : ℕ) (old new : Contents) : Type 0 where
   pub extents : KeepsOtherParts number old.extents new.extents
   pub properties : KeepsOtherParts number old.properties new.properties
 
--- the tables of locks and of the state are as they were
+-- the tables of locks, of the state and of the notes are as they were
 pub record KeepsOtherTables (old new : Contents) : Type 0 where
   pub locks : new.locks ≡ old.locks
   pub states : new.states ≡ old.states
+  pub notes : new.notes ≡ old.notes
 
 -- the tables of resources, of extents and of properties are as they were
 pub record KeepsTreeTables (old new : Contents) : Type 0 where

@@ -1,7 +1,7 @@
 use Rattle.std.proofs.Common.{◌∙◌, subst}
 use Rattle.dav_keep.proofs.Outcomes.{not_none, stops_early, stops_late, keeps_same, keeps_next}
 use Rattle.dav_keep.proofs.SoundTrees.{on_err}
-use Rattle.dav_keep.specs.Steps.{Prepares, Commits, MayCommit}
+use Rattle.dav_keep.specs.Steps.{Prepares, Follows, Commits, MayCommit}
 use Rattle.dav_keep.proofs.keeping.Keeping.keep.Goals as goal
 
 pub returns-in_err-changes-clause-stopped : goal.returns-in_err-changes-clause-stopped
@@ -29,8 +29,10 @@ returns-in_ok-commit-in-Some-clause-kept g c = λ image kept.
     c.in-Some.is c.in_ok-changes.ensures.prepared in
     let moves =
     subst (λ counter. Commits c.prepare.new.self c.commit.new.self c.in-Some.changes.items (record { counter = counter; time = c.args.now; batch = c.args.batch; key = c.prepare.new.self.key })) c.version.ensures c.in_ok-commit-in-Some.ensures.ok in
+    let follows =
+    subst (λ counter. Follows c.prepare.new.self c.commit.new.self c.in-Some.changes.items (record { counter = counter; time = c.args.now; batch = c.args.batch; key = c.prepare.new.self.key })) c.version.ensures c.in_ok-commit-in-Some.ensures.follows in
     keeps_next g.met.S.Store.settled c.args.self.now c.prepare.new.self c.commit.new.self c.args.store.now c.prepare.new.store c.args.locks.now c.args.now c.args.batch image kept
-    c.in_ok-changes.ensures.same c.in-Some.changes.items prepared c.in_ok-commit-in-Some.ensures.same c.in_ok-changes.ensures.saved c.in_ok-commit-in-Some.ensures.clean moves
+    c.in_ok-changes.ensures.same c.in-Some.changes.items prepared c.in_ok-commit-in-Some.ensures.same c.in_ok-changes.ensures.saved c.in_ok-commit-in-Some.ensures.clean moves follows
     (c.in_ok-commit-in-Some.ensures.version ∙ c.version.ensures)
 
 pub returns-in-None-clause-kept : goal.returns-in-None-clause-kept
