@@ -1,10 +1,12 @@
 -- What is read of a folder, if the files of its database returned what was written.
-use Rattle.std.proofs.Common.{◌≡◌, ℕ, true, List, [], Option, Result, Ok, Err, IsTrue, subst}
+use Rattle.std.proofs.Common.{◌≡◌, ℕ, true, List, [], Option, Result, Ok, Err, IsTrue, sym, subst, ◌∙◌}
 use Rattle.std.specs.Prelude.{Bool, ◌&&◌, IfOk}
 use Rattle.std.proofs.lemmas.Bool.{and_parts, and_from}
 use Rattle.dav_keep.specs.Images.{Image}
 use Rattle.dav_pieces.specs.declared.piece.Piece.{Piece}
 use Rattle.dav_rows.specs.Contents.{Contents}
+use Rattle.dav_rows.specs.declared.opening.Version.{Version}
+use Rattle.dav_rows.specs.declared.opening.Version.TheVariants.{Older, Current}
 use Rattle.dav_tree.specs.TreeFs.{memory_of, honest_of}
 use Rattle.dav_tree.specs.declared.medium.Medium.{Ghosts}
 use Rattle.dav_folder.specs.Reading.{IsReadFrom, HasReadBytes, ReadsImage, IsEmptyIfHonest}
@@ -14,6 +16,15 @@ use Rattle.dav_folder.specs.declared.reading.Found.{Found}
 pub later : {T E Q : Type 0} (P : T → Type 0) (result : Result T E) → (Q → IfOk result P) → IfOk result (λ x. Q → P x)
 later P (Ok x) f = λ q. f q
 later P (Err e) f = tt
+
+-- what follows on Ok
+pub also : {T E : Type 0} {P Q : T → Type 0} (result : Result T E) → IfOk result P → ((x : T) → P x → Q x) → IfOk result Q
+also (Ok x) p f = f x p
+also (Err e) p f = tt
+
+-- the current version is not an older one
+pub not_older : (version : Version) → version ≡ Current → version ≡ Older → ⊥
+not_older version now older = let e : Current ≡ Older = sym now ∙ older in cc
 
 module _ {E M : Type 0} {g : Ghosts M (List Piece)} where
   pub reads_image : (result : Result (Found M (List Piece) g) E) (seen file : List ℕ) (limit : Option (Option ℕ)) (image : Image) (tables : Contents) → seen ≡ file

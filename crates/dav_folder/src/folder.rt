@@ -106,7 +106,7 @@ impl<S: Alter> Folder<S> {
 }
 
 impl<S: Alter> Folder<S> {
-    ghost use Rattle.std.specs.Prelude.{◌≤◌, OnOk, OnErr};
+    ghost use Rattle.std.specs.Prelude.{◌≡◌, ◌≤◌, OnOk, OnErr};
     ghost use Rattle.dav_pieces.specs.declared.piece.Piece.{Piece};
     ghost use Rattle.dav_server.specs.Snapshots.{snapshot_at, OnlySavedDiffers, KeepsOne};
     ghost use Rattle.dav_tree.specs.TreeFs.{store_of, before_of};
@@ -129,6 +129,7 @@ impl<S: Alter> Folder<S> {
         ensures seen { OnlySavedDiffers (store_of store.old) (store_of store.new) }
         ensures clean { HasCleanDatabase self.new → HasCleanDatabase self.old }
         ensures rises { batch_of self.old ≤ batch_of self.new }
+        ensures failed { OnErr result (batch_of self.new ≡ batch_of self.old) }
         ensures ok { OnOk result ((before : At ⟦<DataFile<D> as Medium>⟧) → Lasts self.old (before_of store.old) before
             → KeepsOne Lasts IsSameKept self.new (before_of store.new) before (snapshot_at store.new locks.now now last)) }
         ensures err { OnErr result ((before : At ⟦<DataFile<D> as Medium>⟧) → Lasts self.old (before_of store.old) before

@@ -1,7 +1,7 @@
 //! A keeper of a folder that notes how far it is.
-ghost use Rattle.std.specs.Prelude.{◌≡◌, ◌≤◌};
+ghost use Rattle.std.specs.Prelude.{◌≡◌, ◌≤◌, true};
 ghost use Rattle.dav_folder.specs.Folders.{batch_of};
-ghost use Rattle.dav_last.specs.Batches.{number_of};
+ghost use Rattle.dav_last.specs.Batches.{number_of, is_usable};
 
 use crate::Folder;
 use dav_data::DataFile;
@@ -19,7 +19,8 @@ use std::io;
 /// database has lost batches.
 ///
 /// It does not wait until the disk has the number, except in the first batch that changes nothing in a later second. If
-/// the number cannot be written, the batch is kept all the same.
+/// the number cannot be written, the batch is kept all the same. While no sync of the number has failed, the number is that
+/// of the last batch that changed something.
 #[derive(Drop)]
 pub struct Numbered<S: Alter, L: Disk> {
     folder: Folder<S>,
@@ -27,6 +28,7 @@ pub struct Numbered<S: Alter, L: Disk> {
     /// The time of the batch that was noted last.
     noted: u64,
     ghost kept: { number_of last ≤ batch_of folder },
+    ghost exact: { is_usable last ≡ true → number_of last ≡ batch_of folder },
 }
 
 impl<S: Alter, L: Disk> Numbered<S, L> {
@@ -34,7 +36,7 @@ impl<S: Alter, L: Disk> Numbered<S, L> {
 
     /// Notes how far this folder is. `now` is the time of its last batch.
     pub fn new(folder: Folder<S>, last: LastBatch<L>, now: u64) -> Numbered<S, L>
-        requires { number_of last ≤ batch_of folder }
+        requires { number_of last ≡ batch_of folder }
         ensures { folder_of result ≡ folder }
     {
         Numbered {
@@ -49,27 +51,29 @@ impl<S: Alter, L: Disk> Numbered<S, L> {
         self.folder.failure()
     }
 
-    /// Notes the number of the last batch that changed something, or brings it to the disk if it was noted in an earlier
-    /// second.
-    fn note(&mut self, now: u64)
-        ensures { folder_of self.new ≡ folder_of self.old }
-    {
-        let batch = self.folder.batch();
-        if self.last.number() < batch {
-            self.noted = now;
-            let _ = self.last.note(batch);
-        } else if self.noted < now {
-            let _ = self.last.sync();
-        }
-    }
-
     /// Returns the folder, and the number that was noted.
     pub fn into_parts(self) -> (Folder<S>, LastBatch<L>)
         ensures folder { result.0 ≡ folder_of self }
         ensures last { result.1 ≡ last_of self }
         ensures kept { number_of result.1 ≤ batch_of result.0 }
+        ensures exact { is_usable result.1 ≡ true → number_of result.1 ≡ batch_of result.0 }
     {
         (self.folder, self.last)
+    }
+}
+
+/// Notes the number of the last batch that changed something, or brings it to the disk if it was noted in an earlier second.
+/// `noted` is the time of the batch that was noted last.
+fn note_batch<L: Disk>(last: &mut LastBatch<L>, noted: &mut u64, batch: u64, now: u64)
+    requires { number_of last.old ≤ batch }
+    ensures kept { number_of last.new ≤ batch }
+    ensures exact { is_usable last.new ≡ true → number_of last.new ≡ batch }
+{
+    if last.number() < batch {
+        *noted = now;
+        let _ = last.note(batch);
+    } else if *noted < now {
+        let _ = last.sync();
     }
 }
 
@@ -100,7 +104,7 @@ impl<D: Roomy + Drop, S: Alter, L: Disk> Keeper<TreeFs<DataFile<D>>, MemLs> for 
         in_backup: bool,
     ) -> io::Result<()> {
         self.folder.keep_batch(store, locks, now, last, in_backup)?;
-        self.note(now);
+        note_batch(&mut self.last, &mut self.noted, self.folder.batch(), now);
         Ok(())
     }
 }

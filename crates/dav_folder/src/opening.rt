@@ -12,7 +12,9 @@ ghost use Rattle.dav_keep.specs.Loading.{IsWholeImage};
 ghost use Rattle.dav_rows.specs.Contents.{Contents};
 ghost use Rattle.dav_rows.specs.Creating.{first};
 ghost use Rattle.dav_rows.specs.Saving.{IsAt};
+ghost use Rattle.dav_rows.specs.declared.opening.Version.TheVariants.{New};
 ghost use Rattle.dav_rows_files.specs.Starting.{Keeps, IsVacant};
+ghost use Rattle.dav_seal.specs.Seals.{IsSealed};
 ghost use Rattle.dav_folder.specs.Errors.{IsLate};
 ghost use Rattle.dav_folder.specs.Folders.{keeping_of, batch_of};
 ghost use Rattle.dav_folder.specs.Lasting.{HasCleanDatabase};
@@ -26,7 +28,7 @@ use dav_data::DataFile;
 use dav_keep::Keeping;
 use dav_memls::MemLs;
 use dav_pieces::Body;
-use dav_rows::Change;
+use dav_rows::{Change, Version};
 use dav_rows_files::{judge, start};
 use dav_tree::{Medium, TreeFs};
 use sqlite::{Alter, Connection, FileStore};
@@ -54,9 +56,10 @@ pub struct Opened<S: Alter, M: Medium> {
 const MIN_LOG: usize = 32 + 24 + 512;
 
 /// Reads the store of a folder, over the files of its database and over its data file. It changes none of them. If there
-/// is nothing, it returns a new store, whose tables these changes make of none. `limit` is the store's quota.
+/// is nothing, it returns a new store, whose tables these changes make of none. `limit` is the store's quota. The rows have
+/// the seal that was kept with them, unless they are of version 1, which has none.
 ///
-/// - `Damaged`: the database is damaged, or its rows are not those of a store that was kept.
+/// - `Damaged`: the database is damaged, or its rows are not those of a store that was kept, or have another seal.
 /// - `Foreign`: the database has other tables.
 /// - `NoDatabase`: the database has no table, but the data file has bytes, or the log has pages.
 /// - `Data`: the data file cannot be read, or it is shorter than the rows say.
@@ -78,23 +81,25 @@ pub fn read_files<D: Disk, E: Disk + Drop>(
         → IfOk result (λ found. AreClean D.Disk files.new.log files.new.db → ReadsImage (E.Disk.seen disk) limit image (first changes.now) found) }
     ensures empty { IsVacant (image_of D.Disk files.old)
         → IfOk result (λ found. AreClean D.Disk files.new.log files.new.db → IsEmptyIfHonest found (E.Disk.seen disk)) }
+    ensures sealed { (tables : Contents) → Keeps (image_of D.Disk files.old) tables
+        → IfOk result (λ found. AreClean D.Disk files.new.log files.new.db → IsSealed found.key tables) }
     ensures log { IfOk result (λ found. (store_of found.store).log ≡ []) }
     ensures sound { IfOk result (λ _. AreClean D.Disk files.new.log files.new.db → ¬ IsDamaged (image_of D.Disk files.old).log) }
     ensures only { AreOnlyRead D.Disk files.old files.new }
 {
     let mut disk = disk;
-    let judged = judge(alloc, files, changes)?;
-    expect_empty(judged.is_new, files, &mut disk)?;
-    read_store(alloc, judged.rows, disk, limit)
+    let loaded = judge(alloc, files, changes)?;
+    expect_empty(loaded.version, files, &mut disk)?;
+    read_store(alloc, loaded.rows, loaded.version, disk, limit)
 }
 
-/// Checks that there is no byte of a store beside a new one. It only reads the files.
+/// Checks that there is no byte of a store beside the files of a database of this version, if that is new. It only reads the files.
 ///
 /// - `NoDatabase`: the store is new, and the data file has bytes, or the log has pages.
 /// - `Data`: the data file cannot be read.
 /// - `Database`: the log cannot be read.
 fn expect_empty<D: Disk, E: Disk>(
-    is_new: bool,
+    version: Version,
     files: &mut Files<D>,
     file: &mut E,
 ) -> Result<(), OpenError>
@@ -104,9 +109,9 @@ fn expect_empty<D: Disk, E: Disk>(
     ensures log { OnlyReads D.Disk files.old.log files.new.log }
     ensures db { OnlyReads D.Disk files.old.db files.new.db }
     ensures file { OnlyReads E.Disk file.old file.new }
-    ensures empty { OnOk result (is_new ≡ true → E.Disk.is_clean file.new ≡ true → E.Disk.seen file.old ≡ []) }
+    ensures empty { OnOk result (version ≡ New → E.Disk.is_clean file.new ≡ true → E.Disk.seen file.old ≡ []) }
 {
-    if !is_new {
+    if version != Version::New {
         return Ok(());
     }
     let in_log = match files.log.len() {
@@ -122,7 +127,7 @@ fn expect_empty<D: Disk, E: Disk>(
 
 impl<M: Medium<Body = Body>> Found<M> {
     /// Opens the database from whose files this was read, and goes on from there. If the database has no table, its tables
-    /// are made with these changes. `seed` is a random number.
+    /// are made with these changes. Tables of version 1 are sealed. `seed` is a random number.
     ///
     /// - `Database`: the database cannot be read or written.
     /// - `Memory`: memory runs out.
@@ -146,7 +151,10 @@ impl<M: Medium<Body = Body>> Found<M> {
         ensures key { IfOk result (λ opened. opened.key ≡ self.key) }
         ensures err { IfErr result IsLate }
     {
-        match start(alloc, files, seed, changes) {
+        let Ok(upgrade) = self.known.sealing(alloc) else {
+            return Err(OpenError::Memory);
+        };
+        match start(alloc, files, seed, changes, &upgrade) {
             Ok(conn) => Ok(self.keep_in(alloc, conn)),
             Err((error, _)) => Err(opening_error(error)),
         }

@@ -1,8 +1,9 @@
 //! Reads the store of a folder, and writes nothing.
-ghost use Rattle.std.specs.Prelude.{◌≡◌, true, [], IfOk, IfErr};
+ghost use Rattle.std.specs.Prelude.{◌≡◌, ◌≢◌, true, [], IfOk, IfErr};
 ghost use Rattle.dav_keep.specs.Images.{Image};
-ghost use Rattle.dav_keep.specs.Loading.{AreRowsOfImage};
+ghost use Rattle.dav_keep.specs.Loading.{AreRowsOfImage, AreSealed};
 ghost use Rattle.dav_rows.specs.Contents.{Contents};
+ghost use Rattle.dav_rows.specs.declared.opening.Version.TheVariants.{Older};
 ghost use Rattle.dav_tree.specs.TreeFs.{memory_of, store_of, honest_of};
 ghost use Rattle.dav_folder.specs.Reading.{IsReadFrom, HasReadBytes};
 ghost use Rattle.dav_folder.specs.Opening.{HasFiles, IsMemoryOrDisk};
@@ -11,7 +12,7 @@ use crate::OpenError;
 use dav_data::DataFile;
 use dav_keep::{Known, load};
 use dav_memls::MemLs;
-use dav_rows::Rows;
+use dav_rows::{Rows, Version};
 use dav_tree::{Medium, TreeFs};
 use sqlite_disk::Disk;
 use std::alloc::Global;
@@ -34,9 +35,10 @@ pub struct Found<M: Medium> {
 }
 
 /// Reads the store of a folder from these rows of its database, over its data file. `limit` is the store's quota. The
-/// contents of the data file stay the same.
+/// contents of the data file stay the same. The rows have the seal that was kept with them, unless they are of version 1,
+/// which has none.
 ///
-/// - `Damaged`: the rows are not those of a store that was kept.
+/// - `Damaged`: the rows are not those of a store that was kept, or have another seal.
 /// - `Data`: the data file cannot be read, or it is shorter than the rows say.
 /// - `Memory`: memory runs out.
 ///
@@ -44,6 +46,7 @@ pub struct Found<M: Medium> {
 pub fn read_store<D: Disk + Drop>(
     alloc: Global,
     rows: Rows,
+    version: Version,
     disk: D,
     limit: Option<Option<u64>>,
 ) -> Result<Found<DataFile<D>>, OpenError>
@@ -51,12 +54,13 @@ pub fn read_store<D: Disk + Drop>(
     ensures found { (image : Image) (tables : Contents) → AreRowsOfImage rows image tables → IfOk result (IsReadFrom image tables) }
     ensures bytes { (image : Image) (tables : Contents) → AreRowsOfImage rows image tables → IfOk result (HasReadBytes (D.Disk.seen disk) image) }
     ensures limit { (image : Image) (tables : Contents) → AreRowsOfImage rows image tables → IfOk result (λ found. (memory_of found.store).limit ≡ limit) }
+    ensures sealed { version ≢ Older → IfOk result (λ found. AreSealed found.key rows) }
     ensures log { IfOk result (λ found. (store_of found.store).log ≡ []) }
     ensures honest { IfOk result (λ found. honest_of found.store ≡ true → D.Disk.is_clean disk ≡ true) }
     ensures err { (image : Image) (tables : Contents) (are : AreRowsOfImage rows image tables) → HasFiles (D.Disk.seen disk) image are.whole
         → IfErr result (IsMemoryOrDisk D.Disk disk) }
 {
-    let (known, loaded) = load(alloc, rows)?;
+    let (known, loaded) = load(alloc, rows, version)?;
     let numbers = loaded.numbers;
     let medium = match DataFile::open(alloc, disk, numbers.key, loaded.end) {
         Ok(medium) => medium,

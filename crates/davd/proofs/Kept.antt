@@ -2,6 +2,7 @@
 use Rattle.std.proofs.Common.{◌≡◌, ◌⊎◌, inl, inr, ℕ, List, Option, Some, Result, subst}
 use Rattle.std.specs.Prelude.{OnOk, OnErr}
 use Rattle.dav_data.specs.declared.data_file.DataFile.{DataFile}
+use Rattle.dav_last.specs.declared.last_batch.LastBatch.{LastBatch}
 use Rattle.dav_pieces.specs.declared.piece.Piece.{Piece}
 use Rattle.dav_tree.specs.declared.medium.Medium.{Ghosts}
 use Rattle.sqlite.specs.Recovery as database
@@ -18,10 +19,12 @@ some_same x y is = cc
 
 module _ {D E : Type 0} {d : disk.Ghosts D} {e : disk.Ghosts E} (medium : Ghosts (DataFile E e) (List Piece)) (left : database.Image) (file : List ℕ)
     (read options : OptionsValue) (is : read ≡ options) (files : FileStore D d × DataFile E e) (result : Result (Unit {0}) Stopped) where
-  pub serves_folder : (input input' output output' : Option (List ℕ)) → OnOk result (GoesOn left file files medium (rules_in read) read.quota input input' output output')
-      → OnOk result (ServesFolder d medium left file options input input' output output')
-  serves_folder input input' output output' goes =
-      subst (λ o. OnOk result (ServesFolder d medium left file o input input' output output')) is (on_ok result goes (λ goes_on. record { files = files; goes_on = goes_on }))
+  pub serves_folder : {L : Type 0} {l : disk.Ghosts L} (number : LastBatch L l) (input input' output output' : Option (List ℕ))
+      → OnOk result (GoesOn left file files number medium (rules_in read) read.quota input input' output output')
+      → OnOk result (ServesFolder d l medium left file options input input' output output')
+  serves_folder {l = l} number input input' output output' goes =
+      subst (λ o. OnOk result (ServesFolder d l medium left file o input input' output output')) is
+      (on_ok result goes (λ goes_on. record { files = files; number = number; goes_on = goes_on }))
 
   pub stops_in_folder : (Other : Type 0) (input input' output output' : Option (List ℕ))
       → OnErr result (GoesOnAndStops left file files medium (rules_in read) read.quota output output'

@@ -1,15 +1,20 @@
 -- What is left of a run whose keeper keeps each batch.
 use Rattle.std.proofs.Common.{◌≡◌, ◌∙◌, inl, inr, ℕ, List, [], ◌∷◌, ◌++◌, Option, Some, None, Result, Ok, Err, refl, sym, subst}
-use Rattle.std.specs.Prelude.{IfSome, OnOk, OnErr, option_map}
+use Rattle.std.specs.Prelude.{IfSome, Bool, true, false, IsOk, IsErr, IfErr, OnOk, OnErr, option_map}
+use Rattle.std.specs.Result.{IsErrAnd}
+use base.Stored.{Gv}
 use Rattle.dav_data.specs.declared.data_file.DataFile.{DataFile}
 use Rattle.dav_engine.specs.DavInner.{lent_locks}
 use Rattle.dav_folder.specs.Closing.{LeavesAlone, LeavesWhole, LeavesOneOf}
-use Rattle.dav_folder.specs.Files.{KeptStore, Leave, LeaveWhole, kept_at}
+use Rattle.dav_folder.specs.Files.{KeptStore, Leave, kept_at}
+use Rattle.dav_folder.specs.Folders.{batch_of}
 use Rattle.dav_folder.specs.Lasting.{At, Lasts, LastsAlone, LastsEither, IsSameKept, HasCleanDatabase}
 use Rattle.dav_folder.specs.Numbered.{LastsNumbered, LastsEitherNumbered}
 use Rattle.dav_folder.specs.Opening.{opened_at}
 use Rattle.dav_folder.specs.declared.folder.Folder.{Folder}
 use Rattle.dav_folder.specs.declared.opening.Opened.{Opened}
+use Rattle.dav_last.specs.Batches.{Survives, number_of, is_usable}
+use Rattle.dav_last.specs.declared.last_batch.LastBatch.{LastBatch}
 use Rattle.dav_memls.specs.MemLs.{locks_of}
 use Rattle.dav_memls.specs.declared.memory_locks.MemLs.{MemLs}
 use Rattle.dav_pieces.specs.declared.piece.Piece.{Piece}
@@ -26,8 +31,8 @@ use Rattle.sqlite_store.specs.FileStore.{view}
 use Rattle.sqlite_store.specs.declared.store.FileStore.{FileStore}
 use Rattle.sqlite_trees.specs.View.{IsClean}
 use Rattle.sqlite_trees.specs.declared.store.Store as store
-use Rattle.davd.specs.Folder.{Serving, state_now, state_from, IsOpenedAsKept, BeginsOpened, FindsKept, FindsFirst, Keep, ServesOpened, StopsOpened}
-use Rattle.davd.specs.Leaving.{LeavesAfter, LeavesAfterOrNow, RunsAndLeaves, RunsWithLog, StopsAndLeaves, HeldAStore, BeginsWith, GoesOn, GoesOnWithLog, GoesOnAndStops}
+use Rattle.davd.specs.Folder.{Serving, state_now, state_from, IsOpenedAsKept, BeginsOpened, FindsKept, FindsFirst, HeldSealed, Keep, ServesOpened, StopsOpened}
+use Rattle.davd.specs.Leaving.{LeaveNumbered, LeavesAfter, LeavesAfterOrNow, RunsAndLeaves, RunsWithLog, StopsAndLeaves, HeldAStore, BeginsWith, GoesOn, GoesOnWithLog, GoesOnAndStops}
 
 -- what follows on Ok, or on Err
 pub on_ok : {T E A B : Type 0} (result : Result T E) → OnOk result A → (A → B) → OnOk result B
@@ -38,12 +43,45 @@ pub on_err : {T E A B : Type 0} (result : Result T E) → OnErr result A → (A 
 on_err (Ok value) a f = tt
 on_err (Err e) a f = f a
 
+-- an error that is passed on
+pub passed_on : {T E : Type 0} (result : Result T E) (e : E) (P : E → Type 0) → IsErrAnd result (λ y. y ≡ e) → P e → IfErr result P
+passed_on (Ok value) e P is p = tt
+passed_on (Err y) e P is p = subst P (sym is) p
+
+-- what holds anyway, and what follows from two facts
+pub ok_anyway : {T E A : Type 0} (result : Result T E) → A → OnOk result A
+ok_anyway (Ok value) a = a
+ok_anyway (Err e) a = tt
+
+pub err_anyway : {T E A : Type 0} (result : Result T E) → A → OnErr result A
+err_anyway (Ok value) a = tt
+err_anyway (Err e) a = a
+
+pub ok_by_both : {T E A B C : Type 0} (result : Result T E) → OnOk result A → OnOk result B → (A → B → C) → OnOk result C
+ok_by_both (Ok value) a b f = f a b
+ok_by_both (Err e) a b f = tt
+
 -- the result is Ok, or it is Err
 pub is_ok : {T E A : Type 0} (result : Result T E) (value : T) → result ≡ Ok value → OnOk result A → A
 is_ok {T} {E} {A} result value is holds = subst (λ (r : Result T E). OnOk r A) is holds
 
 pub is_err : {T E A : Type 0} (result : Result T E) (e : E) → result ≡ Err e → OnErr result A → A
 is_err {T} {E} {A} result e is holds = subst (λ (r : Result T E). OnErr r A) is holds
+
+pub of_ok : {T E A : Type 0} (result : Result T E) → IsOk result → OnOk result A → A
+of_ok (Ok value) ok holds = holds
+of_ok (Err e) ok holds = absurd (let no = ok in cc)
+
+pub true_if_ok : {T E : Type 0} (result : Result T E) (is : Bool) → IsOk result → (is ≡ false → IsErr result) → is ≡ true
+true_if_ok result true ok fails = refl
+true_if_ok (Ok value) false ok fails = absurd (let no = fails refl in cc)
+true_if_ok (Err e) false ok fails = absurd (let no = ok in cc)
+
+-- after a sync that ended well the number of the batch that was kept last survives
+pub synced : {L T E : Type 0} {l : disk.Ghosts L} (old new : LastBatch L l) (batch : ℕ) (result : Result T E) → IsOk result → (is_usable old ≡ true → number_of old ≡ batch)
+    → (is_usable old ≡ false → IsErr result) → number_of new ≡ number_of old → OnOk result (Survives (number_of new) new) → Survives batch new
+synced old new batch result ok exact fails same survives =
+    subst (λ n. Survives n new) (same ∙ exact (true_if_ok result (is_usable old) ok fails)) (of_ok result ok survives)
 
 module _ {M : Type 0} {g : Ghosts M (List Piece)} where
   has_store : (kept : TreeFs M (List Piece) g) (locks : Option MemLs) (now last : ℕ)
@@ -56,6 +94,10 @@ module _ {M : Type 0} {g : Ghosts M (List Piece)} where
   snapshot_store server snapshot is =
       subst (λ these. IfSome these (λ (s : At g). s.store ≡ store_in server)) is
       (has_store (store_in server) (lent_locks server.engine) server.now server.last)
+
+alone : {S M : Type 0} {rows : store.Ghosts S} {g : Ghosts M (List Piece)} (folder : Folder S rows) (saved : Gv) (snapshot : At g) → Lasts folder saved snapshot
+    → LastsAlone folder saved snapshot
+alone folder saved snapshot lasts = record { image = lasts.image; at = lasts.at; left = lasts.left }
 
 module _ {D E : Type 0} {d : disk.Ghosts D} {e : disk.Ghosts E} {rows : store.Ghosts (FileStore D d)} {g : Ghosts (DataFile E e) (List Piece)} (rules : Rules)
     (opened : Opened (FileStore D d) (DataFile E e) (List Piece) rows g) (folder : Folder (FileStore D d) rows) (kept : TreeFs (DataFile E e) (List Piece) g)
@@ -70,7 +112,7 @@ module _ {D E : Type 0} {d : disk.Ghosts D} {e : disk.Ghosts E} {rows : store.Gh
 
   module _ (keep : Keep l opened folder) (last : Serving g) (ends : store_in last ≡ kept) where
     after : (IsLeft : KeptStore → Type 0) (exchanges : List Exchange) (old : ServerState)
-        → ((snapshot : At g) → LastsAlone folder (before_of kept) snapshot → IsLeft (kept_at snapshot))
+        → ((snapshot : At g) → Lasts folder (before_of kept) snapshot → IsLeft (kept_at snapshot))
         → IsKeptAfter store_of locks_of LastsNumbered IsSameKept honest_of rules keep.keeper' exchanges old last → LeavesAfter g rules exchanges old last IsLeft
     after IsLeft exchanges old leaves is_kept =
         let same = snapshot_store last is_kept.since.snapshot is_kept.since.is ∙ ends in
@@ -84,7 +126,7 @@ module _ {D E : Type 0} {d : disk.Ghosts D} {e : disk.Ghosts E} {rows : store.Gh
           now = is_kept.since.snapshot;
           is = is_kept.since.is;
           unchanged = is_kept.since.unchanged;
-          left = leaves is_kept.snapshot (record { image = lasts.image; at = lasts.at; left = lasts.left });
+          left = leaves is_kept.snapshot lasts;
         }
 
     after_or_now : (exchanges : List Exchange) (old mid : ServerState) → LeavesOneOf folder kept files
@@ -109,14 +151,17 @@ module _ {D E : Type 0} {d : disk.Ghosts D} {e : disk.Ghosts E} {rows : store.Gh
 
   -- a run whose keeper keeps it leaves it in the files
   module _ (input input' output output' : Option (List ℕ)) where
-    pub runs_and_leaves : LeavesWhole folder kept files → ServesOpened l rules opened (folder, kept) input input' output output'
-        → RunsAndLeaves g rules (IsOpenedAsKept opened) (state_from (opened_at opened)) files input input' output output'
-    runs_and_leaves whole serves =
-        subst (λ old. RunsAndLeaves g rules (IsOpenedAsKept opened) old files input input' output output') serves.begins.state
+    pub runs_and_leaves : (number : LastBatch L l) → LeavesWhole folder kept files → Survives (batch_of folder) number
+        → ServesOpened l rules opened (folder, kept) input input' output output'
+        → RunsAndLeaves g rules (IsOpenedAsKept opened) (state_from (opened_at opened)) files number input input' output output'
+    runs_and_leaves number whole survives serves =
+        let leaves : (snapshot : At g) → Lasts folder (before_of kept) snapshot → LeaveNumbered files number (kept_at snapshot) =
+        λ snapshot lasts. (whole snapshot (alone folder (before_of kept) snapshot lasts), subst (λ batch. Survives batch number) lasts.number survives) in
+        subst (λ old. RunsAndLeaves g rules (IsOpenedAsKept opened) old files number input input' output output') serves.begins.state
         (record {
           last = serves.last;
           run = serves.runs.run;
-          leaves = λ lasts. after serves.keep serves.last serves.ends (LeaveWhole files) serves.runs.run.exchanges (state_now serves.first) whole
+          leaves = λ lasts. after serves.keep serves.last serves.ends (LeaveNumbered files number) serves.runs.run.exchanges (state_now serves.first) leaves
               (serves.runs.kept (begins_kept serves.keep serves.first serves.begins lasts));
         })
 
@@ -129,7 +174,7 @@ module _ {D E : Type 0} {d : disk.Ghosts D} {e : disk.Ghosts E} {rows : store.Gh
   module _ (output output' : Option (List ℕ)) where
     pub stops_and_leaves : LeavesAlone folder kept files → LeavesOneOf folder kept files → StopsOpened l rules opened (folder, kept) output output'
         → StopsAndLeaves g rules (IsOpenedAsKept opened) (state_from (opened_at opened)) files output output'
-    stops_and_leaves alone one_of serves =
+    stops_and_leaves leaves one_of serves =
         subst (λ old. StopsAndLeaves g rules (IsOpenedAsKept opened) old files output output') serves.begins.state
         (record {
           exchanges = serves.stops.exchanges;
@@ -145,8 +190,8 @@ module _ {D E : Type 0} {d : disk.Ghosts D} {e : disk.Ghosts E} {rows : store.Gh
             | inr more ↦ inr (record {
               exchange = more.exchange;
               served = more.answered;
-              leaves = λ lasts. after serves.keep serves.last serves.ends (Leave files) (serves.stops.exchanges ++ more.exchange ∷ []) (state_now serves.first) alone
-                  (more.kept (begins_kept serves.keep serves.first serves.begins lasts));
+              leaves = λ lasts. after serves.keep serves.last serves.ends (Leave files) (serves.stops.exchanges ++ more.exchange ∷ []) (state_now serves.first)
+                  (λ snapshot here. leaves snapshot (alone folder (before_of kept) snapshot here)) (more.kept (begins_kept serves.keep serves.first serves.begins lasts));
             })
           ];
         })
@@ -154,7 +199,7 @@ module _ {D E : Type 0} {d : disk.Ghosts D} {e : disk.Ghosts E} {rows : store.Gh
 module _ {D E : Type 0} {d : disk.Ghosts D} {e : disk.Ghosts E} {rows : store.Ghosts (FileStore D d)} {g : Ghosts (DataFile E e) (List Piece)} (rules : Rules)
     (opened : Opened (FileStore D d) (DataFile E e) (List Piece) rows g) (files : FileStore D d × DataFile E e) where
   -- `left` and `file` are what the files held
-  module _ (left : database.Image) (file : List ℕ) (quota : Option ℕ) (finds : FindsKept left file quota opened) (finds_new : FindsFirst left file quota opened)
+  module _ (left : database.Image) (file : List ℕ) (quota : Option ℕ) (finds : FindsKept left file quota opened) (finds_new : FindsFirst left file quota opened) (held_sealed : HeldSealed left opened)
       (was_clean : IsClean (view files.0) → HasCleanDatabase opened.folder) where
     lasts_at_start : HeldAStore left file files → IsOpenedAsKept opened
     lasts_at_start (clean, inl (held, hold)) = (finds held hold (was_clean clean)).lasts
@@ -170,13 +215,15 @@ module _ {D E : Type 0} {d : disk.Ghosts D} {e : disk.Ghosts E} {rows : store.Gh
       new = λ clean vacant. (finds_new.found vacant (was_clean clean)).is;
       empty = λ clean vacant. finds_new.empty vacant (was_clean clean);
       limit = limit_at_start;
+      key = opened.key;
+      sealed = λ tables clean keeps. held_sealed tables keeps (was_clean clean);
     }
 
     -- what was found goes on
-    pub goes_on : (input input' output output' : Option (List ℕ))
-        → RunsAndLeaves g rules (IsOpenedAsKept opened) (state_from (opened_at opened)) files input input' output output'
-        → GoesOn left file files g rules quota input input' output output'
-    goes_on input input' output output' runs =
+    pub goes_on : {L : Type 0} {l : disk.Ghosts L} (number : LastBatch L l) (input input' output output' : Option (List ℕ))
+        → RunsAndLeaves g rules (IsOpenedAsKept opened) (state_from (opened_at opened)) files number input input' output output'
+        → GoesOn left file files number g rules quota input input' output output'
+    goes_on number input input' output output' runs =
         record {
           first = opened_at opened;
           begins = begins_with;

@@ -10,15 +10,19 @@ use Rattle.dav_folder.specs.declared.numbered.Numbered.{Numbered}
 use Rattle.dav_folder.specs.declared.opening.Opened.{Opened}
 use Rattle.dav_keep.specs.Images.{StandForImage}
 use Rattle.dav_keep.specs.Loading.{first_image}
+use Rattle.dav_last.specs.Batches.{unsynced_of, synced_of}
 use Rattle.dav_last.specs.Slots.{last_in}
+use Rattle.dav_last.specs.declared.last_batch.LastBatch.{LastBatch}
 use Rattle.dav_last.specs.declared.reading.Last.{Last}
 use Rattle.dav_last.specs.declared.reading.Last.TheVariants.{Nothing, Unreadable, Number}
 use Rattle.dav_memls.specs.MemLs.{locks_of}
 use Rattle.dav_memls.specs.declared.memory_locks.MemLs.{MemLs}
 use Rattle.dav_pieces.specs.declared.piece.Piece.{Piece}
+use Rattle.dav_rows.specs.Contents.{Contents}
 use Rattle.dav_rows.specs.Creating.{first}
 use Rattle.dav_rows.specs.declared.change.Change.{Change}
-use Rattle.dav_rows_files.specs.Starting.{IsVacant}
+use Rattle.dav_rows_files.specs.Starting.{Keeps, IsVacant}
+use Rattle.dav_seal.specs.Seals.{IsSealed}
 use Rattle.dav_server.specs.Keeping.{snapshot_of, RunsAndKeeps, StopsAfterKept}
 use Rattle.dav_server.specs.State.{Rules, ServerState, first_rules, state_of, store_in}
 use Rattle.dav_server.specs.Snapshots.{state_at}
@@ -32,6 +36,7 @@ use Rattle.dav_tree.specs.declared.medium.Medium.{Ghosts}
 use Rattle.dav_tree.specs.declared.tree_fs.TreeFs.{TreeFs}
 use Rattle.sqlite.specs.Recovery as files
 use Rattle.sqlite_disk.specs.declared.Disk as disk
+use Rattle.sqlite_wal.specs.Reads.{AreClean}
 use Rattle.sqlite_trees.specs.declared.store.Store as store
 
 -- the rules of a server with these options
@@ -109,6 +114,14 @@ module _ {S M : Type 0} {rows : store.Ghosts S} {g : Ghosts M (List Piece)} wher
 
   abbrev pub FindsFirst : files.Image → List ℕ → Option ℕ → Opened S M (List Piece) rows g → Type 0
   FindsFirst left file quota = FindsNew left file (option_map Some quota)
+
+  -- the tables that the files held are sealed under the key that was found
+  abbrev pub HeldSealed : files.Image → Opened S M (List Piece) rows g → Type 0
+  HeldSealed left opened = (tables : Contents) → Keeps left tables → HasCleanDatabase opened.folder → IsSealed opened.key tables
+
+  -- what is opened is not older than the files of the number said, which held this, if their disks are clean now
+  abbrev pub OpensUpToDate : {L : Type 0} {l : disk.Ghosts L} → files.Image → Opened S M (List Piece) rows g → LastBatch L l → Type 0
+  OpensUpToDate {l = l} said opened last = AreClean l (unsynced_of last) (synced_of last) → IsNotOlder opened.key opened.last said.log said.db
 
   -- ---- what a run leaves in the keeper
 

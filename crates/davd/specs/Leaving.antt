@@ -5,9 +5,13 @@ use Rattle.std.specs.Option.{option_map}
 use Rattle.dav_data.specs.declared.data_file.DataFile.{DataFile}
 use Rattle.dav_folder.specs.Files.{KeptStore, kept_at, Hold, Leave, LeaveWhole, LeaveEither}
 use Rattle.dav_folder.specs.Lasting.{At, IsSameKept}
+use Rattle.dav_last.specs.Batches.{Survives}
+use Rattle.dav_last.specs.declared.last_batch.LastBatch.{LastBatch}
 use Rattle.dav_memls.specs.MemLs.{locks_of}
 use Rattle.dav_pieces.specs.declared.piece.Piece.{Piece}
-use Rattle.dav_rows_files.specs.Starting.{IsVacant}
+use Rattle.dav_rows.specs.Contents.{Contents}
+use Rattle.dav_rows_files.specs.Starting.{Keeps, IsVacant}
+use Rattle.dav_seal.specs.Seals.{IsSealed}
 use Rattle.dav_server.specs.Batches.{Exchange}
 use Rattle.dav_server.specs.Exchanges.{bytes_out, InOrder, StopsBy}
 use Rattle.dav_server.specs.Keeping.{snapshot_of, IsAnsweredAndSaved, AreSavedRun, RunsAndSaves, LeadThrough}
@@ -42,10 +46,14 @@ module _ {E : Type 0} {e : disk.Ghosts E} (g : Ghosts (DataFile E e) (List Piece
     pub unchanged : IsSameKept snapshot now
     pub left : IsLeft (kept_at snapshot)
 
-  -- A run to the end of the input, after which the log is not copied into the database file.
+  -- A run to the end of the input, after which the log is not copied into the database file, or the number of the last batch is not on the disk.
   pub record RunsWithLog (old : ServerState) (input input' output output' : Option (List ℕ)) : Type 0 where
     pub last : Serving g
     pub run : RunsAndSaves (store_of {g = g}) honest_of rules old (state_now last) input input' output output'
+
+-- whatever a crash leaves of the files holds this store, also without the log of the database; and the files of the number name its batch, or a later one
+abbrev pub LeaveNumbered : {D E L : Type 0} {d : disk.Ghosts D} {e : disk.Ghosts E} {l : disk.Ghosts L} → FileStore D d × DataFile E e → LastBatch L l → KeptStore → Type 0
+LeaveNumbered files number kept = LeaveWhole files kept × Survives kept.batch number
 
 -- `D` is the disk of the database, and `E` that of the data file
 module _ {D E : Type 0} {d : disk.Ghosts D} {e : disk.Ghosts E} (g : Ghosts (DataFile E e) (List Piece)) (rules : Rules) where
@@ -63,11 +71,12 @@ module _ {D E : Type 0} {d : disk.Ghosts D} {e : disk.Ghosts E} (g : Ghosts (Dat
   -- ---- runs from this state; `If` is what has to hold at the start for the run to be kept
 
   module _ (If : Type 0) (old : ServerState) where
-    -- a run to the end of the input; whatever a crash leaves of the files then has all that was kept, also without the log
-    pub record RunsAndLeaves (files : FileStore D d × DataFile E e) (input input' output output' : Option (List ℕ)) : Type 0 where
+    -- a run to the end of the input; whatever a crash leaves of the files then has all that was kept, also without the log, and the number of the last batch
+    pub record RunsAndLeaves {L : Type 0} {l : disk.Ghosts L} (files : FileStore D d × DataFile E e) (number : LastBatch L l)
+        (input input' output output' : Option (List ℕ)) : Type 0 where
       pub last : Serving g
       pub run : RunsAndSaves (store_of {g = g}) honest_of rules old (state_now last) input input' output output'
-      pub leaves : If → LeavesAfter g rules run.exchanges old last (LeaveWhole files)
+      pub leaves : If → LeavesAfter g rules run.exchanges old last (LeaveNumbered files number)
 
     -- one more batch is served and kept after these exchanges
     pub record LeavesLast (exchanges : List Exchange) (mid : ServerState) (last : Serving g) (files : FileStore D d × DataFile E e) : Type 0 where
@@ -96,21 +105,17 @@ module _ {D E : Type 0} {d : disk.Ghosts D} {e : disk.Ghosts E} (left : database
   HeldAStore = IsClean (view files.0) × (((kept : KeptStore) × Hold left file kept) ⊎ IsVacant left)
 
   -- A run begins with what the files held, or with a new store if they had no table, and with this quota. If the data file is honest, the files of the store
-  -- have their bytes, and a new store is one whose data file had none.
+  -- have their bytes, and a new store is one whose data file had none. The tables that the files held are sealed under the key that the run has.
   pub record BeginsWith (quota : Option ℕ) {g : Ghosts (DataFile E e) (List Piece)} (first : At g) : Type 0 where
     pub kept : (kept : KeptStore) → IsClean (view files.0) → Hold left file kept → honest_of first.store ≡ true → kept_at first ≡ kept
     pub new : IsClean (view files.0) → IsVacant left → honest_of first.store ≡ true → kept_at first ≡ first_kept
     pub empty : IsClean (view files.0) → IsVacant left → honest_of first.store ≡ true → file ≡ []
     pub limit : HeldAStore → (memory_of first.store).limit ≡ option_map Some quota
+    pub key : ℕ
+    pub sealed : (tables : Contents) → IsClean (view files.0) → Keeps left tables → IsSealed key tables
 
   module _ (g : Ghosts (DataFile E e) (List Piece)) (rules : Rules) (quota : Option ℕ) where
-    -- a run goes on from what the files held, and what a crash leaves of them then
-    pub record GoesOn (input input' output output' : Option (List ℕ)) : Type 0 where
-      pub first : At g
-      pub begins : BeginsWith quota first
-      pub goes : RunsAndLeaves g rules HeldAStore (state_from first) files input input' output output'
-
-    -- a run that goes on from what the files held, after which the log is not copied into the database file
+    -- a run that goes on from what the files held, after which the log is not copied into the database file, or the number is not on the disk
     pub record GoesOnWithLog (input input' output output' : Option (List ℕ)) : Type 0 where
       pub first : At g
       pub begins : BeginsWith quota first
@@ -121,3 +126,12 @@ module _ {D E : Type 0} {d : disk.Ghosts D} {e : disk.Ghosts E} (left : database
       pub first : At g
       pub begins : BeginsWith quota first
       pub stops : StopsAndLeaves g rules HeldAStore (state_from first) files output output'
+
+-- `number` is that of the last batch, at the end
+module _ {D E L : Type 0} {d : disk.Ghosts D} {e : disk.Ghosts E} {l : disk.Ghosts L} (left : database.Image) (file : List ℕ) (files : FileStore D d × DataFile E e)
+    (number : LastBatch L l) (g : Ghosts (DataFile E e) (List Piece)) (rules : Rules) (quota : Option ℕ) where
+  -- a run goes on from what the files held, and what a crash leaves of them then
+  pub record GoesOn (input input' output output' : Option (List ℕ)) : Type 0 where
+    pub first : At g
+    pub begins : BeginsWith left file files quota first
+    pub goes : RunsAndLeaves g rules (HeldAStore left file files) (state_from first) files number input input' output output'

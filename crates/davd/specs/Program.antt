@@ -10,6 +10,7 @@ use Rattle.dav_memls.specs.declared.memory_locks.MemLs.{MemLs}
 use Rattle.dav_server.specs.Exchanges.{Runs}
 use Rattle.dav_server.specs.State.{Rules, ServerState, first_rules, first_state}
 use Rattle.dav_data.specs.declared.data_file.DataFile.{DataFile}
+use Rattle.dav_last.specs.declared.last_batch.LastBatch.{LastBatch}
 use Rattle.dav_pieces.specs.declared.piece.Piece.{Piece}
 use Rattle.sqlite.specs.Recovery as database
 use Rattle.sqlite_disk.specs.declared.Disk as disk
@@ -17,7 +18,7 @@ use Rattle.sqlite_store.specs.declared.store.FileStore.{FileStore}
 use Rattle.davd.specs.Leaving.{GoesOn, GoesOnWithLog, GoesOnAndStops}
 use Rattle.davd.specs.Options.{OptionsValue, options_of}
 use Rattle.davd.specs.declared.program.Stopped.{Stopped}
-use Rattle.davd.specs.declared.program.Stopped.TheVariants.{Usage, Stream, Memory, Refused, InUse, Disk, Full, NotKept, Damaged, WithLog}
+use Rattle.davd.specs.declared.program.Stopped.TheVariants.{Usage, Stream, Memory, Refused, InUse, Disk, Full, NotKept, Damaged, WithLog, Unnumbered}
 
 -- ---- runs in memory
 
@@ -57,12 +58,7 @@ SayFolder arguments options = (options_of arguments ≡ Some options) × (option
 -- `left` and `file` are what the files of its database and its data file held
 module _ {D E : Type 0} (d : disk.Ghosts D) {e : disk.Ghosts E} (medium : Ghosts (DataFile E e) (List Piece)) (left : database.Image) (file : List ℕ)
     (options : OptionsValue) where
-  -- a run goes on from what they held
-  pub record ServesFolder (input input' output output' : Option (List ℕ)) : Type 0 where
-    pub files : FileStore D d × DataFile E e
-    pub goes_on : GoesOn left file files medium (rules_in options) options.quota input input' output output'
-
-  -- such a run, after which the log is not copied into the database file
+  -- such a run, after which the log is not copied into the database file, or the number of the last batch is not on the disk
   pub record ServesWithLog (input input' output output' : Option (List ℕ)) : Type 0 where
     pub files : FileStore D d × DataFile E e
     pub goes_on : GoesOnWithLog left file files medium (rules_in options) options.quota input input' output output'
@@ -71,6 +67,13 @@ module _ {D E : Type 0} (d : disk.Ghosts D) {e : disk.Ghosts E} (medium : Ghosts
   pub record StopsInFolder (output output' : Option (List ℕ)) : Type 0 where
     pub files : FileStore D d × DataFile E e
     pub stops : GoesOnAndStops left file files medium (rules_in options) options.quota output output'
+
+-- a run goes on from what they held; `L` is the disk of the number of the last batch
+pub record ServesFolder {D E L : Type 0} (d : disk.Ghosts D) (l : disk.Ghosts L) {e : disk.Ghosts E} (medium : Ghosts (DataFile E e) (List Piece))
+    (left : database.Image) (file : List ℕ) (options : OptionsValue) (input input' output output' : Option (List ℕ)) : Type 0 where
+  pub files : FileStore D d × DataFile E e
+  pub number : LastBatch L l
+  pub goes_on : GoesOn left file files number medium (rules_in options) options.quota input input' output output'
 
 -- nothing is read or written
 abbrev pub HasNotBegun : {I O : Type 0} → I → I → O → O → Type 0
@@ -84,7 +87,8 @@ IsNotUsage stopped = stopped ≡ Usage → ⊥
 
 -- the exit status: 0 at the end of the input, 2 for wrong arguments, 3 if a stream failed or memory ran out; over a folder 4 if it is not one of a store,
 -- 5 if it is in use, 6 if its disk fails, 7 if the disk is full, and 8 if a batch is not kept for another reason; 1 if a check
--- has found a damaged file; 9 at the end of the input if the log is not copied into the database file
+-- has found a damaged file; 9 at the end of the input if the log is not copied into the database file, and 10 if the number of the last batch is not on
+-- the disk
 abbrev pub status_of : Result (Unit {0}) Stopped → ℕ
 status_of (Ok done) = 0
 status_of (Err Usage) = 2
@@ -97,3 +101,4 @@ status_of (Err Full) = 7
 status_of (Err NotKept) = 8
 status_of (Err Damaged) = 1
 status_of (Err WithLog) = 9
+status_of (Err Unnumbered) = 10

@@ -10,11 +10,12 @@ ghost use Rattle.dav_folder.specs.Opening.{AreOnlyRead};
 ghost use Rattle.dav_folder.specs.Reading.{ReadsImage, IsEmptyIfHonest};
 ghost use Rattle.dav_keep.specs.Images.{Image, StandForImage};
 ghost use Rattle.dav_keep.specs.Loading.{IsWholeImage};
-ghost use Rattle.dav_last.specs.Batches.{number_of};
+ghost use Rattle.dav_last.specs.Batches.{number_of, key_of};
 ghost use Rattle.dav_rows.specs.Contents.{Contents};
 ghost use Rattle.dav_rows.specs.Creating.{first};
 ghost use Rattle.dav_rows_files.specs.Starting.{Keeps, IsVacant};
-ghost use Rattle.davd.specs.Folder.{FindsKept, FindsFirst, FindsHeld, FindsNew, MakesFirst, IsNotOlder};
+ghost use Rattle.dav_seal.specs.Seals.{IsSealed};
+ghost use Rattle.davd.specs.Folder.{FindsKept, FindsFirst, FindsHeld, FindsNew, HeldSealed, MakesFirst, IsNotOlder, OpensUpToDate};
 ghost use Rattle.davd.specs.Program.{IsNotUsage};
 
 use crate::files::{Absent, DATA, DATABASE, LAST, empty_reserve, expect_files, make_folder};
@@ -57,8 +58,8 @@ struct Opening {
 /// the disk is full, it is emptied, and the database has its room. `last` and `last-wal` have the number of the last batch.
 /// `held` stands for what the files held.
 ///
-/// If they held a store, it is found. If they held no table, a new store is found. Everything is read and judged before
-/// anything is written. A store of an earlier batch than that number is opened only if `accepts_loss`.
+/// If they held a store, it is found, and its rows have the seal that was kept with them. If they held no table, a new store
+/// is found. Everything is read and judged before anything is written. A store of an earlier batch than that number is opened only if `accepts_loss`.
 ///
 /// Errors: `Refused` if a file of the store is missing, or the folder is not one of a store, is damaged or has lost
 /// batches; `InUse` if another process has it open; `Disk` if it cannot be read or written; `Memory`.
@@ -71,7 +72,10 @@ pub fn open_folder<R: Start, T: Start, N: Start>(
 ) -> Result<(OpenedFiles<R, T>, LastBatch<FileFrom<N>>), Stopped>
     ensures kept { IfOk result (λ found. FindsKept (image_at R.Start) T.Start.db quota found.0) }
     ensures new { IfOk result (λ found. FindsFirst (image_at R.Start) T.Start.db quota found.0) }
+    ensures sealed { IfOk result (λ found. HeldSealed (image_at R.Start) found.0) }
     ensures last { IfOk result (λ found. number_of found.1 ≡ batch_of found.0.folder) }
+    ensures key { IfOk result (λ found. key_of found.1 ≡ found.0.key) }
+    ensures up_to_date { IfOk result (λ found. accepts_loss ≡ false → OpensUpToDate (image_at N.Start) found.0 found.1) }
     ensures err { IfErr result IsNotUsage }
 {
     make_folder(rt, folder)?;
@@ -110,6 +114,7 @@ fn open_pairs<R: Start, T: Start, L: Disk>(
     requires last { IsTrue (L.Disk.is_usable last.old.db) }
     ensures kept { IfOk result (FindsHeld (image_at R.Start) T.Start.db how.limit) }
     ensures new { IfOk result (FindsNew (image_at R.Start) T.Start.db how.limit) }
+    ensures sealed { IfOk result (HeldSealed (image_at R.Start)) }
     ensures batch { IfOk result (λ opened. batch_of opened.folder ≡ opened.last) }
     ensures up_to_date { IfOk result (λ opened. how.accepts_loss ≡ false → AreClean L.Disk last.new.log last.new.db
         → IsNotOlder opened.key opened.last (L.Disk.seen last.old.log) (L.Disk.seen last.old.db)) }
@@ -149,6 +154,7 @@ fn open_over<D: Disk + Drop, E: Disk + Drop, L: Disk>(
     requires last { IsTrue (L.Disk.is_usable last.old.db) }
     ensures kept { IfOk result (FindsHeld (image_of D.Disk pairs.0) (E.Disk.seen pairs.1.db) how.limit) }
     ensures new { MakesFirst changes.now → IfOk result (FindsNew (image_of D.Disk pairs.0) (E.Disk.seen pairs.1.db) how.limit) }
+    ensures sealed { IfOk result (HeldSealed (image_of D.Disk pairs.0)) }
     ensures batch { IfOk result (λ opened. batch_of opened.folder ≡ opened.last) }
     ensures up_to_date { IfOk result (λ opened. how.accepts_loss ≡ false → AreClean L.Disk last.new.log last.new.db
         → IsNotOlder opened.key opened.last (L.Disk.seen last.old.log) (L.Disk.seen last.old.db)) }
@@ -193,6 +199,8 @@ fn read_up_to_date<D: Disk, E: Disk + Drop, L: Disk>(
         → IfOk result (λ found. AreClean D.Disk files.new.log files.new.db → ReadsImage (E.Disk.seen disk) how.limit image (first changes.now) found) }
     ensures empty { IsVacant (image_of D.Disk files.old)
         → IfOk result (λ found. AreClean D.Disk files.new.log files.new.db → IsEmptyIfHonest found (E.Disk.seen disk)) }
+    ensures sealed { (tables : Contents) → Keeps (image_of D.Disk files.old) tables
+        → IfOk result (λ found. AreClean D.Disk files.new.log files.new.db → IsSealed found.key tables) }
     ensures only { AreOnlyRead D.Disk files.old files.new }
     ensures up_to_date { IfOk result (λ found. how.accepts_loss ≡ false → AreClean L.Disk last.new.log last.new.db
         → IsNotOlder found.key found.last (L.Disk.seen last.old.log) (L.Disk.seen last.old.db)) }

@@ -49,6 +49,8 @@ pub enum Stopped {
     Damaged,
     /// Each batch was kept, and at the end the log could not be copied into the database file.
     WithLog,
+    /// Each batch was kept, and at the end the number of the last one could not be brought to the disk.
+    Unnumbered,
 }
 
 /// Why a folder is refused.
@@ -68,6 +70,8 @@ pub enum Refusal {
     Older,
     /// The number of the last batch cannot be read, or is that of another folder.
     NoNumber,
+    /// There are files of a backup that did not end.
+    Unfinished,
 }
 
 impl From<io::Error> for Stopped {
@@ -128,7 +132,7 @@ pub fn run_program<R: Start, T: Start, N: Start, I: Read, O: Write>(
     ensures served { HaveNoFolder (texts arguments.now) → OnOk result (ServesAll ⟦<InMemory as Medium>⟧ (texts arguments.now)
         (I.remaining input.old) (I.remaining input.new) (O.contents output.old) (O.contents output.new)) }
     ensures kept { (options : OptionsValue) → SayFolder (texts arguments.now) options
-        → OnOk result (ServesFolder ⟦<FileFrom<R> as Disk>⟧ ⟦<FolderData<T> as Medium>⟧ (image_at R.Start) T.Start.db options
+        → OnOk result (ServesFolder ⟦<FileFrom<R> as Disk>⟧ ⟦<FileFrom<N> as Disk>⟧ ⟦<FolderData<T> as Medium>⟧ (image_at R.Start) T.Start.db options
         (I.remaining input.old) (I.remaining input.new) (O.contents output.old) (O.contents output.new)) }
     ensures stopped { (options : OptionsValue) → SayFolder (texts arguments.now) options
         → OnErr result (HasNotBegun input.old input.new output.old output.new
@@ -227,6 +231,7 @@ fn exit_status(stopped: &Stopped) -> u8
         Stopped::NotKept => 8,
         Stopped::Damaged => 1,
         Stopped::WithLog => 9,
+        Stopped::Unnumbered => 10,
     }
 }
 
@@ -250,6 +255,8 @@ fn line_of(stopped: &Stopped) -> &'static str {
         Stopped::Damaged => "davd: a file is damaged",
         Stopped::WithLog =>
             "davd: everything is kept, but meta.db-wal could not be copied into meta.db: keep both files together",
+        Stopped::Unnumbered =>
+            "davd: everything is kept, but last and last-wal could not be written: the next start may not notice an older meta.db",
     }
 }
 
@@ -268,6 +275,8 @@ fn refusal_of(refusal: Refusal) -> &'static str {
             "davd: data is shorter than meta.db says, so nothing was changed: restore meta.db, meta.db-wal and data from one backup",
         Refusal::Older =>
             "davd: meta.db and meta.db-wal have lost the last batches, so nothing was changed: restore the folder from a backup, or serve what is left with -accept-loss",
+        Refusal::Unfinished =>
+            "davd: a backup to this folder did not end, so nothing was changed: make a new one in another folder",
         Refusal::NoNumber =>
             "davd: last and last-wal are damaged or of another folder, so nothing was changed: restore the folder from a backup, or serve it with -accept-loss",
     }

@@ -1,5 +1,5 @@
 //! Serving over a store in a folder.
-ghost use Rattle.std.specs.Prelude.{◌≡◌, ◌≤◌, ◌⊎◌, IfOk, OnOk, OnErr, IfErr};
+ghost use Rattle.std.specs.Prelude.{◌≡◌, ◌⊎◌, true, IsOk, IfOk, OnOk, OnErr, IfErr};
 ghost use Rattle.std.specs.Io.KnownBytes.{IsAtEnd};
 ghost use Rattle.sqlite.specs.WalFiles.{image_at};
 ghost use Rattle.sqlite_store.specs.FileStore.{view};
@@ -7,7 +7,7 @@ ghost use Rattle.sqlite_trees.specs.View.{IsClean};
 ghost use Rattle.dav_folder.specs.Folders.{batch_of};
 ghost use Rattle.dav_folder.specs.Lasting.{HasCleanDatabase};
 ghost use Rattle.dav_folder.specs.Opening.{opened_at};
-ghost use Rattle.dav_last.specs.Batches.{number_of};
+ghost use Rattle.dav_last.specs.Batches.{number_of, is_usable};
 ghost use Rattle.davd.specs.Folder.{IsOpenedAsKept, ServesOpened, StopsOpened, rules_for, state_from};
 ghost use Rattle.davd.specs.Leaving.{RunsAndLeaves, RunsWithLog, StopsAndLeaves, GoesOn, GoesOnWithLog, GoesOnAndStops};
 ghost use Rattle.davd.specs.Program.{IsNotUsage};
@@ -41,19 +41,21 @@ pub struct FolderOptions {
     pub accepts_loss: bool,
 }
 
-/// How serving over a folder ended, and the files of the database and the data file that it leaves.
-pub type Ended<R, T> = (
-    Result<(), Stopped>,
-    FolderFiles<FileFrom<R>, Reserved<FileFrom<T>, FileFrom<T>>>,
-);
+/// How serving over a folder ended, and what it leaves: the files of the database and the data file, and those of the number
+/// of the last batch.
+pub type Ended<R, T, N> = EndedOver<FileFrom<R>, Reserved<FileFrom<T>, FileFrom<T>>, FileFrom<N>>;
+
+/// The same, over such disks.
+type EndedOver<D, E, L> = (Result<(), Stopped>, FolderFiles<D, E>, LastBatch<L>);
 
 /// Opens the store of a folder, or makes a new one, and serves the batches of the input over it, and keeps each before its
-/// answer is written, until the input ends. Then the log of the database is copied into its file, and the files of the
-/// folder are given up. `held` stands for what the files of the folder held.
+/// answer is written, until the input ends. Then the log of the database is copied into its file, the number of the last
+/// batch is brought to the disk, and the files of the folder are given up. `held` stands for what the files of the folder held.
 ///
 /// If they held a store, the run goes on from it; if they held no table, from a new one. At its end a crash leaves what was
 /// in the server after some of the batches, with the time and the number of then, and the later ones have changed nothing
-/// of what is kept; and the database is whole without its log. After an error it leaves this of the batches that were
+/// of what is kept; the database is whole without its log, and the files of the number name that number or a later one.
+/// After an error it leaves this of the batches that were
 /// answered, or what was in the server at last.
 ///
 /// Errors at the start are those of `open_folder`, and later ones those of `serve_to_the_end`.
@@ -65,9 +67,9 @@ pub fn serve_folder<R: Start, T: Start, N: Start, I: Read, O: Write>(
     options: FolderOptions,
     input: &mut I,
     output: &mut O,
-) -> Result<Ended<R, T>, Stopped>
-    ensures served { IfOk result (λ ended. OnOk ended.0 (GoesOn (image_at R.Start) T.Start.db ended.1 ⟦<FolderData<T> as Medium>⟧ (rules_for options.server) quota
-        (I.remaining input.old) (I.remaining input.new) (O.contents output.old) (O.contents output.new))) }
+) -> Result<Ended<R, T, N>, Stopped>
+    ensures served { IfOk result (λ ended. OnOk ended.0 (GoesOn (image_at R.Start) T.Start.db ended.1 ended.2
+        ⟦<FolderData<T> as Medium>⟧ (rules_for options.server) quota (I.remaining input.old) (I.remaining input.new) (O.contents output.old) (O.contents output.new))) }
     ensures stopped { IfOk result (λ ended. OnErr ended.0 (GoesOnAndStops (image_at R.Start) T.Start.db ended.1 ⟦<FolderData<T> as Medium>⟧
         (rules_for options.server) quota (O.contents output.old) (O.contents output.new)
         ⊎ GoesOnWithLog (image_at R.Start) T.Start.db ended.1 ⟦<FolderData<T> as Medium>⟧ (rules_for options.server) quota
@@ -90,7 +92,8 @@ pub fn serve_folder<R: Start, T: Start, N: Start, I: Read, O: Write>(
 /// of the database into its file, and brings the number of the last batch to the disk. Then it gives up the files of the
 /// folder.
 ///
-/// Errors: `WithLog` if the log cannot be copied; otherwise those of `serve_opened`, and then nothing more is written.
+/// Errors: `WithLog` if the log cannot be copied; `Unnumbered` if the number cannot be brought to the disk; otherwise those
+/// of `serve_opened`, and then nothing more is written.
 pub fn serve_to_the_end<D: Disk + Drop, E: Roomy + Drop, L: Disk + Drop, I: Read, O: Write>(
     alloc: Global,
     opened: Opened<FileStore<D>, DataFile<E>>,
@@ -98,10 +101,10 @@ pub fn serve_to_the_end<D: Disk + Drop, E: Roomy + Drop, L: Disk + Drop, I: Read
     options: Options,
     input: &mut I,
     output: &mut O,
-) -> (Result<(), Stopped>, FolderFiles<D, E>)
-    requires { number_of last ≤ batch_of opened.folder }
+) -> EndedOver<D, E, L>
+    requires { number_of last ≡ batch_of opened.folder }
     ensures served { OnOk result.0 (RunsAndLeaves ⟦<DataFile<E> as Medium>⟧ (rules_for options) (IsOpenedAsKept opened)
-        (state_from (opened_at opened)) result.1 (I.remaining input.old) (I.remaining input.new) (O.contents output.old) (O.contents output.new)) }
+        (state_from (opened_at opened)) result.1 result.2 (I.remaining input.old) (I.remaining input.new) (O.contents output.old) (O.contents output.new)) }
     ensures stopped { OnErr result.0 (StopsAndLeaves ⟦<DataFile<E> as Medium>⟧ (rules_for options) (IsOpenedAsKept opened)
         (state_from (opened_at opened)) result.1 (O.contents output.old) (O.contents output.new)
         ⊎ RunsWithLog ⟦<DataFile<E> as Medium>⟧ (rules_for options) (state_from (opened_at opened))
@@ -116,16 +119,26 @@ pub fn serve_to_the_end<D: Disk + Drop, E: Roomy + Drop, L: Disk + Drop, I: Read
     match ended {
         Ok(()) => {
             let (copied, files) = close_folder(folder, store);
-            // If this fails, the next start may not notice that the database was replaced by an older one.
-            let _ = last.sync();
-            let ended = if copied {
-                Ok(())
-            } else {
-                Err(Stopped::WithLog)
-            };
-            (ended, files)
+            let ended = ended_by(copied, last.sync());
+            (ended, files, last)
         }
-        Err(stopped) => (Err(stopped), give_up(folder, store)),
+        Err(stopped) => (Err(stopped), give_up(folder, store), last),
+    }
+}
+
+/// Returns how serving ends at the end of the input, if the log was copied or not, and if this came of the sync of the
+/// number.
+fn ended_by(copied: bool, synced: io::Result<()>) -> Result<(), Stopped>
+    ensures copied { OnOk result (copied ≡ true) }
+    ensures synced { OnOk result (IsOk synced) }
+    ensures err { IfErr result IsNotUsage }
+{
+    if !copied {
+        return Err(Stopped::WithLog);
+    }
+    match synced {
+        Ok(()) => Ok(()),
+        Err(_) => Err(Stopped::Unnumbered),
     }
 }
 
@@ -148,12 +161,13 @@ pub fn serve_opened<S: Alter + Drop, D: Roomy + Drop, L: Disk + Drop, I: Read, O
     input: &mut I,
     output: &mut O,
 ) -> EndedOpen<S, D, L>
-    requires { number_of last ≤ batch_of opened.folder }
+    requires { number_of last ≡ batch_of opened.folder }
     ensures served { OnOk result.0 (ServesOpened L.Disk (rules_for options) opened result.1
         (I.remaining input.old) (I.remaining input.new) (O.contents output.old) (O.contents output.new)) }
     ensures stopped { OnErr result.0 (StopsOpened L.Disk (rules_for options) opened result.1
         (O.contents output.old) (O.contents output.new)) }
     ensures clean { HasCleanDatabase result.1.0 → HasCleanDatabase opened.folder }
+    ensures exact { is_usable result.2 ≡ true → number_of result.2 ≡ batch_of result.1.0 }
     ensures end { OnOk result.0 (IsAtEnd (I.remaining input.new)) }
     ensures err { IfErr result.0 IsNotUsage }
 {

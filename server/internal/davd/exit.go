@@ -15,7 +15,9 @@ var exitReasons = map[int]error{
 	6: ErrNoAccess,
 	7: ErrFull,
 	8: errors.New("the last batch could not be kept"),
-	9: errors.New("everything is kept, but meta.db needs its log"),
+
+	9:  errors.New("everything is kept, but meta.db needs its log"),
+	10: errors.New("everything is kept, but the number of the last batch may not be on the disk"),
 }
 
 // reasonOf returns why davd ended, or nil if its exit status does not say.

@@ -1,5 +1,7 @@
 use Rattle.std.proofs.Common.{subst}
-use Rattle.davd.specs.Folder.{FindsHeld, FindsNew}
+use Rattle.sqlite.specs.Recovery.{Image}
+use Rattle.davd.proofs.FreshFiles.{fresh_image}
+use Rattle.davd.specs.Folder.{FindsHeld, FindsNew, IsNotOlder}
 use Rattle.davd.proofs.folder.open_folder.Goals as goal
 
 pub returns-in-Ok-begin-clause-kept : goal.returns-in-Ok-begin-clause-kept
@@ -7,3 +9,10 @@ returns-in-Ok-begin-clause-kept g c = subst (λ limit. FindsHeld _ _ limit c.in-
 
 pub returns-in-Ok-begin-clause-new : goal.returns-in-Ok-begin-clause-new
 returns-in-Ok-begin-clause-new g c = subst (λ limit. FindsNew _ _ limit c.in-Ok.opened) c.limit_of.ensures c.in-Ok.ensures.new
+
+pub returns-in-Ok-begin-clause-up_to_date : goal.returns-in-Ok-begin-clause-up_to_date
+returns-in-Ok-begin-clause-up_to_date g c = λ strict clean.
+    let was = c.in_ok-last.last in let fresh = c.in_ok-last.ensures.fresh in
+    let held = fresh_image was.log was.db fresh.0 fresh.1 in
+    subst (λ (image : Image). IsNotOlder c.in-Ok.opened.key c.in-Ok.opened.last image.log image.db) held
+    (c.in-Ok.ensures.up_to_date strict (c.in-Ok-begin.ensures.clean clean))

@@ -1,8 +1,11 @@
-use Rattle.std.proofs.Common.{◌≡◌, ap, subst}
+use Rattle.std.proofs.Common.{◌≡◌, sym, ap, subst}
+use Rattle.dav_seal.specs.Seals.{IsSealed}
 use Rattle.sqlite.specs.Files.{image_of}
 use Rattle.sqlite_wal.specs.Reads.{AreClean}
 use Rattle.davd.proofs.Finding.{finds_held, finds_new}
 use Rattle.davd.specs.Folder.{FindsHeld, FindsNew}
+use Rattle.davd.proofs.Leaves.{passed_on}
+use Rattle.davd.specs.Program.{IsNotUsage}
 use Rattle.davd.proofs.folder.open_over.Goals as goal
 
 pub returns-clause-kept : goal.returns-clause-kept
@@ -24,3 +27,16 @@ returns-clause-new g c = λ first.
     subst (λ file. FindsNew (image_of g.D.Disk old) file c.args.how.limit c.in_ok-opened.opened) (ap g.E.Disk.seen c.new-disk.ensures.inner)
     (finds_new c.args.how.limit _ (image_of g.D.Disk old) (image_of g.D.Disk now) same (AreClean g.D.Disk now.log now.db) c.in-Ok.found c.in_ok-opened.opened
     opens.store opens.clean c.args.changes.now first read.new opens.new read.empty)
+
+pub returns-clause-sealed : goal.returns-clause-sealed
+returns-clause-sealed g c = λ tables keeps clean.
+    let opens = c.in_ok-opened.ensures in
+    subst (λ key. IsSealed key tables) (sym opens.key) (c.in-Ok.ensures.sealed tables keeps (opens.clean clean))
+
+pub returns-in_err-seed-clause-err : goal.returns-in_err-seed-clause-err
+returns-in_err-seed-clause-err g c =
+    passed_on c.from_residual-in_err-seed.result c.in_err-seed.field-0.0 IsNotUsage c.from_residual-in_err-seed.ensures.1 c.in_err-seed.ensures
+
+pub returns-in_err-empty_reserve-clause-err : goal.returns-in_err-empty_reserve-clause-err
+returns-in_err-empty_reserve-clause-err g c =
+    passed_on c.from_residual-in_err-empty_reserve.result c.in_err-empty_reserve.field-0.0 IsNotUsage c.from_residual-in_err-empty_reserve.ensures.1 c.in_err-empty_reserve.ensures
