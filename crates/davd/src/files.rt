@@ -17,6 +17,9 @@ pub const DATA: &str = "data";
 /// The number of the last batch of a store. The file that comes with it has the number a second time.
 pub const LAST: &str = "last";
 
+/// The directory in which a backup has its files until all of them are there.
+const PARTIAL: &str = "partial";
+
 /// A log of fewer bytes has no page: it has a header, that of a frame, and a page of 512 bytes or more.
 const MIN_LOG: u64 = 32 + 24 + 512;
 
@@ -43,6 +46,7 @@ fn sync_parent(rt: &HostRuntime, folder: &str) -> Result<(), Stopped>
 }
 
 /// Checks that no file of a store is missing that was there: a database has its data file, and bytes have their database.
+/// Files of a backup that did not end have none.
 ///
 /// Errors: `Refused` if one is missing; `Disk`; `Memory`.
 pub fn expect_files(rt: &HostRuntime, folder: &str) -> Result<(), Stopped>
@@ -53,27 +57,31 @@ pub fn expect_files(rt: &HostRuntime, folder: &str) -> Result<(), Stopped>
     let file = size_of(rt, folder, DATA)?;
     let last = size_of(rt, folder, LAST)?;
     let other = size_of(rt, folder, "last-wal")?;
-    match missing(database, log, file, (last, other)) {
+    let is_partial = size_of(rt, folder, PARTIAL)?.is_some();
+    match missing(database, log, file, (last, other), is_partial) {
         Some(refusal) => Err(Stopped::Refused(refusal)),
         None => Ok(()),
     }
 }
 
 /// Returns what is missing beside files with so many bytes, if something is. A file that is not there has no size.
-/// `number` are the two files of the last number.
+/// `number` are the two files of the last number, and `is_partial` says whether there is the directory of a backup.
 fn missing(
     database: Option<u64>,
     log: Option<u64>,
     file: Option<u64>,
     number: (Option<u64>, Option<u64>),
+    is_partial: bool,
 ) -> Option<Refusal>
-    ensures { result ≡ missing_of database log file number }
+    ensures { result ≡ missing_of database log file number is_partial }
 {
     let has_database = database.unwrap_or(0) > 0;
     let has_number = number.0.unwrap_or(0) > 0 || number.1.unwrap_or(0) > 0;
     let has_rest = log.unwrap_or(0) >= MIN_LOG || file.unwrap_or(0) > 0 || has_number;
     if has_database && file.is_none() {
         Some(Refusal::NoData)
+    } else if !has_database && is_partial {
+        Some(Refusal::Unfinished)
     } else if !has_database && has_rest {
         Some(Refusal::NoDatabase)
     } else {
