@@ -3,7 +3,9 @@ import contextlib
 import hashlib
 import pathlib
 import sqlite3
+import subprocess
 
+from connection import Wrong
 from harness import Group, Starter
 from kept import LOCK, PATCH, check, start
 from server import PROCESSES, Server, expect
@@ -91,7 +93,7 @@ def moved(starter: Starter):
 DAMAGED = "davd: meta.db or meta.db-wal is damaged, so nothing was changed: restore the folder from a backup\n"
 FOREIGN = "davd: meta.db is not a database of davd, so nothing was changed: choose another folder\n"
 
-DAMAGE = [
+STRUCTURE = [
     ("a part of no resource", "UPDATE extent SET resource = 9"),
     ("a part that cannot be read", "UPDATE extent SET pieces = x'00ff'"),
     ("no part of a file", "DELETE FROM extent"),
@@ -108,11 +110,33 @@ DAMAGE = [
     ("no state", "DELETE FROM state"),
     ("no table of locks", "DROP TABLE lock"),
 ]
-"""Rows that no store has: what they are, and the change that makes them of the rows of `damage`."""
+"""Rows that no store has: what they are, and the change that makes them of the rows of `stored`."""
+
+OTHER = [
+    ("a file of another name", "UPDATE resource SET name = 'b' WHERE number = 2"),
+    ("a file below another directory", "UPDATE resource SET parent = 0 WHERE number = 2"),
+    ("a file of another version", "UPDATE resource SET version = version - 1 WHERE number = 2"),
+    ("a file that was made later", "UPDATE resource SET created = created + 1 WHERE number = 2"),
+    ("a file that was changed earlier", "UPDATE resource SET modified = modified - 1 WHERE number = 2"),
+    ("a directory more", "INSERT INTO resource VALUES (9, 0, 'more', 1, 0, 1, 1, 1)"),
+    ("a part that ends with another bit", "UPDATE extent SET pieces = flipped(pieces)"),
+    ("another value of a property", "UPDATE property SET element = CAST(replace(CAST(element AS TEXT), 'red', 'bed') AS BLOB)"),
+    ("a property less", "DELETE FROM property"),
+    ("a lock less", "DELETE FROM lock"),
+    ("a lock on another path", "UPDATE lock SET path = '/d/b'"),
+    ("another number of changes", "UPDATE state SET counter = counter + 1"),
+    ("another time", "UPDATE state SET time = time + 1"),
+    ("another batch", "UPDATE state SET batch = batch + 1"),
+    ("another key", "UPDATE state SET digest_key = digest_key + 1"),
+    ("another seal", "UPDATE note SET value = zeroblob(80)"),
+    ("no seal", "DELETE FROM note"),
+    ("a second note", "INSERT INTO note VALUES (1, 1, 0, x'00')"),
+]
+"""Rows that another store could have: what they are, and the change that makes them of the rows of `stored`."""
 
 
-@GROUP.check("a folder with rows that no store has is refused, and left as it was")
-def damage(starter: Starter):
+def stored(starter: Starter) -> bytes:
+    """Makes a file with a property and a lock, stops the server, and returns the whole database."""
     server = start(starter)
     server.ask("MKCOL", "/d", status=201)
     server.ask("PUT", "/d/a", b"12345", status=201)
@@ -120,15 +144,41 @@ def damage(starter: Starter):
     lock(server, "/d/a")
     server.stop()
     query(starter, "PRAGMA wal_checkpoint(TRUNCATE)")
+    return database_of(starter).read_bytes()
+
+
+def refused(starter: Starter, good: bytes, what: str, *changes: str):
+    """With these changes of its rows the folder is refused, and left as it was."""
     database = database_of(starter)
-    good = database.read_bytes()
-    for what, change in DAMAGE:
-        database.write_bytes(good)
-        with contextlib.closing(sqlite3.connect(database)) as connection, connection:
-            connection.execute(change)
-        bad = hashlib.sha256(database.read_bytes()).digest()
-        checked = PROCESSES.run([starter.programs.davd, "--check", starter.folder / "kept"], seconds=30)
-        expect(what, (checked.returncode, checked.stdout), (4, FOREIGN if "DROP TABLE" in change else DAMAGED))
-        expect(f"whether the database is as it was with {what}", hashlib.sha256(database.read_bytes()).digest(), bad)
     database.write_bytes(good)
+    with contextlib.closing(sqlite3.connect(database)) as connection, connection:
+        connection.create_function("flipped", 1, lambda cell: cell[:-1] + bytes([cell[-1] ^ 1]))
+        for change in changes:
+            if connection.execute(change).rowcount == 0:
+                raise Wrong(f"{what}: {change} changes nothing")
+    bad = hashlib.sha256(database.read_bytes()).digest()
+    line = FOREIGN if "DROP TABLE lock" in changes else DAMAGED
+    checked = PROCESSES.run([starter.programs.davd, "--check", starter.folder / "kept"], seconds=30)
+    expect(what, (checked.returncode, checked.stdout), (4, line))
+    started = PROCESSES.run([starter.programs.davd, starter.folder / "kept"], seconds=30, stdin=subprocess.DEVNULL)
+    expect(f"a start with {what}", (started.returncode, started.stdout), (4, line))
+    expect(f"whether the database is as it was with {what}", hashlib.sha256(database.read_bytes()).digest(), bad)
+
+
+@GROUP.check("a folder with rows that no store has is refused, also without a seal, and left as it was")
+def structure(starter: Starter):
+    good = stored(starter)
+    for what, change in STRUCTURE:
+        refused(starter, good, what, change)
+        refused(starter, good, f"{what}, and no seal", change, "DROP TABLE note")
+    database_of(starter).write_bytes(good)
+    expect("the good folder", check(starter, "kept", 0), ["1 files, 5 bytes, 0 damaged"])
+
+
+@GROUP.check("a folder with the rows of another store is refused, and left as it was")
+def other(starter: Starter):
+    good = stored(starter)
+    for what, change in OTHER:
+        refused(starter, good, what, change)
+    database_of(starter).write_bytes(good)
     expect("the good folder", check(starter, "kept", 0), ["1 files, 5 bytes, 0 damaged"])

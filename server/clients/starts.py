@@ -1,17 +1,23 @@
 """Starts and checks of a folder of which a file is missing, empty, cut or damaged: each says what is wrong, and changes nothing."""
+import contextlib
 import hashlib
 import pathlib
 import random
 import shutil
+import sqlite3
 import subprocess
+import tarfile
 import time
 
 from harness import Group, Starter
-from kept import check, start
+from kept import ASKED, check, start
 from server import PROCESSES, Server, expect
 
 GROUP = Group("a folder with a file missing or damaged", is_shared=False)
 GROUPS = [GROUP]
+
+SIZES = (("/a", 5), ("/b", 70_000), ("/d/c", 300_000))
+"""The paths and the sizes of the files in a folder."""
 
 RESTORE = "so nothing was changed: restore meta.db, meta.db-wal and data from one backup\n"
 NO_DATABASE = f"davd: meta.db has no store, and the folder has bytes of one, {RESTORE}"
@@ -19,6 +25,7 @@ NO_DATA = f"davd: data is missing, {RESTORE}"
 SHORT_DATA = f"davd: data is shorter than meta.db says, {RESTORE}"
 DAMAGED = "davd: meta.db or meta.db-wal is damaged, so nothing was changed: restore the folder from a backup\n"
 FOREIGN = "davd: meta.db is not a database of davd, so nothing was changed: choose another folder\n"
+UNFINISHED = "davd: a backup to this folder did not end, so nothing was changed: make a new one in another folder\n"
 OLDER = ("davd: meta.db and meta.db-wal have lost the last batches, so nothing was changed: "
          "restore the folder from a backup, or serve what is left with -accept-loss\n")
 NO_NUMBER = ("davd: last and last-wal are damaged or of another folder, so nothing was changed: "
@@ -30,11 +37,16 @@ def sums(folder: pathlib.Path) -> dict[str, str]:
     return {file.name: hashlib.sha256(file.read_bytes()).hexdigest() for file in sorted(folder.iterdir())}
 
 
+def tree_of(folder: pathlib.Path) -> dict[str, str]:
+    """The digest of each file in a folder and below it."""
+    return {str(file): hashlib.sha256(file.read_bytes()).hexdigest() for file in sorted(folder.rglob("*")) if file.is_file()}
+
+
 def fill(server: Server):
     """Makes three files and a directory."""
     content = random.Random(1)
     server.ask("MKCOL", "/d", status=201)
-    for path, size in (("/a", 5), ("/b", 70_000), ("/d/c", 300_000)):
+    for path, size in SIZES:
         server.ask("PUT", path, content.randbytes(size), status=201)
 
 
@@ -188,6 +200,61 @@ def flipped_log(starter: Starter):
         whole_or_refused(starter, copy)
 
 
+FLIPS = 300
+"""How many bits of a file are flipped, one in a copy, or all if it has fewer."""
+
+
+def flipped_file(starter: Starter, name: str):
+    folder = copy_of(starter, filled(starter))
+    good = (folder / name).read_bytes()
+    bits = range(8 * len(good))
+    for bit in random.Random(5).sample(bits, min(FLIPS, len(bits))):
+        bad = bytearray(good)
+        bad[bit // 8] ^= 1 << bit % 8
+        (folder / name).write_bytes(bad)
+        before = sums(folder)
+        checked = run(starter, "--check", folder)
+        found = checked.returncode == 4 or (checked.returncode == 1 and "damaged: " in checked.stdout)
+        if not found:
+            expect(f"a check with bit {bit} flipped", (checked.returncode, checked.stdout), (0, WHOLE))
+        expect("the folder", sums(folder), before)
+
+
+for name in ("meta.db", "data", "last", "last-wal"):
+    GROUP.add(f"after a clean end each flipped bit of {name} is found, or all rows and files are the same", flipped_file, name)
+
+
+OLD = pathlib.Path(__file__).parent / "folders" / "version-1.tar.gz"
+"""A folder that an earlier release made, whose rows have no seal: files of `SIZES`, a property of /a, and a lock that has expired."""
+
+
+def counted(size: int) -> bytes:
+    """The bytes of a file in that folder."""
+    return (bytes(range(256)) * (size // 256 + 1))[:size]
+
+
+def tables(folder: pathlib.Path) -> list[str]:
+    with contextlib.closing(sqlite3.connect(folder / "meta.db")) as database:
+        return [name for name, in database.execute("SELECT name FROM sqlite_master WHERE type = 'table' ORDER BY name")]
+
+
+@GROUP.check("a folder of version 1 is read as it is, and is sealed at the first start")
+def version_1(starter: Starter):
+    folder = starter.folder / "kept"
+    with tarfile.open(OLD) as archive:
+        archive.extractall(folder)
+    whole(starter, folder)
+    expect("the tables before the start", "note" in tables(folder), False)
+    server = start(starter)
+    found = server.ask("PROPFIND", "/a", ASKED, fields=[("Depth", "0")], status=207).body
+    expect("whether the property is there", b"red" in found, True)
+    for path, size in SIZES:
+        expect(path, server.ask("GET", path, status=200).body, counted(size))
+    server.stop()
+    whole(starter, folder)
+    expect("the tables after the start", "note" in tables(folder), True)
+
+
 def older(starter: Starter) -> pathlib.Path:
     """A copy of a folder, whose database is of before a last file was made there."""
     folder = filled(starter)
@@ -245,6 +312,23 @@ def half_number(starter: Starter):
     copy = copy_of(starter, folder)
     without("last", "last-wal")(copy)
     whole(starter, copy)
+
+
+@GROUP.check("a backup that did not end is refused, whichever of its files have their names")
+def unfinished(starter: Starter):
+    folder = filled(starter)
+    names = ["data", "meta.db-wal", "last", "last-wal", "meta.db"]
+    for ended in range(len(names)):
+        backup = starter.folder / "backup"
+        (backup / "partial").mkdir(parents=True)
+        for place, name in enumerate(names):
+            shutil.copyfile(folder / name, backup / name if place < ended else backup / "partial" / name)
+        before = tree_of(backup)
+        for arguments in (["--check", backup], [backup]):
+            stopped = run(starter, *arguments)
+            expect(f"{arguments[0]} after {ended} files", (stopped.returncode, stopped.stdout), (4, UNFINISHED))
+            expect("the folder", tree_of(backup), before)
+        shutil.rmtree(backup)
 
 
 @GROUP.check("a check of a good folder changes nothing")
