@@ -124,15 +124,21 @@ OTHER = [
     ("a property less", "DELETE FROM property"),
     ("a lock less", "DELETE FROM lock"),
     ("a lock on another path", "UPDATE lock SET path = '/d/b'"),
-    ("another number of changes", "UPDATE state SET counter = counter + 1"),
-    ("another time", "UPDATE state SET time = time + 1"),
-    ("another batch", "UPDATE state SET batch = batch + 1"),
-    ("another key", "UPDATE state SET digest_key = digest_key + 1"),
-    ("another seal", "UPDATE note SET value = zeroblob(80)"),
-    ("no seal", "DELETE FROM note"),
-    ("a second note", "INSERT INTO note VALUES (1, 1, 0, x'00')"),
+    ("another number of changes", "UPDATE state SET counter = counter + 1 WHERE number = 0"),
+    ("another time", "UPDATE state SET time = time + 1 WHERE number = 0"),
+    ("another batch", "UPDATE state SET batch = batch + 1 WHERE number = 0"),
+    ("another key", "UPDATE state SET digest_key = digest_key + 1 WHERE number = 0"),
+    ("another seal", "UPDATE state SET counter = counter + 1 WHERE number = 1"),
+    ("another row for the seal", "UPDATE state SET number = 2 WHERE number = 1"),
+    ("a seal with a time", "UPDATE state SET time = 1 WHERE number = 1"),
+    ("no seal", "DELETE FROM state WHERE number = 1"),
+    ("a third row of the state", "INSERT INTO state VALUES (2, 0, 0, 0, 0)"),
 ]
 """Rows that another store could have: what they are, and the change that makes them of the rows of `stored`."""
+
+
+NO_SEAL = ("DROP TABLE note", "DELETE FROM state WHERE number = 1")
+"""The changes that make the rows those of version 1, which have no seal."""
 
 
 def stored(starter: Starter) -> bytes:
@@ -170,9 +176,21 @@ def structure(starter: Starter):
     good = stored(starter)
     for what, change in STRUCTURE:
         refused(starter, good, what, change)
-        refused(starter, good, f"{what}, and no seal", change, "DROP TABLE note")
+        refused(starter, good, f"{what}, and no seal", *NO_SEAL, change)
     database_of(starter).write_bytes(good)
     expect("the good folder", check(starter, "kept", 0), ["1 files, 5 bytes, 0 damaged"])
+
+
+@GROUP.check("a folder without the table of notes has its seal still, and gets the table again")
+def no_notes(starter: Starter):
+    good = stored(starter)
+    refused(starter, good, "no table of notes, and another time", "DROP TABLE note", "UPDATE state SET time = time + 1 WHERE number = 0")
+    database_of(starter).write_bytes(good)
+    query(starter, "DROP TABLE note")
+    expect("the folder", check(starter, "kept", 0), ["1 files, 5 bytes, 0 damaged"])
+    start(starter).stop()
+    expect("the notes", query(starter, "SELECT * FROM note"), [])
+    expect("the folder", check(starter, "kept", 0), ["1 files, 5 bytes, 0 damaged"])
 
 
 @GROUP.check("a folder with the rows of another store is refused, and left as it was")

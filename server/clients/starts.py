@@ -233,9 +233,13 @@ def counted(size: int) -> bytes:
     return (bytes(range(256)) * (size // 256 + 1))[:size]
 
 
-def tables(folder: pathlib.Path) -> list[str]:
+def rows_of(folder: pathlib.Path, words: str) -> list[tuple]:
     with contextlib.closing(sqlite3.connect(folder / "meta.db")) as database:
-        return [name for name, in database.execute("SELECT name FROM sqlite_master WHERE type = 'table' ORDER BY name")]
+        return database.execute(words).fetchall()
+
+
+def tables(folder: pathlib.Path) -> list[str]:
+    return [name for name, in rows_of(folder, "SELECT name FROM sqlite_master WHERE type = 'table' ORDER BY name")]
 
 
 @GROUP.check("a folder of version 1 is read as it is, and is sealed at the first start")
@@ -253,6 +257,7 @@ def version_1(starter: Starter):
     server.stop()
     whole(starter, folder)
     expect("the tables after the start", "note" in tables(folder), True)
+    expect("the rows of the state", rows_of(folder, "SELECT number FROM state ORDER BY number"), [(0,), (1,)])
 
 
 def older(starter: Starter) -> pathlib.Path:

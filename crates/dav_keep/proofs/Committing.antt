@@ -16,7 +16,9 @@ use Rattle.dav_rows.specs.Saving.{IsAt}
 use Rattle.dav_rows.specs.declared.change.Change.TheVariants.{PutState}
 use Rattle.dav_rows.specs.declared.change.Change.{Change}
 use Rattle.dav_rows.specs.declared.state.StateRow.{StateRow}
-use Rattle.dav_seal.specs.Seals.{AreSealsOf, seal_note, sealed, sealed_after}
+use Rattle.dav_seal.specs.Seals.{AreSealsOf, seal_of, seal_row, sealed, sealed_after}
+use Rattle.dav_seal.specs.SealRow.{row_with}
+use Rattle.dav_seal.proofs.Unsealed.{sealed-seal}
 use Rattle.dav_store.specs.declared.lock.DavLock.{DavLock}
 use Rattle.dav_store_rows.proofs.SameTables.{same_saved}
 use Rattle.dav_store_rows.specs.Stands.{KeepsTreeTables}
@@ -26,9 +28,9 @@ use Rattle.dav_keep.specs.Keeping.{database, IsKnown, IsKept, Leaves, LeavesEith
 use Rattle.dav_keep.specs.Steps.{AreSavedIn, OnlyRowsDiffer, OnlyDatabaseDiffers, IsPrepared, saved_with, Follows, Commits, MayCommit}
 use Rattle.dav_keep.specs.declared.keeping.Keeping.{Keeping}
 use Rattle.dav_keep.specs.declared.numbers.Numbers.{Numbers}
-use Rattle.dav_keep.proofs.Images.{Settles, put_again, left_at}
+use Rattle.dav_keep.proofs.Images.{Settles, put_both, left_at}
 
--- the changes, then the row of the state, and then the note of the seal
+-- the changes, then the row of the numbers, and then that of the seal
 pub saved_is : (changes all : List Change) (row : StateRow) (numbers : Numbers) → state_entry row ≡ (pos 0, values_of numbers) → all ≡ changes ++ PutState row ∷ []
     → (m : Contents) → sealed_after numbers.key all m ≡ saved_with changes numbers m
 saved_is changes all row numbers is pushed m =
@@ -67,13 +69,19 @@ module _ {S : Type 0} {rows : store.Ghosts S} where
         let keeps : KeepsTreeTables (after changes was) next_tables = record { resources = refl; extents = refl; properties = refl } in
         same_saved (after changes was) next_tables keeps prepared.tree prepared_keeper.counts saved.resources
 
+    -- the same, before the row of the seal is put, which changes no seal
+    abbrev dated : Contents
+    dated = let changed = after changes was in record changed { states = insert changed.states (pos 0) (values_of numbers) }
+
+    same_seal : seal_of numbers.key dated ≡ seal_of numbers.key next_tables
+    same_seal = sym (sealed-seal numbers.key dated)
+
     pub next_stands : StandForImage next_tables next_image
     next_stands = record {
       resources = resources.stands;
       locks = saved.stand;
-      state = put_again (after changes was).states (values_of image.numbers) (values_of numbers) (ap entries (prepared.states was kept.known.locks) ∙ kept.known.stand.state);
-      sealed = put_again (after changes was).notes (seal_note image.numbers.key was).1 (seal_note numbers.key next_tables).1
-          (ap entries (prepared.notes was kept.known.locks) ∙ kept.known.stand.sealed);
+      state = put_both (after changes was).states (values_of image.numbers) (seal_row image.numbers.key was).1 (values_of numbers) (seal_row numbers.key dated).1
+          (ap entries (prepared.states was kept.known.locks) ∙ kept.known.stand.state) ∙ ap (λ seal. (pos 0, values_of numbers) ∷ row_with seal ∷ []) same_seal;
     }
 
     pub next_key : numbers.key ≡ prepared_keeper.key → numbers.key ≡ image.numbers.key

@@ -37,9 +37,12 @@ same_all (k ∷ ks) (l ∷ ls) same valid also =
 pub same_locks : (m : Numbered LockValues) (ks ls : List DavLock) → LocksStand m ks → LocksStand m ls → AreSameLocks ks ls
 same_locks m ks ls one other = same_all ks ls (sym one.values_are ∙ other.values_are) one.valid other.valid
 
--- a row takes the place of the only one before
-pub put_again : {V : Type 0} (m : Numbered V) (old new : V) → entries m ≡ (pos 0, old) ∷ [] → entries (insert m (pos 0) new) ≡ (pos 0, new) ∷ []
-put_again m old new is = entries-insert int_cmp_total m (pos 0) new ∙ ap (put int_cmp (pos 0) new) is
+-- two rows take the places of those before
+pub put_both : {V : Type 0} (m : Numbered V) (a b c d : V) → entries m ≡ (pos 0, a) ∷ (pos 1, b) ∷ []
+    → entries (insert (insert m (pos 0) c) (pos 1) d) ≡ (pos 0, c) ∷ (pos 1, d) ∷ []
+put_both m a b c d is =
+    entries-insert int_cmp_total (insert m (pos 0) c) (pos 1) d
+    ∙ ap (put int_cmp (pos 1) d) (entries-insert int_cmp_total m (pos 0) c ∙ ap (put int_cmp (pos 0) c) is)
 
 module _ {S : Type 0} (rows : store.Ghosts S) where
   -- the law of a store that while it is open a crash leaves its last commit

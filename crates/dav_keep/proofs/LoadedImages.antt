@@ -14,6 +14,7 @@ use Rattle.dav_pieces.specs.declared.piece.Piece.{Piece}
 use Rattle.dav_rows.specs.Changes.{state_entry}
 use Rattle.dav_rows.specs.Contents.{Contents}
 use Rattle.dav_rows.specs.declared.loading.Rows.{Rows}
+use Rattle.dav_seal.specs.Seals.{seal_row}
 use Rattle.dav_store_rows.proofs.Whole.{row_parts}
 use Rattle.dav_store_rows.specs.Loads.{IsWhole, AreRowsFor}
 use Rattle.dav_store_rows.specs.LockRows.{AreLockRows}
@@ -50,7 +51,7 @@ module _ (rows : Rows) (image : Image) (tables : Contents) (are : AreRowsOfImage
   pub lock_rows : AreLockRows rows.locks.items image.locks
   lock_rows = record { table = tables.locks; rows_are = are.all.locks; stand = are.stand.locks }
 
-  pub state_rows : map state_entry rows.states.items ≡ (pos 0, values_of image.numbers) ∷ []
+  pub state_rows : map state_entry rows.states.items ≡ (pos 0, values_of image.numbers) ∷ seal_row image.numbers.key tables ∷ []
   state_rows = are.all.states ∙ are.stand.state
 
   -- the loaded files are below the place that those of the image are below

@@ -22,7 +22,9 @@ use Rattle.dav_rows.specs.Creating.{first, nothing}
 use Rattle.dav_rows.specs.declared.change.Change.TheVariants.{PutState}
 use Rattle.dav_rows.specs.declared.change.Change.{Change}
 use Rattle.dav_rows.specs.declared.state.StateRow.{StateRow}
-use Rattle.dav_seal.specs.Seals.{seal_note, sealed, sealed_after}
+use Rattle.dav_seal.specs.Seals.{seal_row, sealed, sealed_after}
+use Rattle.dav_seal.specs.SealRow.{row_with}
+use Rattle.dav_seal.proofs.Unsealed.{sealed-seal}
 use Rattle.dav_store.specs.Store as store
 use Rattle.dav_store.specs.Store.{AreNamed}
 use Rattle.dav_store_rows.proofs.Empty.{no_tree, saved_none}
@@ -66,9 +68,11 @@ nil_of (x ∷ xs) e = absurd (omega (arith, e))
 no_entries : {V : Type 0} → entries (empty {X = V} {R = int_cmp}) ≡ []
 no_entries {V} = nil_of (entries (empty {X = V} {R = int_cmp})) (sym (len-entries (empty {X = V} {R = int_cmp})) ∙ len-empty int_cmp V)
 
--- a row is put in an empty table
-put_first : {V : Type 0} (m : Numbered V) (values : V) → m ≡ empty → entries (insert m (pos 0) values) ≡ (pos 0, values) ∷ []
-put_first m values none = entries-insert int_cmp_total m (pos 0) values ∙ ap (put int_cmp (pos 0) values) (ap entries none ∙ no_entries)
+-- two rows are put in an empty table
+put_two : {V : Type 0} (m : Numbered V) (a b : V) → m ≡ empty → entries (insert (insert m (pos 0) a) (pos 1) b) ≡ (pos 0, a) ∷ (pos 1, b) ∷ []
+put_two m a b none =
+    entries-insert int_cmp_total (insert m (pos 0) a) (pos 1) b
+    ∙ ap (put int_cmp (pos 1) b) (entries-insert int_cmp_total m (pos 0) a ∙ ap (put int_cmp (pos 0) a) (ap entries none ∙ no_entries))
 
 -- ---- the tree of a new store
 
@@ -180,7 +184,6 @@ module _ (counts : List Counts) (of_root : List Change) (saves : Saves 0 (Some r
         resources = (same_saved made (sealed key with_state) (record { resources = refl; extents = refl; properties = refl }) tree counts saved).stands;
         locks = subst (λ t. LocksStand t []) (sym (freshens.tables nothing).locks) (record { values_are = ap (map (λ (e : ℤ × LockValues). e.1)) no_entries; valid = tt });
         state = rows;
-        sealed = put_first made.notes (seal_note key with_state).1 (freshens.tables nothing).notes;
       })
     where
       with_state : Contents
@@ -190,7 +193,8 @@ module _ (counts : List Counts) (of_root : List Change) (saves : Saves 0 (Some r
       in_order =
           ap (λ cs. after cs nothing) (pushed ∙ ap (λ cs. cs ++ PutState row ∷ []) freshens.is) ∙ after-append freshens.more (PutState row ∷ []) nothing
 
-      rows : entries {R = int_cmp} with_state.states ≡ (pos 0, values_of (first_image key).numbers) ∷ []
+      rows : entries {R = int_cmp} (sealed key with_state).states ≡ (pos 0, values_of (first_image key).numbers) ∷ seal_row key (sealed key with_state) ∷ []
       rows =
-          ap (λ (e : ℤ × StateValues). entries (insert made.states e.0 e.1)) is
-          ∙ put_first made.states (values_of (first_image key).numbers) (freshens.tables nothing).states
+          ap (λ (e : ℤ × StateValues). entries (insert (insert made.states e.0 e.1) (pos 1) (seal_row key with_state).1)) is
+          ∙ put_two made.states (values_of (first_image key).numbers) (seal_row key with_state).1 (freshens.tables nothing).states
+          ∙ ap (λ seal. (pos 0, values_of (first_image key).numbers) ∷ row_with seal ∷ []) (sym (sealed-seal key with_state))

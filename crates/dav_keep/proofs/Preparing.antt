@@ -38,7 +38,6 @@ module _ {S : Type 0} {rows : store.Ghosts S} (body : Coded (List Piece)) (old n
     sound = sound;
     saves = λ was m there saved rows. subst (λ m. AreSavedIn m tree locks new.counts new.locks) (sym (in_order m)) (both was m there saved rows);
     states = λ m rows. ap (λ (m : Contents). m.states) (in_order m) ∙ (updates.tables (after of_locks m)).states ∙ (become m rows).states;
-    notes = λ m rows. ap (λ (m : Contents). m.notes) (in_order m) ∙ (updates.tables (after of_locks m)).notes ∙ (become m rows).notes;
   }
     where
       both : (was : Tree Kept) (m : Contents) → IsTreeIn before (entries_code body was) → IsSavedIn m was old.counts → entries m.locks ≡ old.locks

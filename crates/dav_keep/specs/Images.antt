@@ -10,7 +10,7 @@ use Rattle.dav_nodes.specs.Rows.{AreDistinct, AreJoined, AreNumbered}
 use Rattle.dav_nodes.specs.Tree.{Tree}
 use Rattle.dav_pieces.specs.declared.piece.Piece.{Piece}
 use Rattle.dav_rows.specs.Contents.{Contents, StateValues, Holds}
-use Rattle.dav_seal.specs.Seals.{IsSealed}
+use Rattle.dav_seal.specs.Seals.{seal_row}
 use Rattle.dav_store.specs.LockCalls.{HasDistinctTokens}
 use Rattle.dav_store.specs.Locks.{AreCompatible}
 use Rattle.dav_store.specs.Store.{AreNamed}
@@ -34,12 +34,11 @@ pub record Image : Type 0 where
 abbrev pub values_of : Numbers → StateValues
 values_of numbers = record { counter = pos numbers.counter; time = pos numbers.time; batch = pos numbers.batch; digest_key = pos numbers.key }
 
--- the tables stand for an image, and are sealed under its key
+-- the tables stand for an image, and have the row of their seal under its key
 pub record StandForImage (m : Contents) (image : Image) : Type 0 where
   pub resources : StandFor m image.tree
   pub locks : LocksStand m.locks image.locks
-  pub state : entries m.states ≡ (pos 0, values_of image.numbers) ∷ []
-  pub sealed : IsSealed image.numbers.key m
+  pub state : entries m.states ≡ (pos 0, values_of image.numbers) ∷ seal_row image.numbers.key m ∷ []
 
 -- a database has tables that stand for an image
 pub record HoldsImage (db : Trees) (image : Image) : Type 0 where

@@ -1,6 +1,6 @@
 -- What is loaded of a store that was kept: this project's own choice.
-use Rattle.std.specs.Prelude.{◌≡◌, ◌<◌, ◌^◌, ℕ, true, [], map, Some}
-use Rattle.std.specs.FinMap.{get, empty}
+use Rattle.std.specs.Prelude.{◌≡◌, ◌<◌, ◌^◌, ℕ, true, [], ◌∷◌, map, Some}
+use Rattle.std.specs.FinMap.{get, empty, entries}
 use Rattle.dav_cells.specs.Locks.{kept_lock}
 use Rattle.dav_data.specs.Data.{is_below}
 use Rattle.dav_key.specs.Key.{Key}
@@ -9,7 +9,9 @@ use Rattle.dav_nodes.specs.Tree.{Tree, root_tree}
 use Rattle.dav_nodes.specs.TreeRows.{AreRowsOf}
 use Rattle.dav_rows.specs.Contents.{Contents}
 use Rattle.dav_rows.specs.Loading.{AreAll}
+use Rattle.dav_rows.specs.Changes.{state_entry}
 use Rattle.dav_rows.specs.declared.loading.Rows.{Rows}
+use Rattle.dav_rows.specs.declared.state.StateRow.{StateRow}
 use Rattle.dav_seal.specs.Seals.{IsSealed}
 use Rattle.dav_store_rows.specs.Resources.{Kept}
 use Rattle.dav_tree.specs.Entry.{is_held}
@@ -34,7 +36,11 @@ pub record AreRowsOfImage (rows : Rows) (image : Image) (tables : Contents) : Ty
   pub stand : StandForImage tables image
   pub whole : IsWholeImage image
 
--- the rows have the seal under the key that their notes hold, and no other note
+-- the state has these two rows
+abbrev pub HasTwo : StateRow → StateRow → Contents → Type 0
+HasTwo state seal m = entries m.states ≡ state_entry state ∷ state_entry seal ∷ []
+
+-- the rows have the seal under the key that is kept with them
 abbrev pub AreSealed : ℕ → Rows → Type 0
 AreSealed key rows = (m : Contents) → AreAll rows m → IsSealed key m
 

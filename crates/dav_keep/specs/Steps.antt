@@ -53,7 +53,7 @@ module _ {S : Type 0} {rows : store.Ghosts S} where
     pub key : new.key ≡ old.key
 
   module _ (body : Coded (List Piece)) (old new : Keeping S rows) (before now : Gv) (locks : List DavLock) where
-    -- the changes bring tables of the tree that was saved up to date with the tree of entries and the locks, and leave the state and the notes
+    -- the changes bring tables of the tree that was saved up to date with the tree of entries and the locks, and leave the state
     pub record IsPrepared (changes : List Change) : Type 0 where
       pub tree : Tree Kept
       pub is : entries_code body tree ≡ now
@@ -61,7 +61,6 @@ module _ {S : Type 0} {rows : store.Ghosts S} where
       pub saves : (was : Tree Kept) (m : Contents) → IsTreeIn before (entries_code body was) → IsSavedIn m was old.counts → entries m.locks ≡ old.locks
           → AreSavedIn (after changes m) tree locks new.counts new.locks
       pub states : (m : Contents) → entries m.locks ≡ old.locks → (after changes m).states ≡ m.states
-      pub notes : (m : Contents) → entries m.locks ≡ old.locks → (after changes m).notes ≡ m.notes
 
     -- nothing has changed: tables of the tree that was saved have the locks already
     pub record IsUnchanged (version : ℕ) : Type 0 where

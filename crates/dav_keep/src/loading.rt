@@ -1,10 +1,11 @@
 //! What is loaded of a store that was kept.
-ghost use Rattle.std.specs.Prelude.{◌≡◌, ◌≢◌, ℕ, List, [], map, false, IfOk, IfErr, OnOk};
+ghost use Rattle.std.specs.Prelude.{◌≡◌, ◌≢◌, ◌↔◌, ℕ, List, [], ◌∷◌, map, false, IsTrue, IfOk, IfErr, OnOk};
+ghost use Rattle.std.specs.FinMap.{entries};
 ghost use Rattle.sqlite.specs.Held.{state};
 ghost use Rattle.sqlite.specs.State.{HasCleanDisk};
 ghost use Rattle.dav_cells.specs.Locks.{kept_lock};
 ghost use Rattle.dav_memls.specs.MemLs.{list_of};
-ghost use Rattle.dav_rows.specs.Changes.{after};
+ghost use Rattle.dav_rows.specs.Changes.{after, state_entry};
 ghost use Rattle.dav_rows.specs.Contents.{Contents};
 ghost use Rattle.dav_rows.specs.Loading.{AreAll};
 ghost use Rattle.dav_rows.specs.Saving.{IsAt};
@@ -18,7 +19,7 @@ ghost use Rattle.dav_store_rows.specs.Loads.{IsMemory};
 ghost use Rattle.dav_keep.specs.Images.{Image};
 ghost use Rattle.dav_keep.specs.Keeping.{IsKnown, Knows, connection_of};
 ghost use Rattle.dav_keep.specs.Ends.{IsEnd, AreBelow};
-ghost use Rattle.dav_keep.specs.Loading.{AreRowsOfImage, IsLoaded, AreSealed};
+ghost use Rattle.dav_keep.specs.Loading.{AreRowsOfImage, IsLoaded, AreSealed, HasTwo};
 
 use crate::Keeping;
 use crate::ends::end_of;
@@ -26,7 +27,7 @@ use crate::numbers::{Numbers, numbers_of};
 use dav_memls::MemLs;
 use dav_nodes::NumberedValue;
 use dav_pieces::Body;
-use dav_rows::{Change, LockRow, Rows, Version};
+use dav_rows::{Change, LockRow, Rows, StateRow, Version};
 use dav_seal::Seals;
 use dav_store::{DavLock, LockError};
 use dav_store_rows::{LoadError, SavedCounts, SavedLocks, load_locks, load_resources};
@@ -68,12 +69,12 @@ impl Known {
         ensures { (key : ℕ) (m : Contents) → AreSealsOf key m self.now.seals → IfOk result (λ changes. after changes.items m ≡ sealed key m) }
     {
         let mut changes = Vec::new(alloc);
-        changes.push(Change::PutNote(self.seals.note()?))?;
+        changes.push(Change::PutState(self.seals.row()))?;
         Ok(changes)
     }
 }
 
-/// Loads what was kept from the rows of a database of this version. The rows have the seal that their notes hold, unless they
+/// Loads what was kept from the rows of a database of this version. The rows have the seal that is kept with them, unless they
 /// are of version 1, which has none.
 ///
 /// - `Damaged`: the rows are not those of a store that was kept, or have another seal.
@@ -99,20 +100,73 @@ pub fn load(alloc: Global, rows: Rows, version: Version) -> Result<(Known, Loade
     Ok((known, loaded))
 }
 
-/// Returns the seals of the rows under the key. The rows have the seal that their notes hold, unless they are of version 1.
+/// Returns the seals of the rows under the key. The state has a row of numbers, and then that of the seal, which is the one
+/// that the rows have. Only rows of version 1 may have none.
 ///
-/// - `Damaged`: they have another seal.
+/// - `Damaged`: the state has other rows, or the rows have another seal.
 /// - `Memory`: memory runs out.
 fn seals_of(alloc: Global, key: u64, rows: &Rows, version: Version) -> Result<Seals, LoadError>
     ensures seals { (m : Contents) → AreTables rows.now m → IfOk result (AreSealsOf key m) }
     ensures sealed { version ≢ Older → OnOk result (AreSealed key rows.now) }
     ensures err { (m : Contents) → AreAll rows.now m → IsSealed key m → IfErr result IsMemory }
 {
-    let seals = Seals::of_rows(alloc, key, rows)?;
-    if version != Version::Older && !seals.check(&rows.notes)? {
+    match rows.states.as_slice() {
+        [state] => without_seal(alloc, key, rows, state, version),
+        [state, seal] => with_seal(alloc, key, rows, state, seal),
+        _ => Err(LoadError::Damaged),
+    }
+}
+
+/// The same, of rows that have no seal.
+fn without_seal(
+    alloc: Global,
+    key: u64,
+    rows: &Rows,
+    state: &StateRow,
+    version: Version,
+) -> Result<Seals, LoadError>
+    ensures seals { (m : Contents) → AreTables rows.now m → entries m.states ≡ state_entry state.now ∷ [] → IfOk result (AreSealsOf key m) }
+    ensures older { OnOk result (version ≡ Older) }
+{
+    if version != Version::Older {
+        return Err(LoadError::Damaged);
+    }
+    if !has_number(state, 0) {
+        return Err(LoadError::Damaged);
+    }
+    Ok(Seals::of_rows(alloc, key, rows, state)?)
+}
+
+/// The same, of rows with a row of the state and one of a seal.
+fn with_seal(
+    alloc: Global,
+    key: u64,
+    rows: &Rows,
+    state: &StateRow,
+    seal: &StateRow,
+) -> Result<Seals, LoadError>
+    ensures seals { (m : Contents) → AreTables rows.now m → HasTwo state.now seal.now m → IfOk result (AreSealsOf key m) }
+    ensures sealed { (m : Contents) → AreTables rows.now m → HasTwo state.now seal.now m → OnOk result (IsSealed key m) }
+    ensures err { (m : Contents) → AreTables rows.now m → HasTwo state.now seal.now m → IsSealed key m → IfErr result IsMemory }
+{
+    if !has_number(state, 0) {
+        return Err(LoadError::Damaged);
+    }
+    if !has_number(seal, 1) {
+        return Err(LoadError::Damaged);
+    }
+    let seals = Seals::of_rows(alloc, key, rows, state)?;
+    if !seals.check(seal) {
         return Err(LoadError::Damaged);
     }
     Ok(seals)
+}
+
+/// Returns whether a row of the state has this number.
+fn has_number(row: &StateRow, number: i64) -> bool
+    ensures { IsTrue result ↔ (row.now.number ≡ number) }
+{
+    row.number == number
 }
 
 impl<S: Alter + Drop> Keeping<S> {

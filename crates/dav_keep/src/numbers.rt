@@ -33,19 +33,18 @@ pub(crate) fn row_of(numbers: Numbers) -> Result<StateRow, SaveError>
     })
 }
 
-/// Returns the numbers in the one row of the state. Returns `Damaged` if there is another row or none, or if a number is
-/// negative.
+/// Returns the numbers in the first row of the state. Returns `Damaged` if there is none, or if a number is negative.
 pub(crate) fn numbers_of(rows: &[StateRow]) -> Result<Numbers, LoadError>
-    ensures { (numbers : TheNumbers) → map state_entry rows.now ≡ (pos 0, values_of numbers) ∷ [] → result ≡ Ok numbers }
+    ensures { (numbers : TheNumbers) (rest : _) → map state_entry rows.now ≡ (pos 0, values_of numbers) ∷ rest → result ≡ Ok numbers }
 {
     match rows {
-        [row] if row.number == 0 => Ok(Numbers {
+        [row, ..] => Ok(Numbers {
             counter: unsigned(row.counter)?,
             time: unsigned(row.time)?,
             batch: unsigned(row.batch)?,
             key: unsigned(row.digest_key)?,
         }),
-        _ => Err(LoadError::Damaged),
+        [] => Err(LoadError::Damaged),
     }
 }
 

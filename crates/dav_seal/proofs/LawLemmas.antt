@@ -1,24 +1,26 @@
 -- Two stores with one seal are the same, but for a collision.
-use Rattle.std.proofs.Common.{◌≡◌, ℕ, ℤ, Bool, true, false, List, [], ◌∷◌, ◌++◌, length, map, ◌+◌, ◌-◌, ◌%◌, ◌<◌, ◌^◌, refl, sym, ap, ◌∙◌, arith, length-append}
+use Rattle.std.proofs.Common.{◌≡◌, ℕ, ℤ, Bool, true, false, List, [], ◌∷◌, ◌++◌, map, ◌+◌, ◌-◌, ◌%◌, ◌<◌, ◌^◌, refl, sym, ap, ap₂, ◌∙◌, arith}
 use Rattle.std.specs.Prelude.{sum_by}
 use Rattle.std.specs.Map.{values_of}
-use Rattle.std.specs.List.{AllByRecursion}
+use Rattle.std.specs.List.{AllByRecursion, flat_map}
 use Rattle.std.specs.FinMap.{entries, same_entries_map}
 use Rattle.std.proofs.Math.Nat.{mod-add-mod, add-mod_right, mod-eq_of_lt, mod-lt}
-use Rattle.std.proofs.lemmas.List.{length-map}
 use Rattle.std.proofs.lemmas.List.Sums.{sum_by-cons, sum_by-append}
 use Rattle.sqlite_disk.specs.Digest.{digest}
 use Rattle.sqlite_value.specs.Order.{Row}
 use Rattle.dav_rows.specs.declared.change.Table.{Table}
 use Rattle.dav_rows.specs.declared.change.Table.TheVariants.{Resource, Extent, Property, Lock, State}
-use Rattle.dav_rows.specs.Stored.{Numbered, shown}
-use Rattle.dav_rows.specs.Contents.{ResourceValues, ExtentValues, PropertyValues, LockValues, StateValues, flag, resource_cells, extent_cells, property_cells, lock_cells, state_cells}
-use Rattle.dav_seal.specs.RowBytes.{number_bytes, AreCells}
+use Rattle.dav_rows.specs.Stored.{shown}
+use Rattle.dav_rows.specs.Contents.{Contents, ResourceValues, ExtentValues, PropertyValues, LockValues, StateValues, flag, resource_cells, extent_cells, property_cells, lock_cells, state_cells}
+use Rattle.dav_rows.specs.Creating.{place}
+use Rattle.dav_seal.specs.RowBytes.{cell_bytes, AreCells}
 use Rattle.dav_seal.specs.Digests.{entry_bytes, entry_digest, numbered_by, digests_of}
-use Rattle.dav_seal.specs.Sums.{TableSum, total_of, sum_of, sum_bytes}
-use Rattle.dav_seal.specs.Seals.{seal_of, HasCells}
-use Rattle.dav_seal.specs.Laws.{texts_of, sum_of_texts, DiffersByCollision, SealsDetermine, SumsDetermineOne, BytesDetermine}
-use Rattle.dav_seal.proofs.FrontLemmas.{fronts, length-number_bytes, number_bytes-injective, row_bytes-injective}
+use Rattle.dav_seal.specs.SealRow.{unsealed}
+use Rattle.dav_seal.specs.Sums.{total_of}
+use Rattle.dav_seal.specs.Seals.{seal_of, all_digests}
+use Rattle.dav_seal.specs.Laws.{texts_of, all_texts, sum_of_texts, IsWhole, HaveSameRows, SealsDetermine, SumsDetermineOne, BytesDetermine}
+use Rattle.dav_seal.proofs.FrontLemmas.{row_bytes-injective}
+use Rattle.dav_seal.proofs.TotalLemmas.{sum-append}
 
 -- ---- rows with the same bytes
 
@@ -105,7 +107,7 @@ module _ {V : Type 0} (table : Table) (cells : V → Row) where
       let rest = entries_told told xs ys p.1 q.1 others in
       λ i. same i ∷ rest i
 
-  summed : (key : ℕ) (es : List (ℤ × V)) → sum_by (λ d. d) (values_of (numbered_by (entry_digest key table cells) es)) ≡ sum_by (digest key) (map (entry_bytes table cells) es)
+  pub summed : (key : ℕ) (es : List (ℤ × V)) → sum_by (λ d. d) (values_of (numbered_by (entry_digest key table cells) es)) ≡ sum_by (digest key) (map (entry_bytes table cells) es)
   unfolding entry_digest
   summed key [] = refl
   summed key (e ∷ es) =
@@ -113,47 +115,116 @@ module _ {V : Type 0} (table : Table) (cells : V → Row) where
       ∙ ap (λ n. digest key (entry_bytes table cells e) + n) (summed key es)
       ∙ sym (sum_by-cons (digest key) (entry_bytes table cells e) (map (entry_bytes table cells) es))
 
-  sum_is : (key : ℕ) (m : Numbered V) → sum_of (digests_of key table cells m) ≡ sum_of_texts key (texts_of table cells m)
-  unfolding total_of
-  sum_is key m =
-      let rows = length-map (entries m) (λ e. (e.0, entry_digest key table cells e)) ∙ sym (length-map (entries m) (entry_bytes table cells)) in
-      let sum = ap (λ n. n % 2 ^ 64) (summed key (entries m)) in
-      λ i. record { rows = rows i; sum = sum i }
-
-  differs : BytesDetermine table cells → (key : ℕ) (m n : Numbered V) → HasCells cells m → HasCells cells n
-      → sum_bytes (sum_of (digests_of key table cells m)) ≡ sum_bytes (sum_of (digests_of key table cells n)) → DiffersByCollision key table cells m n
-  differs told key m n p q e other = record {
-    different = λ same. other (same_entries_map m n (entries_told told (entries m) (entries n) p q same));
-    same = sym (ap sum_bytes (sum_is key m)) ∙ e ∙ ap sum_bytes (sum_is key n);
-  }
-
 -- ---- all tables
 
-length-sum_bytes : (s : TableSum) → length (sum_bytes s) ≡ 16
-length-sum_bytes s =
-    let rows = length-number_bytes s.rows in
-    let sum = length-number_bytes s.sum in
-    length-append (number_bytes s.rows) (number_bytes s.sum) ∙ omega arith
+-- the text begins with this byte, or with a greater one
+abbrev StartsWith : ℕ → List ℕ → Type 0
+StartsWith n text = (rest : List ℕ) × (text ≡ n ∷ rest)
 
-sum_fronts : (a b : TableSum) (r s : List ℕ) → sum_bytes a ++ r ≡ sum_bytes b ++ s → (sum_bytes a ≡ sum_bytes b) × (r ≡ s)
-sum_fronts a b r s e = fronts 16 (sum_bytes a) (sum_bytes b) r s (length-sum_bytes a) (length-sum_bytes b) e
+abbrev StartsAbove : ℕ → List ℕ → Type 0
+StartsAbove n text = (x : ℕ) × (rest : List ℕ) × (n < x) × (text ≡ x ∷ rest)
+
+clash : {P : Type 0} (n : ℕ) (a b : List ℕ) → StartsWith n a → StartsAbove n b → a ≡ b → P
+clash n a b (r, is) (x, s, low, other) same =
+    let equal : n ∷ r ≡ x ∷ s = sym is ∙ same ∙ other in
+    let first : n ≡ x = cc in
+    absurd (omega (arith, low, first))
+
+-- where the texts of a table begin with one byte, and those behind them with a greater one, the two parts are known
+split : (n : ℕ) (xs ys us vs : List (List ℕ)) → AllByRecursion (StartsWith n) xs → AllByRecursion (StartsWith n) ys → AllByRecursion (StartsAbove n) us → AllByRecursion (StartsAbove n) vs
+    → xs ++ us ≡ ys ++ vs → (xs ≡ ys) × (us ≡ vs)
+split n [] [] us vs p q r s e = (refl, e)
+split n [] (y ∷ ys) [] vs p q r s e = absurd cc
+split n [] (y ∷ ys) (u ∷ us) vs p q r s e = let first : y ≡ u = cc in clash n y u q.0 r.0 first
+split n (x ∷ xs) [] us [] p q r s e = absurd cc
+split n (x ∷ xs) [] us (v ∷ vs) p q r s e = let first : x ≡ v = cc in clash n x v p.0 s.0 first
+split n (x ∷ xs) (y ∷ ys) us vs p q r s e =
+    let first : x ≡ y = cc in
+    let others : xs ++ us ≡ ys ++ vs = cc in
+    let rest = split n xs ys us vs p.1 q.1 r s others in
+    (λ i. first i ∷ rest.0 i, rest.1)
+
+both_parts : (P : List ℕ → Type 0) (xs ys : List (List ℕ)) → AllByRecursion P xs → AllByRecursion P ys → AllByRecursion P (xs ++ ys)
+both_parts P [] ys p q = q
+both_parts P (x ∷ xs) ys p q = (p.0, both_parts P xs ys p.1 q)
+
+-- the sums of two lists of texts and of their digests are added
+both_sums : (key : ℕ) (xs ys : List (List ℕ)) (ds es : List (ℤ × ℕ)) → sum_by (λ d. d) (values_of ds) ≡ sum_by (digest key) xs → sum_by (λ d. d) (values_of es) ≡ sum_by (digest key) ys
+    → sum_by (λ d. d) (values_of (ds ++ es)) ≡ sum_by (digest key) (xs ++ ys)
+both_sums key xs ys ds es p q = sum-append ds es ∙ ap₂ (λ a b. a + b) p q ∙ sym (sum_by-append (digest key) xs ys)
+
+module _ {V : Type 0} (table : Table) (cells : V → Row) where
+  starts : (es : List (ℤ × V)) → AllByRecursion (StartsWith (place table)) (map (entry_bytes table cells) es)
+  starts [] = tt
+  starts (e ∷ es) = ((flat_map cell_bytes (shown cells e), refl), starts es)
+
+  above : (n : ℕ) → n < place table → (es : List (ℤ × V)) → AllByRecursion (StartsAbove n) (map (entry_bytes table cells) es)
+  above n low [] = tt
+  above n low (e ∷ es) = ((place table, flat_map cell_bytes (shown cells e), low, refl), above n low es)
+
+module _ (m : Contents) where
+  -- the texts behind those of a table
+  abbrev states : List (List ℕ)
+  states = texts_of State state_cells (unsealed m.states)
+
+  abbrev from_locks : List (List ℕ)
+  from_locks = texts_of Lock lock_cells m.locks ++ states
+
+  abbrev from_properties : List (List ℕ)
+  from_properties = texts_of Property property_cells m.properties ++ from_locks
+
+  abbrev from_extents : List (List ℕ)
+  from_extents = texts_of Extent extent_cells m.extents ++ from_properties
+
+  states_above : (n : ℕ) → n < 4 → AllByRecursion (StartsAbove n) states
+  states_above n low = above State state_cells n low (entries (unsealed m.states))
+
+  locks_above : (n : ℕ) → n < 3 → AllByRecursion (StartsAbove n) from_locks
+  locks_above n low = both_parts (StartsAbove n) (texts_of Lock lock_cells m.locks) states (above Lock lock_cells n low (entries m.locks)) (states_above n (omega (arith, low)))
+
+  properties_above : (n : ℕ) → n < 2 → AllByRecursion (StartsAbove n) from_properties
+  properties_above n low =
+      both_parts (StartsAbove n) (texts_of Property property_cells m.properties) from_locks (above Property property_cells n low (entries m.properties)) (locks_above n (omega (arith, low)))
+
+  extents_above : (n : ℕ) → n < 1 → AllByRecursion (StartsAbove n) from_extents
+  extents_above n low =
+      both_parts (StartsAbove n) (texts_of Extent extent_cells m.extents) from_properties (above Extent extent_cells n low (entries m.extents)) (properties_above n (omega (arith, low)))
+
+  -- the sum of the digests is that of the texts
+  sum_is : (key : ℕ) → sum_of_texts key (all_texts m) ≡ seal_of key m
+  unfolding total_of
+  sum_is key =
+      let r = summed Resource resource_cells key (entries m.resources) in
+      let e = summed Extent extent_cells key (entries m.extents) in
+      let p = summed Property property_cells key (entries m.properties) in
+      let l = summed Lock lock_cells key (entries m.locks) in
+      let s = summed State state_cells key (entries (unsealed m.states)) in
+      let of_states = digests_of key State state_cells (unsealed m.states) in
+      let of_locks = digests_of key Lock lock_cells m.locks in
+      let of_properties = digests_of key Property property_cells m.properties in
+      let of_extents = digests_of key Extent extent_cells m.extents in
+      let locks = both_sums key (texts_of Lock lock_cells m.locks) states of_locks of_states l s in
+      let properties = both_sums key (texts_of Property property_cells m.properties) from_locks of_properties (of_locks ++ of_states) p locks in
+      let extents = both_sums key (texts_of Extent extent_cells m.extents) from_properties of_extents (of_properties ++ (of_locks ++ of_states)) e properties in
+      let all = both_sums key (texts_of Resource resource_cells m.resources) from_extents (digests_of key Resource resource_cells m.resources) (of_extents ++ (of_properties ++ (of_locks ++ of_states))) r extents in
+      ap (λ n. n % 2 ^ 64) (sym all)
+
+same_rows : (m n : Contents) → IsWhole m → IsWhole n → all_texts m ≡ all_texts n → HaveSameRows m n
+same_rows m n p q same =
+    let r = split 0 _ _ (from_extents m) (from_extents n) (starts Resource resource_cells (entries m.resources)) (starts Resource resource_cells (entries n.resources)) (extents_above m 0 (omega arith)) (extents_above n 0 (omega arith)) same in
+    let e = split 1 _ _ (from_properties m) (from_properties n) (starts Extent extent_cells (entries m.extents)) (starts Extent extent_cells (entries n.extents)) (properties_above m 1 (omega arith)) (properties_above n 1 (omega arith)) r.1 in
+    let o = split 2 _ _ (from_locks m) (from_locks n) (starts Property property_cells (entries m.properties)) (starts Property property_cells (entries n.properties)) (locks_above m 2 (omega arith)) (locks_above n 2 (omega arith)) e.1 in
+    let l = split 3 _ _ (states m) (states n) (starts Lock lock_cells (entries m.locks)) (starts Lock lock_cells (entries n.locks)) (states_above m 3 (omega arith)) (states_above n 3 (omega arith)) o.1 in
+    record {
+      resources = same_entries_map m.resources n.resources (entries_told Resource resource_cells resources_told (entries m.resources) (entries n.resources) p.resources q.resources r.0);
+      extents = same_entries_map m.extents n.extents (entries_told Extent extent_cells extents_told (entries m.extents) (entries n.extents) p.extents q.extents e.0);
+      properties = same_entries_map m.properties n.properties (entries_told Property property_cells properties_told (entries m.properties) (entries n.properties) p.properties q.properties o.0);
+      locks = same_entries_map m.locks n.locks (entries_told Lock lock_cells locks_told (entries m.locks) (entries n.locks) p.locks q.locks l.0);
+      states = same_entries_map (unsealed m.states) (unsealed n.states) (entries_told State state_cells states_told (entries (unsealed m.states)) (entries (unsealed n.states)) p.states q.states l.1);
+    }
 
 pub seals_determine : SealsDetermine
-seals_determine key m n p q e =
-    let a = seal_of key m in
-    let b = seal_of key n in
-    let resources = sum_fronts a.resources b.resources _ _ e in
-    let extents = sum_fronts a.extents b.extents _ _ resources.1 in
-    let properties = sum_fronts a.properties b.properties _ _ extents.1 in
-    let locks = sum_fronts a.locks b.locks _ _ properties.1 in
-    let states = sum_fronts a.states b.states _ _ locks.1 in
-    record {
-      resources = differs Resource resource_cells resources_told key m.resources n.resources p.resources q.resources resources.0;
-      extents = differs Extent extent_cells extents_told key m.extents n.extents p.extents q.extents extents.0;
-      properties = differs Property property_cells properties_told key m.properties n.properties p.properties q.properties properties.0;
-      locks = differs Lock lock_cells locks_told key m.locks n.locks p.locks q.locks locks.0;
-      states = differs State state_cells states_told key m.states n.states p.states q.states states.0;
-    }
+seals_determine key m n p q e other = record { different = λ same. other (same_rows m n p q same); same = sum_is m key ∙ e ∙ sym (sum_is n key) }
 
 -- ---- one row
 
@@ -178,10 +249,7 @@ pub sums_determine_one : SumsDetermineOne
 sums_determine_one key before after a b p q collide =
     let m : ℕ = 2 ^ 64 in
     let others = sum_by (digest key) before + sum_by (digest key) after in
-    let sum_a = sum_by (digest key) (before ++ a ∷ after) % 2 ^ 64 in
-    let sum_b = sum_by (digest key) (before ++ b ∷ after) % 2 ^ 64 in
-    let parts = fronts 8 _ _ _ _ (length-number_bytes _) (length-number_bytes _) collide.same in
-    let sums : sum_a ≡ sum_b = number_bytes-injective sum_a sum_b (mod-lt _ (omega arith)) (mod-lt _ (omega arith)) parts.1 in
+    let sums = collide.same in
     let sums' : (others + digest key a) % 2 ^ 64 ≡ (others + digest key b) % 2 ^ 64 =
     sym (ap (λ n. n % 2 ^ 64) (one_apart (digest key) before after a)) ∙ sums ∙ ap (λ n. n % 2 ^ 64) (one_apart (digest key) before after b) in
     let some : 0 < 2 ^ 64 = omega arith in (

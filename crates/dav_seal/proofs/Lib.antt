@@ -1,6 +1,7 @@
 pub mod TotalLemmas
 pub mod EntryLemmas
 pub mod SealLemmas
+pub mod Unsealed
 pub mod StoreLemmas
 pub mod FrontLemmas
 pub mod LawLemmas

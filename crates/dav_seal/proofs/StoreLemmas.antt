@@ -1,8 +1,8 @@
 -- The seals of all tables after a change.
-use Rattle.std.proofs.Common.{◌≡◌, ℕ, ℤ, List, Result, OnOk, Ok, Err, sym, ap, subst, ◌∙◌, int_cmp}
+use Rattle.std.proofs.Common.{◌≡◌, ℕ, ℤ, pos, List, Result, OnOk, Ok, Err, sym, ap, subst, ◌∙◌, int_cmp}
 use Rattle.std.specs.Map.{remove_entry}
 use Rattle.std.specs.BTreeMap.{insert_entry, is_at}
-use Rattle.std.specs.FinMap.{insert}
+use Rattle.std.specs.FinMap.{insert, remove}
 use Rattle.sqlite_value.specs.Order.{Row}
 use Rattle.dav_rows.specs.declared.change.Table.{Table}
 use Rattle.dav_rows.specs.declared.change.Table.TheVariants.{Resource, Extent, Property, Lock, State}
@@ -18,7 +18,9 @@ use Rattle.dav_seal.specs.RowBytes.{AreCells}
 use Rattle.dav_seal.specs.Digests.{entry_digest}
 use Rattle.dav_seal.specs.declared.seals.Seals.{Seals}
 use Rattle.dav_seal.specs.Seals.{IsSealOf, AreSealsOf}
+use Rattle.dav_seal.specs.SealRow.{unsealed}
 use Rattle.dav_seal.proofs.SealLemmas.{put_sealed, remove_sealed}
+use Rattle.dav_seal.proofs.Unsealed.{unsealed-insert, unsealed-seal, unsealed-remove}
 
 -- what follows on success from two facts that hold on success
 pub when_ok : {U E : Type 0} {A B C : Type 0} (r : Result U E) → OnOk r A → OnOk r B → (A → B → C) → OnOk r C
@@ -73,12 +75,41 @@ module _ (key : ℕ) (m : Contents) (s : Seals) (was : AreSealsOf key m s) where
       let now = subst (IsSealOf key Lock lock_cells (removed Lock number m).locks) (sym is) (remove_sealed key Lock lock_cells m.locks s.locks number was.locks) in
       record { under = was.under; locks = now; resources = was.resources; extents = was.extents; properties = was.properties; states = was.states }
 
-  pub state_put : (row : StateRow) (after : List (ℤ × ℕ)) → after ≡ insert_entry int_cmp s.states row.number (entry_digest s.key State state_cells (state_entry row))
+  pub state_put : (row : StateRow) → (row.number ≡ pos 1 → ⊥) → (after : List (ℤ × ℕ)) → after ≡ insert_entry int_cmp s.states row.number (entry_digest s.key State state_cells (state_entry row))
       → AreCells (shown state_cells (state_entry row)) → AreSealsOf key (put_state row m) (record s { states = after })
-  state_put row after is here =
-      record { under = was.under; states = put_under key State state_cells m.states s.states was.states s.key row.number (state_entry row).1 after was.under is here; resources = was.resources; extents = was.extents; properties = was.properties; locks = was.locks }
+  state_put row apart after is here =
+      let there = put_under key State state_cells (unsealed m.states) s.states was.states s.key row.number (state_entry row).1 after was.under is here in
+      record {
+        under = was.under;
+        states = subst (λ n. IsSealOf key State state_cells n after) (sym (unsealed-insert m.states row.number (state_entry row).1 apart)) there;
+        resources = was.resources;
+        extents = was.extents;
+        properties = was.properties;
+        locks = was.locks;
+      }
+
+  -- the row of the seal is not sealed itself
+  pub seal_put : (row : StateRow) → row.number ≡ pos 1 → AreSealsOf key (put_state row m) s
+  seal_put row is =
+      let same : unsealed (insert m.states row.number (state_entry row).1) ≡ unsealed m.states =
+      ap (λ k. unsealed (insert m.states k (state_entry row).1)) is ∙ unsealed-seal m.states (state_entry row).1 in
+      record {
+        under = was.under;
+        states = subst (λ n. IsSealOf key State state_cells n s.states) (sym same) was.states;
+        resources = was.resources;
+        extents = was.extents;
+        properties = was.properties;
+        locks = was.locks;
+      }
 
   pub state_removed : (number : ℤ) (after : List (ℤ × ℕ)) → after ≡ remove_entry (is_at (int_cmp number)) s.states → AreSealsOf key (removed State number m) (record s { states = after })
   state_removed number after is =
-      let now = subst (IsSealOf key State state_cells (removed State number m).states) (sym is) (remove_sealed key State state_cells m.states s.states number was.states) in
-      record { under = was.under; states = now; resources = was.resources; extents = was.extents; properties = was.properties; locks = was.locks }
+      let there = subst (IsSealOf key State state_cells (remove (unsealed m.states) number)) (sym is) (remove_sealed key State state_cells (unsealed m.states) s.states number was.states) in
+      record {
+        under = was.under;
+        states = subst (λ n. IsSealOf key State state_cells n after) (sym (unsealed-remove m.states number)) there;
+        resources = was.resources;
+        extents = was.extents;
+        properties = was.properties;
+        locks = was.locks;
+      }

@@ -2,6 +2,6 @@ pub mod RowBytes
 pub mod Digests
 pub mod Sums
 pub mod Puts
-pub mod Notes
+pub mod SealRow
 pub mod Seals
 pub mod Laws

@@ -1,5 +1,5 @@
-//! A seal over all rows of a store: for each table the number of its rows and the sum of their digests under a key. A start
-//! compares it with the rows that it reads, and so finds a damaged row.
+//! A seal over all rows of a store: the sum of their digests under a key. A start compares it with the rows that it reads, and
+//! so finds a damaged row.
 #![tactic(auto)]
 
 mod laws;

@@ -1,19 +1,20 @@
 //! The seals of all tables.
-ghost use Rattle.std.specs.Prelude.{◌≡◌, ◌↔◌, ℤ, ℕ, List, [], ◌∷◌, ◌++◌, map, IsTrue, IfOk, OnOk};
+ghost use Rattle.std.specs.Prelude.{◌≡◌, ◌↔◌, ℤ, ℕ, pos, [], ◌∷◌, IsTrue, IfOk, OnOk};
 ghost use Rattle.std.specs.Ordering.{int_cmp};
 ghost use Rattle.std.specs.BTreeMap.{insert_entry};
-ghost use Rattle.std.specs.List.{AllByRecursion, flat_map};
-ghost use Rattle.dav_rows.specs.Changes.{note_entry, after, after_one, removed};
+ghost use Rattle.std.specs.List.{AllByRecursion};
+ghost use Rattle.dav_rows.specs.Changes.{state_entry, after, after_one, put_state, removed};
 ghost use Rattle.dav_rows.specs.Creating.{nothing};
 ghost use Rattle.dav_seal.specs.Puts.{put_all};
-ghost use Rattle.dav_seal.specs.RowBytes.{number_bytes};
-ghost use Rattle.dav_seal.specs.Sums.{sum_of, sum_bytes};
-ghost use Rattle.dav_seal.specs.Notes.{note_of};
+ghost use Rattle.dav_seal.specs.SealRow.{row_with};
 
 use crate::sealed_row::SealedRow;
 use crate::table_seal::TableSeal;
-use dav_rows::{Change, NoteRow, Rows, Table};
+use dav_rows::{Change, Rows, StateRow, Table};
 use std::alloc::{AllocError, Global};
+
+/// The row of the state that holds the seal.
+const SEAL: i64 = 1;
 
 /// The digests of all rows of a store under a key, and their sums. After an error they have to be dropped: part of a change
 /// may be in them.
@@ -29,7 +30,7 @@ pub struct Seals {
 }
 
 impl Seals {
-    ghost use Rattle.dav_seal.specs.Seals.{seal_of, seal_bytes, seal_note, sealed_after, AreSealsOf, AreTables};
+    ghost use Rattle.dav_seal.specs.Seals.{seal_of, seal_row, sealed_after, AreSealsOf, AreTables, IsOnly};
 
     /// Returns the seals of no rows.
     pub fn new(alloc: Global, key: u64) -> Seals
@@ -46,10 +47,17 @@ impl Seals {
         }
     }
 
-    /// Returns the seals of these rows. Fails only if memory runs out.
-    pub fn of_rows(alloc: Global, key: u64, rows: &Rows) -> Result<Seals, AllocError>
-        ensures { (m : _) → AreTables rows.now m → IfOk result (AreSealsOf key m) }
+    /// Returns the seals of these rows, with this one as the only row of the state. Fails only if memory runs out.
+    pub fn of_rows(
+        alloc: Global,
+        key: u64,
+        rows: &Rows,
+        state: &StateRow,
+    ) -> Result<Seals, AllocError>
+        ensures { (m : _) → AreTables rows.now m → IsOnly state.now m → IfOk result (AreSealsOf key m) }
     {
+        let mut states = TableSeal::new(alloc);
+        put_row(&mut states, alloc, key, state)?;
         Ok(Seals {
             alloc,
             key,
@@ -57,7 +65,7 @@ impl Seals {
             extents: seal_of_rows(alloc, key, rows.extents.as_slice())?,
             properties: seal_of_rows(alloc, key, rows.properties.as_slice())?,
             locks: seal_of_rows(alloc, key, rows.locks.as_slice())?,
-            states: seal_of_rows(alloc, key, rows.states.as_slice())?,
+            states,
         })
     }
 
@@ -72,13 +80,23 @@ impl Seals {
             Change::PutExtent(row) => put_row(&mut self.extents, alloc, key, row),
             Change::PutProperty(row) => put_row(&mut self.properties, alloc, key, row),
             Change::PutLock(row) => put_row(&mut self.locks, alloc, key, row),
-            Change::PutState(row) => put_row(&mut self.states, alloc, key, row),
+            Change::PutState(row) => self.put_state_row(row),
             Change::PutNote(_) => Ok(()),
             Change::Remove(table, number) => {
                 self.remove(*table, number);
                 Ok(())
             }
         }
+    }
+
+    /// Puts the digest of a row of the state, unless it is that of the seal.
+    fn put_state_row(&mut self, row: &StateRow) -> Result<(), AllocError>
+        ensures { (key : _) (m : _) → AreSealsOf key m self.old → OnOk result (AreSealsOf key (put_state row.now m) self.new) }
+    {
+        if is_seal(row) {
+            return Ok(());
+        }
+        put_row(&mut self.states, self.alloc, self.key, row)
     }
 
     /// Changes the seals as the changes change the rows, the first of them first. Fails only if memory runs out.
@@ -92,13 +110,13 @@ impl Seals {
     }
 
     /// Changes the seals as these changes change the rows, and returns the changes with one more behind them, which puts the
-    /// note of the seal that there is then. Fails only if memory runs out.
+    /// row of the seal that there is then. Fails only if memory runs out.
     pub fn with_seal(&mut self, mut changes: Vec<Change>) -> Result<Vec<Change>, AllocError>
         ensures seals { (key : _) (m : _) → AreSealsOf key m self.old → OnOk result (AreSealsOf key (sealed_after key changes.items m) self.new) }
         ensures sealed { (key : _) (m : _) → AreSealsOf key m self.old → IfOk result (λ all. after all.items m ≡ sealed_after key changes.items m) }
     {
         self.apply_all(&changes)?;
-        changes.push(Change::PutNote(self.note()?))?;
+        changes.push(Change::PutState(self.row()))?;
         Ok(changes)
     }
 
@@ -116,41 +134,55 @@ impl Seals {
         }
     }
 
-    /// Returns the note of the seal. Fails only if memory runs out.
-    pub fn note(&self) -> Result<NoteRow, AllocError>
-        ensures { (key : _) (m : _) → AreSealsOf key m self.now → IfOk result (λ note. note_entry note ≡ seal_note key m) }
+    /// Returns the row of the state that holds the seal.
+    pub fn row(&self) -> StateRow
+        ensures { (key : _) (m : _) → AreSealsOf key m self.now → state_entry result ≡ seal_row key m }
     {
-        Ok(NoteRow {
-            number: 0,
-            kind: 0,
-            owner: 0,
-            value: self.bytes()?,
-        })
+        StateRow {
+            number: SEAL,
+            counter: self.sum().cast_signed(),
+            time: 0,
+            batch: 0,
+            digest_key: 0,
+        }
     }
 
-    /// Returns whether these notes are the note of the seal alone. Fails only if memory runs out.
-    pub fn check(&self, notes: &[NoteRow]) -> Result<bool, AllocError>
-        ensures { (key : _) (m : _) → AreSealsOf key m self.now → IfOk result (λ is. IsTrue is ↔ (map note_entry notes.now ≡ seal_note key m ∷ [])) }
+    /// Returns whether this is the row of the state that holds the seal.
+    pub fn check(&self, row: &StateRow) -> bool
+        ensures { (key : _) (m : _) → AreSealsOf key m self.now → IsTrue result ↔ (state_entry row.now ≡ seal_row key m) }
     {
-        let bytes = self.bytes()?;
-        Ok(is_note(notes, &bytes))
+        is_row_of(row, self.sum())
     }
 
-    /// Returns the bytes of the seal: for each table the number of its rows and the sum of their digests, 8 bytes each.
-    pub(crate) fn bytes(&self) -> Result<Vec<u8>, AllocError>
-        ensures { (key : _) (m : _) → AreSealsOf key m self.now → IfOk result (λ bytes. bytes.items ≡ seal_bytes (seal_of key m)) }
+    /// Returns the sum of the digests of all rows, mod 2^64.
+    fn sum(&self) -> u64
+        ensures { (key : _) (m : _) → AreSealsOf key m self.now → result ≡ seal_of key m }
     {
-        bytes_of(
-            self.alloc,
-            &[
-                &self.resources,
-                &self.extents,
-                &self.properties,
-                &self.locks,
-                &self.states,
-            ],
-        )
+        self.resources
+            .sum()
+            .wrapping_add(self.extents.sum())
+            .wrapping_add(self.properties.sum())
+            .wrapping_add(self.locks.sum())
+            .wrapping_add(self.states.sum())
     }
+}
+
+/// Returns whether a row of the state is that of the seal.
+fn is_seal(row: &StateRow) -> bool
+    ensures { IsTrue result ↔ (row.now.number ≡ pos 1) }
+{
+    row.number == SEAL
+}
+
+/// Returns whether a row is the one that holds this seal.
+fn is_row_of(row: &StateRow, seal: u64) -> bool
+    ensures { IsTrue result ↔ (state_entry row.now ≡ row_with seal) }
+{
+    is_seal(row)
+        && row.counter == seal.cast_signed()
+        && row.time == 0
+        && row.batch == 0
+        && row.digest_key == 0
 }
 
 /// Returns the seal of these rows.
@@ -177,41 +209,4 @@ fn put_row<R: SealedRow>(
 {
     let digest = row.digest(alloc, key)?;
     seal.put(row.number(), digest)
-}
-
-/// Returns the bytes of these seals, in their order.
-fn bytes_of(alloc: Global, seals: &[&TableSeal]) -> Result<Vec<u8>, AllocError>
-    ensures { IfOk result (λ bytes. bytes.items ≡ flat_map (λ s. sum_bytes (sum_of s.now)) seals.now) }
-{
-    let mut bytes = Vec::new(alloc);
-    'seals: for seal in seals {
-        push_sum(&mut bytes, seal)?;
-    }
-    Ok(bytes)
-}
-
-#[tactic(auto, unfolding(crate::specs::RowBytes::number_bytes), using(std::proofs::lemmas::Grind::common_steps))]
-/// Appends how many rows there are and the sum of their digests.
-fn push_sum(bytes: &mut Vec<u8>, seal: &TableSeal) -> Result<(), AllocError>
-    ensures { OnOk result (bytes.new.items ≡ bytes.old.items ++ sum_bytes (sum_of seal.now)) }
-{
-    bytes.extend_from_slice(&seal.rows().to_be_bytes())?;
-    bytes.extend_from_slice(&seal.sum().to_be_bytes())
-}
-
-/// Returns whether the notes are that of a seal alone.
-fn is_note(notes: &[NoteRow], bytes: &[u8]) -> bool
-    ensures { IsTrue result ↔ (map note_entry notes.now ≡ note_of bytes.now ∷ []) }
-{
-    match notes {
-        [note] => is_note_of(note, bytes),
-        _ => false,
-    }
-}
-
-/// Returns whether a note is that of a seal.
-fn is_note_of(note: &NoteRow, bytes: &[u8]) -> bool
-    ensures { IsTrue result ↔ (note_entry note.now ≡ note_of bytes.now) }
-{
-    note.number == 0 && note.kind == 0 && note.owner == 0 && note.value.as_slice() == bytes
 }

@@ -1,5 +1,5 @@
 //! The digests of a table's rows by number, and their sum.
-ghost use Rattle.std.specs.Prelude.{◌≡◌, ℕ, ℤ, List, [], length, OnOk};
+ghost use Rattle.std.specs.Prelude.{◌≡◌, ℕ, ℤ, List, [], OnOk};
 ghost use Rattle.std.specs.Ordering.{int_cmp};
 ghost use Rattle.std.specs.BTreeMap.{insert_entry, is_at};
 ghost use Rattle.std.specs.Map.{remove_entry};
@@ -56,13 +56,6 @@ impl TableSeal {
     {
         let old = self.digests.remove(number).unwrap_or(0);
         self.sum = self.sum.wrapping_sub(old);
-    }
-
-    /// Returns how many rows there are.
-    pub fn rows(&self) -> u64
-        ensures { result ≡ length self.now }
-    {
-        self.digests.len() as u64
     }
 
     /// Returns the sum of the digests, mod 2^64.

@@ -1,5 +1,6 @@
 use Rattle.std.proofs.Common.{◌≡◌, ◌∷◌, [], map, pos, sym, subst}
 use Rattle.dav_rows.specs.Changes.{state_entry}
+use Rattle.dav_seal.specs.Seals.{seal_row}
 use Rattle.dav_store_rows.proofs.Decoding.{same-Ok, stops-err}
 use Rattle.dav_store_rows.specs.LockRows.{AreLockRows}
 use Rattle.dav_keep.proofs.LoadedImages.{rows_for, lock_rows, state_rows, values_below}
@@ -30,8 +31,8 @@ returns-clause-loaded c = λ image tables are.
     let rows = c.args.rows.now in
     let numbers : c.in_ok-numbers.numbers ≡ image.numbers =
     same-Ok c.in_ok-numbers.numbers image.numbers
-    (c.in_ok-numbers.ensures image.numbers
-    (subst (λ states. map state_entry states ≡ (pos 0, values_of image.numbers) ∷ []) (sym c.deref.ensures.value) (state_rows rows image tables are))) in
+    (c.in_ok-numbers.ensures image.numbers (seal_row image.numbers.key tables ∷ [])
+    (subst (λ states. map state_entry states ≡ (pos 0, values_of image.numbers) ∷ seal_row image.numbers.key tables ∷ []) (sym c.deref.ensures.value) (state_rows rows image tables are))) in
     record {
       values = c.in_ok-values.ensures.ok image.tree (rows_for rows image tables are);
       locks = c.in_ok-locks.ensures.ok image.locks (subst (λ locks. AreLockRows locks image.locks) (sym c.deref-2.ensures.value) (lock_rows rows image tables are));

@@ -1,4 +1,4 @@
-use Rattle.dav_seal.proofs.StoreLemmas.{when_ok, resource_put, extent_put, property_put, lock_put, state_put}
+use Rattle.dav_seal.proofs.StoreLemmas.{when_ok, resource_put, extent_put, property_put, lock_put}
 use Rattle.dav_seal.proofs.seals.Seals.apply.Goals as goal
 
 pub returns-in-PutResource : goal.returns-in-PutResource
@@ -18,5 +18,4 @@ returns-in-PutLock c key m was =
     rw c.in-PutLock.is (when_ok c.put_row-in-PutLock.result c.put_row-in-PutLock.ensures.digest c.put_row-in-PutLock.ensures.whole (lock_put key m c.args.self.now was c.in-PutLock.row c.put_row-in-PutLock.new.seal))
 
 pub returns-in-PutState : goal.returns-in-PutState
-returns-in-PutState c key m was =
-    rw c.in-PutState.is (when_ok c.put_row-in-PutState.result c.put_row-in-PutState.ensures.digest c.put_row-in-PutState.ensures.whole (state_put key m c.args.self.now was c.in-PutState.row c.put_row-in-PutState.new.seal))
+returns-in-PutState c key m was = rw c.in-PutState.is (c.put_state_row.ensures key m was)
