@@ -93,7 +93,8 @@ pub fn read_files<D: Disk, E: Disk + Drop>(
     read_store(alloc, loaded.rows, loaded.version, disk, limit)
 }
 
-/// Checks that there is no byte of a store beside the files of a database of this version, if that is new. It only reads the files.
+/// Checks that there is no byte of a store beside the files of a database of this version, if that is new. It only reads the
+/// files.
 ///
 /// - `NoDatabase`: the store is new, and the data file has bytes, or the log has pages.
 /// - `Data`: the data file cannot be read.

@@ -1,5 +1,5 @@
 -- What is loaded of a store that was kept: this project's own choice.
-use Rattle.std.specs.Prelude.{◌≡◌, ◌<◌, ◌^◌, ℕ, true, [], ◌∷◌, map, Some}
+use Rattle.std.specs.Prelude.{◌≡◌, ◌<◌, ◌^◌, ℕ, true, List, [], ◌∷◌, map, Some}
 use Rattle.std.specs.FinMap.{get, empty, entries}
 use Rattle.dav_cells.specs.Locks.{kept_lock}
 use Rattle.dav_data.specs.Data.{is_below}
@@ -9,10 +9,11 @@ use Rattle.dav_nodes.specs.Tree.{Tree, root_tree}
 use Rattle.dav_nodes.specs.TreeRows.{AreRowsOf}
 use Rattle.dav_rows.specs.Contents.{Contents}
 use Rattle.dav_rows.specs.Loading.{AreAll}
-use Rattle.dav_rows.specs.Changes.{state_entry}
+use Rattle.dav_rows.specs.Changes.{after, state_entry}
+use Rattle.dav_rows.specs.declared.change.Change.{Change}
 use Rattle.dav_rows.specs.declared.loading.Rows.{Rows}
 use Rattle.dav_rows.specs.declared.state.StateRow.{StateRow}
-use Rattle.dav_seal.specs.Seals.{IsSealed}
+use Rattle.dav_seal.specs.Seals.{IsSealed, sealed}
 use Rattle.dav_store_rows.specs.Resources.{Kept}
 use Rattle.dav_tree.specs.Entry.{is_held}
 use Rattle.dav_tree.specs.declared.entry.Content.TheVariants.{Directory}
@@ -35,6 +36,10 @@ pub record AreRowsOfImage (rows : Rows) (image : Image) (tables : Contents) : Ty
   pub all : AreAll rows tables
   pub stand : StandForImage tables image
   pub whole : IsWholeImage image
+
+-- the changes put the row of the seal of these maps under the key
+abbrev pub Seal : ℕ → Contents → List Change → Type 0
+Seal key m changes = after changes m ≡ sealed key m
 
 -- the state has these two rows
 abbrev pub HasTwo : StateRow → StateRow → Contents → Type 0

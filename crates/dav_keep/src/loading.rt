@@ -1,16 +1,16 @@
 //! What is loaded of a store that was kept.
-ghost use Rattle.std.specs.Prelude.{◌≡◌, ◌≢◌, ◌↔◌, ℕ, List, [], ◌∷◌, map, false, IsTrue, IfOk, IfErr, OnOk};
+ghost use Rattle.std.specs.Prelude.{◌≡◌, ◌≢◌, ◌↔◌, ℕ, List, [], ◌∷◌, map, pos, false, IsTrue, IfOk, IfErr, OnOk};
 ghost use Rattle.std.specs.FinMap.{entries};
 ghost use Rattle.sqlite.specs.Held.{state};
 ghost use Rattle.sqlite.specs.State.{HasCleanDisk};
 ghost use Rattle.dav_cells.specs.Locks.{kept_lock};
 ghost use Rattle.dav_memls.specs.MemLs.{list_of};
-ghost use Rattle.dav_rows.specs.Changes.{after, state_entry};
+ghost use Rattle.dav_rows.specs.Changes.{state_entry};
 ghost use Rattle.dav_rows.specs.Contents.{Contents};
 ghost use Rattle.dav_rows.specs.Loading.{AreAll};
 ghost use Rattle.dav_rows.specs.Saving.{IsAt};
 ghost use Rattle.dav_rows.specs.declared.opening.Version.TheVariants.{Older};
-ghost use Rattle.dav_seal.specs.Seals.{AreSealsOf, AreTables, IsSealed, sealed};
+ghost use Rattle.dav_seal.specs.Seals.{AreSealsOf, AreTables, IsSealed};
 ghost use Rattle.dav_store.specs.LockCalls.{HasDistinctTokens};
 ghost use Rattle.dav_store.specs.Locks.{AreCompatible};
 ghost use Rattle.dav_store.specs.declared.lock.DavLock.{DavLock as TheLock};
@@ -19,7 +19,7 @@ ghost use Rattle.dav_store_rows.specs.Loads.{IsMemory};
 ghost use Rattle.dav_keep.specs.Images.{Image};
 ghost use Rattle.dav_keep.specs.Keeping.{IsKnown, Knows, connection_of};
 ghost use Rattle.dav_keep.specs.Ends.{IsEnd, AreBelow};
-ghost use Rattle.dav_keep.specs.Loading.{AreRowsOfImage, IsLoaded, AreSealed, HasTwo};
+ghost use Rattle.dav_keep.specs.Loading.{AreRowsOfImage, IsLoaded, AreSealed, HasTwo, Seal};
 
 use crate::Keeping;
 use crate::ends::end_of;
@@ -66,7 +66,7 @@ pub struct Known {
 impl Known {
     /// Returns the changes that seal tables of version 1, which have no seal. Fails only if memory runs out.
     pub fn sealing(&self, alloc: Global) -> Result<Vec<Change>, AllocError>
-        ensures { (key : ℕ) (m : Contents) → AreSealsOf key m self.now.seals → IfOk result (λ changes. after changes.items m ≡ sealed key m) }
+        ensures { (key : ℕ) (m : Contents) → AreSealsOf key m self.now.seals → IfOk result (λ changes. Seal key m changes.items) }
     {
         let mut changes = Vec::new(alloc);
         changes.push(Change::PutState(self.seals.row()))?;
@@ -155,11 +155,24 @@ fn with_seal(
     if !has_number(seal, 1) {
         return Err(LoadError::Damaged);
     }
+    if !has_key(state, key) {
+        return Err(LoadError::Damaged);
+    }
     let seals = Seals::of_rows(alloc, key, rows, state)?;
     if !seals.check(seal) {
         return Err(LoadError::Damaged);
     }
     Ok(seals)
+}
+
+/// Returns whether a row of the state has this key.
+fn has_key(row: &StateRow, key: u64) -> bool
+    ensures { IsTrue result ↔ (row.now.digest_key ≡ pos key) }
+{
+    match u64::try_from(row.digest_key) {
+        Ok(found) => found == key,
+        Err(_) => false,
+    }
 }
 
 /// Returns whether a row of the state has this number.

@@ -33,9 +33,9 @@ seal_of key m = total_of (all_digests key m)
 abbrev pub seal_row : ℕ → Contents → ℤ × StateValues
 seal_row key m = row_with (seal_of key m)
 
--- the state has a row 0, and then the row of the seal of these maps under the key, and no other
+-- the state has a row 0 with this key, and then the row of the seal of these maps under the key, and no other
 abbrev pub IsSealed : ℕ → Contents → Type 0
-IsSealed key m = (numbers : StateValues) × (entries m.states ≡ (pos 0, numbers) ∷ seal_row key m ∷ [])
+IsSealed key m = (numbers : StateValues) × (numbers.digest_key ≡ pos key) × (entries m.states ≡ (pos 0, numbers) ∷ seal_row key m ∷ [])
 
 -- the maps with the row of their seal under the key
 abbrev pub sealed : ℕ → Contents → Contents

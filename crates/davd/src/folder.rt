@@ -59,7 +59,8 @@ struct Opening {
 /// `held` stands for what the files held.
 ///
 /// If they held a store, it is found, and its rows have the seal that was kept with them. If they held no table, a new store
-/// is found. Everything is read and judged before anything is written. A store of an earlier batch than that number is opened only if `accepts_loss`.
+/// is found. Everything is read and judged before anything is written. A store of an earlier batch than that number is opened
+/// only if `accepts_loss`.
 ///
 /// Errors: `Refused` if a file of the store is missing, or the folder is not one of a store, is damaged or has lost
 /// batches; `InUse` if another process has it open; `Disk` if it cannot be read or written; `Memory`.

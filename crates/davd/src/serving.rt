@@ -55,8 +55,7 @@ type EndedOver<D, E, L> = (Result<(), Stopped>, FolderFiles<D, E>, LastBatch<L>)
 /// If they held a store, the run goes on from it; if they held no table, from a new one. At its end a crash leaves what was
 /// in the server after some of the batches, with the time and the number of then, and the later ones have changed nothing
 /// of what is kept; the database is whole without its log, and the files of the number name that number or a later one.
-/// After an error it leaves this of the batches that were
-/// answered, or what was in the server at last.
+/// After an error it leaves this of the batches that were answered, or what was in the server at last.
 ///
 /// Errors at the start are those of `open_folder`, and later ones those of `serve_to_the_end`.
 pub fn serve_folder<R: Start, T: Start, N: Start, I: Read, O: Write>(

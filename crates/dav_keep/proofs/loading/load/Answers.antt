@@ -1,4 +1,4 @@
-use Rattle.std.proofs.Common.{sym, subst}
+use Rattle.std.proofs.Common.{refl, sym, subst}
 use Rattle.dav_seal.specs.Seals.{IsSealed}
 use Rattle.dav_store_rows.proofs.Decoding.{stops-err}
 use Rattle.dav_keep.specs.Images.{values_of}
@@ -14,4 +14,4 @@ pub returns-in_err-seals-clause-err : goal.returns-in_err-seals-clause-err
 returns-in_err-seals-clause-err c = λ image tables are.
     let numbers = (c.in_ok-loaded.ensures.loaded image tables are).numbers in
     stops-err c.from_residual-in_err-seals.result c.in_err-seals.field-0.0 c.from_residual-in_err-seals.ensures.1
-    (c.in_err-seals.ensures.err tables are.all (subst (λ (n : Numbers). IsSealed n.key tables) (sym numbers) (values_of image.numbers, are.stand.state)))
+    (c.in_err-seals.ensures.err tables are.all (subst (λ (n : Numbers). IsSealed n.key tables) (sym numbers) (values_of image.numbers, refl, are.stand.state)))
