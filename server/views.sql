@@ -43,5 +43,5 @@ SELECT token, path FROM lock ORDER BY number;
 -- How much there is: directories, files and their bytes, and the time in UTC of the last batch that changed something.
 CREATE TEMP VIEW summary AS
 SELECT sum(directory) AS directories, sum(1 - directory) AS files, sum(size) AS bytes,
-    (SELECT datetime(time, 'unixepoch') FROM state) AS changed
+    (SELECT datetime(time, 'unixepoch') FROM state WHERE number = 0) AS changed
 FROM resource;
