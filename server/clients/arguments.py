@@ -8,7 +8,7 @@ GROUP = Group("davd alone", is_shared=False)
 GROUPS = [GROUP]
 
 USAGE = b"""\
-usage: davd [-prefix PREFIX] [-anyone-unlocks] [-max-batch BYTES] [-quota BYTES] [-accept-loss] [FOLDER]
+usage: davd [-prefix PREFIX] [-anyone-unlocks] [-max-batch BYTES] [-quota BYTES] [-accept-loss] [-key KEY] [-seed SEED] [FOLDER]
        davd --check FOLDER
 """
 CUT = b"davd: the input ends inside a batch\n"
@@ -20,6 +20,7 @@ RIGHT = (
     ["-max-batch", "0", "-anyone-unlocks", "-accept-loss"],
     ["-quota", "007"],
     ["-quota", str(2**64 - 1)],
+    ["-key", str(2**63 - 1), "-seed", str(2**64 - 1)],
 )
 
 WRONG = (
@@ -41,6 +42,9 @@ WRONG = (
     ["-quota", "-1"],
     ["-quota", "5K"],
     ["-quota", str(2**64)],
+    ["-key", str(2**63)],
+    ["-seed", str(2**64)],
+    ["-key"],
     [b"-prefix", b"/\xff"],
 )
 

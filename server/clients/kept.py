@@ -1,10 +1,13 @@
 """A folder in which davd keeps everything: what is there again after davd or the server was killed."""
+import contextlib
 import hashlib
 import os
 import pathlib
 import random
+import shutil
 import signal
 import sqlite3
+import tempfile
 import threading
 import time
 
@@ -31,6 +34,17 @@ def check(starter: Starter, folder: str, status: int) -> list[str]:
     checked = PROCESSES.run([starter.programs.davd, "--check", starter.folder / folder], seconds=30)
     expect("the exit status", checked.returncode, status)
     return checked.stdout.splitlines()
+
+
+def rows_of(folder: pathlib.Path) -> int:
+    """How many rows SQLite finds in all tables of a folder, in a copy of its database."""
+    with tempfile.TemporaryDirectory() as place:
+        for name in ("meta.db", "meta.db-wal"):
+            if (folder / name).exists():
+                shutil.copy(folder / name, place)
+        with contextlib.closing(sqlite3.connect(f"{place}/meta.db")) as database:
+            tables = [name for (name,) in database.execute("SELECT name FROM sqlite_schema WHERE type = 'table'")]
+            return sum(database.execute(f"SELECT count(*) FROM {name}").fetchone()[0] for name in tables)
 
 
 def flip(starter: Starter, place: int):
@@ -244,13 +258,14 @@ def checked(starter: Starter):
     server.ask("PUT", "/first", content.randbytes(1 << 20), status=201)
     server.ask("PUT", "/d/empty", b"", status=201)
     server.stop()
-    expect("a good folder", check(starter, "kept", 0), ["4 files, 6048576 bytes, 0 damaged"])
+    rows = rows_of(starter.folder / "kept")
+    expect("a good folder", check(starter, "kept", 0), [f"{rows} rows, 4 files, 6048576 bytes, 0 damaged"])
     flip(starter, after - 1)
-    damaged = ["damaged: /d/e/a%20b", "4 files, 3048576 bytes, 1 damaged", "davd: a file is damaged"]
+    damaged = ["damaged: /d/e/a%20b", f"{rows} rows, 4 files, 3048576 bytes, 1 damaged", "davd: a file is damaged"]
     expect("a damaged folder", check(starter, "kept", 1), damaged)
     expect("once more", check(starter, "kept", 1), damaged)
     flip(starter, after - 1)
-    expect("after it was mended", check(starter, "kept", 0), ["4 files, 6048576 bytes, 0 damaged"])
+    expect("after it was mended", check(starter, "kept", 0), [f"{rows} rows, 4 files, 6048576 bytes, 0 damaged"])
 
 
 @GROUP.check("davd --check finds no damage after kills, and makes nothing where there is no folder")
@@ -261,7 +276,8 @@ def checked_after_kills(starter: Starter):
     look(server, long)
     kill(server)
     server.stop()
-    expect("after kills", check(starter, "kept", 0), [f"3 files, {len(long) + 10} bytes, 0 damaged"])
+    rows = rows_of(starter.folder / "kept")
+    expect("after kills", check(starter, "kept", 0), [f"{rows} rows, 3 files, {len(long) + 10} bytes, 0 damaged"])
     expect("no folder", check(starter, "none", 6), ["davd: the folder cannot be read or written"])
     (starter.folder / "none").mkdir()
     expect("an empty folder", check(starter, "none", 6), ["davd: the folder cannot be read or written"])

@@ -10,7 +10,7 @@ import tarfile
 import time
 
 from harness import Group, Starter
-from kept import ASKED, check, start
+from kept import ASKED, check, rows_of, start
 from server import PROCESSES, Server, expect
 
 GROUP = Group("a folder with a file missing or damaged", is_shared=False)
@@ -24,7 +24,8 @@ NO_DATABASE = f"davd: meta.db has no store, and the folder has bytes of one, {RE
 NO_DATA = f"davd: data is missing, {RESTORE}"
 SHORT_DATA = f"davd: data is shorter than meta.db says, {RESTORE}"
 DAMAGED = "davd: meta.db or meta.db-wal is damaged, so nothing was changed: restore the folder from a backup\n"
-FOREIGN = "davd: meta.db is not a database of davd, so nothing was changed: choose another folder\n"
+FOREIGN = ("davd: meta.db is not a database of this version of davd, so nothing was changed: "
+           "serve it by the later version that made it, or choose another folder\n")
 UNFINISHED = "davd: a backup to this folder did not end, so nothing was changed: make a new one in another folder\n"
 OLDER = ("davd: meta.db and meta.db-wal have lost the last batches, so nothing was changed: "
          "restore the folder from a backup, or serve what is left with -accept-loss\n")
@@ -115,10 +116,13 @@ LOST = [
 ]
 """What happened to a folder, the change, and what a start says then; `None` if the log may still have all that was lost."""
 
-WHOLE = "3 files, 370005 bytes, 0 damaged\n"
-
 REST = 2.5
 """Seconds after which the number of the last batch is on the disk: the server syncs it when it has rested for 1.5."""
+
+
+def whole_line(starter: Starter) -> str:
+    """What a check prints of the folder `kept`, and of its copies."""
+    return f"{rows_of(starter.folder / 'kept')} rows, 3 files, 370005 bytes, 0 damaged\n"
 
 
 def whole_or_refused(starter: Starter, folder: pathlib.Path) -> subprocess.CompletedProcess:
@@ -126,7 +130,7 @@ def whole_or_refused(starter: Starter, folder: pathlib.Path) -> subprocess.Compl
     before = sums(folder)
     checked = run(starter, "--check", folder)
     if checked.returncode == 0:
-        expect("what a check prints", checked.stdout, WHOLE)
+        expect("what a check prints", checked.stdout, whole_line(starter))
     else:
         expect("the exit status", checked.returncode, 4)
         expect("whether it is one of the refusals", checked.stdout in (NO_DATABASE, DAMAGED, FOREIGN, OLDER), True)
@@ -160,7 +164,7 @@ def whole(starter: Starter, folder: pathlib.Path):
     """A check finds each file, and leaves the folder as it is."""
     before = sums(folder)
     checked = run(starter, "--check", folder)
-    expect("what a check says", (checked.returncode, checked.stdout), (0, WHOLE))
+    expect("what a check says", (checked.returncode, checked.stdout), (0, whole_line(starter)))
     expect("the folder", sums(folder), before)
 
 
@@ -206,6 +210,7 @@ FLIPS = 300
 
 def flipped_file(starter: Starter, name: str):
     folder = copy_of(starter, filled(starter))
+    line = whole_line(starter)
     good = (folder / name).read_bytes()
     bits = range(8 * len(good))
     for bit in random.Random(5).sample(bits, min(FLIPS, len(bits))):
@@ -216,7 +221,7 @@ def flipped_file(starter: Starter, name: str):
         checked = run(starter, "--check", folder)
         found = checked.returncode == 4 or (checked.returncode == 1 and "damaged: " in checked.stdout)
         if not found:
-            expect(f"a check with bit {bit} flipped", (checked.returncode, checked.stdout), (0, WHOLE))
+            expect(f"a check with bit {bit} flipped", (checked.returncode, checked.stdout), (0, line))
         expect("the folder", sums(folder), before)
 
 
@@ -340,7 +345,7 @@ def unfinished(starter: Starter):
 def good(starter: Starter):
     folder = filled(starter)
     before = sums(folder)
-    expect("what it prints", check(starter, "kept", 0), [WHOLE.strip()])
+    expect("what it prints", check(starter, "kept", 0), [whole_line(starter).strip()])
     expect("the folder", sums(folder), before)
 
 
@@ -363,4 +368,4 @@ def left_behind(starter: Starter):
     server.ask("MKCOL", "/e", status=201)
     expect("the size after a batch", (folder / "data").stat().st_size, end)
     server.stop()
-    expect("the check", check(starter, "kept", 0), [WHOLE.strip()])
+    expect("the check", check(starter, "kept", 0), [whole_line(starter).strip()])

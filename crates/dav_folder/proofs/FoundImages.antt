@@ -9,7 +9,7 @@ use Rattle.dav_rows.specs.declared.opening.Version.{Version}
 use Rattle.dav_rows.specs.declared.opening.Version.TheVariants.{Older, Current}
 use Rattle.dav_tree.specs.TreeFs.{memory_of, honest_of}
 use Rattle.dav_tree.specs.declared.medium.Medium.{Ghosts}
-use Rattle.dav_folder.specs.Reading.{IsReadFrom, HasReadBytes, ReadsImage, IsEmptyIfHonest}
+use Rattle.dav_folder.specs.Reading.{IsReadFrom, HasSomeBytes, HasReadBytes, ReadsImage, IsEmptyIfHonest}
 use Rattle.dav_folder.specs.declared.reading.Found.{Found}
 
 -- a premise that is known later
@@ -28,10 +28,11 @@ not_older version now older = let e : Current ≡ Older = sym now ∙ older in c
 
 module _ {E M : Type 0} {g : Ghosts M (List Piece)} where
   pub reads_image : (result : Result (Found M (List Piece) g) E) (seen file : List ℕ) (limit : Option (Option ℕ)) (image : Image) (tables : Contents) → seen ≡ file
-      → IfOk result (IsReadFrom image tables) → IfOk result (HasReadBytes seen image) → IfOk result (λ found. (memory_of found.store).limit ≡ limit)
-      → IfOk result (ReadsImage file limit image tables)
-  reads_image (Ok found) seen file limit image tables same read bytes set = record { read = read; bytes = subst (λ f. HasReadBytes f image found) same bytes; limit_is = set }
-  reads_image (Err e) seen file limit image tables same read bytes set = tt
+      → IfOk result (IsReadFrom image tables) → IfOk result (HasSomeBytes image) → IfOk result (HasReadBytes seen image)
+      → IfOk result (λ found. (memory_of found.store).limit ≡ limit) → IfOk result (ReadsImage file limit image tables)
+  reads_image (Ok found) seen file limit image tables same read some bytes set =
+      record { read = read; some = some; bytes = subst (λ f. HasReadBytes f image found) same bytes; limit_is = set }
+  reads_image (Err e) seen file limit image tables same read some bytes set = tt
 
   pub reads_empty : (result : Result (Found M (List Piece) g) E) (clean : Bool) (file : List ℕ) → IfOk result (λ found. honest_of found.store ≡ true → clean ≡ true)
       → (clean ≡ true → file ≡ []) → IfOk result (λ found. IsEmptyIfHonest found file)

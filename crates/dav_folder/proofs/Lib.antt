@@ -6,3 +6,4 @@ pub mod LoadedBytes
 pub mod Utf8Texts
 pub mod Utf8Tables
 pub mod FoundImages
+pub mod Outlines

@@ -1,5 +1,7 @@
 -- What the files of a folder hold, and what a crash leaves there: this project's own choice.
-use Rattle.std.specs.Prelude.{◌≡◌, ◌⊎◌, ◌≤◌, ℕ, List, [], length, map}
+use Rattle.std.specs.Prelude.{◌≡◌, ◌⊎◌, ◌≤◌, ℕ, Bool, List, [], length, map}
+use Rattle.std.specs.FinMap.{get}
+use Rattle.std.specs.Option.{option_map}
 use Rattle.sqlite.specs.Recovery as database
 use Rattle.sqlite_disk.specs.declared.Disk as disk
 use Rattle.sqlite_store.specs.FileStore.{view, state}
@@ -10,15 +12,17 @@ use Rattle.dav_data.specs.Data.{may_leave}
 use Rattle.dav_data.specs.declared.data_file.DataFile.{DataFile}
 use Rattle.dav_keep.specs.Images.{Image, StandForImage}
 use Rattle.dav_keep.specs.Loading.{IsWholeImage}
+use Rattle.dav_key.specs.Key.{Key}
 use Rattle.dav_memls.specs.MemLs.{list_of}
 use Rattle.dav_pieces.specs.Pieces.{bytes_of}
 use Rattle.dav_pieces.specs.declared.piece.Piece.{Piece}
 use Rattle.dav_rows.specs.Contents.{Contents}
 use Rattle.dav_rows.specs.Failing.{HasUtf8}
 use Rattle.dav_rows_files.specs.Starting.{Keeps}
+use Rattle.dav_store.specs.Store.{PropertyMap}
 use Rattle.dav_store.specs.declared.lock.DavLock.{DavLock}
 use Rattle.dav_tree.specs.Kept.{resources_by}
-use Rattle.dav_tree.specs.Memory.{Resources, IsSound}
+use Rattle.dav_tree.specs.Memory.{Stored, Resources, IsSound, is_directory, size_of}
 use Rattle.dav_tree.specs.TreeFs.{memory_of}
 use Rattle.dav_tree.specs.declared.medium.Medium.{Ghosts}
 use Rattle.dav_folder.specs.Lasting.{At}
@@ -41,6 +45,27 @@ kept_at snapshot = record {
   time = snapshot.now;
   batch = snapshot.last;
 }
+
+-- what is kept of a resource beside the bytes of a file: whether it is a directory, the length of a file, the change that made it what it is, its times,
+-- and its properties
+pub record Outline : Type 0 where
+  pub directory : Bool
+  pub size : ℕ
+  pub version : ℕ
+  pub created : ℕ
+  pub modified : ℕ
+  pub properties : PropertyMap
+
+abbrev pub outline_of : Stored → Outline
+outline_of s = record { directory = is_directory s.node; size = size_of s.node; version = s.version; created = s.created; modified = s.modified; properties = s.properties }
+
+-- the same is kept of both, except that the files may have other bytes, as many as before
+pub record IsSameButBytes (one other : KeptStore) : Type 0 where
+  pub resources : (key : Key) → option_map outline_of (get other.resources key) ≡ option_map outline_of (get one.resources key)
+  pub counter : other.counter ≡ one.counter
+  pub locks : other.locks ≡ one.locks
+  pub time : other.time ≡ one.time
+  pub batch : other.batch ≡ one.batch
 
 -- the files of a database and a data file hold a store: the tables are those of an image of it, and the bytes of its files are in the data file
 pub record Hold (left : database.Image) (file : List ℕ) (kept : KeptStore) : Type 0 where

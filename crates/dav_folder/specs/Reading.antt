@@ -1,5 +1,5 @@
 -- What is read of a folder.
-use Rattle.std.specs.Prelude.{◌≡◌, ℕ, true, List, [], map, Option}
+use Rattle.std.specs.Prelude.{◌≡◌, ℕ, ◌+◌, true, List, [], length, map, Option}
 use Rattle.dav_cells.specs.Locks.{kept_lock}
 use Rattle.dav_keep.specs.Images.{Image, IsSound}
 use Rattle.dav_keep.specs.Keeping.{Knows}
@@ -7,12 +7,18 @@ use Rattle.dav_memls.specs.MemLs.{list_of}
 use Rattle.dav_pieces.specs.Pieces.{bytes_of}
 use Rattle.dav_pieces.specs.declared.piece.Piece.{Piece}
 use Rattle.dav_rows.specs.Contents.{Contents}
+use Rattle.dav_rows.specs.declared.loading.Rows.{Rows}
 use Rattle.dav_tree.specs.Before.{entries_code, IsSaved}
 use Rattle.dav_tree.specs.Kept.{resources_by}
 use Rattle.dav_tree.specs.Memory as memory
 use Rattle.dav_tree.specs.TreeFs.{memory_of, entries_of, honest_of}
 use Rattle.dav_tree.specs.declared.medium.Medium.{Ghosts}
 use Rattle.dav_folder.specs.declared.reading.Found.{Found}
+
+-- how many rows there are in all tables
+abbrev pub row_count : Rows → ℕ
+row_count rows =
+    length rows.resources.items + length rows.extents.items + length rows.properties.items + length rows.locks.items + length rows.states.items + length rows.notes.items
 
 module _ {M : Type 0} {g : Ghosts M (List Piece)} where
   -- what was read is an image: its entries, its locks and its numbers, and what is known of the tables that stand for it
@@ -32,9 +38,15 @@ module _ {M : Type 0} {g : Ghosts M (List Piece)} where
   abbrev pub HasReadBytes : List ℕ → Image → Found M (List Piece) g → Type 0
   HasReadBytes file image found = honest_of found.store ≡ true → (memory_of found.store).resources ≡ resources_by (bytes_of file) image.tree
 
+  -- the store has the resources of an image, with the bytes in some contents of a data file
+  pub record HasSomeBytes (image : Image) (found : Found M (List Piece) g) : Type 0 where
+    pub file : List ℕ
+    pub are : (memory_of found.store).resources ≡ resources_by (bytes_of file) image.tree
+
   -- an image is read, with the bytes in these contents of the data file, and this limit is set
   pub record ReadsImage (file : List ℕ) (limit : Option (Option ℕ)) (image : Image) (tables : Contents) (found : Found M (List Piece) g) : Type 0 where
     pub read : IsReadFrom image tables found
+    pub some : HasSomeBytes image found
     pub bytes : HasReadBytes file image found
     pub limit_is : (memory_of found.store).limit ≡ limit
 

@@ -179,6 +179,7 @@ impl<M: Medium<Body = Body>> Found<M> {
             now,
             last,
             key,
+            rows: _,
         } = self;
         Opened {
             folder: Folder::new(Keeping::new(alloc, conn, known), last),

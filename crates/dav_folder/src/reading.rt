@@ -5,7 +5,7 @@ ghost use Rattle.dav_keep.specs.Loading.{AreRowsOfImage, AreSealed};
 ghost use Rattle.dav_rows.specs.Contents.{Contents};
 ghost use Rattle.dav_rows.specs.declared.opening.Version.TheVariants.{Older};
 ghost use Rattle.dav_tree.specs.TreeFs.{memory_of, store_of, honest_of};
-ghost use Rattle.dav_folder.specs.Reading.{IsReadFrom, HasReadBytes};
+ghost use Rattle.dav_folder.specs.Reading.{row_count, IsReadFrom, HasSomeBytes, HasReadBytes};
 ghost use Rattle.dav_folder.specs.Opening.{HasFiles, IsMemoryOrDisk};
 
 use crate::OpenError;
@@ -32,6 +32,8 @@ pub struct Found<M: Medium> {
     pub last: u64,
     /// The key of the digests.
     pub key: u64,
+    /// How many rows the tables have, with those of the state.
+    pub rows: u128,
 }
 
 /// Reads the store of a folder from these rows of its database, over its data file. `limit` is the store's quota. The
@@ -52,14 +54,17 @@ pub fn read_store<D: Disk + Drop>(
 ) -> Result<Found<DataFile<D>>, OpenError>
     requires { D.Disk.is_usable disk ≡ true }
     ensures found { (image : Image) (tables : Contents) → AreRowsOfImage rows image tables → IfOk result (IsReadFrom image tables) }
+    ensures some { (image : Image) (tables : Contents) → AreRowsOfImage rows image tables → IfOk result (HasSomeBytes image) }
     ensures bytes { (image : Image) (tables : Contents) → AreRowsOfImage rows image tables → IfOk result (HasReadBytes (D.Disk.seen disk) image) }
     ensures limit { (image : Image) (tables : Contents) → AreRowsOfImage rows image tables → IfOk result (λ found. (memory_of found.store).limit ≡ limit) }
     ensures sealed { version ≢ Older → IfOk result (λ found. AreSealed found.key rows) }
+    ensures rows { IfOk result (λ found. found.rows ≡ row_count rows) }
     ensures log { IfOk result (λ found. (store_of found.store).log ≡ []) }
     ensures honest { IfOk result (λ found. honest_of found.store ≡ true → D.Disk.is_clean disk ≡ true) }
     ensures err { (image : Image) (tables : Contents) (are : AreRowsOfImage rows image tables) → HasFiles (D.Disk.seen disk) image are.whole
         → IfErr result (IsMemoryOrDisk D.Disk disk) }
 {
+    let count = count_rows(&rows);
     let (known, loaded) = load(alloc, rows, version)?;
     let numbers = loaded.numbers;
     let medium = match DataFile::open(alloc, disk, numbers.key, loaded.end) {
@@ -75,5 +80,18 @@ pub fn read_store<D: Disk + Drop>(
         now: numbers.time,
         last: numbers.batch,
         key: numbers.key,
+        rows: count,
     })
+}
+
+/// Returns how many rows there are in all tables.
+fn count_rows(rows: &Rows) -> u128
+    ensures { result ≡ row_count rows.now }
+{
+    rows.resources.len() as u128
+        + rows.extents.len() as u128
+        + rows.properties.len() as u128
+        + rows.locks.len() as u128
+        + rows.states.len() as u128
+        + rows.notes.len() as u128
 }

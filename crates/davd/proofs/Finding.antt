@@ -1,10 +1,13 @@
 -- What a start finds of what was kept.
 use Rattle.std.proofs.Common.{◌≡◌, ◌∙◌, ℕ, true, List, map, Option, Result, refl, sym, ap, subst}
+use Rattle.std.specs.FinMap.{get}
+use Rattle.std.specs.Option.{option_map}
 use Rattle.std.specs.Prelude.{IfOk}
 use Rattle.dav_cells.specs.Locks.{kept_lock}
-use Rattle.dav_folder.specs.Files.{KeptStore}
+use Rattle.dav_folder.specs.Files.{KeptStore, outline_of}
 use Rattle.dav_folder.specs.Lasting.{HasCleanDatabase}
 use Rattle.dav_folder.specs.Opening.{Opens, OpensImage, HasBytes}
+use Rattle.dav_folder.proofs.Outlines.{same_outlines}
 use Rattle.dav_folder.specs.Reading.{IsReadFrom, ReadsImage, IsEmptyIfHonest}
 use Rattle.dav_folder.specs.declared.opening.Opened.{Opened}
 use Rattle.dav_folder.specs.declared.reading.Found.{Found}
@@ -18,6 +21,7 @@ use Rattle.dav_rows.specs.Creating.{first}
 use Rattle.dav_rows.specs.declared.change.Change.{Change}
 use Rattle.dav_rows_files.specs.Starting.{Keeps, IsVacant}
 use Rattle.dav_tree.specs.Kept.{resources_by}
+use Rattle.dav_tree.specs.Memory.{Resources}
 use Rattle.dav_tree.specs.TreeFs.{memory_of, honest_of}
 use Rattle.dav_tree.specs.declared.medium.Medium.{Ghosts}
 use Rattle.dav_tree.specs.declared.tree_fs.TreeFs.{TreeFs}
@@ -26,14 +30,23 @@ use Rattle.sqlite.specs.Recovery as files
 use Rattle.sqlite_trees.specs.declared.store.Store as store
 
 module _ {S M : Type 0} {rows : store.Ghosts S} {g : Ghosts M (List Piece)} (limit : Option (Option ℕ)) (file : List ℕ) where
-  -- the image of what was kept is opened
-  found : (image : Image) (kept : KeptStore) (opened : Opened S M (List Piece) rows g) → resources_by (bytes_of file) image.tree ≡ kept.resources
+  -- the image of what was kept is opened, with the bytes in these contents of a data file
+  found : (image : Image) (kept : KeptStore) (opened : Opened S M (List Piece) rows g) (now : List ℕ) → resources_by (bytes_of file) image.tree ≡ kept.resources
       → image.numbers.counter ≡ kept.counter → map kept_lock image.locks ≡ kept.locks → image.numbers.time ≡ kept.time → image.numbers.batch ≡ kept.batch
-      → Opens image opened → HasBytes file image opened → (memory_of opened.store).limit ≡ limit → IsFound limit kept opened
-  found image kept opened resources counter locks_are time batch opens bytes limit_is =
+      → Opens image opened → (memory_of opened.store).resources ≡ resources_by (bytes_of now) image.tree → HasBytes file image opened
+      → (memory_of opened.store).limit ≡ limit → IsFound limit kept opened
+  found image kept opened now resources counter locks_are time batch opens some bytes limit_is =
       let at = opens.lasts.at in
       record {
         lasts = opens.lasts;
+        same = record {
+          resources = λ key. ap (λ (these : Resources). option_map outline_of (get these key)) some ∙ same_outlines file now image.tree key
+              ∙ ap (λ (these : Resources). option_map outline_of (get these key)) resources;
+          counter = sym at.is.counter ∙ ap (λ (m : Image). m.numbers.counter) opens.is ∙ counter;
+          locks = sym at.is.locks_are ∙ ap (λ (m : Image). map kept_lock m.locks) opens.is ∙ locks_are;
+          time = sym at.time ∙ ap (λ (m : Image). m.numbers.time) opens.is ∙ time;
+          batch = sym at.batch ∙ ap (λ (m : Image). m.numbers.batch) opens.is ∙ batch;
+        };
         is = λ honest. λ i. record {
           resources = (bytes honest ∙ resources) i;
           counter = (sym at.is.counter ∙ ap (λ (m : Image). m.numbers.counter) opens.is ∙ counter) i;
@@ -48,6 +61,10 @@ module _ {S M : Type 0} {rows : store.Ghosts S} {g : Ghosts M (List Piece)} (lim
   -- returned what was written.
   module _ (left now : files.Image) (same : now ≡ left) (Clean : Type 0) (read : Found M (List Piece) g) (opened : Opened S M (List Piece) rows g)
       (is_store : opened.store ≡ read.store) (was_clean : HasCleanDatabase opened.folder → Clean) where
+    some_opened : (image : Image) (tables : Contents) (reads : ReadsImage file limit image tables read) → (memory_of opened.store).resources ≡ resources_by (bytes_of reads.some.file) image.tree
+    some_opened image tables reads =
+        subst (λ (s : TreeFs M (List Piece) g). (memory_of s).resources ≡ resources_by (bytes_of reads.some.file) image.tree) (sym is_store) reads.some.are
+
     bytes_opened : (image : Image) (tables : Contents) → ReadsImage file limit image tables read → HasBytes file image opened
     bytes_opened image tables reads =
         subst (λ (s : TreeFs M (List Piece) g). honest_of s ≡ true → (memory_of s).resources ≡ resources_by (bytes_of file) image.tree) (sym is_store) reads.bytes
@@ -63,22 +80,23 @@ module _ {S M : Type 0} {rows : store.Ghosts S} {g : Ghosts M (List Piece)} (lim
         let read_image = reads hold.image hold.tables hold.keeps hold.stand hold.whole in
         let still : Keeps now hold.tables = subst (λ image. Keeps image hold.tables) (sym same) hold.keeps in
         let here = read_image (was_clean clean) in
-        found hold.image kept opened hold.bytes hold.counter hold.locks_are hold.time hold.batch_is
-        (opens hold.image hold.tables still (λ is. (read_image is).read) clean) (bytes_opened hold.image hold.tables here) (limit_opened hold.image hold.tables here)
+        found hold.image kept opened here.some.file hold.bytes hold.counter hold.locks_are hold.time hold.batch_is
+        (opens hold.image hold.tables still (λ is. (read_image is).read) clean) (some_opened hold.image hold.tables here) (bytes_opened hold.image hold.tables here) (limit_opened hold.image hold.tables here)
 
     -- if they had no table, a new store is found, and the data file had no byte
-    pub finds_new : (changes : List Change) → MakesFirst changes
+    pub finds_new : (key : ℕ) (changes : List Change) → MakesFirst key changes
         → ((image : Image) → IsVacant left → StandForImage (first changes) image → IsWholeImage image → Clean → ReadsImage file limit image (first changes) read)
         → ((image : Image) → IsVacant now → (Clean → IsReadFrom image (first changes) read) → OpensImage image opened)
-        → (IsVacant left → Clean → IsEmptyIfHonest read file) → FindsNew left file limit opened
-    finds_new changes (key, stand) reads opens empty = record {
+        → (IsVacant left → Clean → IsEmptyIfHonest read file) → opened.key ≡ read.key → FindsNew left file limit key opened
+    finds_new key changes stand reads opens empty same_key = record {
       found = λ vacant clean.
           let image = first_image key in
           let tables = first changes in
           let read_image = reads image vacant stand (first_whole key) in
           let here = read_image (was_clean clean) in
-          found image first_kept opened (first_resources (bytes_of file) key) refl refl refl refl
-          (opens image (subst IsVacant (sym same) vacant) (λ is. (read_image is).read) clean) (bytes_opened image tables here) (limit_opened image tables here);
+          found image first_kept opened here.some.file (first_resources (bytes_of file) key) refl refl refl refl
+          (opens image (subst IsVacant (sym same) vacant) (λ is. (read_image is).read) clean) (some_opened image tables here) (bytes_opened image tables here) (limit_opened image tables here);
+      keyed = λ vacant clean. same_key ∙ (reads (first_image key) vacant stand (first_whole key) (was_clean clean)).read.key;
       empty = λ vacant clean honest. empty vacant (was_clean clean) (ap honest_of (sym is_store) ∙ honest);
     }
 
@@ -90,7 +108,7 @@ module _ {S M X : Type 0} {rows : store.Ghosts S} {g : Ghosts M (List Piece)} (r
       subst (λ l. IfOk result (FindsHeld held bytes l)) same_limit
       (subst (λ b. IfOk result (FindsHeld held b limit)) same_bytes (subst (λ i. IfOk result (FindsHeld i file limit)) same finds))
 
-  pub new_as : IfOk result (FindsNew left file limit) → IfOk result (FindsNew held bytes other)
-  new_as finds =
-      subst (λ l. IfOk result (FindsNew held bytes l)) same_limit
-      (subst (λ b. IfOk result (FindsNew held b limit)) same_bytes (subst (λ i. IfOk result (FindsNew i file limit)) same finds))
+  pub new_as : (key : ℕ) → IfOk result (FindsNew left file limit key) → IfOk result (FindsNew held bytes other key)
+  new_as key finds =
+      subst (λ l. IfOk result (FindsNew held bytes l key)) same_limit
+      (subst (λ b. IfOk result (FindsNew held b limit key)) same_bytes (subst (λ i. IfOk result (FindsNew i file limit key)) same finds))

@@ -11,7 +11,7 @@ use Rattle.sqlite_store.specs.declared.store.FileStore.{FileStore}
 use Rattle.davd.proofs.Leaves.{on_ok, on_err}
 use Rattle.davd.specs.Leaving.{GoesOn, GoesOnWithLog, GoesOnAndStops}
 use Rattle.davd.specs.Options.{OptionsValue}
-use Rattle.davd.specs.Program.{rules_in, ServesFolder, ServesWithLog, StopsInFolder}
+use Rattle.davd.specs.Program.{rules_in, start_of, ServesFolder, ServesWithLog, StopsInFolder}
 use Rattle.davd.specs.declared.program.Stopped.{Stopped}
 
 pub some_same : {X : Type 0} (x y : X) → Some x ≡ Some y → x ≡ y
@@ -19,16 +19,16 @@ some_same x y is = cc
 
 module _ {D E : Type 0} {d : disk.Ghosts D} {e : disk.Ghosts E} (medium : Ghosts (DataFile E e) (List Piece)) (left : database.Image) (file : List ℕ)
     (read options : OptionsValue) (is : read ≡ options) (files : FileStore D d × DataFile E e) (result : Result (Unit {0}) Stopped) where
-  pub serves_folder : {L : Type 0} {l : disk.Ghosts L} (number : LastBatch L l) (input input' output output' : Option (List ℕ))
-      → OnOk result (GoesOn left file files number medium (rules_in read) read.quota input input' output output')
-      → OnOk result (ServesFolder d l medium left file options input input' output output')
-  serves_folder {l = l} number input input' output output' goes =
-      subst (λ o. OnOk result (ServesFolder d l medium left file o input input' output output')) is
+  pub serves_folder : {L : Type 0} {l : disk.Ghosts L} (said : database.Image) (number : LastBatch L l) (input input' output output' : Option (List ℕ))
+      → OnOk result (GoesOn left file files said number medium (rules_in read) (start_of read) input input' output output')
+      → OnOk result (ServesFolder d l medium left file said options input input' output output')
+  serves_folder {l = l} said number input input' output output' goes =
+      subst (λ o. OnOk result (ServesFolder d l medium left file said o input input' output output')) is
       (on_ok result goes (λ goes_on. record { files = files; number = number; goes_on = goes_on }))
 
   pub stops_in_folder : (Other : Type 0) (input input' output output' : Option (List ℕ))
-      → OnErr result (GoesOnAndStops left file files medium (rules_in read) read.quota output output'
-      ⊎ GoesOnWithLog left file files medium (rules_in read) read.quota input input' output output')
+      → OnErr result (GoesOnAndStops left file files medium (rules_in read) (start_of read) output output'
+      ⊎ GoesOnWithLog left file files medium (rules_in read) (start_of read) input input' output output')
       → OnErr result (Other ⊎ (StopsInFolder d medium left file options output output' ⊎ ServesWithLog d medium left file options input input' output output'))
   stops_in_folder Other input input' output output' stops =
       subst (λ o. OnErr result (Other ⊎ (StopsInFolder d medium left file o output output' ⊎ ServesWithLog d medium left file o input input' output output'))) is

@@ -31,7 +31,8 @@ use Rattle.sqlite_store.specs.FileStore.{view}
 use Rattle.sqlite_store.specs.declared.store.FileStore.{FileStore}
 use Rattle.sqlite_trees.specs.View.{IsClean}
 use Rattle.sqlite_trees.specs.declared.store.Store as store
-use Rattle.davd.specs.Folder.{Serving, state_now, state_from, IsOpenedAsKept, BeginsOpened, FindsKept, FindsFirst, HeldSealed, Keep, ServesOpened, StopsOpened}
+use Rattle.davd.specs.Folder.{Serving, state_now, state_from, IsOpenedAsKept, BeginsOpened, FindsKept, FindsFirst, HeldSealed, OpensUpToDate, Keep, ServesOpened, StopsOpened}
+use Rattle.davd.specs.declared.folder.StartOptions.{StartOptions}
 use Rattle.davd.specs.Leaving.{LeaveNumbered, LeavesAfter, LeavesAfterOrNow, RunsAndLeaves, RunsWithLog, StopsAndLeaves, HeldAStore, BeginsWith, GoesOn, GoesOnWithLog, GoesOnAndStops}
 
 -- what follows on Ok, or on Err
@@ -199,43 +200,48 @@ module _ {D E : Type 0} {d : disk.Ghosts D} {e : disk.Ghosts E} {rows : store.Gh
 module _ {D E : Type 0} {d : disk.Ghosts D} {e : disk.Ghosts E} {rows : store.Ghosts (FileStore D d)} {g : Ghosts (DataFile E e) (List Piece)} (rules : Rules)
     (opened : Opened (FileStore D d) (DataFile E e) (List Piece) rows g) (files : FileStore D d × DataFile E e) where
   -- `left` and `file` are what the files held
-  module _ (left : database.Image) (file : List ℕ) (quota : Option ℕ) (finds : FindsKept left file quota opened) (finds_new : FindsFirst left file quota opened) (held_sealed : HeldSealed left opened)
+  module _ (left : database.Image) (file : List ℕ) (start : StartOptions) (finds : FindsKept left file start.quota opened) (finds_new : FindsFirst left file start.quota start.key opened) (held_sealed : HeldSealed left opened)
       (was_clean : IsClean (view files.0) → HasCleanDatabase opened.folder) where
     lasts_at_start : HeldAStore left file files → IsOpenedAsKept opened
     lasts_at_start (clean, inl (held, hold)) = (finds held hold (was_clean clean)).lasts
     lasts_at_start (clean, inr vacant) = (finds_new.found vacant (was_clean clean)).lasts
 
-    limit_at_start : HeldAStore left file files → (memory_of opened.store).limit ≡ option_map Some quota
+    limit_at_start : HeldAStore left file files → (memory_of opened.store).limit ≡ option_map Some start.quota
     limit_at_start (clean, inl (held, hold)) = (finds held hold (was_clean clean)).limit_is
     limit_at_start (clean, inr vacant) = (finds_new.found vacant (was_clean clean)).limit_is
 
-    begins_with : BeginsWith left file files quota (opened_at opened)
+    begins_with : BeginsWith left file files start (opened_at opened)
     begins_with = record {
+      same = λ held clean hold. (finds held hold (was_clean clean)).same;
       kept = λ held clean hold. (finds held hold (was_clean clean)).is;
       new = λ clean vacant. (finds_new.found vacant (was_clean clean)).is;
       empty = λ clean vacant. finds_new.empty vacant (was_clean clean);
       limit = limit_at_start;
       key = opened.key;
       sealed = λ tables clean keeps. held_sealed tables keeps (was_clean clean);
+      keyed = λ clean vacant. finds_new.keyed vacant (was_clean clean);
     }
 
     -- what was found goes on
-    pub goes_on : {L : Type 0} {l : disk.Ghosts L} (number : LastBatch L l) (input input' output output' : Option (List ℕ))
+    pub goes_on : {L : Type 0} {l : disk.Ghosts L} (said : database.Image) (begun number : LastBatch L l) (input input' output output' : Option (List ℕ))
+        → (start.accepts_loss ≡ false → OpensUpToDate said opened begun)
         → RunsAndLeaves g rules (IsOpenedAsKept opened) (state_from (opened_at opened)) files number input input' output output'
-        → GoesOn left file files number g rules quota input input' output output'
-    goes_on number input input' output output' runs =
+        → GoesOn left file files said number g rules start input input' output output'
+    goes_on said begun number input input' output output' up_to_date runs =
         record {
           first = opened_at opened;
           begins = begins_with;
+          begun = begun;
+          up_to_date = up_to_date;
           goes = record { last = runs.last; run = runs.run; leaves = λ held. runs.leaves (lasts_at_start held) };
         }
 
     pub goes_on_with_log : (input input' output output' : Option (List ℕ)) → RunsWithLog g rules (state_from (opened_at opened)) input input' output output'
-        → GoesOnWithLog left file files g rules quota input input' output output'
+        → GoesOnWithLog left file files g rules start input input' output output'
     goes_on_with_log input input' output output' runs = record { first = opened_at opened; begins = begins_with; goes = runs }
 
     pub goes_on_and_stops : (output output' : Option (List ℕ))
-        → StopsAndLeaves g rules (IsOpenedAsKept opened) (state_from (opened_at opened)) files output output' → GoesOnAndStops left file files g rules quota output output'
+        → StopsAndLeaves g rules (IsOpenedAsKept opened) (state_from (opened_at opened)) files output output' → GoesOnAndStops left file files g rules start output output'
     goes_on_and_stops output output' stops =
         record {
           first = opened_at opened;

@@ -2,7 +2,7 @@
 use Rattle.std.specs.Prelude.{◌≡◌, ◌≤◌, ⊤, ℕ, true, List, [], string_bytes, Option, Some, None}
 use Rattle.std.specs.FinMap.{empty, insert}
 use Rattle.std.specs.Option.{option_map}
-use Rattle.dav_folder.specs.Files.{KeptStore, kept_at, Hold}
+use Rattle.dav_folder.specs.Files.{KeptStore, kept_at, Hold, IsSameButBytes}
 use Rattle.dav_folder.specs.Lasting.{At, Lasts, IsSameKept, HasCleanDatabase}
 use Rattle.dav_folder.specs.Opening.{opened_at}
 use Rattle.dav_folder.specs.Numbered.{folder_of, LastsNumbered, LastsEitherNumbered}
@@ -75,9 +75,9 @@ IsNotOlder key batch other last = IsUpTo batch (last_in key other last)
 abbrev pub first_kept : KeptStore
 first_kept = record { resources = insert empty [] (fresh store_specs.Directory 0 0); counter = 0; locks = []; time = 0; batch = 0 }
 
--- the changes make the tables of a new store
-abbrev pub MakesFirst : List Change → Type 0
-MakesFirst changes = (key : ℕ) × StandForImage (first changes) (first_image key)
+-- the changes make the tables of a new store with this key
+abbrev pub MakesFirst : ℕ → List Change → Type 0
+MakesFirst key changes = StandForImage (first changes) (first_image key)
 
 module _ {S M : Type 0} {rows : store.Ghosts S} {g : Ghosts M (List Piece)} where
   -- what is opened is kept
@@ -89,9 +89,10 @@ module _ {S M : Type 0} {rows : store.Ghosts S} {g : Ghosts M (List Piece)} wher
     pub snapshot : snapshot_of first ≡ Some (opened_at opened)
     pub state : state_now first ≡ state_from (opened_at opened)
 
-  -- this store is opened, with this limit, and it is kept; its files have their bytes if the data file is honest
+  -- this store is opened, with this limit, and it is kept; only the bytes of its files may be others, unless the data file is honest
   pub record IsFound (limit : Option (Option ℕ)) (kept : KeptStore) (opened : Opened S M (List Piece) rows g) : Type 0 where
     pub lasts : IsOpenedAsKept opened
+    pub same : IsSameButBytes kept (kept_at (opened_at opened))
     pub is : honest_of opened.store ≡ true → kept_at (opened_at opened) ≡ kept
     pub limit_is : (memory_of opened.store).limit ≡ limit
 
@@ -103,16 +104,17 @@ module _ {S M : Type 0} {rows : store.Ghosts S} {g : Ghosts M (List Piece)} wher
   abbrev pub FindsHeld : files.Image → List ℕ → Option (Option ℕ) → Opened S M (List Piece) rows g → Type 0
   FindsHeld left file limit opened = (kept : KeptStore) → Hold left file kept → IsFoundIfClean limit kept opened
 
-  -- if the files had no table, a new store is found, and the data file had no byte if it is honest
-  pub record FindsNew (left : files.Image) (file : List ℕ) (limit : Option (Option ℕ)) (opened : Opened S M (List Piece) rows g) : Type 0 where
+  -- if the files had no table, a new store is found, with this key, and the data file had no byte if it is honest
+  pub record FindsNew (left : files.Image) (file : List ℕ) (limit : Option (Option ℕ)) (key : ℕ) (opened : Opened S M (List Piece) rows g) : Type 0 where
     pub found : IsVacant left → IsFoundIfClean limit first_kept opened
+    pub keyed : IsVacant left → HasCleanDatabase opened.folder → opened.key ≡ key
     pub empty : IsVacant left → HasCleanDatabase opened.folder → honest_of opened.store ≡ true → file ≡ []
 
   -- the same with a quota
   abbrev pub FindsKept : files.Image → List ℕ → Option ℕ → Opened S M (List Piece) rows g → Type 0
   FindsKept left file quota = FindsHeld left file (option_map Some quota)
 
-  abbrev pub FindsFirst : files.Image → List ℕ → Option ℕ → Opened S M (List Piece) rows g → Type 0
+  abbrev pub FindsFirst : files.Image → List ℕ → Option ℕ → ℕ → Opened S M (List Piece) rows g → Type 0
   FindsFirst left file quota = FindsNew left file (option_map Some quota)
 
   -- the tables that the files held are sealed under the key that was found

@@ -1,11 +1,11 @@
 -- What a run over a folder leaves of its files, and what the next run there begins with.
-use Rattle.std.specs.Prelude.{◌≡◌, ◌⊎◌, ℕ, true, List, [], ◌∷◌, ◌++◌, flat_map, Option, Some}
+use Rattle.std.specs.Prelude.{◌≡◌, ◌⊎◌, ℕ, true, false, List, [], ◌∷◌, ◌++◌, flat_map, Option, Some}
 use Rattle.std.specs.Io.KnownBytes.{Appends}
 use Rattle.std.specs.Option.{option_map}
 use Rattle.dav_data.specs.declared.data_file.DataFile.{DataFile}
-use Rattle.dav_folder.specs.Files.{KeptStore, kept_at, Hold, Leave, LeaveWhole, LeaveEither}
+use Rattle.dav_folder.specs.Files.{KeptStore, kept_at, Hold, IsSameButBytes, Leave, LeaveWhole, LeaveEither}
 use Rattle.dav_folder.specs.Lasting.{At, IsSameKept}
-use Rattle.dav_last.specs.Batches.{Survives}
+use Rattle.dav_last.specs.Batches.{Survives, unsynced_of, synced_of}
 use Rattle.dav_last.specs.declared.last_batch.LastBatch.{LastBatch}
 use Rattle.dav_memls.specs.MemLs.{locks_of}
 use Rattle.dav_pieces.specs.declared.piece.Piece.{Piece}
@@ -24,7 +24,9 @@ use Rattle.sqlite_disk.specs.declared.Disk as disk
 use Rattle.sqlite_store.specs.FileStore.{view}
 use Rattle.sqlite_store.specs.declared.store.FileStore.{FileStore}
 use Rattle.sqlite_trees.specs.View.{IsClean}
-use Rattle.davd.specs.Folder.{Serving, state_now, state_from, first_kept}
+use Rattle.sqlite_wal.specs.Reads.{AreClean}
+use Rattle.davd.specs.Folder.{Serving, state_now, state_from, first_kept, IsNotOlder}
+use Rattle.davd.specs.declared.folder.StartOptions.{StartOptions}
 
 -- `g` says how the data file is a medium; an exchange is a batch with its answer
 module _ {E : Type 0} {e : disk.Ghosts E} (g : Ghosts (DataFile E e) (List Piece)) (rules : Rules) where
@@ -104,34 +106,40 @@ module _ {D E : Type 0} {d : disk.Ghosts D} {e : disk.Ghosts E} (left : database
   abbrev pub HeldAStore : Type 0
   HeldAStore = IsClean (view files.0) × (((kept : KeptStore) × Hold left file kept) ⊎ IsVacant left)
 
-  -- A run begins with what the files held, or with a new store if they had no table, and with this quota. If the data file is honest, the files of the store
-  -- have their bytes, and a new store is one whose data file had none. The tables that the files held are sealed under the key that the run has.
-  pub record BeginsWith (quota : Option ℕ) {g : Ghosts (DataFile E e) (List Piece)} (first : At g) : Type 0 where
+  -- A run begins with what the files held, or with a new store if they had no table, and with this quota. Only the bytes of files may differ, and they do
+  -- not if the data file is honest; then a new store is one whose data file had no byte. The tables that the files held are sealed under the key that the
+  -- run has, which is the drawn one for a new store.
+  pub record BeginsWith (start : StartOptions) {g : Ghosts (DataFile E e) (List Piece)} (first : At g) : Type 0 where
+    pub same : (kept : KeptStore) → IsClean (view files.0) → Hold left file kept → IsSameButBytes kept (kept_at first)
     pub kept : (kept : KeptStore) → IsClean (view files.0) → Hold left file kept → honest_of first.store ≡ true → kept_at first ≡ kept
     pub new : IsClean (view files.0) → IsVacant left → honest_of first.store ≡ true → kept_at first ≡ first_kept
     pub empty : IsClean (view files.0) → IsVacant left → honest_of first.store ≡ true → file ≡ []
-    pub limit : HeldAStore → (memory_of first.store).limit ≡ option_map Some quota
+    pub limit : HeldAStore → (memory_of first.store).limit ≡ option_map Some start.quota
     pub key : ℕ
     pub sealed : (tables : Contents) → IsClean (view files.0) → Keeps left tables → IsSealed key tables
+    pub keyed : IsClean (view files.0) → IsVacant left → key ≡ start.key
 
-  module _ (g : Ghosts (DataFile E e) (List Piece)) (rules : Rules) (quota : Option ℕ) where
+  module _ (g : Ghosts (DataFile E e) (List Piece)) (rules : Rules) (start : StartOptions) where
     -- a run that goes on from what the files held, after which the log is not copied into the database file, or the number is not on the disk
     pub record GoesOnWithLog (input input' output output' : Option (List ℕ)) : Type 0 where
       pub first : At g
-      pub begins : BeginsWith quota first
+      pub begins : BeginsWith start first
       pub goes : RunsWithLog g rules (state_from first) input input' output output'
 
     -- an error stops such a run
     pub record GoesOnAndStops (output output' : Option (List ℕ)) : Type 0 where
       pub first : At g
-      pub begins : BeginsWith quota first
+      pub begins : BeginsWith start first
       pub stops : StopsAndLeaves g rules HeldAStore (state_from first) files output output'
 
--- `number` is that of the last batch, at the end
+-- `number` is that of the last batch, at the end, and `said` what its files held at the start
 module _ {D E L : Type 0} {d : disk.Ghosts D} {e : disk.Ghosts E} {l : disk.Ghosts L} (left : database.Image) (file : List ℕ) (files : FileStore D d × DataFile E e)
-    (number : LastBatch L l) (g : Ghosts (DataFile E e) (List Piece)) (rules : Rules) (quota : Option ℕ) where
-  -- a run goes on from what the files held, and what a crash leaves of them then
+    (said : database.Image) (number : LastBatch L l) (g : Ghosts (DataFile E e) (List Piece)) (rules : Rules) (start : StartOptions) where
+  -- A run goes on from what the files held, and what a crash leaves of them then. Unless a loss is accepted, the last batch that they held is not an
+  -- earlier one than the files of the number said, if their disks were clean when the number was begun.
   pub record GoesOn (input input' output output' : Option (List ℕ)) : Type 0 where
     pub first : At g
-    pub begins : BeginsWith left file files quota first
+    pub begins : BeginsWith left file files start first
+    pub begun : LastBatch L l
+    pub up_to_date : start.accepts_loss ≡ false → AreClean l (unsynced_of begun) (synced_of begun) → IsNotOlder begins.key first.last said.log said.db
     pub goes : RunsAndLeaves g rules (HeldAStore left file files) (state_from first) files number input input' output output'

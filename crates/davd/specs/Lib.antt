@@ -3,3 +3,5 @@ pub mod Present
 pub mod Folder
 pub mod Leaving
 pub mod Program
+pub mod Joining
+pub mod Checking

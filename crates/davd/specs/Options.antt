@@ -1,5 +1,5 @@
 -- What the arguments of the program mean: this project's own choice.
-use Rattle.std.specs.Prelude.{◌≡◌, ◌⊎◌, ℕ, ◌^◌, Bool, true, false, List, [], ◌∷◌, codes, bytes_eq, ◌==◌, not, if◌then◌else◌, is_ok, string_bytes, Option, Some, None}
+use Rattle.std.specs.Prelude.{◌≡◌, ◌⊎◌, ℕ, ◌^◌, Bool, true, false, List, [], ◌∷◌, codes, bytes_eq, ◌==◌, nat_lt, not, if◌then◌else◌, is_ok, string_bytes, Option, Some, None}
 use Rattle.std.specs.Option.{option_map, option_and_then}
 use Rattle.dav_resource.specs.PathText.{read_prefix}
 use Rattle.dav_headers.specs.Number.{number_in}
@@ -7,8 +7,9 @@ use Rattle.davd.specs.declared.options.ProgramOptions.{ProgramOptions}
 use Rattle.davd.specs.declared.program.Stopped.{Stopped}
 use Rattle.davd.specs.declared.program.Stopped.TheVariants.{Memory, Usage}
 
--- the options of a run: the path prefix, whether anyone may remove and refresh a lock, how many bytes the content of a batch may have, the quota, and the
--- folder in which everything is kept, whether it is served if it has lost its last batches, and whether it is checked and not served
+-- the options of a run: the path prefix, whether anyone may remove and refresh a lock, how many bytes the content of a batch may have, the quota, the
+-- folder in which everything is kept, whether it is served if it has lost its last batches, the key of a new folder and the seed of this start, which the
+-- caller draws, and whether the folder is checked and not served
 pub record OptionsValue : Type 0 where
   pub prefix : List ℕ
   pub anyone_unlocks : Bool
@@ -16,11 +17,13 @@ pub record OptionsValue : Type 0 where
   pub quota : Option ℕ
   pub folder : Option (List ℕ)
   pub accepts_loss : Bool
+  pub key : ℕ
+  pub seed : ℕ
   pub checks : Bool
 
 -- the options without arguments
 abbrev pub first_options : OptionsValue
-first_options = record { prefix = []; anyone_unlocks = false; max_batch = 2 ^ 30; quota = None; folder = None; accepts_loss = false; checks = false }
+first_options = record { prefix = []; anyone_unlocks = false; max_batch = 2 ^ 30; quota = None; folder = None; accepts_loss = false; key = 0; seed = 0; checks = false }
 
 abbrev pub is_unlocks : List ℕ → Bool
 is_unlocks name = bytes_eq name (codes "-anyone-unlocks")
@@ -36,12 +39,18 @@ is_loss name = bytes_eq name (codes "-accept-loss")
 abbrev pub accepting : OptionsValue → OptionsValue
 accepting options = record options { accepts_loss = true }
 
--- the options after an option with a value: a prefix is one that can be parsed, and bytes are a decimal number below 2 ^ 64
+-- a key: a decimal number below 2 ^ 63
+abbrev pub key_in : List ℕ → Option ℕ
+key_in text = option_and_then (λ n. if nat_lt n (2 ^ 63) then Some n else None) (number_in text)
+
+-- the options after an option with a value: a prefix is one that can be parsed, and bytes and a seed are a decimal number below 2 ^ 64
 abbrev pub with_value : List ℕ → List ℕ → OptionsValue → Option OptionsValue
 with_value name value options =
     if bytes_eq name (codes "-prefix") then (if is_ok (read_prefix value) then Some (record options { prefix = value }) else None)
     else (if bytes_eq name (codes "-max-batch") then option_map (λ bytes. record options { max_batch = bytes }) (number_in value)
-    else (if bytes_eq name (codes "-quota") then option_map (λ bytes. record options { quota = Some bytes }) (number_in value) else None))
+    else (if bytes_eq name (codes "-quota") then option_map (λ bytes. record options { quota = Some bytes }) (number_in value)
+    else (if bytes_eq name (codes "-key") then option_map (λ key. record options { key = key }) (key_in value)
+    else (if bytes_eq name (codes "-seed") then option_map (λ seed. record options { seed = seed }) (number_in value) else None))))
 
 -- the name of a folder is not empty, and does not begin with `-`
 abbrev pub is_folder : List ℕ → Bool
@@ -84,7 +93,7 @@ options_of (name ∷ folder ∷ next ∷ rest) = server_options_of (name ∷ fol
 -- the options that the program has read
 abbrev pub value_of : ProgramOptions → OptionsValue
 value_of options =
-    record { prefix = string_bytes options.server.prefix; anyone_unlocks = options.server.anyone_unlocks; max_batch = options.server.max_batch; quota = options.quota; folder = option_map string_bytes options.folder; accepts_loss = options.accepts_loss; checks = options.checks }
+    record { prefix = string_bytes options.server.prefix; anyone_unlocks = options.server.anyone_unlocks; max_batch = options.server.max_batch; quota = options.quota; folder = option_map string_bytes options.folder; accepts_loss = options.accepts_loss; key = options.key; seed = options.seed; checks = options.checks }
 
 -- why arguments are not read: memory runs out, or they are wrong as `Wrong` says
 abbrev pub IsFault : Type 0 → Stopped → Type 0

@@ -17,6 +17,7 @@ use Rattle.sqlite_disk.specs.declared.Disk as disk
 use Rattle.sqlite_store.specs.declared.store.FileStore.{FileStore}
 use Rattle.davd.specs.Leaving.{GoesOn, GoesOnWithLog, GoesOnAndStops}
 use Rattle.davd.specs.Options.{OptionsValue, options_of}
+use Rattle.davd.specs.declared.folder.StartOptions.{StartOptions}
 use Rattle.davd.specs.declared.program.Stopped.{Stopped}
 use Rattle.davd.specs.declared.program.Stopped.TheVariants.{Usage, Stream, Memory, Refused, InUse, Disk, Full, NotKept, Damaged, WithLog, Unnumbered}
 
@@ -55,25 +56,29 @@ DoCheck arguments = (options : OptionsValue) × (folder : List ℕ) × (options_
 abbrev pub SayFolder : List (List ℕ) → OptionsValue → Type 0
 SayFolder arguments options = (options_of arguments ≡ Some options) × (options.checks ≡ false) × ((folder : List ℕ) × (options.folder ≡ Some folder))
 
+-- how its folder is opened
+abbrev pub start_of : OptionsValue → StartOptions
+start_of options = record { quota = options.quota; accepts_loss = options.accepts_loss; key = options.key; seed = options.seed }
+
 -- `left` and `file` are what the files of its database and its data file held
 module _ {D E : Type 0} (d : disk.Ghosts D) {e : disk.Ghosts E} (medium : Ghosts (DataFile E e) (List Piece)) (left : database.Image) (file : List ℕ)
     (options : OptionsValue) where
   -- such a run, after which the log is not copied into the database file, or the number of the last batch is not on the disk
   pub record ServesWithLog (input input' output output' : Option (List ℕ)) : Type 0 where
     pub files : FileStore D d × DataFile E e
-    pub goes_on : GoesOnWithLog left file files medium (rules_in options) options.quota input input' output output'
+    pub goes_on : GoesOnWithLog left file files medium (rules_in options) (start_of options) input input' output output'
 
   -- an error stops such a run
   pub record StopsInFolder (output output' : Option (List ℕ)) : Type 0 where
     pub files : FileStore D d × DataFile E e
-    pub stops : GoesOnAndStops left file files medium (rules_in options) options.quota output output'
+    pub stops : GoesOnAndStops left file files medium (rules_in options) (start_of options) output output'
 
--- a run goes on from what they held; `L` is the disk of the number of the last batch
+-- a run goes on from what they held; `L` is the disk of the number of the last batch, whose files held `said`
 pub record ServesFolder {D E L : Type 0} (d : disk.Ghosts D) (l : disk.Ghosts L) {e : disk.Ghosts E} (medium : Ghosts (DataFile E e) (List Piece))
-    (left : database.Image) (file : List ℕ) (options : OptionsValue) (input input' output output' : Option (List ℕ)) : Type 0 where
+    (left : database.Image) (file : List ℕ) (said : database.Image) (options : OptionsValue) (input input' output output' : Option (List ℕ)) : Type 0 where
   pub files : FileStore D d × DataFile E e
   pub number : LastBatch L l
-  pub goes_on : GoesOn left file files number medium (rules_in options) options.quota input input' output output'
+  pub goes_on : GoesOn left file files said number medium (rules_in options) (start_of options) input input' output output'
 
 -- nothing is read or written
 abbrev pub HasNotBegun : {I O : Type 0} → I → I → O → O → Type 0

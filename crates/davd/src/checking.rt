@@ -1,23 +1,31 @@
 //! A check of a folder.
-ghost use Rattle.std.specs.Prelude.{◌≡◌, IsTrue, IfErr};
+ghost use Rattle.std.specs.Prelude.{◌≡◌, IsTrue, IfErr, OnOk};
+ghost use Rattle.sqlite.specs.Files.{image_of};
+ghost use Rattle.sqlite.specs.WalFiles.{image_at};
 ghost use Rattle.dav_folder.specs.Opening.{AreOnlyRead};
+ghost use Rattle.davd.specs.Checking.{IsVerified, ChecksFolder};
 ghost use Rattle.davd.specs.Program.{IsNotUsage};
 
 use crate::files::{Absent, DATA, DATABASE, LAST, expect_database};
 use crate::folder::{Held, expect_up_to_date, open_pair};
 use crate::program::Stopped;
 use dav_check::{Checked, check};
+use dav_data::DataFile;
 use dav_folder::read_files;
 use dav_resource::FsError;
+use dav_tree::Medium;
 use disk_readonly::ReadOnly;
-use sqlite::Start;
+use sqlite::{FileFrom, Start};
 use sqlite_disk::{Disk, Files};
 use std::alloc::Global;
 use std::io::Write;
 
-/// Reads the store of a folder and every byte of every file, and writes a line for each file that cannot be read, and a
-/// last line with the number of files, of the bytes in those that can be read, and of those that cannot. It changes
-/// nothing in the folder.
+/// The data file of a folder that is only read.
+pub type CheckedData<T> = DataFile<ReadOnly<FileFrom<T>>>;
+
+/// Reads the store of a folder, all its rows and every byte of every file. It writes a line for each file that cannot be
+/// read, and a last line with the number of rows, of files, of the bytes in those that can be read, and of those that
+/// cannot. It changes nothing in the folder. `held` stands for what the files held.
 ///
 /// Errors: `Damaged` if a file cannot be read; `Refused` as for `open_folder`; `Disk` if the folder has no database, or
 /// cannot be read; `Memory`; `Stream` if the output fails.
@@ -27,7 +35,9 @@ pub fn check_folder<R: Start, T: Start, N: Start, O: Write>(
     held: Held<R, T, N>,
     output: &mut O,
 ) -> Result<(), Stopped>
-    ensures { IfErr result IsNotUsage }
+    ensures whole { OnOk result (ChecksFolder ⟦<FileFrom<R> as Disk>⟧ ⟦<FileFrom<T> as Disk>⟧ ⟦<FileFrom<N> as Disk>⟧ ⟦<CheckedData<T> as Medium>⟧
+        (image_at R.Start) T.Start.db (image_at N.Start)) }
+    ensures err { IfErr result IsNotUsage }
 {
     expect_database(rt, folder)?;
     let absent = Absent::find(rt, folder)?;
@@ -49,7 +59,9 @@ fn check_pairs<R: Start, T: Start, L: Disk, O: Write>(
 ) -> Result<(), Stopped>
     requires other { IsTrue (L.Disk.is_usable last.old.log) }
     requires last { IsTrue (L.Disk.is_usable last.old.db) }
-    ensures { IfErr result IsNotUsage }
+    ensures whole { OnOk result (ChecksFolder ⟦<FileFrom<R> as Disk>⟧ ⟦<FileFrom<T> as Disk>⟧ L.Disk ⟦<CheckedData<T> as Medium>⟧
+        (image_at R.Start) T.Start.db (image_of L.Disk last.old)) }
+    ensures err { IfErr result IsNotUsage }
 {
     let (left, file) = held;
     let data = open_pair(rt, folder, DATA, file)?;
@@ -79,6 +91,8 @@ fn check_files<D: Disk, E: Disk + Drop, L: Disk, O: Write>(
     requires usable { IsTrue (E.Disk.is_usable file) }
     requires other { IsTrue (L.Disk.is_usable last.old.log) }
     requires last { IsTrue (L.Disk.is_usable last.old.db) }
+    ensures whole { OnOk result (IsVerified D.Disk E.Disk L.Disk ⟦<DataFile<ReadOnly<E>> as Medium>⟧
+        (image_of D.Disk files.old) (E.Disk.seen file) (image_of L.Disk last.old) files.new last.new) }
     ensures only { AreOnlyRead D.Disk files.old files.new }
     ensures only_last { AreOnlyRead L.Disk last.old last.new }
     ensures err { IfErr result IsNotUsage }
@@ -94,7 +108,7 @@ fn check_files<D: Disk, E: Disk + Drop, L: Disk, O: Write>(
         Ok(checked) => checked,
         Err(error) => return Err(check_error(error)),
     };
-    write_checked(output, &checked)?;
+    write_checked(output, found.rows, &checked)?;
     if checked.damaged.is_empty() {
         Ok(())
     } else {
@@ -112,8 +126,8 @@ fn check_error(error: FsError) -> Stopped
     }
 }
 
-/// Writes what a check has found.
-fn write_checked<O: Write>(output: &mut O, checked: &Checked) -> Result<(), Stopped>
+/// Writes what a check of a store with so many rows has found.
+fn write_checked<O: Write>(output: &mut O, rows: u128, checked: &Checked) -> Result<(), Stopped>
     ensures { IfErr result IsNotUsage }
 {
     for path in &checked.damaged {
@@ -121,7 +135,10 @@ fn write_checked<O: Write>(output: &mut O, checked: &Checked) -> Result<(), Stop
         writeln!(output, "damaged: {path}")?;
     }
     let (files, bytes, damaged) = (checked.files, checked.bytes, checked.damaged.len());
-    writeln!(output, "{files} files, {bytes} bytes, {damaged} damaged")?;
+    writeln!(
+        output,
+        "{rows} rows, {files} files, {bytes} bytes, {damaged} damaged"
+    )?;
     output.flush()?;
     Ok(())
 }

@@ -1,5 +1,5 @@
 //! A store in a folder.
-ghost use Rattle.std.specs.Prelude.{◌≡◌, true, false, IsTrue, IfOk, IfErr, OnOk};
+ghost use Rattle.std.specs.Prelude.{◌≡◌, ℕ, true, false, IsTrue, IfOk, IfErr, OnOk};
 ghost use Rattle.std.specs.Option.{option_map};
 ghost use Rattle.sqlite.specs.Files.{image_of};
 ghost use Rattle.sqlite.specs.WalFiles.{image_at};
@@ -30,7 +30,6 @@ use dav_store_rows::SaveError;
 use sqlite::{FileFrom, FileStore, Start};
 use sqlite_disk::{Disk, Files};
 use std::alloc::Global;
-use std::hash::{BuildHasher, RandomState};
 use std::io::{self, ErrorKind};
 
 /// A store in the files of a database and a data file, beside which a third one keeps room back.
@@ -42,6 +41,19 @@ type OpenedOver<D, E> = Opened<FileStore<D>, DataFile<Reserved<E, E>>>;
 /// What is supposed of the files of a folder: those of the database, the data file, and those of the last number.
 pub type Held<R, T, N> = (R, T, N);
 
+/// How a folder is opened.
+#[derive(Clone, Copy)]
+pub struct StartOptions {
+    /// The quota of the store, or none.
+    pub quota: Option<u64>,
+    /// Whether a store is opened that has lost its last batches.
+    pub accepts_loss: bool,
+    /// The key of the digests of a new store, below 2^63.
+    pub key: u64,
+    /// A number of this start, from which the salts of the database's log are made.
+    pub seed: u64,
+}
+
 /// How the files of a folder are opened.
 #[derive(Clone, Copy)]
 struct Opening {
@@ -49,6 +61,8 @@ struct Opening {
     limit: Option<Option<u64>>,
     /// Whether a store is opened that has lost its last batches.
     accepts_loss: bool,
+    /// The seed of the start.
+    seed: u64,
     /// The files that are missing.
     absent: Absent,
 }
@@ -67,16 +81,15 @@ struct Opening {
 pub fn open_folder<R: Start, T: Start, N: Start>(
     rt: &HostRuntime,
     folder: &str,
-    quota: Option<u64>,
-    accepts_loss: bool,
+    options: StartOptions,
     held: Held<R, T, N>,
 ) -> Result<(OpenedFiles<R, T>, LastBatch<FileFrom<N>>), Stopped>
-    ensures kept { IfOk result (λ found. FindsKept (image_at R.Start) T.Start.db quota found.0) }
-    ensures new { IfOk result (λ found. FindsFirst (image_at R.Start) T.Start.db quota found.0) }
+    ensures kept { IfOk result (λ found. FindsKept (image_at R.Start) T.Start.db options.quota found.0) }
+    ensures new { IfOk result (λ found. FindsFirst (image_at R.Start) T.Start.db options.quota options.key found.0) }
     ensures sealed { IfOk result (λ found. HeldSealed (image_at R.Start) found.0) }
     ensures last { IfOk result (λ found. number_of found.1 ≡ batch_of found.0.folder) }
     ensures key { IfOk result (λ found. key_of found.1 ≡ found.0.key) }
-    ensures up_to_date { IfOk result (λ found. accepts_loss ≡ false → OpensUpToDate (image_at N.Start) found.0 found.1) }
+    ensures up_to_date { IfOk result (λ found. options.accepts_loss ≡ false → OpensUpToDate (image_at N.Start) found.0 found.1) }
     ensures err { IfErr result IsNotUsage }
 {
     make_folder(rt, folder)?;
@@ -85,11 +98,12 @@ pub fn open_folder<R: Start, T: Start, N: Start>(
     let (left, file, number) = held;
     let mut last = open_pair(rt, folder, LAST, number)?;
     let how = Opening {
-        limit: limit_of(quota),
-        accepts_loss,
+        limit: limit_of(options.quota),
+        accepts_loss: options.accepts_loss,
+        seed: options.seed,
         absent,
     };
-    let opened = match open_pairs(rt, folder, how, left, file, &mut last) {
+    let opened = match open_pairs(rt, folder, how, options.key, (left, file), &mut last) {
         Ok(opened) => opened,
         Err(stopped) => {
             absent.remove_last(rt, folder)?;
@@ -102,19 +116,20 @@ pub fn open_folder<R: Start, T: Start, N: Start>(
     }
 }
 
-/// The same, over the files that are there. `last` are those of the number of the last batch, which are only read.
+/// The same, over the files that are there. `last` are those of the number of the last batch, which are only read. `key` is
+/// that of a new store.
 fn open_pairs<R: Start, T: Start, L: Disk>(
     rt: &HostRuntime,
     folder: &str,
     how: Opening,
-    left: R,
-    file: T,
+    key: u64,
+    held: (R, T),
     last: &mut Files<L>,
 ) -> Result<OpenedFiles<R, T>, Stopped>
     requires other { IsTrue (L.Disk.is_usable last.old.log) }
     requires last { IsTrue (L.Disk.is_usable last.old.db) }
     ensures kept { IfOk result (FindsHeld (image_at R.Start) T.Start.db how.limit) }
-    ensures new { IfOk result (FindsNew (image_at R.Start) T.Start.db how.limit) }
+    ensures new { IfOk result (FindsNew (image_at R.Start) T.Start.db how.limit key) }
     ensures sealed { IfOk result (HeldSealed (image_at R.Start)) }
     ensures batch { IfOk result (λ opened. batch_of opened.folder ≡ opened.last) }
     ensures up_to_date { IfOk result (λ opened. how.accepts_loss ≡ false → AreClean L.Disk last.new.log last.new.db
@@ -122,7 +137,7 @@ fn open_pairs<R: Start, T: Start, L: Disk>(
     ensures only { OnlyReadsBoth L.Disk (last.old.log, last.old.db) (last.new.log, last.new.db) }
     ensures err { IfErr result IsNotUsage }
 {
-    let key = random(rt)? >> 1;
+    let (left, file) = held;
     let changes = first_changes(rt.alloc(), key)?;
     // The data file is made first: a database without one is not that of a store that was just made.
     let pair = open_pair(rt, folder, DATA, file)?;
@@ -154,7 +169,7 @@ fn open_over<D: Disk + Drop, E: Disk + Drop, L: Disk>(
     requires other { IsTrue (L.Disk.is_usable last.old.log) }
     requires last { IsTrue (L.Disk.is_usable last.old.db) }
     ensures kept { IfOk result (FindsHeld (image_of D.Disk pairs.0) (E.Disk.seen pairs.1.db) how.limit) }
-    ensures new { MakesFirst changes.now → IfOk result (FindsNew (image_of D.Disk pairs.0) (E.Disk.seen pairs.1.db) how.limit) }
+    ensures new { (key : ℕ) → MakesFirst key changes.now → IfOk result (FindsNew (image_of D.Disk pairs.0) (E.Disk.seen pairs.1.db) how.limit key) }
     ensures sealed { IfOk result (HeldSealed (image_of D.Disk pairs.0)) }
     ensures batch { IfOk result (λ opened. batch_of opened.folder ≡ opened.last) }
     ensures up_to_date { IfOk result (λ opened. how.accepts_loss ≡ false → AreClean L.Disk last.new.log last.new.db
@@ -172,9 +187,8 @@ fn open_over<D: Disk + Drop, E: Disk + Drop, L: Disk>(
             return Err(stopped);
         }
     };
-    let seed = random(rt)?;
     empty_reserve(rt, folder)?;
-    let opened = found.open(rt.alloc(), files, seed, changes)?;
+    let opened = found.open(rt.alloc(), files, how.seed, changes)?;
     Ok(opened)
 }
 
@@ -255,13 +269,6 @@ pub(crate) fn open_pair<S: Start>(
 {
     let path = format!(in rt.alloc(); "{folder}/{name}")?;
     Ok(sqlite_std_file::open(rt, path.as_str(), start)?)
-}
-
-/// Returns a random number.
-fn random(rt: &HostRuntime) -> Result<u64, Stopped>
-    ensures { IfErr result IsNotUsage }
-{
-    Ok(RandomState::new(rt)?.hash_one(&0u8))
 }
 
 /// Returns the limit of a store with this quota, or of one without.

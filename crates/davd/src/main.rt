@@ -1,8 +1,8 @@
-//! `davd [-prefix PREFIX] [-anyone-unlocks] [-max-batch BYTES] [-quota BYTES] [-accept-loss] [FOLDER]`: serves WebDAV
-//! requests. The requests come as frames on standard input, and the replies go to standard output.
+//! `davd [-prefix PREFIX] [-anyone-unlocks] [-max-batch BYTES] [-quota BYTES] [-accept-loss] [-key KEY] [-seed SEED] [FOLDER]`:
+//! serves WebDAV requests. The requests come as frames on standard input, and the replies go to standard output.
 //!
-//! `davd --check FOLDER`: reads every byte of every file in a folder, and writes a line on standard output for each file that
-//! cannot be read, and last how many files and bytes there are. It serves nothing and reads no input.
+//! `davd --check FOLDER`: reads all rows and every byte of every file in a folder, and writes a line on standard output for
+//! each file that cannot be read, and last how many rows, files and bytes there are. It serves nothing and reads no input.
 //!
 //! - `-prefix` is the path prefix of the server's URLs. Without it the prefix is empty.
 //! - With `-anyone-unlocks` any principal may remove and refresh the locks of others.
@@ -10,12 +10,14 @@
 //! - `-quota` is the number of bytes that all files may have together. It is reported and not enforced. Without it
 //!   there is no quota.
 //! - With `-accept-loss` a folder is served whose database has lost its last batches, or may have lost them.
+//! - `-key` is the key of the digests of a new folder, below 2^63, and `-seed` a number from which the salts of the database's
+//!   log are made. Whoever starts the program draws both, a new seed for each start. Without them they are 0.
 //!
 //! - With `FOLDER` the store and its locks are kept in this folder: each batch is kept before it is answered. The folder
 //!   is made if it is not there. Its name does not begin with `-`. Without a folder everything is in memory, and lost at
 //!   the end.
 //!
-//! A number of bytes is one or more decimal digits, and fits in 64 bits. It may begin with zeros. If an option is given
+//! A number is one or more decimal digits, and fits in 64 bits. It may begin with zeros. If an option is given
 //! twice, the last one counts.
 //!
 //! Exit statuses, of which one line on standard error says why:

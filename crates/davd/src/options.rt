@@ -2,7 +2,7 @@
 ghost use Rattle.std.specs.Prelude.{◌≡◌, Some, None, IfOk, IfErr, OnOk, IsOk, IsErr};
 ghost use Rattle.dav_resource.specs.PathText.{read_prefix};
 ghost use Rattle.dav_resource.specs.Texts.{texts};
-ghost use Rattle.davd.specs.Options.{IsFault, first_options, options_of, server_options_of, check_of, value_of, with_value, with_folder, is_folder};
+ghost use Rattle.davd.specs.Options.{IsFault, first_options, options_of, server_options_of, check_of, key_in, value_of, with_value, with_folder, is_folder};
 
 use crate::program::Stopped;
 use dav_headers::read_number;
@@ -12,6 +12,9 @@ use std::alloc::Global;
 
 /// How many bytes the content of a batch may have without `-max-batch`.
 const MAX_BATCH: u64 = 1 << 30;
+
+/// A key is less.
+const KEY_LIMIT: u64 = 1 << 63;
 
 /// What the arguments say.
 #[derive(Drop, Debug)]
@@ -25,6 +28,10 @@ pub struct ProgramOptions {
     pub folder: Option<String>,
     /// Whether a folder is served that has lost its last batches.
     pub accepts_loss: bool,
+    /// The key of the digests of a new folder.
+    pub key: u64,
+    /// A number of this start, from which the salts of the database's log are made.
+    pub seed: u64,
     /// Whether the folder is checked, and nothing is served.
     pub checks: bool,
 }
@@ -43,6 +50,8 @@ impl ProgramOptions {
             quota: None,
             folder: None,
             accepts_loss: false,
+            key: 0,
+            seed: 0,
             checks: false,
         }
     }
@@ -62,6 +71,8 @@ impl ProgramOptions {
             }
             "-max-batch" => self.server.max_batch = read_number(value).ok_or(Stopped::Usage)?,
             "-quota" => self.quota = Some(read_number(value).ok_or(Stopped::Usage)?),
+            "-key" => self.key = read_key(value).ok_or(Stopped::Usage)?,
+            "-seed" => self.seed = read_number(value).ok_or(Stopped::Usage)?,
             _ => return Err(Stopped::Usage),
         }
         Ok(())
@@ -78,6 +89,14 @@ impl ProgramOptions {
         self.folder = Some(String::from_str(alloc, name)?);
         Ok(())
     }
+}
+
+/// Reads a key: a number below 2^63.
+fn read_key(value: &str) -> Option<u64>
+    ensures { result ≡ key_in value.now }
+{
+    let key = read_number(value)?;
+    if key < KEY_LIMIT { Some(key) } else { None }
 }
 
 /// Whether this may be the name of a folder: it is not empty and does not begin with `-`.

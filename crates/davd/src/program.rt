@@ -6,13 +6,14 @@ ghost use Rattle.dav_resource.specs.Texts.{texts};
 ghost use Rattle.dav_tree.specs.TreeFs.{memory_of};
 ghost use Rattle.dav_tree.specs.Memory.{first_memory};
 ghost use Rattle.sqlite.specs.WalFiles.{image_at};
+ghost use Rattle.davd.specs.Checking.{ChecksFolder};
 ghost use Rattle.davd.specs.Folder.{rules_for};
 ghost use Rattle.davd.specs.Options.{OptionsValue, options_of};
 ghost use Rattle.davd.specs.Program.{DoCheck, HaveNoFolder, SayFolder, ServesAll, ServesInMemory, IsNotUsage, status_of};
 ghost use Rattle.davd.specs.Program.{ServesFolder, ServesWithLog, StopsInFolder, HasNotBegun};
 
-use crate::checking::check_folder;
-use crate::folder::Held;
+use crate::checking::{CheckedData, check_folder};
+use crate::folder::{Held, StartOptions};
 use crate::options::{ProgramOptions, read_options};
 use crate::serving::{FolderData, FolderOptions, serve_folder};
 use dav_guarding::Guarding;
@@ -132,8 +133,8 @@ pub fn run_program<R: Start, T: Start, N: Start, I: Read, O: Write>(
     ensures served { HaveNoFolder (texts arguments.now) → OnOk result (ServesAll ⟦<InMemory as Medium>⟧ (texts arguments.now)
         (I.remaining input.old) (I.remaining input.new) (O.contents output.old) (O.contents output.new)) }
     ensures kept { (options : OptionsValue) → SayFolder (texts arguments.now) options
-        → OnOk result (ServesFolder ⟦<FileFrom<R> as Disk>⟧ ⟦<FileFrom<N> as Disk>⟧ ⟦<FolderData<T> as Medium>⟧ (image_at R.Start) T.Start.db options
-        (I.remaining input.old) (I.remaining input.new) (O.contents output.old) (O.contents output.new)) }
+        → OnOk result (ServesFolder ⟦<FileFrom<R> as Disk>⟧ ⟦<FileFrom<N> as Disk>⟧ ⟦<FolderData<T> as Medium>⟧ (image_at R.Start) T.Start.db (image_at N.Start)
+        options (I.remaining input.old) (I.remaining input.new) (O.contents output.old) (O.contents output.new)) }
     ensures stopped { (options : OptionsValue) → SayFolder (texts arguments.now) options
         → OnErr result (HasNotBegun input.old input.new output.old output.new
         ⊎ (StopsInFolder ⟦<FileFrom<R> as Disk>⟧ ⟦<FolderData<T> as Medium>⟧ (image_at R.Start) T.Start.db options
@@ -142,6 +143,8 @@ pub fn run_program<R: Start, T: Start, N: Start, I: Read, O: Write>(
         (I.remaining input.old) (I.remaining input.new) (O.contents output.old) (O.contents output.new))) }
     ensures end { OnOk result (DoCheck (texts arguments.now) ⊎ IsAtEnd (I.remaining input.new)) }
     ensures checked { DoCheck (texts arguments.now) → input.new ≡ input.old }
+    ensures whole { DoCheck (texts arguments.now) → OnOk result (ChecksFolder ⟦<FileFrom<R> as Disk>⟧ ⟦<FileFrom<T> as Disk>⟧ ⟦<FileFrom<N> as Disk>⟧
+        ⟦<CheckedData<T> as Medium>⟧ (image_at R.Start) T.Start.db (image_at N.Start)) }
     ensures usage { result ≡ Err Stopped.Usage → options_of (texts arguments.now) ≡ None }
     ensures wrong { options_of (texts arguments.now) ≡ None → (result ≡ Err Stopped.Usage) ⊎ (result ≡ Err Stopped.Memory) }
     ensures unread { options_of (texts arguments.now) ≡ None → input.new ≡ input.old }
@@ -152,16 +155,21 @@ pub fn run_program<R: Start, T: Start, N: Start, I: Read, O: Write>(
         quota,
         folder,
         accepts_loss,
+        key,
+        seed,
         checks,
     } = read_options(rt.alloc(), arguments)?;
     match folder {
         Some(folder) if checks => check_folder(rt, folder.as_str(), held, output),
         Some(folder) => {
-            let options = FolderOptions {
-                server,
+            let start = StartOptions {
+                quota,
                 accepts_loss,
+                key,
+                seed,
             };
-            let served = serve_folder(rt, folder.as_str(), quota, held, options, input, output)?;
+            let options = FolderOptions { server, start };
+            let served = serve_folder(rt, folder.as_str(), held, options, input, output)?;
             served.0
         }
         None => serve_in_memory(rt.alloc(), quota, server, input, output),
@@ -242,7 +250,7 @@ const OUT_OF_MEMORY: &str = "davd: out of memory";
 fn line_of(stopped: &Stopped) -> &'static str {
     match stopped {
         Stopped::Usage =>
-            "usage: davd [-prefix PREFIX] [-anyone-unlocks] [-max-batch BYTES] [-quota BYTES] [-accept-loss] [FOLDER]\n       davd --check FOLDER",
+            "usage: davd [-prefix PREFIX] [-anyone-unlocks] [-max-batch BYTES] [-quota BYTES] [-accept-loss] [-key KEY] [-seed SEED] [FOLDER]\n       davd --check FOLDER",
         Stopped::Stream(error) => cause_of(error),
         Stopped::Memory => OUT_OF_MEMORY,
         Stopped::Refused(refusal) => refusal_of(*refusal),
@@ -266,7 +274,7 @@ fn refusal_of(refusal: Refusal) -> &'static str {
         Refusal::Damaged =>
             "davd: meta.db or meta.db-wal is damaged, so nothing was changed: restore the folder from a backup",
         Refusal::Foreign =>
-            "davd: meta.db is not a database of davd, so nothing was changed: choose another folder",
+            "davd: meta.db is not a database of this version of davd, so nothing was changed: serve it by the later version that made it, or choose another folder",
         Refusal::NoDatabase =>
             "davd: meta.db has no store, and the folder has bytes of one, so nothing was changed: restore meta.db, meta.db-wal and data from one backup",
         Refusal::NoData =>

@@ -12,7 +12,7 @@ ghost use Rattle.davd.specs.Folder.{IsOpenedAsKept, ServesOpened, StopsOpened, r
 ghost use Rattle.davd.specs.Leaving.{RunsAndLeaves, RunsWithLog, StopsAndLeaves, GoesOn, GoesOnWithLog, GoesOnAndStops};
 ghost use Rattle.davd.specs.Program.{IsNotUsage};
 
-use crate::folder::{Held, open_folder};
+use crate::folder::{Held, StartOptions, open_folder};
 use crate::program::Stopped;
 use dav_data::DataFile;
 use dav_folder::{Folder, FolderFiles, Numbered, Opened, close_folder, give_up};
@@ -37,8 +37,8 @@ pub type FolderData<T> = DataFile<Reserved<FileFrom<T>, FileFrom<T>>>;
 pub struct FolderOptions {
     /// How the server serves.
     pub server: Options,
-    /// Whether a store is served that has lost its last batches.
-    pub accepts_loss: bool,
+    /// How the folder is opened.
+    pub start: StartOptions,
 }
 
 /// How serving over a folder ended, and what it leaves: the files of the database and the data file, and those of the number
@@ -61,17 +61,16 @@ type EndedOver<D, E, L> = (Result<(), Stopped>, FolderFiles<D, E>, LastBatch<L>)
 pub fn serve_folder<R: Start, T: Start, N: Start, I: Read, O: Write>(
     rt: &HostRuntime,
     folder: &str,
-    quota: Option<u64>,
     held: Held<R, T, N>,
     options: FolderOptions,
     input: &mut I,
     output: &mut O,
 ) -> Result<Ended<R, T, N>, Stopped>
-    ensures served { IfOk result (λ ended. OnOk ended.0 (GoesOn (image_at R.Start) T.Start.db ended.1 ended.2
-        ⟦<FolderData<T> as Medium>⟧ (rules_for options.server) quota (I.remaining input.old) (I.remaining input.new) (O.contents output.old) (O.contents output.new))) }
+    ensures served { IfOk result (λ ended. OnOk ended.0 (GoesOn (image_at R.Start) T.Start.db ended.1 (image_at N.Start) ended.2
+        ⟦<FolderData<T> as Medium>⟧ (rules_for options.server) options.start (I.remaining input.old) (I.remaining input.new) (O.contents output.old) (O.contents output.new))) }
     ensures stopped { IfOk result (λ ended. OnErr ended.0 (GoesOnAndStops (image_at R.Start) T.Start.db ended.1 ⟦<FolderData<T> as Medium>⟧
-        (rules_for options.server) quota (O.contents output.old) (O.contents output.new)
-        ⊎ GoesOnWithLog (image_at R.Start) T.Start.db ended.1 ⟦<FolderData<T> as Medium>⟧ (rules_for options.server) quota
+        (rules_for options.server) options.start (O.contents output.old) (O.contents output.new)
+        ⊎ GoesOnWithLog (image_at R.Start) T.Start.db ended.1 ⟦<FolderData<T> as Medium>⟧ (rules_for options.server) options.start
         (I.remaining input.old) (I.remaining input.new) (O.contents output.old) (O.contents output.new))) }
     ensures end { IfOk result (λ ended. OnOk ended.0 (IsAtEnd (I.remaining input.new))) }
     ensures unread { OnErr result (input.new ≡ input.old) }
@@ -79,11 +78,8 @@ pub fn serve_folder<R: Start, T: Start, N: Start, I: Read, O: Write>(
     ensures err { IfErr result IsNotUsage }
     ensures later { IfOk result (λ ended. IfErr ended.0 IsNotUsage) }
 {
-    let FolderOptions {
-        server,
-        accepts_loss,
-    } = options;
-    let (opened, last) = open_folder(rt, folder, quota, accepts_loss, held)?;
+    let FolderOptions { server, start } = options;
+    let (opened, last) = open_folder(rt, folder, start, held)?;
     Ok(serve_to_the_end(rt.alloc(), opened, last, server, input, output))
 }
 

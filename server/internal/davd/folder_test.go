@@ -4,6 +4,7 @@ import (
 	"context"
 	"errors"
 	"reflect"
+	"strconv"
 	"strings"
 	"testing"
 	"time"
@@ -27,6 +28,29 @@ func TestTheFolderIsTheLastArgument(t *testing.T) {
 	}
 	if got := (Config{Args: args}).arguments(); !reflect.DeepEqual(got, []string{"-quota", "7"}) {
 		t.Errorf("without a folder: %q", got)
+	}
+}
+
+func TestNumbersAreDrawnForEachStart(t *testing.T) {
+	seen := make(map[string]bool)
+	for range [4]struct{}{} {
+		drawn, err := draw()
+		if err != nil {
+			t.Fatal(err)
+		}
+		if len(drawn) != 4 || drawn[0] != "-key" || drawn[2] != "-seed" {
+			t.Fatalf("arguments: %q", drawn)
+		}
+		if key, err := strconv.ParseInt(drawn[1], 10, 64); err != nil || key < 0 {
+			t.Errorf("the key is %s: %v", drawn[1], err)
+		}
+		if _, err := strconv.ParseUint(drawn[3], 10, 64); err != nil {
+			t.Errorf("the seed is %s: %v", drawn[3], err)
+		}
+		if seen[drawn[1]] || seen[drawn[3]] {
+			t.Errorf("a number came twice: %q", drawn)
+		}
+		seen[drawn[1]], seen[drawn[3]] = true, true
 	}
 }
 

@@ -3,11 +3,13 @@ package davd
 import (
 	"bufio"
 	"bytes"
+	"crypto/rand"
 	"encoding/binary"
 	"fmt"
 	"io"
 	"log"
 	"os/exec"
+	"strconv"
 	"syscall"
 	"time"
 
@@ -51,6 +53,13 @@ func start(config Config) (*process, error) {
 	if err != nil {
 		return nil, fmt.Errorf("davd cannot be started: %w", err)
 	}
+	if config.Folder != "" {
+		drawn, err := draw()
+		if err != nil {
+			return nil, fmt.Errorf("davd cannot be started: %w", err)
+		}
+		config.Args = append(append([]string(nil), config.Args...), drawn...)
+	}
 	command := config.command(program)
 	command.SysProcAttr = &syscall.SysProcAttr{Setpgid: true}
 	command.Stderr = &lineWriter{log: config.Log}
@@ -74,6 +83,18 @@ func start(config Config) (*process, error) {
 		sent:    make(chan *batch, underWay),
 		gone:    make(chan struct{}),
 	}, nil
+}
+
+// draw returns the arguments that give a davd over a folder what it does not draw itself: the key of the digests, if the
+// folder is new, and the seed of this start.
+func draw() ([]string, error) {
+	var drawn [16]byte
+	if _, err := rand.Read(drawn[:]); err != nil {
+		return nil, err
+	}
+	key := binary.BigEndian.Uint64(drawn[:8]) >> 1 // below 2^63
+	seed := binary.BigEndian.Uint64(drawn[8:])
+	return []string{"-key", strconv.FormatUint(key, 10), "-seed", strconv.FormatUint(seed, 10)}, nil
 }
 
 // kill ends davd at once. Whoever reads its output finds the end.

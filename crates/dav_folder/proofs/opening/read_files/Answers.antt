@@ -8,7 +8,7 @@ returns-clause-kept g c = λ image tables keeps stand whole. later _ c.read_stor
     let early = were_clean _ _ _ _ c.expect_empty.ensures.log.clean c.expect_empty.ensures.db.clean clean in
     let are : AreRowsOfImage c.in_ok-loaded.loaded.rows image tables = record { all = ((c.in_ok-loaded.ensures.found early).kept tables keeps).0; stand = stand; whole = whole } in
     let read = c.read_store.ensures in
-    reads_image c.read_store.result _ _ c.args.limit image tables c.expect_empty.ensures.file.seen (read.found image tables are) (read.bytes image tables are) (read.limit image tables are))
+    reads_image c.read_store.result _ _ c.args.limit image tables c.expect_empty.ensures.file.seen (read.found image tables are) (read.some image tables are) (read.bytes image tables are) (read.limit image tables are))
 
 pub returns-clause-new : goal.returns-clause-new
 returns-clause-new g c = λ image vacant stand whole. later _ c.read_store.result (λ clean.
@@ -16,7 +16,7 @@ returns-clause-new g c = λ image vacant stand whole. later _ c.read_store.resul
     let tables = first c.args.changes.now in
     let are : AreRowsOfImage c.in_ok-loaded.loaded.rows image tables = record { all = ((c.in_ok-loaded.ensures.found early).first vacant).0; stand = stand; whole = whole } in
     let read = c.read_store.ensures in
-    reads_image c.read_store.result _ _ c.args.limit image tables c.expect_empty.ensures.file.seen (read.found image tables are) (read.bytes image tables are) (read.limit image tables are))
+    reads_image c.read_store.result _ _ c.args.limit image tables c.expect_empty.ensures.file.seen (read.found image tables are) (read.some image tables are) (read.bytes image tables are) (read.limit image tables are))
 
 pub returns-clause-empty : goal.returns-clause-empty
 returns-clause-empty g c = λ vacant. later _ c.read_store.result (λ clean.

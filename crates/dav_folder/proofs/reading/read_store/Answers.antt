@@ -1,5 +1,5 @@
 use Rattle.std.proofs.Common.{◌≡◌, ◌∙◌, refl, sym, ap, inl, inr, arith}
-use Rattle.dav_data.specs.Data.{is_below, body_bytes}
+use Rattle.dav_data.specs.Data.{data_of, is_below, body_bytes}
 use Rattle.dav_keep.specs.declared.numbers.Numbers.{Numbers}
 use Rattle.dav_pieces.specs.Pieces.{bytes_of}
 use Rattle.dav_tree.proofs.Keeping.{same-resources}
@@ -28,6 +28,11 @@ returns-clause-found g c = λ image tables are.
       batch = ap (λ (n : Numbers). n.batch) loaded.numbers;
       key = ap (λ (n : Numbers). n.key) loaded.numbers;
     }
+
+pub returns-clause-some : goal.returns-clause-some
+returns-clause-some g c = λ image tables are.
+    let values = (c.in_ok-known.ensures.loaded image tables are).values in
+    record { file = data_of c.in-Ok.medium; are = ap (λ (m : Memory). m.resources) (c.in_ok-store.ensures.memory image.tree values) }
 
 pub returns-clause-bytes : goal.returns-clause-bytes
 returns-clause-bytes g c = λ image tables are honest.

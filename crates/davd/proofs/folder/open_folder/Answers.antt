@@ -8,7 +8,7 @@ pub returns-in-Ok-begin-clause-kept : goal.returns-in-Ok-begin-clause-kept
 returns-in-Ok-begin-clause-kept g c = subst (λ limit. FindsHeld _ _ limit c.in-Ok.opened) c.limit_of.ensures c.in-Ok.ensures.kept
 
 pub returns-in-Ok-begin-clause-new : goal.returns-in-Ok-begin-clause-new
-returns-in-Ok-begin-clause-new g c = subst (λ limit. FindsNew _ _ limit c.in-Ok.opened) c.limit_of.ensures c.in-Ok.ensures.new
+returns-in-Ok-begin-clause-new g c = subst (λ limit. FindsNew _ _ limit c.args.options.key c.in-Ok.opened) c.limit_of.ensures c.in-Ok.ensures.new
 
 pub returns-in-Ok-begin-clause-up_to_date : goal.returns-in-Ok-begin-clause-up_to_date
 returns-in-Ok-begin-clause-up_to_date g c = λ strict clean.

@@ -21,8 +21,8 @@ returns-clause-kept g c =
 pub returns-clause-new : goal.returns-clause-new
 returns-clause-new g c =
     let files = c.in-Ok.files in let fresh = c.in-Ok.ensures.fresh in
-    new_as c.open_over.result _ _ _ _ _ _ (fresh_image files.log files.db fresh.0 fresh.1) (fresh_seen c.in_ok-pair.pair.db c.in_ok-pair.ensures.fresh.1) refl
-    (c.open_over.ensures.new (_, stands _ _ c.deref.ensures.value c.in_ok-changes.ensures))
+    new_as c.open_over.result _ _ _ _ _ _ (fresh_image files.log files.db fresh.0 fresh.1) (fresh_seen c.in_ok-pair.pair.db c.in_ok-pair.ensures.fresh.1) refl c.args.key
+    (c.open_over.ensures.new c.args.key (stands _ _ c.deref.ensures.value c.in_ok-changes.ensures))
 
 pub returns-clause-sealed : goal.returns-clause-sealed
 returns-clause-sealed g c =
