@@ -2,7 +2,9 @@ package davserve
 
 import (
 	"context"
+	"errors"
 	"io"
+	"io/fs"
 	"os"
 	"path/filepath"
 
@@ -13,6 +15,12 @@ import (
 
 // folderFiles are the files that davd makes in its folder.
 var folderFiles = []string{"data", "data-wal", "last", "last-wal", "meta.db", "meta.db-wal"}
+
+// reserveFile is the file in which davd keeps room back for a full disk, and reserveBytes is how much it is to keep.
+const (
+	reserveFile  = "data-wal"
+	reserveBytes = 16 << 20
+)
 
 // WriteMetrics writes what is known of davd and its folder, in the text format of Prometheus. It asks davd how many locks
 // there are. If davd does not answer before ctx is done, their metrics are left out.
@@ -52,4 +60,20 @@ func writeFolder(folder string, e *metrics.Encoder) {
 	if free, err := disk.Free(folder); err == nil {
 		e.Gauge("davserve_folder_free_bytes", "Bytes that are free on the file system of the folder.", float64(free))
 	}
+	if kept, err := keptBack(folder); err == nil {
+		e.Gauge("davserve_folder_reserve_bytes", "Bytes that are kept back for a full disk.", float64(kept))
+		e.Gauge("davserve_folder_reserve_wanted_bytes", "Bytes that are to be kept back.", reserveBytes)
+	}
+}
+
+// keptBack returns how many bytes a folder keeps back for a full disk: none before davd has made the file.
+func keptBack(folder string) (int64, error) {
+	info, err := os.Stat(filepath.Join(folder, reserveFile))
+	if errors.Is(err, fs.ErrNotExist) {
+		return 0, nil
+	}
+	if err != nil {
+		return 0, err
+	}
+	return info.Size(), nil
 }

@@ -4,9 +4,13 @@ import (
 	"context"
 	"errors"
 	"io"
+	"os"
+	"path/filepath"
 	"strings"
 	"testing"
 	"time"
+
+	"davserve/internal/metrics"
 )
 
 // metricsOf returns the metrics of a handler.
@@ -45,6 +49,7 @@ func TestMetricsOfAHandler(t *testing.T) {
 			[]string{
 				`davserve_folder_bytes{file="data"} 5` + "\n", `davserve_folder_bytes{file="meta.db"} `,
 				`davserve_folder_bytes{file="meta.db-wal"} `, "davserve_folder_free_bytes ",
+				"davserve_folder_reserve_bytes 16777216\n", "davserve_folder_reserve_wanted_bytes 16777216\n",
 			}, nil,
 		},
 	}
@@ -65,6 +70,61 @@ func TestMetricsOfAHandler(t *testing.T) {
 			}
 		})
 	}
+}
+
+func TestMetricsOfTheReserve(t *testing.T) {
+	tests := []struct {
+		name string
+		size int64 // of data-wal, or -1 if it is not there
+		want string
+	}{
+		{"without a file", -1, "davserve_folder_reserve_bytes 0\n"},
+		{"empty", 0, "davserve_folder_reserve_bytes 0\n"},
+		{"in part", 5000, "davserve_folder_reserve_bytes 5000\n"},
+		{"filled", 16 << 20, "davserve_folder_reserve_bytes 16777216\n"},
+	}
+	for _, test := range tests {
+		t.Run(test.name, func(t *testing.T) {
+			folder := t.TempDir()
+			if test.size >= 0 {
+				name := filepath.Join(folder, "data-wal")
+				if err := os.WriteFile(name, nil, 0o600); err != nil {
+					t.Fatal(err)
+				}
+				if err := os.Truncate(name, test.size); err != nil {
+					t.Fatal(err)
+				}
+			}
+			text := folderMetrics(t, folder)
+			for _, line := range []string{test.want, "davserve_folder_reserve_wanted_bytes 16777216\n"} {
+				if !hasLine(text, line) {
+					t.Errorf("no line %q in\n%s", line, text)
+				}
+			}
+		})
+	}
+}
+
+func TestMetricsOfAReserveThatCannotBeSeen(t *testing.T) {
+	file := filepath.Join(t.TempDir(), "file")
+	if err := os.WriteFile(file, nil, 0o600); err != nil {
+		t.Fatal(err)
+	}
+	if text := folderMetrics(t, file); hasLine(text, "davserve_folder_reserve") {
+		t.Errorf("the metrics of a file as the folder are\n%s", text)
+	}
+}
+
+// folderMetrics returns the metrics of a folder alone.
+func folderMetrics(t *testing.T, folder string) string {
+	t.Helper()
+	var b strings.Builder
+	e := metrics.NewEncoder(&b)
+	writeFolder(folder, e)
+	if err := e.Flush(); err != nil {
+		t.Fatal(err)
+	}
+	return b.String()
 }
 
 func TestMetricsWithoutAnAnswerOfDavd(t *testing.T) {

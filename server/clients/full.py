@@ -1,6 +1,7 @@
 """A folder on a disk that is full: what is answered then, and that a PUT finds room again after a DELETE."""
 import contextlib
 import os
+import pathlib
 import random
 import signal
 import subprocess
@@ -12,7 +13,8 @@ from server import Server, expect
 GROUP = Group("a full disk", is_shared=False)
 GROUPS = [GROUP]
 
-SIZE = "36m"  # davd keeps 16 MiB of it back
+SIZE = "36m"
+RESERVE = 16 << 20  # davd keeps so many bytes of it back.
 BODY = 1 << 20
 MOST = 40
 
@@ -76,3 +78,53 @@ def no_trap(starter: Starter, is_killed: bool):
 
 GROUP.add("a PUT is 507, a DELETE is 204, and then a PUT finds room", no_trap, False)
 GROUP.add("the same if davd was killed on the full disk", no_trap, True)
+
+
+def reserve(starter: Starter) -> pathlib.Path:
+    return starter.folder / "disk" / "kept" / "data-wal"
+
+
+def fill_but(starter: Starter, left: int):
+    """Has a file of somebody else take all room but so many bytes."""
+    disk = os.statvfs(starter.folder / "disk")
+    with (starter.folder / "disk" / "other").open("wb") as other:
+        os.posix_fallocate(other.fileno(), 0, disk.f_bavail * disk.f_frsize - left)
+
+
+@GROUP.check("where there is no room for the reserve, MKCOLs and DELETEs are done, and it is empty until a PUT finds room")
+def no_room_for_it(starter: Starter):
+    with small_disk(starter):
+        server = starter.start("-folder", "{folder}/disk/kept")
+        server.ask("PUT", "/0", body(0), status=201)
+        server.stop()
+        expect("the reserve", reserve(starter).stat().st_size, RESERVE)
+        reserve(starter).write_bytes(b"")
+        fill_but(starter, RESERVE // 2)
+        server = starter.start("-folder", "{folder}/disk/kept")
+        for number in range(20):
+            server.ask("MKCOL", f"/d{number}", status=201)
+        server.ask("DELETE", "/d0", status=204)
+        expect("the reserve on the full disk", reserve(starter).stat().st_size, 0)
+        server.ask("PUT", "/1", body(1), status=507)
+        (starter.folder / "disk" / "other").unlink()
+        server.ask("PUT", "/1", body(1), status=201)
+        expect("the reserve when there is room", reserve(starter).stat().st_size, RESERVE)
+        compare(server, [0, 1])
+        server.stop()
+
+
+@GROUP.check("where others take all that is free beside the reserve, each DELETE is done after a start")
+def others_fill_it(starter: Starter):
+    with small_disk(starter):
+        server = starter.start("-folder", "{folder}/disk/kept")
+        server.ask("PUT", "/0", body(0), status=201)
+        for number in range(200):
+            server.ask("MKCOL", f"/d{number}", status=201)
+        server.stop()
+        expect("the reserve", reserve(starter).stat().st_size, RESERVE)
+        fill_but(starter, 0)
+        server = starter.start("-folder", "{folder}/disk/kept")
+        for number in range(200):
+            server.ask("DELETE", f"/d{number}", status=204)
+        compare(server, [0])
+        server.stop()

@@ -1,7 +1,8 @@
-"""The space that a folder's data file takes, and what is read from its blocks."""
+"""The space that a folder takes: its data file, what is read from the blocks there, and the room that is kept back."""
 import pathlib
 import random
 
+import metrics
 from harness import Group, Starter
 from kept import kill, start
 from kept_rows import query
@@ -73,3 +74,42 @@ def again(starter: Starter):
     server.stop()
     if size(starter) > 100 << 20:
         expect("the size of the data file", size(starter), "at most 100 MiB")
+
+
+RESERVE = 16 << 20
+"""How many bytes are kept back in `data-wal`."""
+
+
+def expect_kept_back(starter: Starter, port: int, when: str, want: int):
+    """The reserve has so many bytes, and the metrics say so."""
+    expect(f"the size of data-wal {when}", (starter.folder / "kept" / "data-wal").stat().st_size, want)
+    samples = metrics.scrape(port)
+    for name, value in (("reserve", want), ("reserve_wanted", RESERVE)):
+        expect(f"{name} in the metrics {when}", samples[f"davserve_folder_{name}_bytes"], value)
+
+
+def kept_back(starter: Starter, changes):
+    """Starts over a folder with files, and makes changes that write no bytes of a file."""
+    server = start(starter)
+    for path in ("/a", "/b"):
+        server.ask("PUT", path, b"x" * 70_000, status=201)
+    server.stop()
+    server, port = metrics.start(starter)
+    server.ask("GET", "/a", status=200)
+    expect_kept_back(starter, port, "before a change", 0)
+    for method, path, fields in changes:
+        server.ask(method, path, fields=fields, status=(201, 204))
+        expect_kept_back(starter, port, f"after {method} {path}", RESERVE)
+    kill(server)
+    expect_kept_back(starter, port, "after davd was killed", 0)
+    server.ask("MKCOL", "/last", status=201)
+    expect_kept_back(starter, port, "after the next change", RESERVE)
+    server.stop()
+
+
+COPIES = [
+    ("COPY", "/a", [("Destination", "/c")]), ("DELETE", "/a", []), ("COPY", "/c", [("Destination", "/d")]), ("DELETE", "/c", []),
+]
+
+GROUP.add("after a start the first MKCOL has 16 MiB kept back again", kept_back, [("MKCOL", "/e", [])])
+GROUP.add("after a start COPYs and DELETEs alone have 16 MiB kept back again", kept_back, COPIES)

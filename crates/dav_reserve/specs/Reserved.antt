@@ -6,7 +6,7 @@ use Rattle.sqlite_disk.specs.declared.tally.Tally.{Tally}
 use Rattle.sqlite_disk.specs.Disk.{Follows, MoreFaults, StaysFrozen}
 use Rattle.sqlite_disk.specs.Refusal.{finds_no_room}
 use Rattle.sqlite_disk.specs.Tally.{both_counts}
-use Rattle.dav_reserve.specs.Reserves.{is_known_filled}
+use Rattle.dav_reserve.specs.Reserves.{is_known_filled, GivesUp}
 use Rattle.dav_reserve.specs.declared.reserved.Reserved.{Reserved}
 
 module _ {D R : Type 0} {d : Ghosts D} {r : Ghosts R} where
@@ -30,6 +30,10 @@ module _ {D R : Type 0} {d : Ghosts D} {r : Ghosts R} where
   abbrev pub is_full : Reserved D R d r → Bool
   is_full it = it.is_full
 
+  -- a sync has succeeded
+  abbrev pub has_synced : Reserved D R d r → Bool
+  has_synced it = it.has_synced
+
   -- how many writes failed because the reserve could not be filled
   abbrev pub unfilled_of : Reserved D R d r → ℕ
   unfilled_of it = it.unfilled
@@ -50,11 +54,12 @@ module _ {D R : Type 0} {d : Ghosts D} {r : Ghosts R} where
   abbrev pub tally_of : Reserved D R d r → Tally
   tally_of it = both_counts (d.tally_of it.inner) (record { caught = 0; refused = it.no_room })
 
-  -- no write has failed, and the reserve is not filled
+  -- no write has failed, no sync has succeeded, and the reserve is not filled
   pub record IsFresh (it : Reserved D R d r) : Type 0 where
     pub writes : (unfilled_of it ≡ 0) × (no_room_of it ≡ 0)
     pub full : is_full it ≡ false
     pub filled : is_filled it ≡ false
+    pub begun : has_synced it ≡ false
 
   -- the file of the reserve has all the bytes that are to be kept back
   abbrev pub HasRoom : Reserved D R d r → Type 0
@@ -78,6 +83,23 @@ module _ {D R : Type 0} {d : Ghosts D} {r : Ghosts R} where
     pub inner : inner_of new ≡ inner_of old
     pub room : room_of new ≡ room_of old
     pub end : end_of new ≡ end_of old
+
+  -- the reserve is filled, or the disk was full before, or the reserve could not be filled and was emptied
+  abbrev pub Refills : Reserved D R d r → Reserved D R d r → Type 0
+  Refills old new =
+      (is_filled new ≡ true) ⊎ ((is_full old ≡ true) ⊎ GivesUp r (reserve_of old) (reserve_of new))
+
+  -- the reserve, and what is known of it, is as it was
+  pub record KeepsReserve (old new : Reserved D R d r) : Type 0 where
+    pub reserve : reserve_of new ≡ reserve_of old
+    pub filled : is_filled new ≡ is_filled old
+    pub full : is_full new ≡ is_full old
+
+  -- if the reserve was filled, the disk was full or no sync had succeeded, no call of the reserve's disk was made
+  pub record LeavesAlone (old new : Reserved D R d r) : Type 0 where
+    pub filled : is_filled old ≡ true → KeepsReserve old new
+    pub full : is_full old ≡ true → KeepsReserve old new
+    pub begun : has_synced old ≡ false → KeepsReserve old new
 
   -- the machine has still stopped, and nothing has changed on the disk
   abbrev pub KeepsFrozen : Reserved D R d r → Reserved D R d r → Type 0

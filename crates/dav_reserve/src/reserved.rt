@@ -1,9 +1,9 @@
 //! A disk whose file grows only while a reserve is filled.
-ghost use Rattle.std.specs.Prelude.{◌≡◌, ◌≤◌, ◌<◌, ◌+◌, ◌^◌, ◌||◌, ◌↔◌, ℕ, true, false, length, IsTrue, IsErr, IfErr, OnOk, OnErr};
-ghost use Rattle.sqlite_disk.specs.Disk.{Holds, Torn, Mixed, CountsFault, MoreFaults};
+ghost use Rattle.std.specs.Prelude.{◌≡◌, ◌≤◌, ◌<◌, ◌+◌, ◌^◌, ◌||◌, ◌↔◌, ◌⊎◌, ℕ, List, min, true, false, length, is_ok, IsTrue, IsErr, IfErr, OnOk, OnErr};
+ghost use Rattle.sqlite_disk.specs.Disk.{Holds, Torn, Mixed, Cut, Only, CountsFault, MoreFaults};
 ghost use Rattle.sqlite_disk.specs.Refusal.{is_no_room, finds_no_room};
 ghost use Rattle.sqlite_disk.specs.Tally.{both_counts, CountsRefusal};
-ghost use Rattle.dav_reserve.specs.Reserves.{GivesBack, CountsNoRoom, is_known_empty, is_known_filled};
+ghost use Rattle.dav_reserve.specs.Reserves.{GivesBack, GivesUp, FindsNoRoom, StillCounts, CountsNoRoom, is_known_empty, is_known_filled};
 
 use crate::Roomy;
 use crate::fill::fill;
@@ -15,6 +15,10 @@ use std::io;
 ///
 /// It passes each call on to the disk. It passes a write that may make the file longer on only while the reserve is
 /// filled. When a write finds no room, it empties the reserve, so that others have its room.
+///
+/// A sync and a change of the length fill the reserve, too, but not while the disk is full: then only a write that may
+/// make the file longer tries. Before the first sync they leave the reserve alone: a start syncs the file while it
+/// still only reads, and then empties the reserve for the database that it opens.
 #[derive(Drop)]
 pub struct Reserved<D: Disk, R: Disk> {
     inner: D,
@@ -28,6 +32,8 @@ pub struct Reserved<D: Disk, R: Disk> {
     end: usize,
     /// Whether a write found no room, and none that may have made the file longer has succeeded since.
     is_full: bool,
+    /// Whether a sync has succeeded.
+    has_synced: bool,
     /// How many writes failed because the reserve could not be filled.
     unfilled: u64,
     /// How many of them found no room.
@@ -39,10 +45,10 @@ pub struct Reserved<D: Disk, R: Disk> {
 }
 
 impl<D: Disk, R: Disk> Reserved<D, R> {
-    ghost use Rattle.dav_reserve.specs.Reserved.{inner_of, reserve_of, room_of, end_of, is_filled, is_full, unfilled_of, no_room_of, faults_of, tally_of, IsFresh, HasRoom, KeepsRoom, KeepsInner, HasCause, KeepsFrozen, MayLeaveAfter};
+    ghost use Rattle.dav_reserve.specs.Reserved.{inner_of, reserve_of, room_of, end_of, is_filled, is_full, has_synced, unfilled_of, no_room_of, faults_of, tally_of, IsFresh, HasRoom, KeepsRoom, KeepsInner, HasCause, Refills, LeavesAlone, KeepsReserve, KeepsFrozen, MayLeaveAfter};
 
     /// Keeps so many bytes back for a disk. It leaves the reserve as it is. The next write that may make the file longer
-    /// fills it.
+    /// fills it, or a sync or a change of the length after the first sync.
     ///
     /// The file counts as empty until [`Disk::len`] is called, so until then each write fills the reserve.
     pub fn new(inner: D, reserve: R, room: usize) -> Reserved<D, R>
@@ -59,6 +65,7 @@ impl<D: Disk, R: Disk> Reserved<D, R> {
             known: Reserve::Unknown,
             end: 0,
             is_full: false,
+            has_synced: false,
             unfilled: 0,
             no_room: 0,
         }
@@ -97,6 +104,7 @@ impl<D: Disk, R: Disk> Reserved<D, R> {
         ensures end { end_of self.old ≤ end_of self.new }
         ensures known { OnOk result (0 < length bytes.now → at + length bytes.now < 2 ^ 64 → at + length bytes.now ≤ end_of self.new) }
         ensures size { room_of self.new ≡ room_of self.old }
+        ensures begun { has_synced self.new ≡ has_synced self.old }
         // What a disk's write promises.
         ensures written { OnOk result (0 < length bytes.now → Holds (D.Disk.seen (inner_of self.new)) at bytes.now) }
         ensures faults { CountsFault result (faults_of self.old) (faults_of self.new) }
@@ -132,12 +140,95 @@ impl<D: Disk, R: Disk> Reserved<D, R> {
         Ok(())
     }
 
-    /// Fills the reserve, unless it is filled. Fails if its disk does, and then it has been emptied.
+    /// Changes the length of the file, as [`Disk::set_len`] does, and says what becomes of the reserve.
+    ///
+    /// Fails if the disk does. Otherwise it tries to fill the reserve, unless the disk is full or was never synced, and
+    /// succeeds even if that fails.
+    pub fn resize(&mut self, len: usize) -> io::Result<()>
+        requires { IsTrue (D.Disk.is_usable (inner_of self.old)) }
+        ensures refills { OnOk result (has_synced self.old ≡ true → Refills self.old self.new) }
+        ensures alone { LeavesAlone self.old self.new }
+        ensures failed { OnErr result (KeepsReserve self.old self.new) }
+        ensures full { is_full self.new ≡ true → (is_full self.old ≡ true) ⊎ FindsNoRoom R.Disk (reserve_of self.old) (reserve_of self.new) }
+        ensures begun { has_synced self.new ≡ has_synced self.old }
+        ensures end { end_of self.new ≡ min (end_of self.old) len }
+        ensures size { room_of self.new ≡ room_of self.old }
+        // What a disk's change of the length promises.
+        ensures len { OnOk result (length (D.Disk.seen (inner_of self.new)) ≡ len) }
+        ensures faults { CountsFault result (faults_of self.old) (faults_of self.new) }
+        ensures tally { CountsRefusal result (tally_of self.old) (tally_of self.new) }
+        ensures calm { D.Disk.is_clean (inner_of self.new) ≡ D.Disk.is_clean (inner_of self.old) }
+        ensures fair { D.Disk.is_fair (inner_of self.new) ≡ D.Disk.is_fair (inner_of self.old) }
+        ensures frozen { IsTrue (D.Disk.is_frozen (inner_of self.old)) → IsErr result × KeepsFrozen self.old self.new }
+        ensures others { Cut len (D.Disk.seen (inner_of self.old)) (D.Disk.seen (inner_of self.new)) }
+        ensures key { D.Disk.key_of (inner_of self.new) ≡ D.Disk.key_of (inner_of self.old) }
+        ensures usable { IsTrue (D.Disk.is_usable (inner_of self.new)) }
+        ensures crash { MayLeaveAfter (Cut len) self.old self.new }
+    {
+        // Bytes that it adds may be a hole, which has no room yet, so `end` stays before them.
+        self.end = self.end.min(len);
+        self.inner.set_len(len)?;
+        self.refill();
+        Ok(())
+    }
+
+    /// Brings the file to the disk, as [`Disk::sync`] does, and says what becomes of the reserve.
+    ///
+    /// Fails if the disk does. Otherwise it tries to fill the reserve, unless the disk is full or this is the first sync,
+    /// and succeeds even if that fails.
+    pub fn sync_all(&mut self) -> io::Result<()>
+        requires { IsTrue (D.Disk.is_usable (inner_of self.old)) }
+        ensures refills { OnOk result (has_synced self.old ≡ true → Refills self.old self.new) }
+        ensures alone { LeavesAlone self.old self.new }
+        ensures failed { OnErr result (KeepsReserve self.old self.new) }
+        ensures full { is_full self.new ≡ true → (is_full self.old ≡ true) ⊎ FindsNoRoom R.Disk (reserve_of self.old) (reserve_of self.new) }
+        ensures begun { OnOk result (has_synced self.new ≡ true) }
+        ensures still { OnErr result (has_synced self.new ≡ has_synced self.old) }
+        ensures end { end_of self.new ≡ end_of self.old }
+        ensures size { room_of self.new ≡ room_of self.old }
+        // What a disk's sync promises.
+        ensures durable { OnOk result (Only (D.Disk.seen (inner_of self.old)) (D.Disk.may_leave (inner_of self.new))) }
+        ensures faults { CountsFault result (faults_of self.old) (faults_of self.new) }
+        ensures tally { CountsRefusal result (tally_of self.old) (tally_of self.new) }
+        ensures calm { D.Disk.is_clean (inner_of self.new) ≡ D.Disk.is_clean (inner_of self.old) }
+        ensures fair { D.Disk.is_fair (inner_of self.new) ≡ D.Disk.is_fair (inner_of self.old) }
+        ensures frozen { IsTrue (D.Disk.is_frozen (inner_of self.old)) → IsErr result × KeepsFrozen self.old self.new }
+        ensures seen { D.Disk.seen (inner_of self.new) ≡ D.Disk.seen (inner_of self.old) }
+        ensures key { D.Disk.key_of (inner_of self.new) ≡ D.Disk.key_of (inner_of self.old) }
+        ensures rot { D.Disk.is_rotten (inner_of self.new) ≡ D.Disk.is_rotten (inner_of self.old) }
+        ensures usable { D.Disk.is_usable (inner_of self.new) ≡ is_ok result }
+        ensures crash { (c : List ℕ) → D.Disk.may_leave (inner_of self.new) c → D.Disk.may_leave (inner_of self.old) c }
+    {
+        self.inner.sync()?;
+        self.refill();
+        self.has_synced = true;
+        Ok(())
+    }
+
+    /// Tries to fill the reserve, unless it is filled, the disk is full or was never synced. If that fails, the reserve
+    /// has been emptied, and no write counts as failed.
+    fn refill(&mut self)
+        ensures refills { has_synced self.old ≡ true → Refills self.old self.new }
+        ensures alone { LeavesAlone self.old self.new }
+        ensures full { is_full self.new ≡ true → (is_full self.old ≡ true) ⊎ FindsNoRoom R.Disk (reserve_of self.old) (reserve_of self.new) }
+        ensures kept { KeepsInner self.old self.new }
+        ensures begun { has_synced self.new ≡ has_synced self.old }
+        ensures unfilled { unfilled_of self.new ≡ unfilled_of self.old }
+        ensures no_room { no_room_of self.new ≡ no_room_of self.old }
+    {
+        if self.has_synced && !self.is_full {
+            let _ = self.fill_reserve();
+        }
+    }
+
+    /// Fills the reserve, unless it is filled. Fails if its disk does, and then it has been emptied, and the write for
+    /// which it was to be filled counts as failed.
     fn keep_room(&mut self) -> io::Result<()>
         ensures filled { OnOk result (is_filled self.new ≡ true) }
         ensures ok { OnOk result (self.new.is_full ≡ self.old.is_full) }
         ensures sound { OnOk result (R.Disk.faults (reserve_of self.new) ≡ R.Disk.faults (reserve_of self.old)) }
         ensures kept { KeepsInner self.old self.new }
+        ensures begun { has_synced self.new ≡ has_synced self.old }
         ensures unfilled { CountsFault result (unfilled_of self.old) (unfilled_of self.new) }
         ensures no_room { CountsNoRoom result (no_room_of self.old) (no_room_of self.new) }
         ensures needed { OnErr result (is_filled self.old ≡ false) }
@@ -146,14 +237,38 @@ impl<D: Disk, R: Disk> Reserved<D, R> {
         ensures cause { OnErr result (MoreFaults (R.Disk.faults (reserve_of self.old)) (R.Disk.faults (reserve_of self.new))) }
         ensures refused { IfErr result (λ e. is_full self.new ≡ (is_full self.old || is_no_room e)) }
     {
+        if let Err(error) = self.fill_reserve() {
+            self.unfilled = self.unfilled.saturating_add(1);
+            if is_no_room(&error) {
+                self.no_room = self.no_room.saturating_add(1);
+            }
+            return Err(error);
+        }
+        Ok(())
+    }
+
+    /// Fills the reserve, unless it is filled. Fails if its disk does, and then it has been emptied.
+    fn fill_reserve(&mut self) -> io::Result<()>
+        ensures filled { OnOk result (is_filled self.new ≡ true) }
+        ensures ok { OnOk result (self.new.is_full ≡ self.old.is_full) }
+        ensures sound { OnOk result (R.Disk.faults (reserve_of self.new) ≡ R.Disk.faults (reserve_of self.old)) }
+        ensures idle { is_filled self.old ≡ true → self.new ≡ self.old }
+        ensures kept { KeepsInner self.old self.new }
+        ensures begun { has_synced self.new ≡ has_synced self.old }
+        ensures unfilled { unfilled_of self.new ≡ unfilled_of self.old }
+        ensures no_room { no_room_of self.new ≡ no_room_of self.old }
+        ensures needed { OnErr result (is_filled self.old ≡ false) }
+        ensures left { OnErr result (is_filled self.new ≡ false) }
+        ensures emptied { OnErr result (GivesUp R.Disk (reserve_of self.old) (reserve_of self.new)) }
+        ensures refused { IfErr result (λ e. is_full self.new ≡ (is_full self.old || is_no_room e)) }
+        ensures room { IfErr result (λ e. is_no_room e ≡ true → FindsNoRoom R.Disk (reserve_of self.old) (reserve_of self.new)) }
+    {
         if matches!(self.known, Reserve::Filled) {
             return Ok(());
         }
         self.known = Reserve::Unknown;
         if let Err(error) = fill(&mut self.reserve, self.room) {
-            self.unfilled = self.unfilled.saturating_add(1);
             if is_no_room(&error) {
-                self.no_room = self.no_room.saturating_add(1);
                 self.is_full = true;
             }
             self.give_back();
@@ -167,8 +282,10 @@ impl<D: Disk, R: Disk> Reserved<D, R> {
     fn give_back(&mut self)
         ensures empty { GivesBack R.Disk (reserve_of self.old) (reserve_of self.new) }
         ensures counted { R.Disk.faults (reserve_of self.old) ≤ R.Disk.faults (reserve_of self.new) }
+        ensures refused { StillCounts R.Disk (reserve_of self.old) (reserve_of self.new) }
         ensures filled { is_filled self.new ≡ false }
         ensures kept { KeepsInner self.old self.new }
+        ensures begun { has_synced self.new ≡ has_synced self.old }
         ensures full { is_full self.new ≡ is_full self.old }
         ensures unfilled { unfilled_of self.new ≡ unfilled_of self.old }
         ensures no_room { no_room_of self.new ≡ no_room_of self.old }
@@ -184,6 +301,7 @@ fn empty<R: Disk>(reserve: &mut R) -> Reserve
     ensures filled { is_known_filled result ≡ false }
     ensures empty { GivesBack R.Disk reserve.old reserve.new }
     ensures counted { R.Disk.faults reserve.old ≤ R.Disk.faults reserve.new }
+    ensures refused { StillCounts R.Disk reserve.old reserve.new }
     ensures usable { R.Disk.is_usable reserve.new ≡ true }
 {
     match reserve.set_len(0) {
@@ -264,14 +382,12 @@ impl<D: Disk, R: Disk> Disk for Reserved<D, R> {
         self.write(at, bytes)
     }
 
-    // Bytes that it adds may be a hole, which has no room yet, so `end` stays before them.
     fn set_len(&mut self, len: usize) -> io::Result<()> {
-        self.end = self.end.min(len);
-        self.inner.set_len(len)
+        self.resize(len)
     }
 
     fn sync(&mut self) -> io::Result<()> {
-        self.inner.sync()
+        self.sync_all()
     }
 }
 
