@@ -99,9 +99,10 @@ func (f *fake) Each(ctx context.Context, r *frame.Request, visit func(*frame.Ele
 	if !ok {
 		return frame.Response{Status: 404}, nil
 	}
-	visit(described(r.Path))
+	one := newDescription()
+	visit(one.of(r.Path))
 	for name := range below {
-		visit(described(r.Path + name))
+		visit(one.of(r.Path + name))
 	}
 	return frame.Response{Status: 207}, nil
 }
@@ -115,17 +116,36 @@ func (f *fake) IsBusy() bool {
 	return false
 }
 
-// described returns a response of a multistatus.
-func described(path string) *frame.Element {
+// A description is a response of a multistatus, which is used again for each resource.
+type description struct {
+	element *frame.Element
+	href    *frame.Node
+	kind    *frame.Element
+}
+
+func newDescription() description {
 	kind := &frame.Element{Name: "resourcetype"}
-	if strings.HasSuffix(path, "/") {
-		kind.Nodes = []frame.Node{{Element: &frame.Element{Name: "collection"}}}
-	}
 	prop := &frame.Element{Name: "prop", Nodes: []frame.Node{{Element: kind}}}
-	return &frame.Element{Name: "response", Nodes: []frame.Node{
-		{Element: &frame.Element{Name: "href", Nodes: []frame.Node{{Text: path}}}},
-		{Element: &frame.Element{Name: "propstat", Nodes: []frame.Node{{Element: prop}}}},
-	}}
+	href := &frame.Element{Name: "href", Nodes: []frame.Node{{}}}
+	return description{
+		element: &frame.Element{Name: "response", Nodes: []frame.Node{
+			{Element: href},
+			{Element: &frame.Element{Name: "propstat", Nodes: []frame.Node{{Element: prop}}}},
+		}},
+		href: &href.Nodes[0],
+		kind: kind,
+	}
+}
+
+var isCollection = []frame.Node{{Element: &frame.Element{Name: "collection"}}}
+
+// of returns the response for a path.
+func (d description) of(path string) *frame.Element {
+	d.href.Text, d.kind.Nodes = path, nil
+	if strings.HasSuffix(path, "/") {
+		d.kind.Nodes = isCollection
+	}
+	return d.element
 }
 
 // A result is what a run has left.

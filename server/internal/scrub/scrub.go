@@ -187,14 +187,20 @@ var (
 	errChanged = errors.New("it has changed")
 )
 
-// lossesOfOne is how many times a davd may end while it has the same frame.
-const lossesOfOne = 3
+const (
+	// lossesOfOne is how many times a davd may end while it has the same frame.
+	lossesOfOne = 3
+	// shortages is how many times davd may lack memory for a frame. The pause after each is twice as long as the one before:
+	// a long list takes davd some time each time.
+	shortages = 5
+)
 
 // patiently does what may be done again, until davd is back or has memory again.
 func (r *run) patiently(path string, do func() error) error {
-	losses, end := 0, time.Now().Add(r.limits.patience)
+	losses, lacks, end := 0, 0, time.Now().Add(r.limits.patience)
 	for {
 		err := do()
+		pause := r.limits.pause
 		var failed *davd.StatusError
 		switch {
 		case err == nil:
@@ -206,14 +212,16 @@ func (r *run) patiently(path string, do func() error) error {
 				return fmt.Errorf("davd has ended %d times while it read %q: %w", losses, path, err)
 			}
 		case errors.Is(err, davd.ErrDown):
-		case errors.As(err, &failed) && failed.Status == http.StatusInsufficientStorage:
+		case errors.As(err, &failed) && failed.Status == http.StatusInsufficientStorage && lacks < shortages:
+			pause <<= lacks
+			lacks++
 		default:
 			return err
 		}
 		if time.Now().After(end) {
 			return err
 		}
-		if err := r.sleep(r.limits.pause); err != nil {
+		if err := r.sleep(pause); err != nil {
 			return err
 		}
 	}

@@ -73,7 +73,10 @@ func TestRun(t *testing.T) {
 		{"davd is away for a while", failing("READ /a 0", davd.ErrDown, 20), 4, nil},
 		{"davd ends once", failing(second, davd.ErrLost, 1), 4, nil},
 		{"davd ends once while it lists", failing("LIST /d/", davd.ErrUnknown, 2), 4, nil},
-		{"davd has no memory for a while", failing(second, status(507), 20), 4, nil},
+		{"davd has no memory for a while", failing(second, status(507), shortages), 4, nil},
+		{"davd has no memory for a list", failing("LIST /d/e/", status(507), always), 3, []string{
+			"unread /d/e/ its members are not listed: status 507",
+		}},
 	}
 	for _, test := range tests {
 		t.Run(test.name, func(t *testing.T) {
@@ -137,9 +140,12 @@ func TestRunEndsEarly(t *testing.T) {
 func TestMemoryThatDoesNotComeBackIsNoDamage(t *testing.T) {
 	f := newFake("/a", "/b")
 	f.before = failing("READ /a 0", status(507), always)
-	got := check(context.Background(), f, limits{names: 1 << 20, pause: time.Millisecond, patience: 10 * time.Millisecond})
+	got := check(context.Background(), f, quick)
 	if got.err != nil || got.counts != (Counts{Files: 1, Bytes: 10, Unread: 1}) {
 		t.Errorf("%+v", got)
+	}
+	if n := f.asked["READ /a 0"]; n != shortages+1 {
+		t.Errorf("it was read %d times", n)
 	}
 }
 
