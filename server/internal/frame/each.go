@@ -1,7 +1,8 @@
 package frame
 
-// DecodeEach decodes a reply as Decode does. If it is a Response, each element in its root is passed to the function, and
-// not kept: the root has only the tag. So a long multistatus needs no more memory than its bytes and one of its responses.
+// DecodeEach decodes a reply as Decode does. If it is a Response, each element in its root is passed to the function, and the
+// root has only the tag. The function must not keep the element, but may keep its strings. So a long multistatus needs
+// little more memory than its bytes.
 //
 // The function is called before the rest of the reply is decoded. If DecodeEach returns an error, what the function got is
 // of no use.
@@ -27,7 +28,10 @@ func DecodeEach(b []byte, visit func(*Element)) (Reply, error) {
 func (r *reader) each(visit func(*Element)) *Element {
 	root := new(Element)
 	r.tag(root)
+	// Each child is built where the one before was.
+	block := builder{elements: make([]Element, elementBlock), nodes: make([]Node, nodeBlock)}
 	for {
+		r.tree.elements, r.tree.nodes = block.elements, block.nodes
 		switch r.kind(nodeText, "a node") {
 		case nodeElement:
 			child := r.element(ReplyLevels - 1)

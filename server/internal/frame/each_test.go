@@ -11,10 +11,26 @@ import (
 func multistatus(n int) Response {
 	root := &Element{Name: "multistatus", Prefix: "D", Namespace: "DAV:", Attributes: []Attribute{{Name: "xmlns:D", Value: "DAV:"}}}
 	for i := 0; i < n; i++ {
-		href := &Element{Name: "href", Nodes: []Node{{Text: "/d/" + strconv.Itoa(i)}}}
-		root.Nodes = append(root.Nodes, Node{Element: &Element{Name: "response", Nodes: []Node{{Element: href}}}}, Node{Text: "\n"})
+		response := &Element{Name: "response", Nodes: []Node{{Text: "/d/" + strconv.Itoa(i)}}}
+		for j := 0; j < i%90; j++ {
+			response.Nodes = append(response.Nodes, Node{Element: &Element{Name: "leaf", Nodes: []Node{{Text: strconv.Itoa(j)}}}})
+		}
+		root.Nodes = append(root.Nodes, Node{Element: response}, Node{Text: "\n"})
 	}
 	return Response{Status: 207, Fields: []Field{{Name: "a", Value: "b"}}, Root: root}
+}
+
+// copied returns a copy of an element.
+func copied(e *Element) *Element {
+	other := *e
+	other.Nodes = nil
+	for _, node := range e.Nodes {
+		if node.Element != nil {
+			node.Element = copied(node.Element)
+		}
+		other.Nodes = append(other.Nodes, node)
+	}
+	return &other
 }
 
 func TestDecodeEach(t *testing.T) {
@@ -22,7 +38,7 @@ func TestDecodeEach(t *testing.T) {
 		whole := multistatus(n)
 		var found []Node
 		reply, err := DecodeEach(appendReply(nil, whole), func(e *Element) {
-			found = append(found, Node{Element: e}, Node{Text: "\n"})
+			found = append(found, Node{Element: copied(e)}, Node{Text: "\n"})
 		})
 		if err != nil {
 			t.Fatal(err)
@@ -72,5 +88,13 @@ func TestDecodeEachRefuses(t *testing.T) {
 func TestDecodeEachOfTheGreatestLevels(t *testing.T) {
 	if _, err := DecodeEach(appendReply(nil, Response{Status: 207, Root: nested(272)}), func(*Element) {}); err != nil {
 		t.Errorf("272 levels: %v", err)
+	}
+}
+
+func TestDecodeEachNeedsLittleMemory(t *testing.T) {
+	b := appendReply(nil, multistatus(3000))
+	whole := allocated(func() { Decode(b) })
+	if each := allocated(func() { DecodeEach(b, func(*Element) {}) }); each > whole/2 {
+		t.Errorf("%d bytes are allocated for a reply of %d, and %d by Decode", each, len(b), whole)
 	}
 }
