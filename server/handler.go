@@ -28,6 +28,7 @@ type Handler struct {
 	engine  *davd.Engine
 	quota   *quota // nil: no limit
 	trees   trees
+	checks  *checks
 }
 
 // New starts davd and returns a handler over it. The caller must close the handler. With a folder, New waits until davd
@@ -54,7 +55,7 @@ func New(ctx context.Context, options Options) (*Handler, error) {
 	if err != nil {
 		return nil, err
 	}
-	h := &Handler{options: options, host: host, engine: engine}
+	h := &Handler{options: options, host: host, engine: engine, checks: newChecks()}
 	if options.Quota > 0 {
 		h.quota = newQuota(options.Quota, h.used)
 	}

@@ -22,14 +22,15 @@ const (
 	reserveBytes = 16 << 20
 )
 
-// WriteMetrics writes what is known of davd and its folder, in the text format of Prometheus. It asks davd how many locks
-// there are. If davd does not answer before ctx is done, their metrics are left out.
+// WriteMetrics writes what is known of davd, its folder and the last check, in the text format of Prometheus. It asks davd
+// how many locks there are. If davd does not answer before ctx is done, their metrics are left out.
 func (h *Handler) WriteMetrics(ctx context.Context, w io.Writer) error {
 	e := metrics.NewEncoder(w)
 	h.engine.WriteMetrics(e)
 	h.writeHoldings(ctx, e)
 	if h.options.Folder != "" {
 		writeFolder(h.options.Folder, e)
+		h.checks.writeTo(e)
 	}
 	return e.Flush()
 }

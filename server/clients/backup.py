@@ -333,7 +333,7 @@ def elsewhere(starter: Starter):
     client.check_message(server.log(), "at most 107 are possible")
     server = starter.start("-folder", "{folder}/" + long)
     server.ask("PUT", "/a", b"x", status=201)
-    client.check_message(server.log(), "no backup can be made, and no lock removed: ")
+    client.check_message(server.log(), "no backup can be made, no file checked, and no lock removed: ")
     client.check_message(server.log(), "at most 107 are possible (-socket names another place)")
     client.fail(starter, starter.folder / "none", "at most 107", words=("-folder", starter.folder / long))
     server.stop()

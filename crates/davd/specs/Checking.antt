@@ -30,7 +30,7 @@ module _ {D E L M : Type 0} (d : disks.Ghosts D) (e : disks.Ghosts E) (l : disks
     pub same : IsClean e disk → shown ≡ file
     pub rows : (image : Image) (tables : Contents) → Keeps left tables → StandForImage tables image → IsWholeImage image → AreClean d of.log of.db → ReadsImage shown None image tables found
     pub sealed : (tables : Contents) → Keeps left tables → AreClean d of.log of.db → IsSealed found.key tables
-    pub read : (key : Key) → IsFile (store_of found.store).contents key → IsRead store_of honest_of (store_of found.store).contents key
+    pub read : (key : Key) → IsFile (store_of found.store).contents key → IsRead (store_of {g = g}) (honest_of {g = g}) (store_of found.store).contents key
     pub up_to_date : AreClean l last.log last.db → IsNotOlder found.key found.last said.log said.db
 
   -- the same, over files that nobody has any more

@@ -53,9 +53,11 @@ func TestTheHelpNamesEachCommand(t *testing.T) {
 	for arguments, wants := range map[string][]string{
 		"-h": {
 			"davserve backup [-folder FOLDER | -socket PATH] TARGET", "davserve locks list", "davserve locks remove",
+			"davserve check [-folder FOLDER | -socket PATH] [-rate SIZE] [-quiet]",
 			"davserve import", "davserve export", "davserve rights check", "davserve setup -user NAME", "-listen",
 		},
 		"backup -h": {"davserve backup [-folder FOLDER | -socket PATH] TARGET", "-socket path", "exit status"},
+		"check -h":  {"davserve check [-folder FOLDER | -socket PATH] [-rate SIZE] [-quiet]", "(default 32M)", "exit status"},
 		"locks -h": {
 			"davserve locks list [-folder FOLDER | -socket PATH] [-json]",
 			"davserve locks remove [-folder FOLDER | -socket PATH] TOKEN...", "-socket path", "-json", "exit status",

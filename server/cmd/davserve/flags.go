@@ -72,6 +72,7 @@ func (p *prefixes) Set(text string) error {
 
 const usage = `usage: davserve [OPTIONS]
        davserve backup [-folder FOLDER | -socket PATH] TARGET
+       davserve check [-folder FOLDER | -socket PATH] [-rate SIZE] [-quiet]
        davserve locks list [-folder FOLDER | -socket PATH] [-json]
        davserve locks remove [-folder FOLDER | -socket PATH] TOKEN...
        davserve import -folder FOLDER [-davd PROGRAM] [-quiet] DIR [PATH]
@@ -82,6 +83,7 @@ const usage = `usage: davserve [OPTIONS]
 The first serves WebDAV, with these options. The others are for who runs a server:
 
   backup  makes a backup of what a server keeps in its folder, while it serves
+  check   has a server that runs read all its files, and names those that are damaged
   locks   lists the locks of a server that runs, and removes some
   import  copies files into the folder of a server that is stopped
   export  copies files out of the folder of a server that is stopped
@@ -126,7 +128,7 @@ func (c *config) addServing(flags *flag.FlagSet) {
 	flags.Func("folder", "`folder` in which everything is kept (default: none, and everything is in memory)",
 		notEmpty(&c.options.Folder))
 	flags.BoolVar(&c.options.AcceptLoss, "accept-loss", false, "serve a folder that has lost its last changes")
-	flags.Func("socket", "`path` of the socket for davserve backup and locks (default: control in the folder)",
+	flags.Func("socket", "`path` of the socket for davserve backup, check and locks (default: control in the folder)",
 		notEmpty(&c.socket))
 	flags.StringVar(&c.options.Prefix, "prefix", "", "what the path of each URL begins with, such as /dav")
 	flags.StringVar(&c.options.PublicURL, "public-url", "", "the `URL` by which clients reach a server behind a proxy")

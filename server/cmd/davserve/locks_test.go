@@ -66,8 +66,11 @@ func TestParseLocksAccepts(t *testing.T) {
 	}
 }
 
-// A keeper has locks.
-type keeper struct{ locks []davserve.Lock }
+// A keeper has locks, and makes no checks.
+type keeper struct {
+	checker
+	locks []davserve.Lock
+}
 
 // Backup implements control.Source.
 func (k *keeper) Backup(context.Context, io.Writer) error { return davserve.ErrNoFolder }
@@ -97,7 +100,7 @@ func serveLocks(t *testing.T, locks ...davserve.Lock) (folder string) {
 	if err != nil {
 		t.Fatal(err)
 	}
-	server := control.Serve(context.Background(), listener, &keeper{locks}, time.Minute, log.New(io.Discard, "", 0))
+	server := control.Serve(context.Background(), listener, &keeper{locks: locks}, time.Minute, log.New(io.Discard, "", 0))
 	t.Cleanup(func() { server.Close(context.Background()) })
 	return folder
 }

@@ -1,9 +1,9 @@
 // Davserve serves WebDAV over HTTP. Without -folder it keeps files and locks in memory: they are lost when it ends.
 //
-// Davserve backup makes a backup of the folder of a server that goes on serving. Davserve locks lists the locks of a server
-// that runs, and removes some. Davserve import and davserve export copy files into the folder of a server that is stopped,
-// and out of it. Davserve rights check says what access rules allow. Davserve setup sets up the service, with a user, access
-// rules and a certificate.
+// Davserve backup makes a backup of the folder of a server that goes on serving. Davserve check has a server that runs read
+// all its files. Davserve locks lists the locks of a server that runs, and removes some. Davserve import and davserve export
+// copy files into the folder of a server that is stopped, and out of it. Davserve rights check says what access rules allow.
+// Davserve setup sets up the service, with a user, access rules and a certificate.
 //
 // Exit statuses: 0 after SIGTERM, SIGINT, -help and -version, 1 if the server cannot start or fails, 2 for a wrong
 // command line.
@@ -41,6 +41,7 @@ func main() {
 // commands are what the program does beside serving, by its first argument. Each returns the exit status.
 var commands = map[string]func(ctx context.Context, arguments []string, output, errorOutput io.Writer) int{
 	"backup": runBackup,
+	"check":  runFileCheck,
 	"export": runExport,
 	"import": runImport,
 	"locks":  runLocks,

@@ -54,6 +54,14 @@ func (s *screen) say(format string, arguments ...any) {
 	fmt.Fprintf(s, format+"\n", arguments...)
 }
 
+// print writes a text to another output, such as a file or the same terminal, in the place of the progress line.
+func (s *screen) print(output io.Writer, text string) {
+	s.mu.Lock()
+	defer s.mu.Unlock()
+	s.erase()
+	io.WriteString(output, text)
+}
+
 // erase removes the progress line. It is called with s.mu held.
 func (s *screen) erase() {
 	if s.isShown {

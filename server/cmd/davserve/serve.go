@@ -109,7 +109,7 @@ func (c *config) control(ctx context.Context, dav *davserve.Handler, logger *log
 	listener, err := control.Listen(socket)
 	switch {
 	case err != nil && c.socket == "":
-		logger.Printf("no backup can be made, and no lock removed: %v (-socket names another place)", err)
+		logger.Printf("no backup can be made, no file checked, and no lock removed: %v (-socket names another place)", err)
 		return none, nil
 	case err != nil:
 		return nil, err

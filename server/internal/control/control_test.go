@@ -43,8 +43,16 @@ func (l *logged) String() string {
 	return l.text.String()
 }
 
-// A source makes backups as a function does, and has no locks.
+// A source makes backups as a function does, and has no locks and no files.
 type source func(ctx context.Context, w io.Writer) error
+
+// CheckFiles implements Source.
+func (s source) CheckFiles(context.Context, davserve.CheckOptions) (davserve.CheckState, error) {
+	return davserve.CheckState{State: "none"}, davserve.ErrNothingOnDisk
+}
+
+// Checked implements Source.
+func (s source) Checked() davserve.CheckState { return davserve.CheckState{State: "none"} }
 
 // Backup implements Source.
 func (s source) Backup(ctx context.Context, w io.Writer) error { return s(ctx, w) }
@@ -281,6 +289,10 @@ func TestOtherRequestsAreRefused(t *testing.T) {
 		{"PUT", host + backupPath, 405},
 		{"HEAD", host + backupPath, 405},
 		{"POST", host + locksPath, 405},
+		{"PUT", host + filesPath, 405},
+		{"POST", host + filesPath, 400},
+		{"POST", host + filesPath + "?rate=-1", 400},
+		{"POST", host + filesPath + "?rate=1M", 400},
 		{"DELETE", host + locksPath, 400},
 		{"DELETE", host + locksPath + "?token=", 400},
 		{"DELETE", host + locksPath + "/?token=urn:1", 404},

@@ -22,6 +22,10 @@ const backupPath = "/backup"
 type Source interface {
 	// Backup writes a backup as a tar archive. If it fails before it writes anything, the error says why none was begun.
 	Backup(ctx context.Context, w io.Writer) error
+	// CheckFiles has every file read. If it fails before it begins, the error says why.
+	CheckFiles(ctx context.Context, options davserve.CheckOptions) (davserve.CheckState, error)
+	// Checked returns what is known of the check that is under way, or else of the last one.
+	Checked() davserve.CheckState
 	// Locks returns all locks.
 	Locks(ctx context.Context) ([]davserve.Lock, error)
 	// RemoveLock removes the lock with a token. If no lock has it, the error is davserve.ErrNoLock.
@@ -41,12 +45,14 @@ type State struct {
 //
 //	POST /backup                 a backup
 //	GET /backup                  the State of the last one
+//	POST /check?rate=BYTES       a check of all files, as a line of JSON for each CheckEvent
+//	GET /check                   the davserve.CheckState of the last one
 //	GET /locks                   all locks
 //	DELETE /locks?token=TOKEN    removes a lock
 type Handler struct {
 	source  Source
 	log     *log.Logger
-	serving sync.WaitGroup // the backups
+	serving sync.WaitGroup // the backups and checks
 
 	mu    sync.Mutex
 	state State
@@ -62,6 +68,8 @@ func (h *Handler) ServeHTTP(w http.ResponseWriter, r *http.Request) {
 	switch r.URL.Path {
 	case backupPath:
 		h.serveBackup(w, r)
+	case filesPath:
+		h.serveCheck(w, r)
 	case locksPath:
 		h.serveLocks(w, r)
 	default:
@@ -158,7 +166,7 @@ func statusOf(err error) int {
 	switch {
 	case errors.Is(err, davserve.ErrNoLock):
 		return http.StatusNotFound
-	case errors.Is(err, davd.ErrInBackup):
+	case errors.Is(err, davd.ErrInBackup), errors.Is(err, davserve.ErrInCheck):
 		return http.StatusConflict
 	case errors.Is(err, davd.ErrFull), errors.Is(err, syscall.ENOSPC):
 		return http.StatusInsufficientStorage

@@ -14,8 +14,9 @@ import (
 	"davserve/internal/davd"
 )
 
-// A keeper has locks and makes no backups.
+// A keeper has locks, and makes no backups and no checks.
 type keeper struct {
+	source
 	locks []davserve.Lock
 	err   error // of each call
 }

@@ -30,8 +30,8 @@ type Server struct {
 	cancel  context.CancelFunc
 }
 
-// Serve answers what arrives at a listener, until Close or until ctx is done, which breaks a backup off. A client that
-// receives nothing for so long is left. Zero is no limit.
+// Serve answers what arrives at a listener, until Close or until ctx is done, which breaks a backup or a check off. A client
+// that receives nothing for so long is left. Zero is no limit.
 func Serve(ctx context.Context, listener net.Listener, source Source, stall time.Duration, log *log.Logger) *Server {
 	base, cancel := context.WithCancel(ctx)
 	base = context.WithValue(base, serverKey{}, base)
@@ -46,7 +46,8 @@ func Serve(ctx context.Context, listener net.Listener, source Source, stall time
 	return s
 }
 
-// Close breaks off a backup that is under way, waits until davd knows of its end or ctx is done, and removes the socket.
+// Close breaks off a backup and a check that are under way, waits until davd knows of their end or ctx is done, and removes
+// the socket.
 func (s *Server) Close(ctx context.Context) error {
 	s.cancel()
 	err := s.http.Close()

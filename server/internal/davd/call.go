@@ -30,6 +30,9 @@ type call struct {
 	done   chan struct{} // gets one value when reply or err is set
 	what   string        // for the log
 
+	operates string // the access rules of the operator whose call it is; empty: it is none of an operator
+	spoiled  error  // why it was not served by these rules; set before reply
+
 	replied func(reply []byte) // called before who waits gets the reply; nil: nothing
 }
 
@@ -152,13 +155,18 @@ func (b *batch) changes() bool {
 	return false
 }
 
+// isAlone reports whether the call has a batch of its own.
+func (c *call) isAlone() bool {
+	return c.sets || c.operates != ""
+}
+
 // cut splits the calls of the next batch from the others. The batch has at least one call. One that sets access rules is
-// alone in its batch.
+// alone in its batch, and so is one of an operator.
 func cut(calls []*call) (batch, rest []*call) {
 	size := 0
 	for i, c := range calls {
 		size += len(c.frame)
-		ends := size > batchBytes || c.sets || calls[0].sets
+		ends := size > batchBytes || c.isAlone() || calls[0].isAlone()
 		if i > 0 && ends || i == batchFrames {
 			return calls[:i:i], calls[i:]
 		}

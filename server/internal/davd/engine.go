@@ -187,6 +187,15 @@ func (e *Engine) Do(ctx context.Context, f frame.Frame) (frame.Reply, error) {
 }
 
 func (e *Engine) do(ctx context.Context, c *call) (frame.Reply, error) {
+	b, err := e.exchange(ctx, c)
+	if err != nil {
+		return nil, err
+	}
+	return decode(b)
+}
+
+// exchange sends a call as Do does, and returns the bytes of the reply.
+func (e *Engine) exchange(ctx context.Context, c *call) ([]byte, error) {
 	e.submit(c)
 	select {
 	case <-c.done:
@@ -196,10 +205,7 @@ func (e *Engine) do(ctx context.Context, c *call) (frame.Reply, error) {
 		}
 		<-c.done
 	}
-	if c.err != nil {
-		return nil, c.err
-	}
-	return decode(c.reply)
+	return c.reply, c.err
 }
 
 // decode decodes a reply. A frame that failed is a *StatusError.
@@ -263,10 +269,13 @@ func (e *Engine) withdraw(c *call) bool {
 }
 
 // next takes a batch from the queue for the caller to write, or returns nil: if nothing waits, if somebody writes
-// already, in a pause, or if enough batches are under way. It is called with e.mu held.
+// already, in a pause, if enough batches are under way, or if the first call must wait. It is called with e.mu held.
 func (e *Engine) next() *batch {
 	p := e.process
 	if p == nil || p.renewed || e.writing || e.paused || len(e.waiting) == 0 || len(p.sent) == cap(p.sent) {
+		return nil
+	}
+	if e.mustWait() {
 		return nil
 	}
 	e.writing = true
@@ -276,10 +285,12 @@ func (e *Engine) next() *batch {
 	b := &batch{process: p, number: p.number, now: e.now}
 	b.written.Add(1)
 	b.calls, e.waiting = cut(e.waiting)
+	e.guard(b)
 	for _, c := range b.calls {
 		c.sentTo, c.number = p, b.number
 		p.removed = p.removed || c.frees
 		p.changed = p.changed || c.lasts && !c.reads
+		p.isSetting = p.isSetting || c.sets
 	}
 	p.sent <- b
 	return b
@@ -308,9 +319,13 @@ func (e *Engine) write(b *batch) {
 // answered counts a batch as answered, and writes what waits.
 func (e *Engine) answered(p *process) {
 	e.mu.Lock()
-	if p.pending--; p.pending == 0 && e.idle != nil {
-		close(e.idle)
-		e.idle = nil
+	p.isGuarded = p.isBroken
+	if p.pending--; p.pending == 0 {
+		p.isSetting = false
+		if e.idle != nil {
+			close(e.idle)
+			e.idle = nil
+		}
 	}
 	e.awaitRest(p)
 	b := e.next()

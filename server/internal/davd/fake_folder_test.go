@@ -65,7 +65,7 @@ func fakeOver(folder fakeFolder, acts []string) {
 		case number != folder.get("last")+1:
 			writeReplies(folder.get("last"), 409, nil)
 			continue
-		case act == "ends" && !isBegin(frames[0][0]):
+		case act == "ends" && !isBegin(frames[0][0]), act == "ends for an operator" && len(frames) == 3 && frames[0][0] == 9:
 			os.Exit(exit)
 		}
 		folder.set("last", number)

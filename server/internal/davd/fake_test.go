@@ -156,6 +156,10 @@ func setFakeRights(text string) []byte {
 	switch {
 	case text == "ends":
 		os.Exit(3)
+	case fakeRights == "no operator" && text != fakeRights:
+		return numbered(7, 507)
+	case text == "once" && fakeRights != "":
+		return numbered(7, 507)
 	case text == "no memory":
 		return numbered(7, 507)
 	case text == "an unknown frame":

@@ -45,6 +45,14 @@ type process struct {
 	free    time.Time     // when the replies to the last batch were read, so that davd could begin the next one
 	gone    chan struct{} // closed when it has ended
 	lost    error         // why a call that it has not done failed; set before gone is closed
+	guards
+}
+
+// guards say what may be sent to a davd with regard to its access rules.
+type guards struct {
+	isSetting bool // it was sent access rules, and has not answered everything since
+	isGuarded bool // it has a batch of an operator, and nothing else is sent until that is answered
+	isBroken  bool // it does not have its access rules after such a batch, and gets nothing more
 }
 
 // start starts davd. In a process group of its own it does not get the interrupts of a terminal.

@@ -36,20 +36,27 @@ func Unescaped(segment string) string {
 // Request returns the request that lists the members of the collection at a path. The token is that of a lock which the
 // request does not make.
 func Request(path string, principal *string, token string) *frame.Request {
+	request := ShortRequest(path, token)
+	request.Principal = principal
+	request.Body = properties("resourcetype", "getcontentlength", "getlastmodified")
+	return request
+}
+
+// ShortRequest returns a request like that of Request, whose response says of each member only whether it is a collection.
+func ShortRequest(path, token string) *frame.Request {
 	return &frame.Request{
-		Method:    "PROPFIND",
-		Path:      path,
-		Principal: principal,
-		Token:     token,
-		Fields:    []frame.Field{{Name: "depth", Value: "1"}},
-		Body:      properties(),
+		Method: "PROPFIND",
+		Path:   path,
+		Token:  token,
+		Fields: []frame.Field{{Name: "depth", Value: "1"}},
+		Body:   properties("resourcetype"),
 	}
 }
 
-// properties returns the body of a PROPFIND for what a member has.
-func properties() *frame.Element {
+// properties returns the body of a PROPFIND for these properties.
+func properties(names ...string) *frame.Element {
 	prop := &frame.Element{Name: "prop", Namespace: "DAV:"}
-	for _, name := range []string{"resourcetype", "getcontentlength", "getlastmodified"} {
+	for _, name := range names {
 		element := &frame.Element{Name: name, Prefix: "D", Namespace: "DAV:"}
 		prop.Nodes = append(prop.Nodes, frame.Node{Element: element})
 	}
@@ -67,16 +74,16 @@ func Of(response frame.Response) (self Member, members []Member, ok bool) {
 			continue
 		}
 		if i == 0 {
-			self = memberOf(node.Element)
+			self = One(node.Element)
 		} else {
-			members = append(members, memberOf(node.Element))
+			members = append(members, One(node.Element))
 		}
 	}
 	return self, members, true
 }
 
-// memberOf reads a response of a multistatus.
-func memberOf(response *frame.Element) Member {
+// One returns the resource that one response in a multistatus describes.
+func One(response *frame.Element) Member {
 	m := Member{Href: textOf(child(response, "href"))}
 	for _, node := range response.Nodes {
 		prop := child(node.Element, "prop")
