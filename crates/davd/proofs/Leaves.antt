@@ -227,6 +227,7 @@ module _ {D E : Type 0} {d : disk.Ghosts D} {e : disk.Ghosts E} {rows : store.Gh
         → (start.accepts_loss ≡ false → OpensUpToDate said opened begun)
         → RunsAndLeaves g rules (IsOpenedAsKept opened) (state_from (opened_at opened)) files number input input' output output'
         → GoesOn left file files said number g rules start input input' output output'
+    unfolding begins_with
     goes_on said begun number input input' output output' up_to_date runs =
         record {
           first = opened_at opened;

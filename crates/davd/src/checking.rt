@@ -1,8 +1,12 @@
 //! A check of a folder.
-ghost use Rattle.std.specs.Prelude.{◌≡◌, IsTrue, IfErr, OnOk};
+ghost use Rattle.std.specs.Prelude.{◌≡◌, ◌⊎◌, [], IsTrue, IfOk, IfErr, OnOk};
 ghost use Rattle.sqlite.specs.Files.{image_of};
 ghost use Rattle.sqlite.specs.WalFiles.{image_at};
+ghost use Rattle.dav_check.specs.Checking.{IsFile, IsNamed};
+ghost use Rattle.dav_check.specs.Reading.{IsRead};
 ghost use Rattle.dav_folder.specs.Opening.{AreOnlyRead};
+ghost use Rattle.dav_key.specs.Key.{Key};
+ghost use Rattle.dav_tree.specs.TreeFs.{store_of, honest_of};
 ghost use Rattle.davd.specs.Checking.{IsVerified, ChecksFolder};
 ghost use Rattle.davd.specs.Program.{IsNotUsage};
 
@@ -13,7 +17,7 @@ use dav_check::{Checked, check};
 use dav_data::DataFile;
 use dav_folder::read_files;
 use dav_resource::FsError;
-use dav_tree::Medium;
+use dav_tree::{Medium, TreeFs};
 use disk_readonly::ReadOnly;
 use sqlite::{FileFrom, Start};
 use sqlite_disk::{Disk, Files};
@@ -104,11 +108,29 @@ fn check_files<D: Disk, E: Disk + Drop, L: Disk, O: Write>(
     // Without changes a database that has no table gets no store.
     let mut found = read_files(alloc, files, disk, &[], None)?;
     expect_up_to_date(last, found.key, found.last, false)?;
-    let checked = match check(alloc, &mut found.store) {
-        Ok(checked) => checked,
-        Err(error) => return Err(check_error(error)),
-    };
-    write_checked(output, found.rows, &checked)?;
+    let checked = check_store(alloc, &mut found.store)?;
+    report_checked(output, found.rows, &checked)
+}
+
+/// Reads every byte of every file of a store. Errors: `Memory`; `Damaged` if a directory cannot be listed.
+fn check_store<M: Medium>(alloc: Global, store: &mut TreeFs<M>) -> Result<Checked, Stopped>
+    ensures read { IfOk result (λ checked. (key : Key) → IsFile (store_of store.old).contents key
+        → IsNamed checked key ⊎ IsRead (store_of {g = M.Medium}) (honest_of {g = M.Medium}) (store_of store.old).contents key) }
+    ensures err { IfErr result IsNotUsage }
+{
+    match check(alloc, store) {
+        Ok(checked) => Ok(checked),
+        Err(error) => Err(check_error(error)),
+    }
+}
+
+/// Writes what a check of a store with so many rows has found. Errors: `Stream`; `Memory`; `Damaged` if there is a file that
+/// cannot be read.
+fn report_checked<O: Write>(output: &mut O, rows: u128, checked: &Checked) -> Result<(), Stopped>
+    ensures none { OnOk result (checked.now.damaged.items ≡ []) }
+    ensures err { IfErr result IsNotUsage }
+{
+    write_checked(output, rows, checked)?;
     if checked.damaged.is_empty() {
         Ok(())
     } else {

@@ -34,7 +34,7 @@ func TestAFolderThatIsNotServedEndsTheServer(t *testing.T) {
 	}
 	for _, test := range tests {
 		folder := t.TempDir()
-		davd := davdThat(t, fmt.Sprintf("echo \"davd: this is why: $1\" >&2; exit %d", test.status))
+		davd := davdThat(t, fmt.Sprintf("for folder; do :; done; echo \"davd: this is why: $folder\" >&2; exit %d", test.status))
 		var said bytes.Buffer
 		arguments := []string{"-listen", "127.0.0.1:0", "-davd", davd, "-folder", folder}
 		if status := run(context.Background(), arguments, io.Discard, &said); status != 1 {

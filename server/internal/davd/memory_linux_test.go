@@ -11,10 +11,11 @@ import (
 	"davserve/internal/frame"
 )
 
-// Steps of a program for the shell in the place of davd, whose $0 is the folder. The test program itself, with the race
-// detector, has too much memory for that.
+// Steps of a program for the shell in the place of davd. The test program itself, with the race detector, has too much
+// memory for that.
 const (
-	showsLimit = `ulimit -v >&2`
+	showsLimit  = `ulimit -v >&2`
+	findsFolder = `for folder; do :; done` // in its last argument
 	// greets answers the batch that asks for the number of the last one.
 	greets = `head -c 24 >/dev/null; printf '\0\0\0\0\0\0\0\0\0\0\0\0\0\0\1\231\0\0\0\0\0\0\0\0'`
 	waits  = `head -c 1 >/dev/null` // for the first byte of a batch
@@ -24,9 +25,9 @@ const (
 	goesOn = `cat >/dev/null` // to the end of its input
 	grows  = `x=$(head -c 20000000 /dev/zero | tr '\0' x)`
 	// growsOnce grows the first time only.
-	growsOnce = `if ! [ -e "$0/again" ]; then >"$0/again"; ` + grows + `; fi`
+	growsOnce = `if ! [ -e "$folder/again" ]; then >"$folder/again"; ` + grows + `; fi`
 	// endsOnce ends the first time, and grows after that.
-	endsOnce = `if [ -e "$0/again" ]; then sleep 0.3; ` + grows + `; else >"$0/again"; ` + greets + `; ` + waits + `; exit 3; fi`
+	endsOnce = `if [ -e "$folder/again" ]; then sleep 0.3; ` + grows + `; else >"$folder/again"; ` + greets + `; ` + waits + `; exit 3; fi`
 )
 
 // startShell starts an engine over a program for the shell and a new folder.
@@ -37,7 +38,7 @@ func startShell(t *testing.T, memory int64, steps ...string) (*Engine, *logged) 
 	}
 	said := &logged{}
 	engine, err := Start(soon(t), Config{
-		Program: "/bin/sh", Args: []string{"-c", strings.Join(steps, "\n")},
+		Program: "/bin/sh", Args: []string{"-c", strings.Join(append([]string{findsFolder}, steps...), "\n")},
 		Folder: t.TempDir(), Memory: memory, Log: said.logger(), pauses: quickOver,
 	})
 	if err != nil {

@@ -1,12 +1,23 @@
-use Rattle.davd.proofs.Leaves.{passed_on}
+use Rattle.std.proofs.Common.{refl}
+use Rattle.disk_readonly.specs.Views.{inner_of, contents_of}
+use Rattle.davd.proofs.Leaves.{on_ok, passed_on}
+use Rattle.davd.proofs.Reading.{all_read}
 use Rattle.davd.specs.Program.{IsNotUsage}
 use Rattle.davd.proofs.checking.check_files.Goals as goal
+
+pub returns-clause-whole : goal.returns-clause-whole
+returns-clause-whole g c = on_ok c.report_checked.result c.report_checked.ensures.none (λ none. record {
+  disk = inner_of c.in-Ok.disk;
+  shown = contents_of c.in-Ok.disk;
+  found = c.in_ok-found.found;
+  same = c.in-Ok.ensures.same;
+  rows = λ image tables keeps stand whole clean. c.in_ok-found.ensures.kept image tables keeps stand whole clean;
+  sealed = λ tables keeps clean. c.in_ok-found.ensures.sealed tables keeps clean;
+  read = λ key is. all_read c.in_ok-checked.checked none (c.in_ok-checked.ensures.read key is);
+  up_to_date = c.in_ok-expect_up_to_date.ensures.up_to_date refl;
+})
 
 pub returns-in_err-expect_up_to_date-clause-err : goal.returns-in_err-expect_up_to_date-clause-err
 returns-in_err-expect_up_to_date-clause-err g c =
     passed_on c.from_residual-in_err-expect_up_to_date.result c.in_err-expect_up_to_date.field-0.0 IsNotUsage c.from_residual-in_err-expect_up_to_date.ensures.1
     c.in_err-expect_up_to_date.ensures.err
-
-pub returns-in_err-write_checked-clause-err : goal.returns-in_err-write_checked-clause-err
-returns-in_err-write_checked-clause-err g c =
-    passed_on c.from_residual-in_err-write_checked.result c.in_err-write_checked.field-0.0 IsNotUsage c.from_residual-in_err-write_checked.ensures.1 c.in_err-write_checked.ensures
