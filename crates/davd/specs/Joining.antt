@@ -38,11 +38,11 @@ module _ {D E D' E' : Type 0} {d : disk.Ghosts D} {e : disk.Ghosts E} {d' : disk
 
   -- the next run begins with what was left
   pub joined : (kept : KeptStore) → Leave files kept → ∥ BeginsAt kept first ∥₁
-  joined kept leave = ∥∥₁_map (leave are_left.clean left file are_left.bytesbase are_left.bytes) (at_held kept)
+  joined kept leave = ∥∥₁_map (leave are_left.clean left file are_left.database are_left.bytes) (at_held kept)
 
   -- the next run begins with one of two stores of which one was left
   pub joined_either : (one other : KeptStore) → LeaveEither files one other → ∥ BeginsAt one first ⊎ BeginsAt other first ∥₁
-  joined_either one other leave = ∥∥₁_map (leave are_left.clean left file are_left.bytesbase are_left.bytes) (λ held. elim held [
+  joined_either one other leave = ∥∥₁_map (leave are_left.clean left file are_left.database are_left.bytes) (λ held. elim held [
     | inl hold ↦ inl (at_held one hold)
     | inr hold ↦ inr (at_held other hold)
   ])

@@ -1,10 +1,8 @@
-use Rattle.std.proofs.Common.{subst}
-use Rattle.std.specs.Prelude.{OnOk}
 use Rattle.davd.proofs.FreshFiles.{fresh_image}
-use Rattle.davd.specs.Checking.{ChecksFolder}
+use Rattle.davd.proofs.Reading.{said_as}
 use Rattle.davd.proofs.checking.check_folder.Goals as goal
 
 pub returns-clause-whole : goal.returns-clause-whole
 returns-clause-whole g c =
     let was = c.in_ok-last.last in let fresh = c.in_ok-last.ensures.fresh in
-    subst (λ said. OnOk c.check_pairs-checked.result (ChecksFolder _ _ _ _ _ _ said)) (fresh_image was.log was.db fresh.0 fresh.1) c.check_pairs-checked.ensures.whole
+    said_as c.check_pairs-checked.result _ _ (fresh_image was.log was.db fresh.0 fresh.1) c.check_pairs-checked.ensures.whole
