@@ -1,6 +1,5 @@
 -- What a check that ends without an error has read.
-use Rattle.std.proofs.Common.{◌≡◌, ◌⊎◌, List, [], ℕ, Result, inl, inr, subst}
-use Rattle.std.specs.Prelude.{OnOk}
+use Rattle.std.proofs.Common.{◌≡◌, ◌⊎◌, List, [], ℕ, inl, inr, subst}
 use Rattle.dav_check.specs.Checking.{IsNamed}
 use Rattle.dav_check.specs.declared.checking.Checked.{Checked}
 use Rattle.dav_key.specs.Key.{Key}
@@ -30,8 +29,3 @@ module _ {D E L M : Type 0} (d : disk.Ghosts D) (e : disk.Ghosts E) (l : disk.Gh
     last = last;
     verified = subst (λ b. IsVerified d e l g held b said of last) same_bytes (subst (λ i. IsVerified d e l g i file said of last) same verified);
   }
-
--- the same, by what the files of the last number held
-pub said_as : {D E L M T X : Type 0} {d : disk.Ghosts D} {e : disk.Ghosts E} {l : disk.Ghosts L} {g : Ghosts M (List Piece)} {left : files.Image} {file : List ℕ} (result : Result T X) (one other : files.Image)
-    → one ≡ other → OnOk result (ChecksFolder d e l g left file one) → OnOk result (ChecksFolder d e l g left file other)
-said_as {d = d} {e = e} {l = l} {g = g} {left = left} {file = file} result one other same holds = subst (λ said. OnOk result (ChecksFolder d e l g left file said)) same holds
