@@ -21,3 +21,7 @@ pub returns-in_err-expect_up_to_date-clause-err : goal.returns-in_err-expect_up_
 returns-in_err-expect_up_to_date-clause-err g c =
     passed_on c.from_residual-in_err-expect_up_to_date.result c.in_err-expect_up_to_date.field-0.0 IsNotUsage c.from_residual-in_err-expect_up_to_date.ensures.1
     c.in_err-expect_up_to_date.ensures.err
+
+pub returns-in_err-checked-clause-err : goal.returns-in_err-checked-clause-err
+returns-in_err-checked-clause-err g c =
+    passed_on c.from_residual-in_err-checked.result c.in_err-checked.field-0.0 IsNotUsage c.from_residual-in_err-checked.ensures.1 c.in_err-checked.ensures.err
