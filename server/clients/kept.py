@@ -36,7 +36,7 @@ def check(starter: Starter, folder: str, status: int) -> list[str]:
     return checked.stdout.splitlines()
 
 
-def rows_of(folder: pathlib.Path) -> int:
+def count_rows(folder: pathlib.Path) -> int:
     """How many rows SQLite finds in all tables of a folder, in a copy of its database."""
     with tempfile.TemporaryDirectory() as place:
         for name in ("meta.db", "meta.db-wal"):
@@ -258,7 +258,7 @@ def checked(starter: Starter):
     server.ask("PUT", "/first", content.randbytes(1 << 20), status=201)
     server.ask("PUT", "/d/empty", b"", status=201)
     server.stop()
-    rows = rows_of(starter.folder / "kept")
+    rows = count_rows(starter.folder / "kept")
     expect("a good folder", check(starter, "kept", 0), [f"{rows} rows, 4 files, 6048576 bytes, 0 damaged"])
     flip(starter, after - 1)
     damaged = ["damaged: /d/e/a%20b", f"{rows} rows, 4 files, 3048576 bytes, 1 damaged", "davd: a file is damaged"]
@@ -276,7 +276,7 @@ def checked_after_kills(starter: Starter):
     look(server, long)
     kill(server)
     server.stop()
-    rows = rows_of(starter.folder / "kept")
+    rows = count_rows(starter.folder / "kept")
     expect("after kills", check(starter, "kept", 0), [f"{rows} rows, 3 files, {len(long) + 10} bytes, 0 damaged"])
     expect("no folder", check(starter, "none", 6), ["davd: the folder cannot be read or written"])
     (starter.folder / "none").mkdir()

@@ -7,7 +7,7 @@ import subprocess
 
 from connection import Wrong
 from harness import Group, Starter
-from kept import LOCK, PATCH, check, rows_of, start
+from kept import LOCK, PATCH, check, count_rows, start
 from server import PROCESSES, Server, expect
 
 GROUP = Group("rows in a folder", is_shared=False)
@@ -179,7 +179,7 @@ def structure(starter: Starter):
         refused(starter, good, what, change)
         refused(starter, good, f"{what}, and no seal", *NO_SEAL, change)
     database_of(starter).write_bytes(good)
-    expect("the good folder", check(starter, "kept", 0), [f"{rows_of(starter.folder / 'kept')} rows, 1 files, 5 bytes, 0 damaged"])
+    expect("the good folder", check(starter, "kept", 0), [f"{count_rows(starter.folder / 'kept')} rows, 1 files, 5 bytes, 0 damaged"])
 
 
 @GROUP.check("a folder without the table of notes has its seal still, and gets the table again")
@@ -188,10 +188,10 @@ def no_notes(starter: Starter):
     refused(starter, good, "no table of notes, and another time", "DROP TABLE note", "UPDATE state SET time = time + 1 WHERE number = 0")
     database_of(starter).write_bytes(good)
     query(starter, "DROP TABLE note")
-    expect("the folder", check(starter, "kept", 0), [f"{rows_of(starter.folder / 'kept')} rows, 1 files, 5 bytes, 0 damaged"])
+    expect("the folder", check(starter, "kept", 0), [f"{count_rows(starter.folder / 'kept')} rows, 1 files, 5 bytes, 0 damaged"])
     start(starter).stop()
     expect("the notes", query(starter, "SELECT * FROM note"), [])
-    expect("the folder", check(starter, "kept", 0), [f"{rows_of(starter.folder / 'kept')} rows, 1 files, 5 bytes, 0 damaged"])
+    expect("the folder", check(starter, "kept", 0), [f"{count_rows(starter.folder / 'kept')} rows, 1 files, 5 bytes, 0 damaged"])
 
 
 @GROUP.check("a folder with the rows of another store is refused, and left as it was")
@@ -200,4 +200,4 @@ def other(starter: Starter):
     for what, change in OTHER:
         refused(starter, good, what, change)
     database_of(starter).write_bytes(good)
-    expect("the good folder", check(starter, "kept", 0), [f"{rows_of(starter.folder / 'kept')} rows, 1 files, 5 bytes, 0 damaged"])
+    expect("the good folder", check(starter, "kept", 0), [f"{count_rows(starter.folder / 'kept')} rows, 1 files, 5 bytes, 0 damaged"])

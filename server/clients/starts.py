@@ -10,7 +10,7 @@ import tarfile
 import time
 
 from harness import Group, Starter
-from kept import ASKED, check, rows_of, start
+from kept import ASKED, check, count_rows, start
 from server import PROCESSES, Server, expect
 
 GROUP = Group("a folder with a file missing or damaged", is_shared=False)
@@ -122,7 +122,7 @@ REST = 2.5
 
 def whole_line(starter: Starter) -> str:
     """What a check prints of the folder `kept`, and of its copies."""
-    return f"{rows_of(starter.folder / 'kept')} rows, 3 files, 370005 bytes, 0 damaged\n"
+    return f"{count_rows(starter.folder / 'kept')} rows, 3 files, 370005 bytes, 0 damaged\n"
 
 
 def whole_or_refused(starter: Starter, folder: pathlib.Path) -> subprocess.CompletedProcess:
