@@ -165,6 +165,7 @@ def hidden(starter: Starter):
                 wrong.append(error)
                 return
 
+    server.ask("PUT", "/own-bert", b"x", AS_BERT, 201)  # the tenth file is there before the check begins
     client = threading.Thread(target=bert)
     client.start()
     try:
