@@ -5,3 +5,4 @@ pub mod Finding
 pub mod FreshFiles
 pub mod Leaves
 pub mod Kept
+pub mod FreshOutcomes
