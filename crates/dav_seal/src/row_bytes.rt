@@ -6,6 +6,9 @@ ghost use Rattle.dav_seal.specs.RowBytes.{value_of, number_bytes, with_length, c
 use sqlite_disk::digest_of;
 use std::alloc::{AllocError, Global};
 
+/// How many bytes are at most in a row with a short name or few pieces.
+const USUAL: usize = 256;
+
 /// A cell of a row, with its bytes borrowed.
 #[derive(Clone, Copy)]
 pub(crate) enum Cell<'a> {
@@ -24,7 +27,7 @@ pub(crate) fn row_digest(
     ensures digest { IfOk result (λ d. d ≡ digest key (row_bytes table (map value_of cells.now))) }
     ensures cells { OnOk result (AreCells (map value_of cells.now)) }
 {
-    let mut bytes = Vec::new(alloc);
+    let mut bytes = Vec::with_capacity(alloc, USUAL)?;
     bytes.push(table)?;
     'cells: for cell in cells {
         push_cell(&mut bytes, *cell)?;
@@ -58,6 +61,6 @@ fn push_bytes(bytes: &mut Vec<u8>, kind: u8, more: &[u8]) -> Result<(), AllocErr
 fn push_number(bytes: &mut Vec<u8>, kind: u8, number: u64) -> Result<(), AllocError>
     ensures { OnOk result (bytes.new.items ≡ bytes.old.items ++ kind ∷ number_bytes number) }
 {
-    bytes.push(kind)?;
-    bytes.extend_from_slice(&number.to_be_bytes())
+    let [a, b, c, d, e, f, g, h] = number.to_be_bytes();
+    bytes.extend_from_slice(&[kind, a, b, c, d, e, f, g, h])
 }
