@@ -6,7 +6,7 @@ ghost use Rattle.dav_seal.specs.RowBytes.{value_of, number_bytes, with_length, c
 use sqlite_disk::digest_of;
 use std::alloc::{AllocError, Global};
 
-/// How many bytes are at most in a row with a short name or few pieces.
+/// How many bytes a row has at most, if its name is short or its pieces are few.
 const USUAL: usize = 256;
 
 /// A cell of a row, with its bytes borrowed.
@@ -61,6 +61,6 @@ fn push_bytes(bytes: &mut Vec<u8>, kind: u8, more: &[u8]) -> Result<(), AllocErr
 fn push_number(bytes: &mut Vec<u8>, kind: u8, number: u64) -> Result<(), AllocError>
     ensures { OnOk result (bytes.new.items ≡ bytes.old.items ++ kind ∷ number_bytes number) }
 {
-    let [a, b, c, d, e, f, g, h] = number.to_be_bytes();
-    bytes.extend_from_slice(&[kind, a, b, c, d, e, f, g, h])
+    bytes.push(kind)?;
+    bytes.extend_from_slice(&number.to_be_bytes())
 }
