@@ -17,7 +17,7 @@ use Rattle.dav_seal.specs.RowBytes.{cell_bytes, AreCells}
 use Rattle.dav_seal.specs.Digests.{entry_bytes, entry_digest, numbered_by, digests_of}
 use Rattle.dav_seal.specs.SealRow.{unsealed}
 use Rattle.dav_seal.specs.Sums.{total_of}
-use Rattle.dav_seal.specs.Seals.{seal_of, all_digests}
+use Rattle.dav_seal.specs.Seals.{seal_of}
 use Rattle.dav_seal.specs.Laws.{texts_of, all_texts, sum_of_texts, IsWhole, HaveSameRows, SealsDetermine, SumsDetermineOne, BytesDetermine}
 use Rattle.dav_seal.proofs.FrontLemmas.{row_bytes-injective}
 use Rattle.dav_seal.proofs.TotalLemmas.{sum-append}

@@ -1,5 +1,6 @@
 pub mod TotalLemmas
 pub mod EntryLemmas
+pub mod HeldLemmas
 pub mod SealLemmas
 pub mod Unsealed
 pub mod StoreLemmas

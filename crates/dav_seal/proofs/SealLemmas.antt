@@ -1,8 +1,6 @@
 -- The seals of a table after a change, and those of its rows.
 use Rattle.std.proofs.Common.{◌≡◌, ℕ, ℤ, T, List, [], ◌∷◌, map, length, refl, sym, ap, subst, ◌∙◌, int_cmp, arith}
 use Rattle.std.specs.List.{AllByRecursion}
-use Rattle.std.specs.Map.{remove_entry}
-use Rattle.std.specs.BTreeMap.{insert_entry, is_at}
 use Rattle.std.proofs.lemmas.Cmp.{int_cmp_total}
 use Rattle.std.specs.FinMap.{empty, entries, entries_sorted, insert, remove, entries-insert, len-empty, len-entries}
 use Rattle.std.specs.FinMap.Entries.{is_sorted}
@@ -11,10 +9,13 @@ use Rattle.dav_rows.specs.declared.change.Table.{Table}
 use Rattle.dav_rows.specs.Stored.{Numbered, shown}
 use Rattle.dav_rows.proofs.RowLemmas.{is_other, entries-remove}
 use Rattle.dav_seal.specs.RowBytes.{AreCells}
-use Rattle.dav_seal.specs.Digests.{entry_digest, numbered_by}
+use Rattle.dav_seal.specs.declared.table_seal.TableSeal.{TableSeal}
+use Rattle.dav_seal.specs.Digests.{entry_digest, numbered_by, digests_of}
+use Rattle.dav_seal.specs.Held.{IsRising, HasDigests, Puts, Removes}
 use Rattle.dav_seal.specs.Puts.{put_all}
 use Rattle.dav_seal.specs.Seals.{IsSealOf}
-use Rattle.dav_seal.proofs.EntryLemmas.{insert_entry-numbered_by, remove_entry-numbered_by, All-put, All-where_key, All-map, put_all-sorted}
+use Rattle.dav_seal.proofs.EntryLemmas.{insert_entry-numbered_by, remove_entry-numbered_by, All-put, All-where_key, All-map, is_sorted-numbered_by, put_all-sorted}
+use Rattle.dav_seal.proofs.HeldLemmas.{rising-from_sorted}
 
 nothing_in : {X : Type 0} (xs : List X) → length xs ≡ 0 → xs ≡ []
 nothing_in [] e = refl
@@ -27,37 +28,41 @@ module _ {V : Type 0} (key : ℕ) (table : Table) (cells : V → Row) where
   abbrev HasRowCells : ℤ × V → Type 0
   HasRowCells e = AreCells (shown cells e)
 
-  pub nothing_sealed : IsSealOf key table cells empty []
-  nothing_sealed = record {
-    digests = ap (numbered_by (entry_digest key table cells)) (sym entries-empty);
+  rising : (m : Numbered V) → IsRising (digests_of key table cells m)
+  rising m = rising-from_sorted _ (subst T (sym (is_sorted-numbered_by (entry_digest key table cells) (entries m))) (entries_sorted m))
+
+  pub nothing_sealed : (seal : TableSeal) → HasDigests seal [] → IsSealOf key table cells empty seal
+  nothing_sealed seal has = record {
+    digests = subst (HasDigests seal) (ap (numbered_by (entry_digest key table cells)) (sym entries-empty)) has;
     whole = subst (AllByRecursion HasRowCells) (sym entries-empty) tt;
   }
 
-  pub put_sealed : (m : Numbered V) (seal : List (ℤ × ℕ)) (k : ℤ) (v : V) → IsSealOf key table cells m seal → AreCells (shown cells (k, v))
-      → IsSealOf key table cells (insert m k v) (insert_entry int_cmp seal k (entry_digest key table cells (k, v)))
-  put_sealed m seal k v was here =
-      let after = entries-insert int_cmp_total m k v in
+  pub put_sealed : (m : Numbered V) (seal after : TableSeal) (k : ℤ) (v : V) → IsSealOf key table cells m seal → Puts k (entry_digest key table cells (k, v)) seal after
+      → AreCells (shown cells (k, v)) → IsSealOf key table cells (insert m k v) after
+  put_sealed m seal after k v was puts here =
+      let now = entries-insert int_cmp_total m k v in
       record {
-        digests = ap (λ s. insert_entry int_cmp s k (entry_digest key table cells (k, v))) was.digests
-            ∙ insert_entry-numbered_by (entry_digest key table cells) k v (entries m) ∙ ap (numbered_by (entry_digest key table cells)) (sym after);
-        whole = subst (AllByRecursion HasRowCells) (sym after) (All-put HasRowCells k v (entries m) here was.whole);
+        digests = subst (HasDigests after) (insert_entry-numbered_by (entry_digest key table cells) k v (entries m) ∙ ap (numbered_by (entry_digest key table cells)) (sym now))
+            (puts (digests_of key table cells m) (rising m) was.digests);
+        whole = subst (AllByRecursion HasRowCells) (sym now) (All-put HasRowCells k v (entries m) here was.whole);
       }
 
-  pub remove_sealed : (m : Numbered V) (seal : List (ℤ × ℕ)) (k : ℤ) → IsSealOf key table cells m seal → IsSealOf key table cells (remove m k) (remove_entry (is_at (int_cmp k)) seal)
-  remove_sealed m seal k was =
-      let after = entries-remove m k in
+  pub remove_sealed : (m : Numbered V) (seal after : TableSeal) (k : ℤ) → IsSealOf key table cells m seal → Removes k seal after → IsSealOf key table cells (remove m k) after
+  remove_sealed m seal after k was removes =
+      let now = entries-remove m k in
       record {
-        digests = ap (remove_entry (is_at (int_cmp k))) was.digests
-            ∙ remove_entry-numbered_by (entry_digest key table cells) k (entries m) (entries_sorted m) ∙ ap (numbered_by (entry_digest key table cells)) (sym after);
-        whole = subst (AllByRecursion HasRowCells) (sym after) (All-where_key HasRowCells (is_other k) (entries m) was.whole);
+        digests = subst (HasDigests after) (remove_entry-numbered_by (entry_digest key table cells) k (entries m) (entries_sorted m) ∙ ap (numbered_by (entry_digest key table cells)) (sym now))
+            (removes (digests_of key table cells m) (rising m) was.digests);
+        whole = subst (AllByRecursion HasRowCells) (sym now) (All-where_key HasRowCells (is_other k) (entries m) was.whole);
       }
 
-  pub rows_sealed : {R : Type 0} (entry : R → ℤ × V) (rows : List R) (m : Numbered V) (seal : List (ℤ × ℕ)) → map entry rows ≡ entries m
-      → seal ≡ put_all (λ r. (entry r).0) (λ r. entry_digest key table cells (entry r)) rows → AllByRecursion (λ r. AreCells (shown cells (entry r))) rows
+  pub rows_sealed : {R : Type 0} (entry : R → ℤ × V) (rows : List R) (m : Numbered V) (seal : TableSeal) → map entry rows ≡ entries m
+      → HasDigests seal (put_all (λ r. (entry r).0) (λ r. entry_digest key table cells (entry r)) rows) → AllByRecursion (λ r. AreCells (shown cells (entry r))) rows
       → IsSealOf key table cells m seal
-  rows_sealed entry rows m seal are is whole =
+  rows_sealed entry rows m seal are has whole =
       record {
-        digests = is ∙ put_all-sorted (entry_digest key table cells) entry rows (subst (λ l. T (is_sorted int_cmp l)) (sym are) (entries_sorted m))
-            ∙ ap (numbered_by (entry_digest key table cells)) are;
+        digests = subst (HasDigests seal)
+            (put_all-sorted (entry_digest key table cells) entry rows (subst (λ l. T (is_sorted int_cmp l)) (sym are) (entries_sorted m)) ∙ ap (numbered_by (entry_digest key table cells)) are)
+            has;
         whole = subst (AllByRecursion HasRowCells) are (All-map HasRowCells entry rows whole);
       }

@@ -1,6 +1,8 @@
 pub mod RowBytes
 pub mod Digests
 pub mod Sums
+pub mod Paged
+pub mod Held
 pub mod Puts
 pub mod SealRow
 pub mod Seals

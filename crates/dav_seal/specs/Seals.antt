@@ -14,8 +14,10 @@ use Rattle.dav_rows.specs.Changes.{resource_entry, extent_entry, property_entry,
 use Rattle.dav_seal.specs.RowBytes.{AreCells}
 use Rattle.dav_seal.specs.Digests.{digests_of}
 use Rattle.dav_seal.specs.Sums.{total_of}
+use Rattle.dav_seal.specs.Held.{HasDigests}
 use Rattle.dav_seal.specs.SealRow.{row_with, unsealed}
 use Rattle.dav_seal.specs.declared.seals.Seals.{Seals}
+use Rattle.dav_seal.specs.declared.table_seal.TableSeal.{TableSeal}
 
 -- the digests of all rows but that of the seal
 abbrev pub all_digests : ℕ → Contents → List (ℤ × ℕ)
@@ -49,9 +51,9 @@ sealed_after key changes m = sealed key (after changes m)
 abbrev pub HasCells : {V : Type 0} → (V → Row) → Numbered V → Type 0
 HasCells cells m = AllByRecursion (λ e. AreCells (shown cells e)) (entries m)
 
--- these are the digests of the table's rows
-pub record IsSealOf {V : Type 0} (key : ℕ) (table : Table) (cells : V → Row) (m : Numbered V) (seal : List (ℤ × ℕ)) : Type 0 where
-  pub digests : seal ≡ digests_of key table cells m
+-- the seal keeps the digests of the table's rows
+pub record IsSealOf {V : Type 0} (key : ℕ) (table : Table) (cells : V → Row) (m : Numbered V) (seal : TableSeal) : Type 0 where
+  pub digests : HasDigests seal (digests_of key table cells m)
   pub whole : HasCells cells m
 
 -- these are the seals of the maps under the key

@@ -3,6 +3,7 @@
 #![tactic(auto)]
 
 mod laws;
+mod pages;
 mod row_bytes;
 mod sealed_row;
 mod seals;

@@ -1,15 +1,14 @@
 //! The seals of all tables.
 ghost use Rattle.std.specs.Prelude.{◌≡◌, ◌↔◌, ℤ, ℕ, pos, [], ◌∷◌, IsTrue, IfOk, OnOk};
-ghost use Rattle.std.specs.Ordering.{int_cmp};
-ghost use Rattle.std.specs.BTreeMap.{insert_entry};
 ghost use Rattle.std.specs.List.{AllByRecursion};
 ghost use Rattle.dav_rows.specs.Changes.{state_entry, after, after_one, put_state, removed};
 ghost use Rattle.dav_rows.specs.Creating.{nothing};
 ghost use Rattle.dav_seal.specs.Puts.{put_all};
+ghost use Rattle.dav_seal.specs.Held.{HasDigests, Puts};
 ghost use Rattle.dav_seal.specs.SealRow.{row_with};
 
 use crate::sealed_row::SealedRow;
-use crate::table_seal::TableSeal;
+use crate::table_seal::{Numbering, TableSeal};
 use dav_rows::{Change, Rows, StateRow, Table};
 use std::alloc::{AllocError, Global};
 
@@ -39,11 +38,11 @@ impl Seals {
         Seals {
             alloc,
             key,
-            resources: TableSeal::new(alloc),
-            extents: TableSeal::new(alloc),
-            properties: TableSeal::new(alloc),
-            locks: TableSeal::new(alloc),
-            states: TableSeal::new(alloc),
+            resources: TableSeal::new(alloc, Numbering::Plain),
+            extents: TableSeal::new(alloc, Numbering::Parts),
+            properties: TableSeal::new(alloc, Numbering::Parts),
+            locks: TableSeal::new(alloc, Numbering::Plain),
+            states: TableSeal::new(alloc, Numbering::Plain),
         }
     }
 
@@ -56,15 +55,15 @@ impl Seals {
     ) -> Result<Seals, AllocError>
         ensures { (m : _) → AreTables rows.now m → IsOnly state.now m → IfOk result (AreSealsOf key m) }
     {
-        let mut states = TableSeal::new(alloc);
+        let mut states = TableSeal::new(alloc, Numbering::Plain);
         put_row(&mut states, alloc, key, state)?;
         Ok(Seals {
             alloc,
             key,
-            resources: seal_of_rows(alloc, key, rows.resources.as_slice())?,
-            extents: seal_of_rows(alloc, key, rows.extents.as_slice())?,
-            properties: seal_of_rows(alloc, key, rows.properties.as_slice())?,
-            locks: seal_of_rows(alloc, key, rows.locks.as_slice())?,
+            resources: seal_of_rows(alloc, Numbering::Plain, key, rows.resources.as_slice())?,
+            extents: seal_of_rows(alloc, Numbering::Parts, key, rows.extents.as_slice())?,
+            properties: seal_of_rows(alloc, Numbering::Parts, key, rows.properties.as_slice())?,
+            locks: seal_of_rows(alloc, Numbering::Plain, key, rows.locks.as_slice())?,
             states,
         })
     }
@@ -186,11 +185,16 @@ fn is_row_of(row: &StateRow, seal: u64) -> bool
 }
 
 /// Returns the seal of these rows.
-fn seal_of_rows<R: SealedRow>(alloc: Global, key: u64, rows: &[R]) -> Result<TableSeal, AllocError>
-    ensures digests { IfOk result (λ seal. seal ≡ put_all R.number_of (R.digest_of key) rows.now) }
+fn seal_of_rows<R: SealedRow>(
+    alloc: Global,
+    numbering: Numbering,
+    key: u64,
+    rows: &[R],
+) -> Result<TableSeal, AllocError>
+    ensures digests { IfOk result (λ seal. HasDigests seal (put_all R.number_of (R.digest_of key) rows.now)) }
     ensures whole { OnOk result (AllByRecursion R.HasCells rows.now) }
 {
-    let mut seal = TableSeal::new(alloc);
+    let mut seal = TableSeal::new(alloc, numbering);
     'rows: for row in rows {
         put_row(&mut seal, alloc, key, row)?;
     }
@@ -204,7 +208,7 @@ fn put_row<R: SealedRow>(
     key: u64,
     row: &R,
 ) -> Result<(), AllocError>
-    ensures digest { OnOk result (seal.new ≡ insert_entry int_cmp seal.old (R.number_of row.now) (R.digest_of key row.now)) }
+    ensures digest { OnOk result (Puts (R.number_of row.now) (R.digest_of key row.now) seal.old seal.new) }
     ensures whole { OnOk result (R.HasCells row.now) }
 {
     let digest = row.digest(alloc, key)?;

@@ -8,9 +8,9 @@ use Rattle.dav_seal.proofs.seals.Seals.new.Goals as goal
 pub returns : goal.returns
 returns c = record {
   under = refl;
-  resources = rw c.new.ensures (nothing_sealed c.args.key Resource resource_cells);
-  extents = rw c.new-2.ensures (nothing_sealed c.args.key Extent extent_cells);
-  properties = rw c.new-3.ensures (nothing_sealed c.args.key Property property_cells);
-  locks = rw c.new-4.ensures (nothing_sealed c.args.key Lock lock_cells);
-  states = rw (c.new-5.ensures, unsealed-nothing) (nothing_sealed c.args.key State state_cells);
+  resources = nothing_sealed c.args.key Resource resource_cells c.new.result c.new.ensures;
+  extents = nothing_sealed c.args.key Extent extent_cells c.new-2.result c.new-2.ensures;
+  properties = nothing_sealed c.args.key Property property_cells c.new-3.result c.new-3.ensures;
+  locks = nothing_sealed c.args.key Lock lock_cells c.new-4.result c.new-4.ensures;
+  states = rw unsealed-nothing (nothing_sealed c.args.key State state_cells c.new-5.result c.new-5.ensures);
 }

@@ -1,16 +1,15 @@
-use Rattle.std.proofs.Common.{refl, ap, map, ◌∙◌, ◌∷◌, [], int_cmp}
-use Rattle.std.specs.BTreeMap.{insert_entry}
+use Rattle.std.proofs.Common.{refl, ap, map, ◌∙◌, ◌∷◌, []}
 use Rattle.dav_rows.specs.declared.change.Table.TheVariants.{Resource, Extent, Property, Lock, State}
 use Rattle.dav_rows.specs.Contents.{resource_cells, extent_cells, property_cells, lock_cells, state_cells}
 use Rattle.dav_rows.specs.Changes.{resource_entry, extent_entry, property_entry, lock_entry, state_entry}
-use Rattle.dav_seal.specs.Digests.{entry_digest}
 use Rattle.dav_seal.specs.SealRow.{unsealed}
 use Rattle.dav_seal.proofs.SealLemmas.{rows_sealed}
+use Rattle.dav_seal.proofs.HeldLemmas.{rising-from_sorted}
 use Rattle.dav_seal.proofs.seals.Seals.of_rows.Goals as goal
 
 pub returns : goal.returns
 returns c m are only =
-    let one = c.in_ok-put_row.ensures.digest ∙ ap (λ s. insert_entry int_cmp s c.args.state.now.number (entry_digest c.args.key State state_cells (state_entry c.args.state.now))) c.new-states.ensures in
+    let one = c.in_ok-put_row.ensures.digest [] (rising-from_sorted [] tt) c.new-states.ensures in
     record {
       under = refl;
       resources = rows_sealed c.args.key Resource resource_cells resource_entry c.as_slice.result.now m.resources c.in_ok-seal_of_rows.field-0 (ap (map resource_entry) c.as_slice.ensures.value ∙ are.resources) c.in_ok-seal_of_rows.ensures.digests c.in_ok-seal_of_rows.ensures.whole;

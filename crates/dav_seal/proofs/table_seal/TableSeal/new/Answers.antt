@@ -1,5 +1,6 @@
+use Rattle.dav_seal.specs.Held.{place_of}
 use Rattle.dav_seal.proofs.TotalLemmas.{total_of-nothing}
 use Rattle.dav_seal.proofs.table_seal.TableSeal.new.Goals as goal
 
-pub invariant_of-result : goal.invariant_of-result
-invariant_of-result c = (rw c.new.ensures.empty total_of-nothing, c.new.ensures.ordered)
+pub returns : goal.returns
+returns c = record { each = λ number fits. c.new.ensures (place_of c.args.numbering number); sum = total_of-nothing }
