@@ -15,6 +15,7 @@ use Rattle.dav_pieces.proofs.RunBytes.{same-bytes_at, held-bytes_at}
 use Rattle.dav_space.specs.declared.range.Range.{Range}
 use Rattle.dav_space.specs.Ranges.{is_outside, is_clear, KeepsClear, AreUnused, AreTaken}
 use Rattle.dav_blocks.specs.Runs.{are_clear, KeepsBytes}
+use Rattle.dav_blocks.specs.Settling.{KeepsFirst}
 
 -- what was written is there
 pub written-run : (file bytes : List ℕ) (at n : ℕ) → n ≡ length bytes → 0 < n → (0 < length bytes → Holds file at bytes) → bytes_at file at n ≡ bytes
@@ -134,6 +135,10 @@ cut-bytes ranges end old new within cut a m used =
     let both = and_parts (leb (a + m) end) (are_clear ranges a m) used in
     let below = leb-true (a + m) end both.0 in
     same-bytes_at old new a m (λ i l h. cut.below i (omega arith) (omega arith))
+
+-- the bytes before a place, where the file is cut behind it
+pub cut-first : (end len : ℕ) (old new : List ℕ) → end ≤ len → Cut len old new → KeepsFirst end old new
+cut-first end len old new most cut = λ within at n below. same-bytes_at old new at n (λ i l h. cut.below i (omega arith) (omega arith))
 
 -- the run that was written is in use
 pub in-use-taken : (old new : List Range) (end at n : ℕ) → at + n ≤ end → AreTaken at n old new → (leb (at + n) end && are_clear new at n) ≡ true

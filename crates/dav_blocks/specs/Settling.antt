@@ -1,9 +1,14 @@
 -- What a start asks of a data file, and what that leaves: this project's own choice.
-use Rattle.std.specs.Prelude.{◌≡◌, ◌⊎◌, ◌<◌, ℕ, true, false, length}
+use Rattle.std.specs.Prelude.{◌≡◌, ◌⊎◌, ◌≤◌, ◌<◌, ℕ, ◌+◌, true, false, List, length}
 use Rattle.std.specs.declared.io.Error.{Error}
 use Rattle.sqlite_disk.specs.declared.Disk.{Ghosts}
 use Rattle.sqlite_disk.specs.Disk.{MoreFaults, Only}
 use Rattle.sqlite_disk.specs.Refusal.{is_no_room}
+use Rattle.dav_pieces.specs.Pieces.{bytes_at}
+
+-- unless the file ends before a place, the bytes before that place are the same, whatever the disk has answered
+abbrev pub KeepsFirst : ℕ → List ℕ → List ℕ → Type 0
+KeepsFirst end old new = end ≤ length old → (at n : ℕ) → at + n ≤ end → bytes_at new at n ≡ bytes_at old at n
 
 module _ {D : Type 0} (g : Ghosts D) (old : D) where
   -- If no wrong answer was taken as true, the file has the contents that it had, and a crash leaves these if it left nothing else before.

@@ -42,7 +42,7 @@ pub struct BlockFile<D: Disk> {
 impl<D: Disk> BlockFile<D> {
     ghost use Rattle.dav_blocks.specs.Blocks.{disk_of, data_of, may_leave, is_usable, is_honest, is_settled, tally_of, in_use, used_bytes, is_safe, IsFree};
     ghost use Rattle.dav_blocks.specs.Blocks.{KeepsBlocks, ChangesOnly, AreWritten, ReservesRoom, HasFailed, HasCause, HasReadCause, TellsRoom, CutsOrFails, end_of};
-    ghost use Rattle.dav_blocks.specs.Settling.{HasNotSettled, IsUnharmed};
+    ghost use Rattle.dav_blocks.specs.Settling.{HasNotSettled, IsUnharmed, KeepsFirst};
 
     /// Opens the data file of which all bytes up to a place are in use. What is behind them is unused. It stays in the
     /// file until it is written over, or until [`BlockFile::trim`]: an honest disk has the same bytes afterwards.
@@ -55,6 +55,7 @@ impl<D: Disk> BlockFile<D> {
         ensures safe { IfOk result (λ it. (at n : ℕ) → at + n ≤ end → is_safe it at n ≡ true) }
         ensures honest { IfOk result (λ it. is_honest it ≡ true → D.Disk.is_clean disk ≡ true) }
         ensures same { IfOk result (λ it. is_honest it ≡ true → data_of it ≡ D.Disk.seen disk) }
+        ensures first { IfOk result (λ it. KeepsFirst end (D.Disk.seen disk) (data_of it)) }
         ensures free { IfOk result (λ it. (i : ℕ) → end ≤ i → i < LIMIT → IsFree it i) }
         ensures usable { IfOk result (λ it. is_usable it ≡ true) }
         ensures settled { IfOk result (λ it. is_settled it ≡ true) }

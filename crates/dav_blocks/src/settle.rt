@@ -1,7 +1,7 @@
 //! What a start asks of a data file before anything is read or written.
 ghost use Rattle.std.specs.Prelude.{◌≡◌, ◌≤◌, true, length, IfErr, OnOk};
 ghost use Rattle.sqlite_disk.specs.Disk.{Only};
-ghost use Rattle.dav_blocks.specs.Settling.{HasNotSettled, IsUnharmed};
+ghost use Rattle.dav_blocks.specs.Settling.{HasNotSettled, IsUnharmed, KeepsFirst};
 
 use sqlite_disk::Disk;
 use std::io::{self, ErrorKind};
@@ -14,6 +14,7 @@ pub(crate) fn settle<D: Disk>(disk: &mut D, end: usize) -> io::Result<()>
     ensures long { OnOk result (end ≤ length (D.Disk.seen disk.new)) }
     ensures only { OnOk result (Only (D.Disk.seen disk.new) (D.Disk.may_leave disk.new)) }
     ensures usable { OnOk result (D.Disk.is_usable disk.new ≡ true) }
+    ensures first { OnOk result (KeepsFirst end (D.Disk.seen disk.old) (D.Disk.seen disk.new)) }
     ensures unharmed { IsUnharmed D.Disk disk.old disk.new }
     ensures err { IfErr result (HasNotSettled D.Disk disk.old end disk.new) }
 {
