@@ -17,7 +17,8 @@ use Rattle.dav_data.specs.declared.hash.Tail.{Tail}
 use Rattle.dav_data.specs.Digests.{hashed, IsHashed, AreHashed}
 use Rattle.dav_tree.specs.Bodies.{KeepsBodies}
 use Rattle.dav_store.specs.Calls.{written_at}
-use Rattle.dav_data.specs.Data.{Keeps, body_bytes, is_held, is_synced}
+use Rattle.dav_blocks.specs.Blocks.{is_safe}
+use Rattle.dav_data.specs.Data.{Keeps, data_of, in_use, is_usable, is_honest, body_bytes, is_held, is_synced}
 use Rattle.dav_data.proofs.Bodies.{body-kept, body-bytes}
 
 module _ {D : Type 0} {g : Ghosts D} where
@@ -31,6 +32,18 @@ module _ {D : Type 0} {g : Ghosts D} where
     key = second.key ∙ first.key;
     usable = second.usable ∙ first.usable;
     honest = λ is. first.honest (second.honest is);
+  }
+
+  pub keeps-same : (old new : DataFile D g) → new ≡ old → Keeps old new
+  keeps-same old new is = record {
+    blocks = record {
+      used = λ at n used. ap (λ (file : DataFile D g). in_use file at n) is ∙ used;
+      same = λ at n used. ap (λ (file : DataFile D g). bytes_at (data_of file) at n) is;
+      safe = λ at n safe. ap (λ (file : DataFile D g). is_safe file.file at n) is ∙ safe;
+    };
+    key = ap (λ (file : DataFile D g). file.key) is;
+    usable = ap (λ (file : DataFile D g). is_usable file) is;
+    honest = λ honest. ap (λ (file : DataFile D g). is_honest file) (sym is) ∙ honest;
   }
 
   pub keeps-bodies : (old new : DataFile D g) → Keeps old new → KeepsBodies (body_bytes {D = D} {g = g}) (is_held {D = D} {g = g}) (is_synced {D = D} {g = g}) old new

@@ -9,3 +9,5 @@ pub mod Reading
 pub mod Growing
 pub mod Appending
 pub mod Causes
+pub mod Collisions
+pub mod Claims

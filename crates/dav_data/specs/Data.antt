@@ -8,7 +8,7 @@ use Rattle.dav_store.specs.Calls.{bytes_from}
 use Rattle.dav_pieces.specs.declared.piece.Piece.{Piece}
 use Rattle.dav_pieces.specs.declared.piece.Piece.TheVariants.{Part}
 use Rattle.dav_pieces.specs.declared.piece.Block.{Block}
-use Rattle.dav_pieces.specs.Pieces.{bytes_at, piece_bytes, piece_len, bytes_of, size_of, is_sound}
+use Rattle.dav_pieces.specs.Pieces.{bytes_at, piece_bytes, piece_len, bytes_of, size_of, is_sound, are_sound}
 use Rattle.dav_data.specs.Runs.{run_passes, blocks_pass}
 use Rattle.dav_pieces.specs.Growth.{IsGrown, growth, grown_bytes, is_grown_in}
 use Rattle.std.specs.declared.io.Error.{Error}
@@ -25,6 +25,7 @@ use Rattle.dav_data.specs.declared.data_file.writing.Added.{Added}
 use Rattle.dav_data.specs.declared.data_file.writing.Grown.{Grown}
 use Rattle.dav_data.specs.declared.hash.Tail.{Tail}
 use Rattle.dav_data.specs.Digests.{IsHashed, is_right, are_right, IsChecked, AreChecked, no_tail}
+use Rattle.dav_data.specs.Collisions.{HasCollision}
 
 -- the blocks of a body end at or before a place, and it has fewer than 2^63 bytes
 abbrev pub is_below : ℕ → List Piece → Bool
@@ -263,4 +264,21 @@ module _ {D : Type 0} {g : Ghosts D} where
   pub record IsReadChecked (it : DataFile D g) (body : List Piece) (place count : ℕ) (found : List ℕ) : Type 0 where
     pub pieces : List Piece
     pub cut : (file : List ℕ) → bytes_of file pieces ≡ bytes_from place count (bytes_of file body)
+    pub sound : (test : Block → Bool) → are_sound test body ≡ true → are_sound test pieces ≡ true
     pub checked : AreChecked it.key pieces found
+
+  -- the bytes from a place of a body on, or a part of bytes that collide with those of one of its blocks, whatever the disk has answered
+  abbrev pub IsReadOrCollides : DataFile D g → List Piece → ℕ → ℕ → List ℕ → Type 0
+  IsReadOrCollides it body place count found = (found ≡ bytes_from place count (body_bytes it body)) ⊎ HasCollision it.key (data_of it) body found
+
+  -- unless a file ended before a place, each body below that has the bytes that it had there, whatever the disk has answered
+  abbrev pub OpensBytes : ℕ → List ℕ → DataFile D g → Type 0
+  OpensBytes end file it = end ≤ length file → (body : List Piece) → is_below end body ≡ true → body_bytes it body ≡ bytes_of file body
+
+  -- and its blocks have their digests, if they had them there
+  abbrev pub OpensDigests : ℕ → List ℕ → DataFile D g → Type 0
+  OpensDigests end file it = end ≤ length file → (body : List Piece) → is_below end body ≡ true → are_right it.key file body ≡ true → has_digests it body ≡ true
+
+  -- under each key, the blocks of a marked body have their digests, if they had them
+  abbrev pub KeepsDigests : DataFile D g → DataFile D g → Type 0
+  KeepsDigests old new = (key : ℕ) (body : List Piece) → is_marked old body ≡ true → are_right key (data_of old) body ≡ true → are_right key (data_of new) body ≡ true

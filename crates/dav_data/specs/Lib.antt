@@ -2,5 +2,8 @@ pub mod Runs
 pub mod Errors
 pub mod Sip
 pub mod Digests
+pub mod Collisions
 pub mod Data
 pub mod Owning
+pub mod Claimed
+pub mod ClaimedOwning

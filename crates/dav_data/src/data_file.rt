@@ -11,6 +11,7 @@ mod writing;
 
 use crate::hash::Tail;
 use dav_blocks::BlockFile;
+use dav_resource::FsResult;
 use dav_space::Range;
 use sqlite_disk::Disk;
 use std::alloc::Global;
@@ -40,8 +41,10 @@ pub struct DataFile<D: Disk> {
 
 impl<D: Disk> DataFile<D> {
     ghost use Rattle.dav_blocks.specs.Settling.{HasNotSettled, IsUnharmed};
+    ghost use Rattle.dav_tree.specs.Bodies.{KeepsBodies};
+    ghost use Rattle.dav_data.specs.Errors.{is_own_error};
     ghost use Rattle.dav_data.specs.Data.{disk_of, data_of, is_below, nothing_at, is_honest, is_usable, may_leave, key_of, swept_bytes, body_bytes, is_held, is_synced};
-    ghost use Rattle.dav_data.specs.Data.{HasFailed, KeepsSweep, IsIdle, LeavesBytes, LeavesDigests, LeavesEnds};
+    ghost use Rattle.dav_data.specs.Data.{HasFailed, KeepsSweep, IsIdle, OpensBytes, OpensDigests, LeavesBytes, LeavesDigests, LeavesEnds};
 
     /// Opens the data file of which all bytes up to a place are in use. What is behind them stays there until the first
     /// sweep that gives something up: an honest disk has the same bytes afterwards. `key` is the key of the digests of its
@@ -56,6 +59,8 @@ impl<D: Disk> DataFile<D> {
         ensures held { IfOk result (λ it. (body : List Piece) → is_below end body ≡ true → is_synced it body ≡ true) }
         ensures honest { IfOk result (λ it. is_honest it ≡ true → D.Disk.is_clean disk ≡ true) }
         ensures same { IfOk result (λ it. is_honest it ≡ true → data_of it ≡ D.Disk.seen disk) }
+        ensures bytes { IfOk result (OpensBytes end (D.Disk.seen disk)) }
+        ensures digests { IfOk result (OpensDigests end (D.Disk.seen disk)) }
         ensures key { IfOk result (λ it. key_of it ≡ key) }
         ensures swept { IfOk result (λ it. swept_bytes it ≡ 0) }
         ensures idle { IfOk result IsIdle }
@@ -87,6 +92,7 @@ impl<D: Disk> DataFile<D> {
         ensures held { (body : List Piece) → is_held self.old body ≡ true → is_held self.new body ≡ true }
         ensures same { (body : List Piece) → is_held self.old body ≡ true → body_bytes self.new body ≡ body_bytes self.old body }
         ensures safe { (body : List Piece) → is_synced self.old body ≡ true → is_synced self.new body ≡ true }
+        ensures contents { data_of self.new ≡ data_of self.old }
         ensures key { key_of self.new ≡ key_of self.old }
         ensures sweep { KeepsSweep self.old self.new }
         ensures err { OnErr result (HasFailed self.old self.new) }
@@ -94,6 +100,20 @@ impl<D: Disk> DataFile<D> {
         ensures honest { is_honest self.new ≡ is_honest self.old }
     {
         self.file.sync()
+    }
+
+    /// The same, with the error of a store.
+    pub(crate) fn sync_bodies(&mut self) -> FsResult<()>
+        ensures synced { OnOk result ((body : List Piece) → is_held self.old body ≡ true → is_synced self.new body ≡ true) }
+        ensures kept { KeepsBodies body_bytes is_held is_synced self.old self.new }
+        ensures contents { data_of self.new ≡ data_of self.old }
+        ensures key { key_of self.new ≡ key_of self.old }
+        ensures err { IfErr result (λ e. is_own_error e ≡ true) }
+    {
+        match self.sync() {
+            Ok(()) => Ok(()),
+            Err(error) => Err(failure(&error)),
+        }
     }
 
     /// Says what a crash leaves: a file in which each safe body ends, with its bytes and the digests of its blocks.

@@ -15,11 +15,12 @@ impl<D: Disk + Drop> Medium for DataFile<D> {
     ghost use Rattle.dav_pieces.specs.declared.piece.Piece.{Piece};
     ghost use Rattle.std.specs.Coded.{coded_list};
     ghost use Rattle.dav_pieces.specs.Pieces.{piece_code};
+    ghost use Rattle.dav_pieces.specs.Changes.{KeepsSound};
     ghost use Rattle.dav_resource.specs.declared.error.FsError.TheVariants.{Memory};
     ghost use Rattle.dav_store.specs.Calls.{bytes_from, written_at};
     ghost use Rattle.dav_tree.specs.Bodies.{KeepsBodies, KeepsMarked, IsCopy, FailsFor};
     ghost use Rattle.dav_data.specs.Errors.{is_own_error};
-    ghost use Rattle.dav_data.specs.Data.{body_bytes, is_held, is_synced, has_digests, is_marked, is_honest, is_usable, HasFailed, KeepsSweep, KeepsPlaces, IsBegun, GivesUpRest, FailsToWrite, FailsToJoin, IsReadChecked, IsUnread};
+    ghost use Rattle.dav_data.specs.Data.{body_bytes, is_held, is_synced, has_digests, is_marked, is_honest, is_usable, HasFailed, KeepsSweep, KeepsPlaces, IsBegun, GivesUpRest, FailsToWrite, FailsToJoin, IsReadChecked, IsReadOrCollides, IsUnread, Keeps};
     ghost use Rattle.dav_data.specs.Owning.{synced_held, held_small, own_refused, none_trusted};
 
     type Body = Body;
@@ -75,7 +76,9 @@ impl<D: Disk + Drop> Medium for DataFile<D> {
         ensures held { is_held self.new body.new ≡ true }
         ensures kept { KeepsBodies body_bytes is_held is_synced self.old self.new }
         ensures digests { OnOk result (has_digests self.old body.old ≡ true → has_digests self.new body.new ≡ true) }
+        ensures still { OnErr result (body.new ≡ body.old) }
         ensures cause { IfErr result (FailsToWrite place (length more.now) self.old self.new) }
+        ensures all { Keeps self.old self.new }
     {
         if more.is_empty() {
             return Ok(());
@@ -102,6 +105,9 @@ impl<D: Disk + Drop> Medium for DataFile<D> {
         ensures held { is_held self.new body.new ≡ true }
         ensures kept { KeepsBodies body_bytes is_held is_synced self.old self.new }
         ensures cause { IfErr result (FailsToJoin place (length (body_bytes self.old from.now))) }
+        ensures still { OnErr result (body.new ≡ body.old) }
+        ensures sound { OnOk result (KeepsSound body.old from.now body.new) }
+        ensures all { self.new ≡ self.old }
     {
         if place + from.len() > MAX_LEN {
             return Err(FsError::InsufficientStorage);
@@ -115,6 +121,7 @@ impl<D: Disk + Drop> Medium for DataFile<D> {
         ensures bytes { IfOk result (λ found. is_honest self.new ≡ true → found.items ≡ bytes_from place count (body_bytes self.old body.now)) }
         ensures count { IfOk result (λ found. length found.items ≡ length (bytes_from place count (body_bytes self.old body.now))) }
         ensures checked { IfOk result (λ found. IsReadChecked self.old body.now place count found.items) }
+        ensures right { IfOk result (λ found. has_digests self.old body.now ≡ true → IsReadOrCollides self.old body.now place count found.items) }
         ensures err { IfErr result (FailsFor is_own_error) }
         ensures cause { IfErr result (IsUnread (has_digests self.old body.now) self.old self.new) }
         ensures kept { KeepsBodies body_bytes is_held is_synced self.old self.new }

@@ -15,7 +15,7 @@ use sqlite_disk::Disk;
 use std::alloc::Global;
 
 impl<D: Disk> DataFile<D> {
-    ghost use Rattle.dav_data.specs.Data.{data_of, in_use, is_honest, body_bytes, is_held, is_whole, has_digest, has_digests, Keeps, IsReadChecked, IsReadTo, IsUnread};
+    ghost use Rattle.dav_data.specs.Data.{data_of, in_use, is_honest, body_bytes, is_held, is_whole, has_digest, has_digests, Keeps, IsReadChecked, IsReadOrCollides, IsReadTo, IsUnread};
 
     /// Returns `count` bytes of a body from an offset on, or fewer if the body ends before. Each block that has
     /// some of them must have its digest, or else the error is `GeneralFailure`.
@@ -30,6 +30,7 @@ impl<D: Disk> DataFile<D> {
         ensures bytes { IfOk result (λ found. is_honest self.new ≡ true → found.items ≡ bytes_from place count (body_bytes self.old body.now)) }
         ensures count { IfOk result (λ found. length found.items ≡ length (bytes_from place count (body_bytes self.old body.now))) }
         ensures checked { IfOk result (λ found. IsReadChecked self.old body.now place count found.items) }
+        ensures right { IfOk result (λ found. has_digests self.old body.now ≡ true → IsReadOrCollides self.old body.now place count found.items) }
         ensures err { IfErr result IsFailure }
         ensures cause { IfErr result (IsUnread (has_digests self.old body.now) self.old self.new) }
         ensures same { data_of self.new ≡ data_of self.old }

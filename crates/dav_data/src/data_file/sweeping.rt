@@ -13,7 +13,7 @@ use std::mem;
 const MAX_UNSWEPT: usize = 64 << 20;
 
 impl<D: Disk> DataFile<D> {
-    ghost use Rattle.dav_data.specs.Data.{in_use, is_held, is_spared, is_marked, is_synced, is_honest, body_bytes, SparesMore, Keeps, KeepsDisk, KeepsPlaces, IsBegun, IsIdle, GivesUpRest, wants_sweep};
+    ghost use Rattle.dav_data.specs.Data.{in_use, is_held, is_spared, is_marked, is_synced, is_honest, body_bytes, SparesMore, Keeps, KeepsDisk, KeepsDigests, KeepsPlaces, IsBegun, IsIdle, GivesUpRest, wants_sweep};
 
     /// Begins a sweep. Nothing is marked.
     pub(crate) fn begin(&mut self)
@@ -67,6 +67,7 @@ impl<D: Disk> DataFile<D> {
         ensures held { (body : List Piece) → is_marked self.old body ≡ true → is_held self.new body ≡ true }
         ensures same { (body : List Piece) → is_marked self.old body ≡ true → body_bytes self.new body ≡ body_bytes self.old body }
         ensures synced { (body : List Piece) → is_marked self.old body ≡ true → is_synced self.old body ≡ true → is_synced self.new body ≡ true }
+        ensures digests { KeepsDigests self.old self.new }
         ensures places { KeepsPlaces self.old self.new }
         ensures rest { GivesUpRest self.old self.new }
         ensures idle { IsIdle self.new }

@@ -11,6 +11,7 @@ use Rattle.dav_data.proofs.Adding.{no_piece}
 use Rattle.dav_data.proofs.Bodies.{sound-body}
 use Rattle.dav_data.proofs.Keeping.{keeps-trans}
 use Rattle.dav_data.proofs.Reading.{bytes-more, count-more, checked-more}
+use Rattle.dav_data.proofs.Collisions.{read-or}
 use Rattle.dav_data.proofs.data_file.DataFile.read_checked.Goals as goal
 
 pub cut-requires : goal.cut-requires
@@ -73,5 +74,9 @@ returns-clause-checked g c =
     record {
       pieces = c.in_ok-pieces.pieces.items;
       cut = c.in_ok-pieces.ensures.bytes;
+      sound = c.in_ok-pieces.ensures.sound;
       checked = subst (λ ys. AreChecked c.args.self.now.key ys c.loop-piece.found.items) all c.loop-piece.invariant.checked;
     }
+
+pub returns-clause-right : goal.returns-clause-right
+returns-clause-right g c = read-or c.args.self.now c.args.body.now c.args.place c.args.count c.loop-piece.found.items (returns-clause-checked g c)

@@ -1,7 +1,7 @@
 use Rattle.std.proofs.Common.{◌≡◌, ◌∙◌, true, ap, refl, sym, subst, inl, arith}
 use Rattle.std.proofs.lemmas.Bool.{and_from, lt-ltb}
 use Rattle.dav_store.specs.Calls.{written_at}
-use Rattle.dav_pieces.specs.Pieces.{bytes_of, size_of}
+use Rattle.dav_pieces.specs.Pieces.{bytes_of, size_of, are_sound}
 use Rattle.dav_pieces.proofs.PieceLaws.{length-bytes_of, are_within-from_sound}
 use Rattle.dav_data.specs.Runs.{run_passes, blocks_pass}
 use Rattle.dav_data.specs.Data.{data_of, in_use}
@@ -33,3 +33,6 @@ returns-clause-held g c =
     let from = subst (λ pieces. blocks_pass (in_use c.args.self.now) pieces ≡ true) (sym c.pieces.ensures) (sound-body _ c.args.from.now c.requires.other) in
     and_from _ _ (lt-ltb (size_of c.write.new.self) _ c.in_ok-write.ensures.small)
     (c.in_ok-write.ensures.sound (run_passes (in_use c.args.self.now)) (sound-body _ c.args.body.now c.requires.held) from)
+
+pub returns-clause-sound : goal.returns-clause-sound
+returns-clause-sound g c = λ test old other. c.in_ok-write.ensures.sound test old (subst (λ pieces. are_sound test pieces ≡ true) (sym c.pieces.ensures) other)
