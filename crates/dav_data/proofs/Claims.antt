@@ -1,9 +1,8 @@
 -- What calls keep of a claim.
 use Rattle.std.proofs.Common.{◌≡◌, ◌∙◌, ℕ, Bool, true, false, List, refl, sym, subst, ap}
-use Rattle.std.specs.Prelude.{not, ◌&&◌, ◌||◌, Result, Ok, Err, IfOk, IfErr, OnOk, OnErr}
+use Rattle.std.specs.Prelude.{not, ◌&&◌, ◌||◌, Result, Ok, Err, IfOk, OnOk, OnErr}
 use Rattle.std.proofs.lemmas.Bool.{and_parts, and_from}
 use Rattle.sqlite_disk.specs.declared.Disk.{Ghosts}
-use Rattle.dav_resource.specs.declared.error.FsError.{FsError}
 use Rattle.dav_pieces.specs.Changes.{KeepsSound}
 use Rattle.dav_pieces.specs.declared.piece.Piece.{Piece}
 use Rattle.dav_tree.specs.Bodies.{KeepsBodies, KeepsMarked, IsCopy}

@@ -1,6 +1,6 @@
 -- What passes the tests of blocks that have their digests: their bytes, or a collision.
-use Rattle.std.proofs.Common.{◌≡◌, ◌∙◌, ◌⊎◌, ◌+◌, ℕ, Bool, true, false, List, [], ◌∷◌, ◌++◌, take, drop, length, refl, ap, sym, append_assoc, inl, inr, leb}
-use Rattle.std.specs.Prelude.{bytes_eq, ◌==◌}
+use Rattle.std.proofs.Common.{◌≡◌, ◌∙◌, ◌⊎◌, ◌+◌, ℕ, Bool, true, false, List, [], ◌∷◌, ◌++◌, take, drop, refl, ap, sym, append_assoc, inl, inr, leb}
+use Rattle.std.specs.Prelude.{bytes_eq}
 use Rattle.std.proofs.lemmas.Bool.{and_parts, and_from, leb-true, eqb-true}
 use Rattle.std.proofs.lemmas.List.{append-nil}
 use Rattle.std.proofs.lemmas.Slice.Eq.{bytes_eq-Decides}
@@ -13,7 +13,7 @@ use Rattle.dav_pieces.specs.Pieces.{bytes_at, piece_bytes, bytes_of, is_sound, a
 use Rattle.dav_pieces.proofs.RunBytes.{bytes_at-within}
 use Rattle.dav_data.specs.declared.data_file.DataFile.{DataFile}
 use Rattle.dav_data.specs.Digests.{is_right, are_right, IsChecked, AreChecked, IsPartOf}
-use Rattle.dav_data.specs.Collisions.{Collides, IsAmong, HasCollision}
+use Rattle.dav_data.specs.Collisions.{HasCollision}
 use Rattle.dav_data.specs.Data.{data_of, has_digests, IsReadChecked, IsReadOrCollides}
 
 module _ (key : ℕ) (file : List ℕ) where
