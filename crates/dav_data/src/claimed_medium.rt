@@ -83,7 +83,7 @@ impl<D: Disk + Drop, C: Claim> Medium for ClaimedFile<D, C> {
 
     fn read(&mut self, alloc: Global, body: &Body, place: u64, count: usize) -> FsResult<Vec<u8>>
         requires { is_kept self.old body.now ≡ true }
-        ensures bytes { IfOk result (λ found. is_honest (file_of self.new) ≡ true → found.items ≡ bytes_from place count (bytes_in self.old body.now)) }
+        ensures bytes { IfOk result (λ found. is_honest self.new.file ≡ true → found.items ≡ bytes_from place count (bytes_in self.old body.now)) }
         ensures count { IfOk result (λ found. length found.items ≡ length (bytes_from place count (bytes_in self.old body.now))) }
         ensures checked { IfOk result (λ found. IsReadChecked (file_of self.old) body.now place count found.items) }
         ensures right { C.Claim.holds ≡ true → IfOk result (λ found. IsReadOrCollides (file_of self.old) body.now place count found.items) }
