@@ -46,7 +46,7 @@ module _ {F : Type 0} (see_store : F → Store) (is_honest : F → Bool) (rules 
       ap lasting acts.same ∙ ap (λ (s : Store). (saved_of s, is_some old.seen.locks)) acts.change.added.extended
   action_lasts (BodyExtended number more (Err e)) old new acts = ap lasting acts.same ∙ ap (λ (s : Store). (saved_of s, is_some old.seen.locks)) acts.change.1
   action_lasts (BodyDropped number) old new acts = ap lasting acts
-  action_lasts (FileRead asked reply) old new acts = ap lasting acts.0
+  action_lasts (FileRead asked reply honest) old new acts = ap lasting acts.0
   action_lasts (ExpiryReturned time) old new acts = ap lasting acts.0
   action_lasts (HeldReturned reply) old new acts = ap lasting acts.0
   action_lasts BackupBegun old new acts = ap lasting acts

@@ -95,25 +95,26 @@ module _ {F : Type 0} (see_store : F → Store) (is_honest : F → Bool) where
       → (refuses : Refusals) → refuses ≡ refuses_to state.rights asked.principal
       → at_rest (see_store store) ≡ state.seen.store → read_path asked.path rules.prefix ≡ Ok path
       → IfOk found (Finds refuses (is_honest store) state.seen.store.contents path.key asked) → IfErr found (IsUnread refuses state.seen.store.contents path.key asked)
-      → ReadsFile see_store is_honest rules state asked (found_reply path.key found)
+      → ReadsFile see_store is_honest rules state asked (found_reply path.key found) (is_honest store)
   reads_found rules state asked path store found refuses by seen read finds fails =
       record {
         store = store;
         seen = seen;
+        medium = refl;
         reads = rw (← by, read) (inl (returns_at refuses (is_honest store) state.seen.store.contents path.key asked found finds fails));
       }
 
   -- the path is one of this server, and memory runs out
   pub reads_unallowed : (rules : Rules) (state : ServerState) (asked : ReadValue) (path : PathValue) (store : F)
-      → at_rest (see_store store) ≡ state.seen.store → read_path asked.path rules.prefix ≡ Ok path → ReadsFile see_store is_honest rules state asked (Failed 507)
-  reads_unallowed rules state asked path store seen read = record { store = store; seen = seen; reads = rw read (inr refl) }
+      → at_rest (see_store store) ≡ state.seen.store → read_path asked.path rules.prefix ≡ Ok path → ReadsFile see_store is_honest rules state asked (Failed 507) (is_honest store)
+  reads_unallowed rules state asked path store seen read = record { store = store; seen = seen; medium = refl; reads = rw read (inr refl) }
 
   -- the path is none of this server, or memory runs out
   pub reads_nothing : (rules : Rules) (state : ServerState) (asked : ReadValue) (e : DavError) (store : F)
       → at_rest (see_store store) ≡ state.seen.store → (read_path asked.path rules.prefix ≡ Err e) ⊎ (e ≡ dav_errors.Memory)
-      → ReadsFile see_store is_honest rules state asked (Failed (dav_status e))
+      → ReadsFile see_store is_honest rules state asked (Failed (dav_status e)) (is_honest store)
   reads_nothing rules state asked e store seen why =
-      record { store = store; seen = seen; reads = fails (read_path asked.path rules.prefix) why }
+      record { store = store; seen = seen; medium = refl; reads = fails (read_path asked.path rules.prefix) why }
     where
       fails : (read : Result PathValue DavError) → (read ≡ Err e) ⊎ (e ≡ dav_errors.Memory)
           → ReadsBy read (refuses_to state.rights asked.principal) (is_honest store) state.seen.store.contents asked (Failed (dav_status e))

@@ -77,6 +77,38 @@ put_writes rules frame put answer old new served whole =
     let law = subst (λ m. MethodLaw m (settings_at rules seen) put (state_of seen) step.records answer (state_of served.executes.after)) whole.method step.law.own in
     ap (λ (s : ServerState). node_at s put.path.key) served.executes.emptied ∙ law.whole whole.transferred (record { put = refl; no_range = whole.no_range })
 
+-- ---- one read
+
+-- a part of a file with these bytes
+part_of : (honest : Bool) (contents : Contents) (key : Key) (asked : ReadValue) (part : PartValue) (bytes : List ℕ)
+    → get contents.tree key ≡ Some (File bytes) → ReturnsPart honest contents key asked part → IsPartOf honest bytes asked part
+part_of honest contents key asked part bytes file returns =
+    let there : Some (File returns.bytes) ≡ Some (File bytes) = sym returns.file ∙ file in
+    let same : returns.bytes ≡ bytes = cc in
+    let is_length : part.length ≡ returns.meta.len = ap (λ (p : PartValue). p.length) returns.is in
+    let are_bytes : part.bytes ≡ returns.read = ap (λ (p : PartValue). p.bytes) returns.is in
+    record {
+      whole = is_length ∙ returns.whole ∙ ap length same;
+      count = ap length are_bytes ∙ returns.count ∙ ap (λ bs. length (bytes_from asked.place asked.length bs)) same;
+      answer = λ is. are_bytes ∙ returns.answer is ∙ ap (bytes_from asked.place asked.length) same;
+    }
+
+other_version : (version tag : Option (List ℕ)) → is_same_version version tag ≡ false → version ≢ None
+other_version None tag other = absurd cc
+other_version (Some version) tag other = λ h. cc
+
+-- the reply to a read of a file with these bytes
+reply_from : (refuses : Refusals) (honest : Bool) (contents : Contents) (key : Key) (asked : ReadValue) (reply : ReplyValue) (bytes : List ℕ)
+    → get contents.tree key ≡ Some (File bytes) → ReturnsAt refuses honest contents key asked reply ⊎ (reply ≡ Failed 507) → IsReplyFrom honest bytes asked reply
+reply_from refuses honest contents key asked (Part part) bytes file (inl (may, returns)) = part_of honest contents key asked part bytes file returns
+reply_from refuses honest contents key asked Collection bytes file (inl (may, there)) = let no : Some Directory ≡ Some (File bytes) = sym there ∙ file in absurd cc
+reply_from refuses honest contents key asked (Failed status) bytes file (inl (inl (may, inl (missing, none)))) = let no : None ≡ Some (File bytes) = sym none ∙ file in absurd cc
+reply_from refuses honest contents key asked (Failed status) bytes file (inl (inl (may, inr (recorded, version)))) =
+    inl (recorded, other_version asked.version version.meta.etag version.other)
+reply_from refuses honest contents key asked (Failed status) bytes file (inl (inr own)) = inr own
+reply_from refuses honest contents key asked reply bytes file (inl returns) = absurd returns
+reply_from refuses honest contents key asked reply bytes file (inr full) = subst (IsReplyFrom honest bytes asked) (sym full) (inr (inr refl))
+
 -- ---- one action
 
 module _ {F : Type 0} (see_store : F → Store) (is_honest : F → Bool) (rules : Rules) where
@@ -91,7 +123,7 @@ module _ {F : Type 0} (see_store : F → Store) (is_honest : F → Bool) (rules 
   keeps (BodyExtended number more (Ok done)) first old new key bytes acts apart file = ap (λ (s : Store). get s.contents.tree key) acts.change.added.extended ∙ file
   keeps (BodyExtended number more (Err e)) first old new key bytes acts apart file = ap (λ (s : Store). get s.contents.tree key) acts.change.1 ∙ file
   keeps (BodyDropped number) first old new key bytes acts apart file = ap (λ (s : ServerState). node_at s key) acts ∙ file
-  keeps (FileRead asked reply) first old new key bytes acts apart file = ap (λ (s : ServerState). node_at s key) acts.0 ∙ file
+  keeps (FileRead asked reply honest) first old new key bytes acts apart file = ap (λ (s : ServerState). node_at s key) acts.0 ∙ file
   keeps (ExpiryReturned time) first old new key bytes acts apart file = ap (λ (s : ServerState). node_at s key) acts.0 ∙ file
   keeps (HeldReturned reply) first old new key bytes acts apart file = ap (λ (s : ServerState). node_at s key) acts.0 ∙ file
   keeps BackupBegun first old new key bytes acts apart file = ap (λ (s : ServerState). node_at s key) acts ∙ file
@@ -115,7 +147,7 @@ module _ {F : Type 0} (see_store : F → Store) (is_honest : F → Bool) (rules 
   holds (BodyExtended number more (Ok done)) old new acts = ap (λ (s : Store). s.facts.bodies) acts.change.added.extended
   holds (BodyExtended number more (Err e)) old new acts = ap (λ (s : Store). s.facts.bodies) acts.change.1
   holds (BodyDropped number) old new acts = ap held_in acts
-  holds (FileRead asked reply) old new acts = ap held_in acts.0
+  holds (FileRead asked reply honest) old new acts = ap held_in acts.0
   holds (ExpiryReturned time) old new acts = ap held_in acts.0
   holds (HeldReturned reply) old new acts = ap held_in acts.0
   holds BackupBegun old new acts = ap held_in acts
@@ -128,43 +160,13 @@ module _ {F : Type 0} (see_store : F → Store) (is_honest : F → Bool) (rules 
   holds (Rejected frame e) old new acts = ap held_in acts.0
   holds (Served frame request answer) old new acts = request_holds rules frame request answer old new acts
 
-  -- a part of a file with these bytes
-  part_of : (contents : Contents) (key : Key) (asked : ReadValue) (part : PartValue) (bytes : List ℕ) (store : F)
-      → get contents.tree key ≡ Some (File bytes) → ReturnsPart (is_honest store) contents key asked part → IsPartOf is_honest bytes asked part
-  part_of contents key asked part bytes store file returns =
-      let there : Some (File returns.bytes) ≡ Some (File bytes) = sym returns.file ∙ file in
-      let same : returns.bytes ≡ bytes = cc in
-      let is_length : part.length ≡ returns.meta.len = ap (λ (p : PartValue). p.length) returns.is in
-      let are_bytes : part.bytes ≡ returns.read = ap (λ (p : PartValue). p.bytes) returns.is in
-      record {
-        whole = is_length ∙ returns.whole ∙ ap length same;
-        count = ap length are_bytes ∙ returns.count ∙ ap (λ bs. length (bytes_from asked.place asked.length bs)) same;
-        answer = λ honest. are_bytes ∙ returns.answer (honest store) ∙ ap (bytes_from asked.place asked.length) same;
-      }
-
-  other_version : (version tag : Option (List ℕ)) → is_same_version version tag ≡ false → version ≢ None
-  other_version None tag other = absurd cc
-  other_version (Some version) tag other = λ h. cc
-
-  -- the reply to a read of a file with these bytes
-  reply_from : (refuses : Refusals) (contents : Contents) (key : Key) (asked : ReadValue) (reply : ReplyValue) (bytes : List ℕ) (store : F)
-      → get contents.tree key ≡ Some (File bytes) → ReturnsAt refuses (is_honest store) contents key asked reply ⊎ (reply ≡ Failed 507) → IsReplyFrom is_honest bytes asked reply
-  reply_from refuses contents key asked (Part part) bytes store file (inl (may, returns)) = part_of contents key asked part bytes store file returns
-  reply_from refuses contents key asked Collection bytes store file (inl (may, there)) = let no : Some Directory ≡ Some (File bytes) = sym there ∙ file in absurd cc
-  reply_from refuses contents key asked (Failed status) bytes store file (inl (inl (may, inl (missing, none)))) = let no : None ≡ Some (File bytes) = sym none ∙ file in absurd cc
-  reply_from refuses contents key asked (Failed status) bytes store file (inl (inl (may, inr (recorded, version)))) =
-      inl (recorded, other_version asked.version version.meta.etag version.other)
-  reply_from refuses contents key asked (Failed status) bytes store file (inl (inr own)) = inr own
-  reply_from refuses contents key asked reply bytes store file (inl returns) = absurd returns
-  reply_from refuses contents key asked reply bytes store file (inr full) = subst (IsReplyFrom is_honest bytes asked) (sym full) (inr (inr refl))
-
   -- a read of a file with these bytes
-  read_gives : (old : ServerState) (asked : ReadValue) (reply : ReplyValue) (path : PathValue) (key : Key) (bytes : List ℕ)
-      → ReadsFile see_store is_honest rules old asked reply → read_path asked.path rules.prefix ≡ Ok path → path.key ≡ key
-      → node_at old key ≡ Some (File bytes) → IsReplyFrom is_honest bytes asked reply
-  read_gives old asked reply path key bytes reads read same file =
-      reply_from (refuses_to old.rights asked.principal) old.seen.store.contents path.key asked reply bytes reads.store (ap (node_at old) same ∙ file)
-      (subst (λ r. ReadsBy r (refuses_to old.rights asked.principal) (is_honest reads.store) old.seen.store.contents asked reply) read reads.reads)
+  read_gives : (old : ServerState) (asked : ReadValue) (reply : ReplyValue) (honest : Bool) (path : PathValue) (key : Key) (bytes : List ℕ)
+      → ReadsFile see_store is_honest rules old asked reply honest → read_path asked.path rules.prefix ≡ Ok path → path.key ≡ key
+      → node_at old key ≡ Some (File bytes) → IsReplyFrom honest bytes asked reply
+  read_gives old asked reply honest path key bytes reads read same file =
+      reply_from (refuses_to old.rights asked.principal) honest old.seen.store.contents path.key asked reply bytes (ap (node_at old) same ∙ file)
+      (subst (λ r. ReadsBy r (refuses_to old.rights asked.principal) honest old.seen.store.contents asked reply) read reads.reads)
 
 -- ---- actions in order
 
@@ -218,11 +220,11 @@ module _ {F : Type 0} (see_store : F → Store) (is_honest : F → Bool) (rules 
 
   -- what a PUT wrote is what a later read returns
   pub reads_back : (actions : List Action) (old new : ServerState) → ActInOrder see_store is_honest Stays rules actions old new
-      → ReadsBack is_honest (settings_at rules old.seen) actions
+      → ReadsBack (settings_at rules old.seen) actions
   reads_back actions old new run h =
       let all = subst (λ list. ActInOrder see_store is_honest Stays rules list old new) h.in_order run in
-      let (start, earlier, (put_at, written, same, put, later)) = split h.before (Served h.frame h.put h.answer ∷ (h.between ++ FileRead h.asked h.reply ∷ h.after)) old new all in
-      let (end, middle, (read_at, left, kept, read, last)) = split h.between (FileRead h.asked h.reply ∷ h.after) written new later in
+      let (start, earlier, (put_at, written, same, put, later)) = split h.before (Served h.frame h.put h.answer ∷ (h.between ++ FileRead h.asked h.reply h.honest ∷ h.after)) old new all in
+      let (end, middle, (read_at, left, kept, read, last)) = split h.between (FileRead h.asked h.reply h.honest ∷ h.after) written new later in
       let key = h.put.path.key in
       let bytes = new_bytes (bodies_after h.before (held_in old)) h.put.body in
       let body : held_in put_at ≡ bodies_after h.before (held_in old) =
@@ -231,7 +233,7 @@ module _ {F : Type 0} (see_store : F → Store) (is_honest : F → Bool) (rules 
       put_writes rules h.frame h.put h.answer put_at written put h.whole ∙ ap (λ (held : Bodies). Some (File (new_bytes held h.put.body))) body in
       let stays : node_at read_at key ≡ Some (File bytes) =
       same_node end.seen.store read_at.seen.store key kept.store ∙ all_keep h.between old written end key bytes middle h.unchanged file in
-      read_gives see_store is_honest rules read_at h.asked h.reply h.path key bytes read.1 h.read h.same stays
+      read_gives see_store is_honest rules read_at h.asked h.reply h.honest h.path key bytes read.1 h.read h.same stays
 
   -- ---- the actions of batches
 

@@ -93,36 +93,35 @@ pub record WritesAndReads (settings : Settings) (actions : List Action) : Type 0
   pub between : List Action
   pub asked : ReadValue
   pub reply : ReplyValue
+  pub honest : Bool
   pub after : List Action
-  pub in_order : actions ≡ before ++ Served frame put answer ∷ (between ++ FileRead asked reply ∷ after)
+  pub in_order : actions ≡ before ++ Served frame put answer ∷ (between ++ FileRead asked reply honest ∷ after)
   pub whole : WritesWhole put answer
   pub path : PathValue
   pub read : read_path asked.path settings.prefix ≡ Ok path
   pub same : path.key ≡ put.path.key
   pub unchanged : list_any (rewrites settings put.path.key) between ≡ false
 
--- the medium of the store is honest in each state, as that of a store in memory is
-abbrev pub IsAlwaysHonest : {F : Type 0} → (F → Bool) → Type 0
-IsAlwaysHonest {F} is_honest = (store : F) → is_honest store ≡ true
+-- the part that was asked for, of a file with these bytes: as many bytes, and these bytes if the medium was honest right after the read
+pub record IsPartOf (honest : Bool) (bytes : List ℕ) (asked : ReadValue) (part : PartValue) : Type 0 where
+  pub whole : part.length ≡ length bytes
+  pub count : length part.bytes ≡ length (bytes_from asked.place asked.length bytes)
+  pub answer : honest ≡ true → part.bytes ≡ bytes_from asked.place asked.length bytes
 
-module _ {F : Type 0} (is_honest : F → Bool) where
-  -- the part that was asked for, of a file with these bytes
-  pub record IsPartOf (bytes : List ℕ) (asked : ReadValue) (part : PartValue) : Type 0 where
-    pub whole : part.length ≡ length bytes
-    pub count : length part.bytes ≡ length (bytes_from asked.place asked.length bytes)
-    pub answer : IsAlwaysHonest is_honest → part.bytes ≡ bytes_from asked.place asked.length bytes
+-- the reply to a read of a file with these bytes: the part that was asked for; or the file has another version than an earlier part (412), the
+-- store fails for its own reasons, or memory runs out
+abbrev pub IsReplyFrom : Bool → List ℕ → ReadValue → ReplyValue → Type 0
+IsReplyFrom honest bytes asked (Part part) = IsPartOf honest bytes asked part
+IsReplyFrom honest bytes asked (Failed status) = ((status ≡ 412) × (asked.version ≢ None)) ⊎ IsStoresStatus status
+IsReplyFrom honest bytes asked _ = ⊥
 
-  -- the reply to a read of a file with these bytes: the part that was asked for; or the file has another version than an earlier part (412), the
-  -- store fails for its own reasons, or memory runs out
-  abbrev pub IsReplyFrom : List ℕ → ReadValue → ReplyValue → Type 0
-  IsReplyFrom bytes asked (Part part) = IsPartOf bytes asked part
-  IsReplyFrom bytes asked (Failed status) = ((status ≡ 412) × (asked.version ≢ None)) ⊎ IsStoresStatus status
-  IsReplyFrom bytes asked _ = ⊥
+-- what a PUT among these actions wrote: its body, which may be one that the store held
+abbrev pub written_by : (settings : Settings) (actions : List Action) → WritesAndReads settings actions → List ℕ
+written_by settings actions h = new_bytes (bodies_after h.before settings.facts.bodies) h.put.body
 
-  -- what such a PUT wrote is what such a read returns: its body, which may be one that the store held
-  abbrev pub ReadsBack : Settings → List Action → Type 0
-  ReadsBack settings actions =
-      (h : WritesAndReads settings actions) → IsReplyFrom (new_bytes (bodies_after h.before settings.facts.bodies) h.put.body) h.asked h.reply
+-- what such a PUT wrote is what such a read returns, if the medium was honest right after that read
+abbrev pub ReadsBack : Settings → List Action → Type 0
+ReadsBack settings actions = (h : WritesAndReads settings actions) → IsReplyFrom h.honest (written_by settings actions h) h.asked h.reply
 
 -- ---- a run
 
@@ -153,4 +152,4 @@ module _ {F : Type 0} (see_store : F → Store) (is_honest : F → Bool) (Stays 
     pub actions : List (List Action)
     pub of : AllZip AreFor exchanges actions
     pub in_order : ActInOrder rules (joined actions) old new
-    pub reads_back : ReadsBack is_honest (settings_at rules old.seen) (joined actions)
+    pub reads_back : ReadsBack (settings_at rules old.seen) (joined actions)

@@ -11,6 +11,7 @@ pub mod Frames
 pub mod Batches
 pub mod Answers
 pub mod Guarantees
+pub mod HonestLaws
 pub mod Exchanges
 pub mod Snapshots
 pub mod Keeping

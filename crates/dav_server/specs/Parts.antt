@@ -94,8 +94,11 @@ abbrev pub ReadsBy : Result PathValue DavError → Refusals → Bool → Content
 ReadsBy (Ok path) refuses honest contents asked reply = ReturnsAt refuses honest contents path.key asked reply ⊎ (reply ≡ Failed 507)
 ReadsBy (Err e) refuses honest contents asked reply = (reply ≡ Failed (dav_status e)) ⊎ (reply ≡ Failed 507)
 
--- the reply to a read by its principal, from a store in this state; `store` is the store after its calls, whose medium may be honest
-pub record ReadsFile {F : Type 0} (see_store : F → Store) (is_honest : F → Bool) (rules : Rules) (state : ServerState) (asked : ReadValue) (reply : ReplyValue) : Type 0 where
+-- the reply to a read by its principal, from a store in this state; `store` is the store right after the read, and `honest` says whether its medium
+-- is honest then
+pub record ReadsFile {F : Type 0} (see_store : F → Store) (is_honest : F → Bool) (rules : Rules) (state : ServerState) (asked : ReadValue)
+    (reply : ReplyValue) (honest : Bool) : Type 0 where
   pub store : F
   pub seen : at_rest (see_store store) ≡ state.seen.store
-  pub reads : ReadsBy (read_path asked.path rules.prefix) (refuses_to state.rights asked.principal) (is_honest store) state.seen.store.contents asked reply
+  pub medium : honest ≡ is_honest store
+  pub reads : ReadsBy (read_path asked.path rules.prefix) (refuses_to state.rights asked.principal) honest state.seen.store.contents asked reply
