@@ -128,6 +128,8 @@ pub fn bring_up_to_date<S: Alter>(
     ensures err_older { HasCleanDisk (state S.Store conn.new) → IfErr result (λ e. (m : _) → IsOlder (state S.Store conn.old) m
         → IsExcusedFirst (state S.Store conn.old) (state S.Store conn.new) upgrade.now e) }
     ensures older_crash { HasCleanDisk (state S.Store conn.new) → LeavesOlderOr (state S.Store conn.old) (state S.Store conn.new) (after upgrade.now) }
+    ensures crash { HasCleanDisk (state S.Store conn.new) → LeavesNoOther (state S.Store conn.old) (state S.Store conn.new) }
+    ensures blank_crash { HasCleanDisk (state S.Store conn.new) → LeavesBlankOr (state S.Store conn.old) (state S.Store conn.new) (first changes.now) }
     ensures ours { HasCleanDisk (state S.Store conn.new) → OnOk result (StaysAt (state S.Store conn.old) (state S.Store conn.new)) }
     ensures blank { HasCleanDisk (state S.Store conn.new) → OnOk result (Makes (state S.Store conn.old) (state S.Store conn.new) (first changes.now)) }
     ensures clean { doubt (state S.Store conn.old).is_clean ≤ doubt (state S.Store conn.new).is_clean }
