@@ -1,16 +1,21 @@
 -- What the files hold.
-use Rattle.std.specs.Prelude.{◌≡◌, ◌⊎◌, ◌<◌, List, [], Any, IsTrue}
+use Rattle.std.specs.Prelude.{◌≡◌, ◌⊎◌, ◌<◌, false, List, [], Any, IsTrue}
 use Rattle.sqlite_disk.specs.declared.Disk.{Ghosts}
+use Rattle.sqlite_disk.specs.declared.Files.{Files}
+use Rattle.sqlite_wal.specs.Files.{outcomes}
+use Rattle.sqlite_pool.specs.Stored.{is_summed}
 use Rattle.sqlite_store.specs.declared.store.FileStore.{FileStore}
 use Rattle.sqlite_store.specs.FileStore as store
+use Rattle.sqlite_store.specs.Unopened.{state_of}
 use Rattle.sqlite_trees.specs.View.{IsClean}
 use Rattle.sqlite_trees.specs.Objects.{catalog_tree}
 use Rattle.sqlite_catalog.specs.Listing.{IsSound}
 use Rattle.sqlite.specs.Recovery.{Image}
-use Rattle.sqlite.specs.Files.{HoldsDatabase, IsNothing, AreFoundIn, IsCleanLeft, IsFullLeft, faults_left}
+use Rattle.sqlite.specs.Files.{HoldsDatabase, IsNothing, AreFoundIn, IsCleanLeft, IsFullLeft, faults_left, image_of}
 use Rattle.sqlite.specs.Tree.{Trees}
 use Rattle.sqlite.specs.State.{State, HasCleanDisk, is_disk_error}
 use Rattle.sqlite.specs.declared.file.Leftover.{Leftover}
+use Rattle.sqlite.specs.declared.file.Leftover.TheVariants as left
 use Rattle.sqlite.specs.declared.error.ErrorCode.TheVariants.{DiskFull, TooBig}
 use Rattle.sqlite.specs.declared.error.Error.{Error}
 use Rattle.sqlite.specs.declared.error.Error.TheVariants.{SqliteFailure}
@@ -85,6 +90,44 @@ module _ {D : Type 0} {g : Ghosts D} where
   -- The same, where the files are unused.
   abbrev pub FailsToStartFirst : Image → List Change → StartError × Leftover D g → Type 0
   FailsToStartFirst image changes e = IsCleanLeft e.1 → IsUnused image → IsStoppedFirst e.1 changes e.0
+
+-- ---- what a start that fails leaves
+
+-- the files hold a database whose pages end in the sums of SQLite's cksumvfs
+abbrev pub HasSums : Image → Type 0
+HasSums image = (db : Trees) × (held : HoldsDatabase image db) × IsTrue (is_summed held.0)
+
+module _ {D : Type 0} {g : Ghosts D} where
+  -- what a crash may leave of what is left of the files
+  abbrev pub MayLeave : Leftover D g → Image → Type 0
+  MayLeave (left.Files files) image = outcomes g files.log files.db image
+  MayLeave (left.Unopened files) image = (state_of files).may_leave image
+  MayLeave (left.Store it) image = (store.state it).may_leave image
+
+  -- Two cases are exempt, since SQLite's clauses do not exclude them: the open took pages that end in sums for pages that do not, or it stopped in a store
+  -- that does not number its tables.
+  abbrev pub IsExempt : Image → Leftover D g → Type 0
+  IsExempt image (left.Files files) = ⊥
+  IsExempt image (left.Unopened files) = HasSums image × (is_summed (state_of files).page_size ≡ false)
+  IsExempt image (left.Store it) = (store.view it).is_numbered ≡ false
+
+  -- If the disks did what their calls promise, whatever a crash leaves it might have left before the start, or `P` holds of it.
+  abbrev pub LeavesOldOr : Files D → (Image → Type 0) → StartError × Leftover D g → Type 0
+  LeavesOldOr files P e =
+      IsCleanLeft e.1 → (image : Image) → MayLeave e.1 image → outcomes g files.log files.db image ⊎ (∥ P image ∥₁ ⊎ IsExempt (image_of g files) e.1)
+
+  -- Files that keep the tables of a store keep the same maps.
+  abbrev pub FailsUnharmed : Files D → StartError × Leftover D g → Type 0
+  FailsUnharmed files e = (m : Contents) → Keeps (image_of g files) m → LeavesOldOr files (λ image. Keeps image m) e
+
+  -- Files with no table have none, or have new tables with these maps.
+  abbrev pub FailsUnharmedFirst : Files D → Contents → StartError × Leftover D g → Type 0
+  FailsUnharmedFirst files first e = IsUnused (image_of g files) → LeavesOldOr files (λ image. IsUnused image ⊎ Keeps image first) e
+
+  -- Files with the tables of version 1 keep these, or what `f` makes of their maps.
+  abbrev pub FailsUnharmedOlder : Files D → (Contents → Contents) → StartError × Leftover D g → Type 0
+  FailsUnharmedOlder files f e =
+      (m : Contents) → KeepsOlder (image_of g files) m → LeavesOldOr files (λ image. KeepsOlder image m ⊎ Keeps image (f m)) e
 
 -- ---- what the files keep after a run
 

@@ -5,7 +5,7 @@ ghost use Rattle.sqlite.specs.State.{HasCleanDisk};
 ghost use Rattle.sqlite_wal.specs.Reads.{AreClean};
 ghost use Rattle.dav_rows.specs.Changes.{after};
 ghost use Rattle.dav_rows.specs.Creating.{first};
-ghost use Rattle.dav_rows_files.specs.Starting.{BeginsAt, BeginsFirst, BeginsUpgraded, FailsToStart, FailsToStartFirst, FailsToStartOlder};
+ghost use Rattle.dav_rows_files.specs.Starting.{BeginsAt, BeginsFirst, BeginsUpgraded, FailsToStart, FailsToStartFirst, FailsToStartOlder, FailsUnharmed, FailsUnharmedFirst, FailsUnharmedOlder};
 
 use dav_rows::{Change, StartError, bring_up_to_date};
 use sqlite::{Connection, FileStore, Leftover};
@@ -22,6 +22,10 @@ use std::alloc::Global;
 /// If the files keep the tables of a store, or none, it fails only if memory runs out, the disk reports a fault, a file has
 /// the largest size that SQLite allows, or a row of the changes has more than a billion bytes. An error comes with what is
 /// left of the files.
+///
+/// After an error, whatever a crash leaves of the files is what it might have left before the start, or they keep what they
+/// kept: the maps of a store, the tables of version 1, or no table. In place of the last two, they may keep what this was to
+/// make of them, and all of it. Two cases are exempt (`IsExempt`).
 pub fn start<D: Disk + Drop>(
     alloc: Global,
     files: Files<D>,
@@ -39,6 +43,9 @@ pub fn start<D: Disk + Drop>(
     ensures err { IfErr result (FailsToStart (image_of D.Disk files)) }
     ensures err_first { IfErr result (FailsToStartFirst (image_of D.Disk files) changes.now) }
     ensures err_older { IfErr result (FailsToStartOlder (image_of D.Disk files) upgrade.now) }
+    ensures unharmed { IfErr result (FailsUnharmed files) }
+    ensures unharmed_first { IfErr result (FailsUnharmedFirst files (first changes.now)) }
+    ensures unharmed_older { IfErr result (FailsUnharmedOlder files (after upgrade.now)) }
 {
     let mut conn = match Connection::open_files(alloc, files, Options::new(seed)) {
         Ok(conn) => conn,

@@ -6,3 +6,4 @@ pub mod FreshFiles
 pub mod Leaves
 pub mod Kept
 pub mod Reading
+pub mod FreshOutcomes
