@@ -103,6 +103,8 @@ impl<C, F: GuardedFileSystem<C>, P: Policy> GuardedFileSystem<C> for Guarding<F,
 
     ghost well_formed = { λ store. F.well_formed store.inner };
 
+    ghost tagged = { λ store. F.tagged store.inner };
+
     ghost allowed = { is_allowed F.seen };
 
     fn metadata(&mut self, path: &DavPath, credentials: &C) -> FsResult<Meta>
@@ -388,6 +390,7 @@ impl<C, F: GuardedFileSystem<C>, P: Policy> GuardedFileSystem<C> for Guarding<F,
     fn clear_log(&mut self)
         ensures seen { seen_behind F.seen self.new ≡ record (seen_behind F.seen self.old) { log = [] } }
         ensures inner { F.seen (inner_of self.new) ≡ record (F.seen (inner_of self.old)) { log = [] } }
+        ensures honest { F.is_honest (inner_of self.new) ≡ F.is_honest (inner_of self.old) }
         ensures policy { policy_of self.new ≡ policy_of self.old }
         ensures records { records_of self.new ≡ [] }
     {

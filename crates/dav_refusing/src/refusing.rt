@@ -187,6 +187,8 @@ impl<C, F: GuardedFileSystem<C>> GuardedFileSystem<C> for Refusing<F> {
 
     ghost well_formed = { λ store. F.well_formed store.inner };
 
+    ghost tagged = { λ store. F.tagged store.inner };
+
     ghost allowed = { λ store call within granted. refl };
 
     fn metadata(&mut self, path: &DavPath, credentials: &C) -> FsResult<Meta>
@@ -470,6 +472,7 @@ impl<C, F: GuardedFileSystem<C>> GuardedFileSystem<C> for Refusing<F> {
     fn clear_log(&mut self)
         ensures seen { seen_behind F.seen self.new ≡ record (seen_behind F.seen self.old) { log = [] } }
         ensures inner { F.seen (inner_of self.new) ≡ record (F.seen (inner_of self.old)) { log = [] } }
+        ensures honest { F.is_honest (inner_of self.new) ≡ F.is_honest (inner_of self.old) }
         ensures plan { pending_of self.new ≡ pending_of self.old }
         ensures records { records_of self.new ≡ [] }
     {

@@ -1,5 +1,5 @@
 -- What contracts see of a store (RFC 4918, section 5): a tree of files and directories with their properties, and a log.
-use Rattle.std.specs.Prelude.{◌≡◌, ◌≢◌, ◌&&◌, not, nat_eq, nat_le, ℕ, Bool, true, false, IsTrue, List, [], ◌∷◌, length, Option, Some, None}
+use Rattle.std.specs.Prelude.{◌≡◌, ◌≢◌, ◌&&◌, not, nat_eq, nat_le, ℕ, Bool, true, false, IsTrue, List, [], ◌∷◌, ◌++◌, length, Option, Some, None}
 use Rattle.std.specs.List.{list_all}
 use Rattle.std.specs.Option.{ForSome}
 use Rattle.std.specs.FinMap.{FinMap, empty, get}
@@ -51,10 +51,12 @@ pub record Contents : Type 0 where
 abbrev pub Bodies : Type 0
 Bodies = ℕ → Option (List ℕ)
 
--- what no recorded call changes: whether the store supports dead properties, the bodies that it holds, what is saved of it elsewhere, as one value, and
--- for the caller of the present requests which records of granted calls are allowed, and which members a listing may show
+-- what no recorded call changes: whether the store supports dead properties, what each of its entity tags begins with, the bodies that it holds, what is
+-- saved of it elsewhere, as one value, and for the caller of the present requests which records of granted calls are allowed, and which members a listing
+-- may show
 pub record Facts : Type 0 where
   pub keeps_properties : Bool
+  pub tag_start : List ℕ
   pub bodies : Bodies
   pub saved : Gv
   pub allows : Logged → Bool
@@ -67,6 +69,11 @@ pub record Store : Type 0 where
   pub log : List Logged
 
 -- ---- invariants
+
+-- the bytes begin with these
+pub record StartsWith (start bytes : List ℕ) : Type 0 where
+  pub rest : List ℕ
+  pub whole : bytes ≡ start ++ rest
 
 -- a byte of an entity tag between its quotes (RFC 7232, section 2.3): visible ASCII except the quote
 abbrev pub is_tag_byte : ℕ → Bool
@@ -96,3 +103,11 @@ pub record IsWellFormed (contents : Contents) : Type 0 where
   pub none_empty : (key : Key) → get contents.properties key ≢ Some empty
   pub named : (key : Key) → ForSome (get contents.properties key) AreNamed
   pub metas : (key : Key) → MetaFits (get contents.tree key) (contents.metas key)
+
+-- the entity tag in the metadata, if it has one, begins with these bytes
+abbrev pub HasTagFrom : List ℕ → Meta → Type 0
+HasTagFrom start meta = ForSome meta.etag (StartsWith start)
+
+-- each entity tag begins as the facts say
+abbrev pub AreTagged : Store → Type 0
+AreTagged store = (key : Key) → ForSome (store.contents.metas key) (HasTagFrom store.facts.tag_start)

@@ -1,7 +1,7 @@
 //! The contract of a store.
 ghost use Rattle.std.specs.Prelude.{◌≡◌, ◌≢◌, ◌+◌, ◌<◌, ◌^◌, All, Bool, false, true, [], length, map, option_map, None, MatchResult};
 ghost use Rattle.dav_store.specs.Logged.{logged_of};
-ghost use Rattle.dav_store.specs.Store.{Store, IsWellFormed};
+ghost use Rattle.dav_store.specs.Store.{Store, AreTagged, IsWellFormed};
 ghost use Rattle.dav_store.specs.Calls.{LooksUp, MakesDirectory, Opens, ReadsBytes, Seeks, Writes, Flushes, LooksUpFile, place_of};
 ghost use Rattle.dav_store.specs.Members.{ReadsDir, RemovesFile, RemovesDir};
 ghost use Rattle.dav_store.specs.Allowed.{IsAllowed};
@@ -248,7 +248,8 @@ pub trait GuardedFileSystem<C> {
 
     /// Empties the log. Nothing else changes.
     fn clear_log(&mut self)
-        ensures { seen self.new ≡ record (seen self.old) { log = [] } };
+        ensures seen { seen self.new ≡ record (seen self.old) { log = [] } }
+        ensures honest { is_honest self.new ≡ is_honest self.old };
 
     /// The root is a directory, and the parent of every other file or directory is a directory. Every key that
     /// exists is a valid key. Exactly the files and directories that exist have metadata, and only these have
@@ -256,6 +257,9 @@ pub trait GuardedFileSystem<C> {
     /// gives the right kind and, for a file, the right length, and an entity tag has only visible ASCII bytes
     /// except the quote.
     ghost well_formed: { (store : Self) → IsWellFormed (seen store).contents };
+
+    /// Each entity tag begins with the bytes that the facts of the store name, which no recorded call changes.
+    ghost tagged: { (store : Self) → AreTagged (seen store) };
 
     /// Each record of a granted call in the log is one that the caller is allowed.
     ghost allowed: { (store : Self) → IsAllowed (seen store) };

@@ -112,6 +112,8 @@ impl<F: GuardedFileSystem<u64>> GuardedFileSystem<u64> for Noting<F> {
 
     ghost well_formed = { λ store. F.well_formed store.inner };
 
+    ghost tagged = { λ store. F.tagged store.inner };
+
     ghost allowed = { λ store. F.allowed store.inner };
 
     fn metadata(&mut self, path: &DavPath, credentials: &u64) -> FsResult<Meta> {

@@ -213,21 +213,21 @@ module _ (refuses : FsError → Bool) (owns : IsOwnError refuses) where
     not_memory = p.0;
     same = ap contents_of same;
     recorded = one_more call.op paths call.keys (outcome_of e) [] before after ks p.1;
-    fixed = ap (λ (m : memory.Memory). facts_of m.held) same;
+    fixed = ap facts_of same;
   })
 
   -- an exact answer and its record are what the engine sees of a call
   pub answers : {A : Type 0} (call : Call) (paths : List PathValue) (Effect : A → Contents → Contents → Type 0) (error : Option FsError) (Becomes : memory.Memory → memory.Memory → Type 0)
       (old new : memory.Memory) (before after : List Record) (answer : Result A FsError)
       → map (λ (p : PathValue). p.key) paths ≡ call.keys → YieldsOver refuses error Becomes old answer new → Records call.op paths answer before after → (error ≡ None → call.bar ≡ None) → AreLawful error call.bar
-      → (Becomes old new → new.held ≡ old.held) → IfOk answer (λ a. error ≡ None → Becomes old new → Effect a (contents_of old) (contents_of new))
+      → (Becomes old new → facts_of new ≡ facts_of old) → IfOk answer (λ a. error ≡ None → Becomes old new → Effect a (contents_of old) (contents_of new))
       → Answers call Effect (seen old before) answer (seen new after)
   answers call paths Effect error Becomes old new before after (Ok a) ks y t none law held effect = record {
     granted = record {
       allowed = none y.granted.0;
       effect = effect y.granted.0 y.granted.1;
       recorded = one_more call.op paths call.keys Granted [] before after ks t;
-      fixed = ap facts_of (held y.granted.1);
+      fixed = held y.granted.1;
     };
     declined = tt;
   }
@@ -334,9 +334,9 @@ properties-opened options key old (Some s) here =
       | false ↦ refl
     ]
 
-pub held-opened : (options : OpenOptions) (key : Key) (old : memory.Memory) (o : Option Stored) → (opened_from options key o old).held ≡ old.held
-held-opened options key old None = refl
-held-opened options key old (Some s) = elim options.truncate as (λ t. (if t then filled key [] old else old).held ≡ old.held) [ true ↦ refl | false ↦ refl ]
+pub facts-opened : (options : OpenOptions) (key : Key) (old : memory.Memory) (o : Option Stored) → facts_of (opened_from options key o old) ≡ facts_of old
+facts-opened options key old None = refl
+facts-opened options key old (Some s) = elim options.truncate as (λ t. facts_of (if t then filled key [] old else old) ≡ facts_of old) [ true ↦ refl | false ↦ refl ]
 
 limit-opened : (options : OpenOptions) (key : Key) (old : memory.Memory) (o : Option Stored) → (opened_from options key o old).limit ≡ old.limit
 limit-opened options key old None = refl
@@ -455,7 +455,7 @@ patches_props key patches paths old new before after (Ok statuses) ks g t all = 
     answered = all;
     effect = patches_at key patches old new g.granted.0 g.granted.1;
     recorded = one_more PatchProps paths (key ∷ []) Granted statuses.items before after ks t;
-    fixed = ap (λ (m : memory.Memory). facts_of m.held) g.granted.1;
+    fixed = ap facts_of g.granted.1;
   });
   declined = tt;
 }
@@ -476,7 +476,7 @@ pub answers-over : {A : Type 0} (refuses : FsError → Bool) → IsOwnError refu
     → result ≡ answer → begun ≡ old → ended ≡ done → begun_log ≡ log → done_log ≡ begun_log → map (λ (p : PathValue). p.key) paths ≡ call.keys
     → YieldsOver refuses (error begun) Becomes begun answer done → Records call.op paths answer done_log ended_log
     → (error old ≡ None → call.bar ≡ None) → AreLawful (error old) call.bar
-    → (Becomes old ended → ended.held ≡ old.held) → IfOk answer Says → ((a : A) → Says a → error old ≡ None → Becomes old ended → Effect a (contents_of old) (contents_of ended))
+    → (Becomes old ended → facts_of ended ≡ facts_of old) → IfOk answer Says → ((a : A) → Says a → error old ≡ None → Becomes old ended → Effect a (contents_of old) (contents_of ended))
     → Answers call Effect (seen old log) result (seen ended ended_log)
 answers-over {A} refuses owns call paths Effect error Becomes old begun done ended log begun_log done_log ended_log answer result Says same b d bl dl ks y t none law keeps says effect =
     let held : YieldsOver refuses (error old) Becomes old answer ended = subst (λ (m : memory.Memory). YieldsOver refuses (error m) Becomes m answer ended) b (subst (λ (m : memory.Memory). YieldsOver refuses (error begun) Becomes begun answer m) (sym d) y) in
@@ -490,7 +490,7 @@ pub answers-call : {A : Type 0} (call : Call) (paths : List PathValue) (Effect :
     → result ≡ answer → begun ≡ old → ended ≡ done → begun_log ≡ log → done_log ≡ begun_log → map (λ (p : PathValue). p.key) paths ≡ call.keys
     → Yields (error begun) Becomes begun answer done → Records call.op paths answer done_log ended_log
     → (error old ≡ None → call.bar ≡ None) → AreLawful (error old) call.bar
-    → (Becomes old ended → ended.held ≡ old.held) → IfOk answer Says → ((a : A) → Says a → error old ≡ None → Becomes old ended → Effect a (contents_of old) (contents_of ended))
+    → (Becomes old ended → facts_of ended ≡ facts_of old) → IfOk answer Says → ((a : A) → Says a → error old ≡ None → Becomes old ended → Effect a (contents_of old) (contents_of ended))
     → Answers call Effect (seen old log) result (seen ended ended_log)
 answers-call = answers-over (λ _. false) no_own
 

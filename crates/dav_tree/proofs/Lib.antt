@@ -19,7 +19,6 @@ pub mod PastTrees
 pub mod Below
 pub mod Starting
 pub mod Listings
-pub mod Hexadecimal
 pub mod Dumps
 pub mod Firsts
 mod Sweeping
@@ -28,3 +27,4 @@ mod EachEntry
 mod Soundness
 mod Naming
 mod Loaded
+pub mod Padding

@@ -1,5 +1,5 @@
 -- What the engine sees of a listing that shows all members.
-use Rattle.std.proofs.Common.{◌≡◌, ◌∙◌, ℕ, List, [], ◌∷◌, ◌++◌, map, filter_map, Ok, Err, Result, refl, sym, ap, subst, true, inl, inr}
+use Rattle.std.proofs.Common.{◌≡◌, ◌∙◌, ℕ, List, [], ◌∷◌, ◌++◌, map, filter_map, Ok, Err, Option, Result, refl, sym, ap, subst, true, inl, inr}
 use Rattle.std.proofs.lemmas.List.Sorted.{IsPermutation-refl}
 use Rattle.std.specs.Prelude.{IsPermutation, Vec}
 use Rattle.std.specs.declared.alloc.Global.{Global}
@@ -21,40 +21,40 @@ children_of [] listing = []
 children_of (n ∷ names) [] = []
 children_of (n ∷ names) (x ∷ listing) = (n, x) ∷ children_of names listing
 
-children_names : (directory : Key) (resources : Resources) (names : List (List ℕ)) (listing : List (Result DirEntry FsError)) → AllZip (IsShown directory resources) names listing → names_of (children_of names listing) ≡ names
+children_names : (part : Option ℕ) (directory : Key) (resources : Resources) (names : List (List ℕ)) (listing : List (Result DirEntry FsError)) → AllZip (IsShown part directory resources) names listing → names_of (children_of names listing) ≡ names
 unfolding children_of
-children_names directory resources [] listing h = refl
-children_names directory resources (n ∷ names) [] h = absurd h
-children_names directory resources (n ∷ names) (x ∷ listing) h = ap (λ ns. n ∷ ns) (children_names directory resources names listing h.1)
+children_names part directory resources [] listing h = refl
+children_names part directory resources (n ∷ names) [] h = absurd h
+children_names part directory resources (n ∷ names) (x ∷ listing) h = ap (λ ns. n ∷ ns) (children_names part directory resources names listing h.1)
 
-children_listing : (directory : Key) (resources : Resources) (names : List (List ℕ)) (listing : List (Result DirEntry FsError)) → AllZip (IsShown directory resources) names listing → listing ≡ map (λ (c : Child). c.1) (children_of names listing)
+children_listing : (part : Option ℕ) (directory : Key) (resources : Resources) (names : List (List ℕ)) (listing : List (Result DirEntry FsError)) → AllZip (IsShown part directory resources) names listing → listing ≡ map (λ (c : Child). c.1) (children_of names listing)
 unfolding children_of
-children_listing directory resources [] [] h = refl
-children_listing directory resources [] (x ∷ listing) h = absurd h
-children_listing directory resources (n ∷ names) [] h = absurd h
-children_listing directory resources (n ∷ names) (x ∷ listing) h = ap (λ xs. x ∷ xs) (children_listing directory resources names listing h.1)
+children_listing part directory resources [] [] h = refl
+children_listing part directory resources [] (x ∷ listing) h = absurd h
+children_listing part directory resources (n ∷ names) [] h = absurd h
+children_listing part directory resources (n ∷ names) (x ∷ listing) h = ap (λ xs. x ∷ xs) (children_listing part directory resources names listing h.1)
 
-shown_as : (directory : Key) (memory : Memory) (name : List ℕ) (x : Result DirEntry FsError) → IsShown directory memory.resources name x → IsShownAs (λ _. true) (contents_of memory) directory (name, x)
+shown_as : (directory : Key) (memory : Memory) (name : List ℕ) (x : Result DirEntry FsError) → IsShown memory.tag_part directory memory.resources name x → IsShownAs (λ _. true) (contents_of memory) directory (name, x)
 shown_as directory memory name (Ok entry) h = (h.0, h.1, refl)
 shown_as directory memory name (Err e) h = absurd h
 
-children_shown : (directory : Key) (memory : Memory) (names : List (List ℕ)) (listing : List (Result DirEntry FsError)) → AllZip (IsShown directory memory.resources) names listing → (c : Child) → IsIn c (children_of names listing) → IsShownAs (λ _. true) (contents_of memory) directory c
+children_shown : (directory : Key) (memory : Memory) (names : List (List ℕ)) (listing : List (Result DirEntry FsError)) → AllZip (IsShown memory.tag_part directory memory.resources) names listing → (c : Child) → IsIn c (children_of names listing) → IsShownAs (λ _. true) (contents_of memory) directory c
 unfolding children_of
 children_shown directory memory [] listing h c inside = absurd inside
 children_shown directory memory (n ∷ names) [] h c inside = absurd inside
 children_shown directory memory (n ∷ names) (x ∷ listing) h c (inl same) = subst (IsShownAs (λ _. true) (contents_of memory) directory) same (shown_as directory memory n x h.0)
 children_shown directory memory (n ∷ names) (x ∷ listing) h c (inr inside) = children_shown directory memory names listing h.1 c inside
 
-none_unseen : (directory : Key) (resources : Resources) (names : List (List ℕ)) (listing : List (Result DirEntry FsError)) → AllZip (IsShown directory resources) names listing → filter_map (unseen_record directory) (children_of names listing) ≡ []
+none_unseen : (part : Option ℕ) (directory : Key) (resources : Resources) (names : List (List ℕ)) (listing : List (Result DirEntry FsError)) → AllZip (IsShown part directory resources) names listing → filter_map (unseen_record directory) (children_of names listing) ≡ []
 unfolding children_of
-none_unseen directory resources [] listing h = refl
-none_unseen directory resources (n ∷ names) [] h = absurd h
-none_unseen directory resources (n ∷ names) (Ok entry ∷ listing) h = none_unseen directory resources names listing h.1
-none_unseen directory resources (n ∷ names) (Err e ∷ listing) h = absurd h.0
+none_unseen part directory resources [] listing h = refl
+none_unseen part directory resources (n ∷ names) [] h = absurd h
+none_unseen part directory resources (n ∷ names) (Ok entry ∷ listing) h = none_unseen part directory resources names listing h.1
+none_unseen part directory resources (n ∷ names) (Err e ∷ listing) h = absurd h.0
 
 -- nothing changes, and the members are shown
 abbrev pub ShowsAll : Key → Memory → Vec (Result DirEntry FsError) Global → Contents → Contents → Type 0
-ShowsAll directory memory listing old new = (new ≡ old) × IsListing directory memory.resources listing.items
+ShowsAll directory memory listing old new = (new ≡ old) × IsListing memory.tag_part directory memory.resources listing.items
 
 lists : (directory : Key) (memory : Memory) (listing : Vec (Result DirEntry FsError) Global) (old new : Store) → old.contents ≡ contents_of memory → old.facts.shows ≡ (λ _. true)
     → Grants (read_dir_call old.contents directory) (ShowsAll directory memory listing) old new → Lists directory old listing.items new
@@ -62,13 +62,13 @@ lists directory memory listing old new is all g = record {
   allowed = g.allowed;
   children = children;
   are = record {
-    each_once = subst (IsPermutation (members old.contents.tree directory)) (ap (λ (k : Contents). members k.tree directory) is ∙ sym (children_names directory memory.resources names listing.items g.effect.1)) (IsPermutation-refl (members old.contents.tree directory));
+    each_once = subst (IsPermutation (members old.contents.tree directory)) (ap (λ (k : Contents). members k.tree directory) is ∙ sym (children_names memory.tag_part directory memory.resources names listing.items g.effect.1)) (IsPermutation-refl (members old.contents.tree directory));
     shown = subst (λ shows. (c : Child) → IsIn c children → IsShownAs shows old.contents directory c) (sym all)
         (subst (λ (k : Contents). (c : Child) → IsIn c children → IsShownAs (λ _. true) k directory c) (sym is) (children_shown directory memory names listing.items g.effect.1));
   };
-  listed = children_listing directory memory.resources names listing.items g.effect.1;
+  listed = children_listing memory.tag_part directory memory.resources names listing.items g.effect.1;
   same = g.effect.0;
-  recorded = g.recorded ∙ ap (λ ls. old.log ++ record_of (read_dir_call old.contents directory) Granted ∷ ls) (sym (none_unseen directory memory.resources names listing.items g.effect.1));
+  recorded = g.recorded ∙ ap (λ ls. old.log ++ record_of (read_dir_call old.contents directory) Granted ∷ ls) (sym (none_unseen memory.tag_part directory memory.resources names listing.items g.effect.1));
   fixed = g.fixed;
 }
   where

@@ -27,18 +27,18 @@ used-tree resources =
     ∙ ap (sum_by (λ (e : Key × Node). size_of e.1)) (sym (entries-each-some node_in resources))
 
 -- its metadata at each key
-metas-modified : (resources : Resources) (key other : Key) (time : ℕ)
-    → option_map meta_of (get (change_at key (with_modified time) resources) other) ≡ modified_metas key time (λ k. option_map meta_of (get resources k)) other
-metas-modified resources key other time =
-    ap (option_map meta_of) (get-put_at resources key (option_map (with_modified time) (get resources key)) other) ∙ by (eq_by_cmp key_cmp other key) refl (is_same_key other key) refl
+metas-modified : (part : Option ℕ) (resources : Resources) (key other : Key) (time : ℕ)
+    → option_map (meta_of part) (get (change_at key (with_modified time) resources) other) ≡ modified_metas key time (λ k. option_map (meta_of part) (get resources k)) other
+metas-modified part resources key other time =
+    ap (option_map (meta_of part)) (get-put_at resources key (option_map (with_modified time) (get resources key)) other) ∙ by (eq_by_cmp key_cmp other key) refl (is_same_key other key) refl
   where
-    at : (o : Option Stored) → option_map meta_of (option_map (with_modified time) o) ≡ option_map (modified_meta time) (option_map meta_of o)
+    at : (o : Option Stored) → option_map (meta_of part) (option_map (with_modified time) o) ≡ option_map (modified_meta time) (option_map (meta_of part) o)
     at None = refl
     at (Some s) = refl
 
     by : (tied : Bool) → eq_by_cmp key_cmp other key ≡ tied → (same : Bool) → is_same_key other key ≡ same
-        → option_map meta_of (cond tied (option_map (with_modified time) (get resources key)) (get resources other)) ≡ (if same then option_map (modified_meta time) (option_map meta_of (get resources other)) else option_map meta_of (get resources other))
-    by true t true s = at (get resources key) ∙ ap (λ k. option_map (modified_meta time) (option_map meta_of (get resources k))) (sym ((tied_decides other key).0 t))
+        → option_map (meta_of part) (cond tied (option_map (with_modified time) (get resources key)) (get resources other)) ≡ (if same then option_map (modified_meta time) (option_map (meta_of part) (get resources other)) else option_map (meta_of part) (get resources other))
+    by true t true s = at (get resources key) ∙ ap (λ k. option_map (modified_meta time) (option_map (meta_of part) (get resources k))) (sym ((tied_decides other key).0 t))
     by false t false s = refl
     by true t false s = absurd (let is : is_same_key other key ≡ true = (same_key_decides other key).1 ((tied_decides other key).0 t) in cc)
     by false t true s = absurd (let is : eq_by_cmp key_cmp other key ≡ true = (tied_decides other key).1 ((same_key_decides other key).0 s) in cc)
@@ -55,7 +55,7 @@ module _ (old : memory.Memory) (key : Key) (time : ℕ) (s : Stored) (here : get
       record {
         tree = tree-modified i;
         properties = changed-properties old.resources key (with_modified time) s here refl i;
-        metas = fun_ext (λ other. metas-modified old.resources key other time) i;
+        metas = fun_ext (λ other. metas-modified old.tag_part old.resources key other time) i;
         quota = option_map (λ total. record { used = min (used-modified i) (2 ^ 64 - 1); total = total }) old.limit;
       }
 

@@ -1,15 +1,18 @@
 -- The in-memory store is well formed: this project's own choice.
-use Rattle.std.proofs.Common.{◌≡◌, ◌∙◌, ℕ, zero, suc, ◌<◌, ◌%◌, ◌/◌, true, false, List, [], ◌∷◌, Option, Some, None, refl, sym, ap, subst, arith, ◌&&◌, ◌==◌, if◌then◌else◌}
+use Rattle.std.proofs.Common.{◌≡◌, ◌∙◌, ℕ, zero, suc, ◌<◌, ◌%◌, ◌/◌, ◌-◌, ◌^◌, ◌++◌, codes, length, replicate, true, false, List, [], ◌∷◌, Option, Some, None, refl, sym, ap, subst, arith, ◌&&◌, ◌==◌, if◌then◌else◌}
 use Rattle.std.specs.Option.{option_map, option_and_then, ForSome}
 use Rattle.std.specs.List.{list_all}
 use Rattle.std.specs.Fmt.{digits, digits_onto, digit_glyph}
 use Rattle.std.proofs.lemmas.Bool.Decides.{nat_tests}
+use Rattle.std.proofs.lemmas.List.Folds.{list_all-append}
 use Rattle.std.specs.FinMap.{get, empty, len, len-empty}
 use Rattle.dav_key.specs.Key.{Key, key_cmp}
 use Rattle.dav_resource.specs.Tree as elements
-use Rattle.dav_store.specs.Store.{Node, File, Directory, PropertyMap, IsWellFormed, AreNamed, MetaFits, IsTagText, is_tag_byte}
+use Rattle.dav_resource.specs.declared.meta.Meta.{Meta}
+use Rattle.dav_store.specs.Logged.{Logged}
+use Rattle.dav_store.specs.Store.{Node, File, Directory, PropertyMap, IsWellFormed, AreNamed, MetaFits, IsTagText, is_tag_byte, StartsWith, HasTagFrom, AreTagged}
 use Rattle.dav_store.specs.PropertyCalls.{some_properties}
-use Rattle.dav_tree.specs.Memory.{Stored, Resources, Memory, tree_of, properties_of, meta_of, contents_of, IsSound, tag_text, is_directory, size_of}
+use Rattle.dav_tree.specs.Memory.{Stored, Resources, Memory, tree_of, properties_of, meta_of, contents_of, IsSound, hexadecimal, sixteen_digits, tag_start, tag_text, seen_of, is_directory, size_of}
 use Rattle.dav_key.specs.EachLaws.{get-each}
 
 -- ---- the tree
@@ -74,20 +77,47 @@ digits_are_tag (suc k) n more h =
       | false ↦ digits_are_tag k (n / 16) _ last
     ]
 
+joined_is : (first more : List ℕ) → IsTagText first → IsTagText more → IsTagText (first ++ more)
+joined_is first more h k = list_all-append is_tag_byte first more ∙ ap (λ b. b && list_all is_tag_byte more) h ∙ k
+
+zeros_are : (count : ℕ) → IsTagText (replicate count 48)
+zeros_are zero = refl
+zeros_are (suc count) = zeros_are count
+
 -- a number in hexadecimal is a valid entity tag
-tag_text_is : (version : ℕ) → IsTagText (tag_text version)
+hexadecimal_is : (number : ℕ) → IsTagText (hexadecimal number)
 unfolding digits
-tag_text_is version = digits_are_tag 64 version [] refl
+hexadecimal_is number = digits_are_tag 64 number [] refl
 
-some_tag : (version : ℕ) (text : List ℕ) → Some (tag_text version) ≡ Some text → IsTagText text
-some_tag version text e = let same : tag_text version ≡ text = cc in subst IsTagText same (tag_text_is version)
+sixteen_are : (number : ℕ) (more : List ℕ) → IsTagText more → IsTagText (sixteen_digits number ++ more)
+sixteen_are number more = joined_is (sixteen_digits number) more (joined_is (replicate (16 - length (hexadecimal number)) 48) (hexadecimal number) (zeros_are (16 - length (hexadecimal number))) (hexadecimal_is number))
 
-meta_fits : (o : Option Stored) → MetaFits (option_map node_in o) (option_map meta_of o)
-meta_fits None = refl
-meta_fits (Some s) = elim s.node as (λ n. MetaFits (Some n) (Some (record (meta_of s) { dir = is_directory n; len = size_of n }))) [
-  | File bytes ↦ (refl, refl, some_tag s.version)
-  | Directory ↦ (refl, some_tag s.version)
+-- so are a part, a hyphen and a version
+tag_text_is : (part : Option ℕ) (version : ℕ) → IsTagText (tag_text part version)
+tag_text_is None version = hexadecimal_is version
+tag_text_is (Some part) version = joined_is (tag_start (Some part)) (hexadecimal version)
+    (sixteen_are (part / 2 ^ 64) (sixteen_digits (part % 2 ^ 64) ++ codes "-") (sixteen_are (part % 2 ^ 64) (codes "-") refl)) (hexadecimal_is version)
+
+some_tag : (part : Option ℕ) (version : ℕ) (text : List ℕ) → Some (tag_text part version) ≡ Some text → IsTagText text
+some_tag part version text e = let same : tag_text part version ≡ text = cc in subst IsTagText same (tag_text_is part version)
+
+meta_fits : (part : Option ℕ) (o : Option Stored) → MetaFits (option_map node_in o) (option_map (meta_of part) o)
+meta_fits part None = refl
+meta_fits part (Some s) = elim s.node as (λ n. MetaFits (Some n) (Some (record (meta_of part s) { dir = is_directory n; len = size_of n }))) [
+  | File bytes ↦ (refl, refl, some_tag part s.version)
+  | Directory ↦ (refl, some_tag part s.version)
 ]
+
+tag_begins : (part : Option ℕ) (version : ℕ) (text : List ℕ) → Some (tag_text part version) ≡ Some text → StartsWith (tag_start part) text
+tag_begins part version text e = let same : tag_text part version ≡ text = cc in record { rest = hexadecimal version; whole = sym same }
+
+tagged_from : (part : Option ℕ) (o : Option Stored) → ForSome (option_map (meta_of part) o) (HasTagFrom (tag_start part))
+tagged_from part None meta e = absurd (let no : None ≡ Some meta = e in cc)
+tagged_from part (Some s) meta e = let is : meta_of part s ≡ meta = cc in subst (HasTagFrom (tag_start part)) is (tag_begins part s.version)
+
+-- each entity tag begins with the part
+pub are_tagged : (memory : Memory) (log : List Logged) → AreTagged (seen_of memory log)
+are_tagged memory log key = tagged_from memory.tag_part (get memory.resources key)
 
 pub is_well_formed : (memory : Memory) → IsSound memory.resources → IsWellFormed (contents_of memory)
 is_well_formed memory sound = record {
@@ -98,5 +128,5 @@ is_well_formed memory sound = record {
   none_empty = λ key e. none_empty (get memory.resources key) (sym (get-properties memory.resources key) ∙ e);
   named = λ key. subst (λ o. ForSome o AreNamed) (sym (get-properties memory.resources key))
       (named_kept (get memory.resources key) (sound.named key));
-  metas = λ key. subst (λ o. MetaFits o (option_map meta_of (get memory.resources key))) (sym (get-tree memory.resources key)) (meta_fits (get memory.resources key));
+  metas = λ key. subst (λ o. MetaFits o (option_map (meta_of memory.tag_part) (get memory.resources key))) (sym (get-tree memory.resources key)) (meta_fits memory.tag_part (get memory.resources key));
 }

@@ -9,6 +9,7 @@ pub mod Codes
 pub mod Dump
 pub mod KeyProps
 pub mod Lawful
+pub mod TagLaws
 pub mod Entry
 pub mod Kept
 pub mod KeptCode

@@ -1,5 +1,5 @@
 -- The state of the in-memory store without its log, and the effects of its calls on it: this project's own choice.
-use Rattle.std.specs.Prelude.{◌≡◌, ◌≢◌, ℕ, ◌+◌, ◌-◌, ◌^◌, min, Bool, true, false, List, [], ◌++◌, length, Option, Some, None}
+use Rattle.std.specs.Prelude.{◌≡◌, ◌≢◌, ℕ, ◌+◌, ◌-◌, ◌/◌, ◌%◌, ◌^◌, min, Bool, true, false, List, [], ◌++◌, length, replicate, Option, Some, None, codes}
 use Rattle.std.specs.Option.{option_map}
 use Rattle.std.specs.List.{sum_by}
 use Rattle.std.specs.Fmt.{digits}
@@ -35,12 +35,14 @@ pub record Held : Type 0 where
   pub next : ℕ
   pub before : Gv
 
--- the resources, the number of changes so far, the current time, the quota, if any: its total bytes, or no limit; and the bodies
+-- the resources, the number of changes so far, the current time, the quota, if any: its total bytes, or no limit; the part of each entity tag that comes
+-- before the version, if there is one; and the bodies
 pub record Memory : Type 0 where
   pub resources : Resources
   pub version : ℕ
   pub moment : ℕ
   pub limit : Option (Option ℕ)
+  pub tag_part : Option ℕ
   pub held : Held
 
 -- ---- what contracts see of it
@@ -72,27 +74,43 @@ file_bytes key resources = bytes_at (get (tree_of resources) key)
 abbrev pub used_by : Resources → ℕ
 used_by resources = sum_by (λ e. size_of e.1.node) (entries resources)
 
--- in lower-case hexadecimal
-abbrev pub tag_text : ℕ → List ℕ
-tag_text version = digits 16 false version
+-- a number in lower-case hexadecimal
+abbrev pub hexadecimal : ℕ → List ℕ
+hexadecimal number = digits 16 false number
 
-abbrev pub meta_of : Stored → Meta
-meta_of s = record { dir = is_directory s.node; len = size_of s.node; modified = Some s.modified; created = Some s.created; accessed = None; status_changed = None; executable = None; etag = Some (tag_text s.version) }
+-- the same of a number of 64 bits, in 16 digits
+abbrev pub sixteen_digits : ℕ → List ℕ
+sixteen_digits number = replicate (16 - length (hexadecimal number)) 48 ++ hexadecimal number
+
+-- what each entity tag begins with: the part, a number of 128 bits, in 32 digits and with a hyphen, or nothing
+abbrev pub tag_start : Option ℕ → List ℕ
+tag_start None = []
+tag_start (Some part) = sixteen_digits (part / 2 ^ 64) ++ (sixteen_digits (part % 2 ^ 64) ++ codes "-")
+
+abbrev pub tag_text : Option ℕ → ℕ → List ℕ
+tag_text part version = tag_start part ++ hexadecimal version
+
+abbrev pub meta_of : Option ℕ → Stored → Meta
+meta_of part s = record { dir = is_directory s.node; len = size_of s.node; modified = Some s.modified; created = Some s.created; accessed = None; status_changed = None; executable = None; etag = Some (tag_text part s.version) }
 
 -- the bytes used are reported as at most 2^64 - 1
 abbrev pub quota_of : Memory → Option Quota
 quota_of memory = option_map (λ total. record { used = min (used_by memory.resources) (2 ^ 64 - 1); total = total }) memory.limit
 
 abbrev pub contents_of : Memory → Contents
-contents_of memory = record { tree = tree_of memory.resources; properties = properties_of memory.resources; metas = λ key. option_map meta_of (get memory.resources key); quota = quota_of memory }
+contents_of memory = record { tree = tree_of memory.resources; properties = properties_of memory.resources; metas = λ key. option_map (meta_of memory.tag_part) (get memory.resources key); quota = quota_of memory }
 
 -- it has dead properties, allows every call and shows every member; what is saved of it is what it was when it was last asked what has changed
-abbrev pub facts_of : Held → Facts
-facts_of held = record { keeps_properties = true; bodies = held.bodies; saved = held.before; allows = λ _. true; shows = λ _. true }
+abbrev pub facts_by : Option ℕ → Held → Facts
+facts_by part held =
+    record { keeps_properties = true; tag_start = tag_start part; bodies = held.bodies; saved = held.before; allows = λ _. true; shows = λ _. true }
+
+abbrev pub facts_of : Memory → Facts
+facts_of memory = facts_by memory.tag_part memory.held
 
 -- the store with this log
 abbrev pub seen_of : Memory → List Logged → Store
-seen_of memory log = record { contents = contents_of memory; facts = facts_of memory.held; log = log }
+seen_of memory log = record { contents = contents_of memory; facts = facts_of memory; log = log }
 
 -- the invariant: the root is a directory, each other resource's parent is a directory, each resource's key is valid, and each property's element has
 -- the name of the property
@@ -165,6 +183,7 @@ pub record IsRenamed (from to : Key) (old new : Memory) : Type 0 where
   pub version : new.version ≡ old.version
   pub moment : new.moment ≡ old.moment
   pub limit : new.limit ≡ old.limit
+  pub tag_part : new.tag_part ≡ old.tag_part
   pub held : new.held ≡ old.held
 
 -- ---- the effects of the calls on bodies
@@ -194,7 +213,7 @@ with_held change old = record old { held = change old.held }
 abbrev pub none_held : Held
 none_held = record { bodies = λ _. None; next = 0; before = gnil }
 
--- the root only, with this number of changes and this quota, and no bodies
+-- the root only, with this number of changes and this quota, no part of the entity tags, and no bodies
 abbrev pub first_memory : ℕ → Option (Option ℕ) → Memory
 first_memory version limit =
-    record { resources = insert empty [] (fresh Directory 0 0); version = version; moment = 0; limit = limit; held = none_held }
+    record { resources = insert empty [] (fresh Directory 0 0); version = version; moment = 0; limit = limit; tag_part = None; held = none_held }

@@ -99,13 +99,14 @@ abbrev pub read_dir_error : Key → Memory → Option FsError
 read_dir_error key old = read_dir_bar (get (tree_of old.resources) key)
 
 -- a member is listed by its name, with its metadata
-abbrev pub IsShown : Key → Resources → List ℕ → Result DirEntry FsError → Type 0
-IsShown directory resources name (Ok entry) = (entry.name ≡ name) × (option_map meta_of (get resources (member directory name)) ≡ Some entry.meta)
-IsShown directory resources name (Err e) = ⊥
+abbrev pub IsShown : Option ℕ → Key → Resources → List ℕ → Result DirEntry FsError → Type 0
+IsShown part directory resources name (Ok entry) =
+    (entry.name ≡ name) × (option_map (meta_of part) (get resources (member directory name)) ≡ Some entry.meta)
+IsShown part directory resources name (Err e) = ⊥
 
 -- each member is listed, in the order of the names
-abbrev pub IsListing : Key → Resources → List (Result DirEntry FsError) → Type 0
-IsListing directory resources listing = AllZip (IsShown directory resources) (members (tree_of resources) directory) listing
+abbrev pub IsListing : Option ℕ → Key → Resources → List (Result DirEntry FsError) → Type 0
+IsListing part directory resources listing = AllZip (IsShown part directory resources) (members (tree_of resources) directory) listing
 
 -- ---- remove_file and remove_dir: not counted as changes, so never refused
 

@@ -16,7 +16,7 @@ use Rattle.dav_tree.specs.declared.tree_fs.TreeFs.{TreeFs}
 module _ {M B : Type 0} {g : Ghosts M B} where
   abbrev pub memory_of : TreeFs M B g → Memory
   memory_of store =
-      record { resources = store.entries.resources; version = store.version; moment = store.moment; limit = store.limit; held = held_of store.entries }
+      record { resources = store.entries.resources; version = store.version; moment = store.moment; limit = store.limit; tag_part = store.tag_part; held = held_of store.entries }
 
   -- the bytes of the body of a number, none if there is no such body
   abbrev pub body_of : TreeFs M B g → ℕ → List ℕ

@@ -125,12 +125,18 @@ impl<M: Medium> Entries<M> {
         Some(Place { number, directory })
     }
 
-    /// Returns the metadata of the resource with a number. Fails only if memory runs out.
-    pub fn meta(&self, number: usize) -> Result<Meta, AllocError>
+    /// Returns the metadata of the resource with a number, of a store with this part of the entity tags. Fails only if
+    /// memory runs out.
+    pub fn meta(&self, number: usize, tag_part: Option<u128>) -> Result<Meta, AllocError>
         requires { IsNumber self.now number }
-        ensures { (key : Key) (s : Stored) → IsAt self.now key number s → IfOk result (λ meta. meta ≡ meta_of s) }
+        ensures { (key : Key) (s : Stored) → IsAt self.now key number s → IfOk result (λ meta. meta ≡ meta_of tag_part s) }
     {
-        entry::meta(self.alloc, &self.medium, entry_at(&self.tree.nodes, number))
+        entry::meta(
+            self.alloc,
+            &self.medium,
+            entry_at(&self.tree.nodes, number),
+            tag_part,
+        )
     }
 
     /// Returns the length of the file with a number in bytes, or 0 for a directory.

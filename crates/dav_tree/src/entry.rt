@@ -1,7 +1,6 @@
 //! One resource of a store.
 ghost use Rattle.std.specs.Prelude.{◌≡◌, ◌<◌, ◌+◌, ◌^◌, ℕ, List, length, IfOk, IfErr, OnOk, OnErr, true, false, ◌++◌, string_bytes};
 ghost use Rattle.std.specs.FinMap as map;
-ghost use Rattle.std.specs.Fmt.{digit_glyph};
 ghost use Rattle.dav_tree.specs.Memory.{is_directory, size_of, tag_text, meta_of};
 ghost use Rattle.dav_tree.specs.Bodies.{KeepsBodies, FailsFor};
 ghost use Rattle.dav_tree.specs.Entry.{node_by, stored_by, remade, IsWrittenTo, is_held, is_file};
@@ -70,16 +69,17 @@ pub(crate) fn len<M: Medium>(medium: &M, content: &Content<M::Body>) -> u64
     }
 }
 
-/// Returns the metadata of a resource. Fails only if memory runs out.
+/// Returns the metadata of a resource of a store with this part of the entity tags. Fails only if memory runs out.
 pub(crate) fn meta<M: Medium>(
     alloc: Global,
     medium: &M,
     entry: &Entry<M::Body>,
+    tag_part: Option<u128>,
 ) -> Result<Meta, AllocError>
     requires { is_held (M.holds medium.now) entry.now.content ≡ true }
-    ensures { IfOk result (λ meta. meta ≡ meta_of (stored_by (M.bytes medium.now) entry.now)) }
+    ensures { IfOk result (λ meta. meta ≡ meta_of tag_part (stored_by (M.bytes medium.now) entry.now)) }
 {
-    let tag = tag_text(alloc, entry.version)?;
+    let tag = tag_text(alloc, tag_part, entry.version)?;
     Ok(Meta {
         dir: entry.is_directory(),
         len: len(medium, &entry.content),
@@ -180,36 +180,16 @@ pub(crate) fn write_body<M: Medium>(
     Ok(())
 }
 
-/// Formats a number in lower-case hexadecimal.
-fn tag_text(alloc: Global, version: u64) -> Result<String, AllocError>
-    ensures { IfOk result (λ text. string_bytes text ≡ tag_text version) }
-{
-    let mut text = String::new(alloc);
-    push_hexadecimal(&mut text, version)?;
-    Ok(text)
-}
+/// What a number of 128 bits is divided by, to format it in two halves.
+const HALF: u128 = 1 << 64;
 
-/// Appends a number in lower-case hexadecimal. Fails only if memory runs out.
-#[tactic(auto, using(crate::proofs::Hexadecimal::by_digits))]
-fn push_hexadecimal(text: &mut String, number: u64) -> Result<(), AllocError>
-    ensures { OnOk result (string_bytes text.new ≡ string_bytes text.old ++ tag_text number) }
+/// Formats the entity tag of a version, in lower-case hexadecimal, behind the part with a hyphen if there is one.
+fn tag_text(alloc: Global, part: Option<u128>, version: u64) -> Result<String, AllocError>
+    ensures { IfOk result (λ text. string_bytes text ≡ tag_text part version) }
 {
-    if number < 16 {
-        return text.push(hexadecimal_digit(number as u8));
-    }
-    push_hexadecimal(text, number / 16)?;
-    text.push(hexadecimal_digit((number % 16) as u8))
-}
-
-/// Returns the lower-case hexadecimal digit of a number below 16.
-fn hexadecimal_digit(number: u8) -> char
-    requires { number < 16 }
-    ensures digit { result ≡ digit_glyph false number }
-    ensures ascii { result < 128 }
-{
-    if number < 10 {
-        char::from(b'0' + number)
-    } else {
-        char::from(b'a' + (number - 10))
-    }
+    let Some(part) = part else {
+        return format!(in alloc; "{version:x}");
+    };
+    let (high, low) = ((part / HALF) as u64, (part % HALF) as u64);
+    format!(in alloc; "{high:016x}{low:016x}-{version:x}")
 }

@@ -10,7 +10,7 @@ ghost use Rattle.dav_store.specs.Transfers.{Copies, Renames};
 ghost use Rattle.dav_store.specs.PropertyCalls.{name_of, properties_at, IsWhole, GetsProp, GetsProps, PatchesProps, GetsQuota};
 ghost use Rattle.dav_tree.specs.Memory.{IsSound, contents_of, begun, lengthened, put_held, with_held, made, without, copied, IsRenamed, with_patches};
 ghost use Rattle.dav_tree.specs.Dump.{IsDump};
-ghost use Rattle.dav_tree.specs.Lawful.{is_well_formed};
+ghost use Rattle.dav_tree.specs.Lawful.{are_tagged, is_well_formed};
 ghost use Rattle.dav_tree.specs.MemoryCalls.{PlacesFile, Records, RecordsWith, kept, look_error, read_dir_error, IsListing, create_dir_error, remove_file_error, remove_dir_error, read_bytes_error, open_error, opened, file_error, write_error, written, after_write, copy_error, rename_error, get_prop_error, properties_error, IsPropertyList, quota_error, start_error, add_error};
 ghost use Rattle.std.proofs.Props.{props};
 ghost use Rattle.dav_tree.specs.KeyProps.{IsKey-prop};
@@ -41,7 +41,8 @@ use std::alloc::Global;
 /// and the change counter is at `u64::MAX`. The error is then `GeneralFailure`. The counter starts at 0
 /// (`with_version` sets another start). Each successful `create_dir`, `copy`, `write_bytes` and `write_body`,
 /// and each `open` that creates or truncates a file, adds one. The new number, in lower-case hexadecimal, is
-/// the entity tag of the resource created or changed. The other case is an error of the medium's own, in
+/// the entity tag of the resource created or changed, behind the part that `set_tag_part` has set for all tags,
+/// if any. The other case is an error of the medium's own, in
 /// `read_bytes`, `write_bytes`, `write_body` and `copy`. A medium in memory has no such errors.
 ///
 /// It allows every call and lists every member. The bodies that it holds for requests to come do not count in
@@ -56,6 +57,7 @@ pub struct TreeFs<M: Medium> {
     version: u64,
     moment: u64,
     limit: Option<Option<u64>>,
+    tag_part: Option<u128>,
     log: Vec<Record>,
     ghost sound: { IsSound entries.resources } by { Prim.hlevel (props, IsKey-prop) },
 }
@@ -109,7 +111,7 @@ impl TreeFs<InMemory> {
 }
 
 impl<M: Medium> TreeFs<M> {
-    ghost use Rattle.dav_tree.specs.TreeFs.{memory_of, store_of, records_of, before_of, older_of, entries_of};
+    ghost use Rattle.dav_tree.specs.TreeFs.{memory_of, store_of, records_of, before_of, older_of, entries_of, honest_of};
     ghost use Rattle.dav_tree.specs.Memory.{first_memory, asked, modified_at};
     ghost use Rattle.dav_tree.specs.Modified.{SetsModified};
     ghost use Rattle.dav_nodes.specs.Rows.{row_in};
@@ -134,6 +136,7 @@ impl<M: Medium> TreeFs<M> {
             version,
             moment: 0,
             limit,
+            tag_part: None,
             log: Vec::new(alloc),
         })
     }
@@ -240,6 +243,18 @@ impl<M: Medium> TreeFs<M> {
         self.moment = now;
     }
 
+    /// Sets the part of each entity tag that comes before the version, with a hyphen, in lower-case hexadecimal. All
+    /// tags change, and nothing else. Two stores with different parts have no tag in common.
+    pub fn set_tag_part(&mut self, part: u128)
+        ensures memory { memory_of self.new ≡ record (memory_of self.old) { tag_part = Some part } }
+        ensures entries { entries_of self.new ≡ entries_of self.old }
+        ensures older { older_of self.new ≡ older_of self.old }
+        ensures honest { honest_of self.new ≡ honest_of self.old }
+        ensures records { records_of self.new ≡ records_of self.old }
+    {
+        self.tag_part = Some(part);
+    }
+
     /// Sets when the resource at a path was last modified, in whole seconds since 1970. Nothing else changes: its entity
     /// tag and the log stay the same.
     ///
@@ -268,6 +283,8 @@ impl<C, M: Medium> GuardedFileSystem<C> for TreeFs<M> {
 
     ghost well_formed = { λ store. is_well_formed (memory_of store) store.sound };
 
+    ghost tagged = { λ store. are_tagged (memory_of store) (map logged_of store.log.items) };
+
     ghost allowed = { λ store call inside granted. refl };
 
     fn metadata(&mut self, path: &DavPath, _credentials: &C) -> FsResult<Meta>
@@ -292,7 +309,7 @@ impl<C, M: Medium> GuardedFileSystem<C> for TreeFs<M> {
 
     fn read_dir(&mut self, path: &DavPath, _credentials: &C) -> FsResult<Vec<FsResult<DirEntry>>>
         ensures seen { ReadsDir (store_of self.old) path.now.key result (store_of self.new) }
-        ensures listing { IfOk result (λ listing. IsListing path.now.key (memory_of self.old).resources listing.items) }
+        ensures listing { IfOk result (λ listing. IsListing (memory_of self.old).tag_part path.now.key (memory_of self.old).resources listing.items) }
         ensures memory { GivesIn (read_dir_error path.now.key) kept self.old result self.new }
         ensures record { Records Op.ReadDir (path.now ∷ []) result (records_of self.old) (records_of self.new) }
     {
@@ -530,6 +547,7 @@ impl<C, M: Medium> GuardedFileSystem<C> for TreeFs<M> {
 
     fn clear_log(&mut self)
         ensures seen { store_of self.new ≡ record (store_of self.old) { log = [] } }
+        ensures honest { honest_of self.new ≡ honest_of self.old }
         ensures memory { memory_of self.new ≡ memory_of self.old }
         ensures records { records_of self.new ≡ [] }
     {

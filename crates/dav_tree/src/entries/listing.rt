@@ -23,19 +23,20 @@ impl<M: Medium> Entries<M> {
         self.tree.nodes.has_members(directory)
     }
 
-    /// Returns the members of a directory in the order of their names, each with its metadata. Fails only if
-    /// memory runs out. Makes one lookup.
+    /// Returns the members of a directory in the order of their names, each with its metadata, of a store with this
+    /// part of the entity tags. Fails only if memory runs out. Makes one lookup.
     pub fn list(
         &self,
         alloc: Global,
         directory: &FlatKey,
+        tag_part: Option<u128>,
     ) -> Result<Vec<FsResult<DirEntry>>, AllocError>
-        ensures { IfOk result (λ listing. IsListing directory.now self.now.resources listing.items) }
+        ensures { IfOk result (λ listing. IsListing tag_part directory.now self.now.resources listing.items) }
     {
         let mut listing = Vec::new(alloc);
         for (name, entry) in self.tree.nodes.members(directory) {
             let name = Text::from_string(name.to_string(alloc)?);
-            let meta = entry::meta(alloc, &self.medium, entry)?;
+            let meta = entry::meta(alloc, &self.medium, entry, tag_part)?;
             listing.push(Ok(DirEntry { name, meta }))?;
         }
         Ok(listing)

@@ -154,7 +154,7 @@ impl<M: Medium> TreeFs<M> {
         ensures answer { GivesIn (file_error file.now.path.key) kept self.old result self.new }
     {
         let number = self.entries.find_file(file.path.key())?;
-        Ok(self.entries.meta(number)?)
+        Ok(self.entries.meta(number, self.tag_part)?)
     }
 }
 

@@ -19,7 +19,7 @@ impl<M: Medium> TreeFs<M> {
         ensures answer { GivesIn (look_error path.now.key) kept self.old result self.new }
     {
         match self.entries.find(path.key()) {
-            Some(place) => Ok(self.entries.meta(place.number)?),
+            Some(place) => Ok(self.entries.meta(place.number, self.tag_part)?),
             None => Err(FsError::NotFound),
         }
     }
@@ -27,7 +27,7 @@ impl<M: Medium> TreeFs<M> {
     /// Returns the members of a directory.
     pub(super) fn list(&mut self, path: &DavPath) -> FsResult<Vec<FsResult<DirEntry>>>
         ensures log { self.new.log ≡ self.old.log }
-        ensures listing { IfOk result (λ listing. IsListing path.now.key (memory_of self.old).resources listing.items) }
+        ensures listing { IfOk result (λ listing. IsListing (memory_of self.old).tag_part path.now.key (memory_of self.old).resources listing.items) }
         ensures answer { GivesIn (read_dir_error path.now.key) kept self.old result self.new }
     {
         let Some(place) = self.entries.find(path.key()) else {
@@ -36,7 +36,8 @@ impl<M: Medium> TreeFs<M> {
         if !place.directory {
             return Err(FsError::Forbidden);
         }
-        Ok(self.entries.list(*self.log.allocator(), path.key())?)
+        let alloc = *self.log.allocator();
+        Ok(self.entries.list(alloc, path.key(), self.tag_part)?)
     }
 
     /// Returns the number of the next change, or `GeneralFailure` if the counter is at `u64::MAX`.

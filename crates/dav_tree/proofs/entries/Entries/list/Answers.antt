@@ -24,7 +24,7 @@ loop-name-preserved g c =
       names = inv.names;
       values = inv.values;
       done = inv.done ++ (c.in-Some.name.now, c.in-Some.entry.now) ∷ [];
-      shown = listed-more (g.M.Medium.bytes f.medium) inv.done c.loop-name.listing.items c.push.new.self.items (c.in-Some.name.now, c.in-Some.entry.now) (record { name = c.from_string-name.result; meta = c.in_ok-meta.meta }) inv.shown
+      shown = listed-more c.args.tag_part (g.M.Medium.bytes f.medium) inv.done c.loop-name.listing.items c.push.new.self.items (c.in-Some.name.now, c.in-Some.entry.now) (record { name = c.from_string-name.result; meta = c.in_ok-meta.meta }) inv.shown
           (c.from_string-name.ensures ∙ c.in_ok-to_string.ensures.ok) c.in_ok-meta.ensures c.in_ok-push.ensures.items;
       left = left-more inv.done c.next.new.self inv.all (c.in-Some.name.now, c.in-Some.entry.now) left;
     }
@@ -34,6 +34,6 @@ returns g c =
     let f = c.self.inside in
     let inv = c.loop-name.invariant in
     let all : inv.done ≡ inv.all = none-left inv.done inv.all (ap (λ (es : List (List ℕ × Entry g.row.M-Body.Denot)). inv.done ++ es) (sym c.in-None.ensures.steps.0) ∙ inv.left) in
-    subst (λ (k : Kept). IsListing c.args.directory.now k.resources c.loop-name.listing.items) c.self.view_is
-    (listed (g.M.Medium.bytes f.medium) f.tree.nodes c.args.directory.now inv.all c.loop-name.listing.items inv.names inv.values
-    (subst (λ (ms : List (List ℕ × Entry g.row.M-Body.Denot)). AllZip (IsEntryOf (g.M.Medium.bytes f.medium)) ms c.loop-name.listing.items) all inv.shown))
+    subst (λ (k : Kept). IsListing c.args.tag_part c.args.directory.now k.resources c.loop-name.listing.items) c.self.view_is
+    (listed (g.M.Medium.bytes f.medium) f.tree.nodes c.args.directory.now c.args.tag_part inv.all c.loop-name.listing.items inv.names inv.values
+    (subst (λ (ms : List (List ℕ × Entry g.row.M-Body.Denot)). AllZip (IsEntryOf c.args.tag_part (g.M.Medium.bytes f.medium)) ms c.loop-name.listing.items) all inv.shown))

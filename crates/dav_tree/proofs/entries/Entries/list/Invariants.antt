@@ -13,6 +13,6 @@ invariant-loop-name g l = record {
   names : map (λ m. m.0) all ≡ names_among (keys l.self-inside.tree.nodes.values) l.directory;
   values : All (λ m. get l.self-inside.tree.nodes.values (member l.directory m.0) ≡ Some m.1) all;
   done : List (List ℕ × Entry g.row.M-Body.Denot);
-  shown : AllZip (IsEntryOf (g.M.Medium.bytes l.self-inside.medium)) done l.listing.items;
+  shown : AllZip (IsEntryOf l.tag_part (g.M.Medium.bytes l.self-inside.medium)) done l.listing.items;
   left : done ++ l.name-iterator ≡ all;
 }

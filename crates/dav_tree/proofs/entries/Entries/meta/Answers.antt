@@ -11,4 +11,4 @@ entry_at-requires g c =
 pub returns : goal.returns
 returns g c = λ key s at.
     let same = stored-in (g.M.Medium.bytes c.self.inside.medium) _ c.self.inside.tree.nodes c.self.inside.bodies c.self.inside.next _ c.args.self.now c.self.view_is key c.args.number s c.entry_at.result.now at c.entry_at.ensures in
-    ok_then c.meta.result (λ meta is. is ∙ ap meta_of same) c.meta.ensures
+    ok_then c.meta.result (λ meta is. is ∙ ap (meta_of c.args.tag_part) same) c.meta.ensures

@@ -1,4 +1,4 @@
-use Rattle.std.proofs.Common.{◌≡◌, ◌∙◌, ◌||◌, Bool, true, false, refl, sym, ap, subst}
+use Rattle.std.proofs.Common.{◌≡◌, ◌∙◌, ◌||◌, Bool, true, false, None, refl, sym, ap, subst}
 use Rattle.dav_tree.specs.Before.{entries_code, saved_code}
 use Rattle.dav_tree.specs.Entry.{is_held}
 use Rattle.dav_tree.specs.Kept.{resources_by}
@@ -40,6 +40,7 @@ returns-clause-memory g c = λ tree are.
       version = c.args.version;
       moment = 0;
       limit = c.args.limit;
+      tag_part = None;
       held = (loaded.held ∙ ap (loaded_held m.body_code b) same) i;
     }
 

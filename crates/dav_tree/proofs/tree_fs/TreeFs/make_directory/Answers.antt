@@ -18,7 +18,7 @@ returns-then-is_some-clause-made g c =
     let key = c.args.path.now.key in
     let (place, found) = found-of c.args.self.now.entries _ c.find.result c.find.ensures.found (sym c.is_some.ensures ∙ c.if-is_some.true) in
     let here = found-key _ _ c.find.ensures.same key _ c.key.ensures.value _ _ found in
-    over-err _ _ _ _ _ _ (ap (λ b. change_error b m) (place_taken m.resources key found.stored (get (tree_of m.resources) (parent key)) here)) (memory-same _ _ _ _ _ c.find.ensures.same)
+    over-err _ _ _ _ _ _ (ap (λ b. change_error b m) (place_taken m.resources key found.stored (get (tree_of m.resources) (parent key)) here)) (memory-same _ _ _ _ _ _ c.find.ensures.same)
 
 pub returns-in_err-version-clause-made : goal.returns-in_err-version-clause-made
 returns-in_err-version-clause-made g c =
@@ -27,7 +27,7 @@ returns-in_err-version-clause-made g c =
     let same = c.find.ensures.same in
     let missing = missing-key _ _ c.find.ensures.same key _ c.key.ensures.value (absent-of c.args.self.now.entries _ c.find.result c.find.ensures.found (sym c.is_some.ensures ∙ c.if-is_some.false)) in
     let above = directory-above c.args.self.now.entries c.find.new.self c.find.ensures.same key _ c.key-2.ensures.value _ c.has_directory_above.ensures c.if-not-has_directory_above.false in
-    over-exit _ _ _ _ _ _ _ c.from_residual.ensures.1 (dir_free m key missing above ∙ c.in_err-version.ensures) (memory-same _ _ _ _ _ same)
+    over-exit _ _ _ _ _ _ _ c.from_residual.ensures.1 (dir_free m key missing above ∙ c.in_err-version.ensures) (memory-same _ _ _ _ _ _ same)
 
 pub invariant_of-self-2 : goal.invariant_of-self-2
 invariant_of-self-2 g c =
@@ -52,5 +52,5 @@ returns-clause-made g c =
     let missing = missing-key _ _ c.find.ensures.same key _ c.key.ensures.value (absent-of e _ c.find.result c.find.ensures.found (sym c.is_some.ensures ∙ c.if-is_some.false)) in
     let above = directory-above e c.find.new.self c.find.ensures.same key _ c.key-2.ensures.value _ c.has_directory_above.ensures c.if-not-has_directory_above.false in
     over-ok _ _ _ _ _ _ (dir_free m key missing above ∙ c.in_ok-version.ensures.1)
-    (memory-changed c.in_ok-version.version m.moment m.limit e c.find.new.self c.add_directory.new.self (λ r. insert r key (fresh Directory c.in_ok-version.version m.moment)) same (rw c.key-3.ensures.value at c.in_ok-add_directory.ensures.ok)
+    (memory-changed c.in_ok-version.version m.moment m.limit m.tag_part e c.find.new.self c.add_directory.new.self (λ r. insert r key (fresh Directory c.in_ok-version.version m.moment)) same (rw c.key-3.ensures.value at c.in_ok-add_directory.ensures.ok)
     ∙ ap (λ v. record m { resources = insert m.resources key (fresh Directory v m.moment); version = v }) c.in_ok-version.ensures.0)

@@ -16,7 +16,7 @@ pub returns-then-is_none-clause-renamed : goal.returns-then-is_none-clause-renam
 returns-then-is_none-clause-renamed g c =
     let e = c.args.self.now.entries in
     let missing = missing-key _ _ c.find.ensures.same c.args.from.now.key _ c.key.ensures.value (absent-of e _ c.find.result c.find.ensures.found (c.is_none.ensures ∙ ap not c.if-is_none.true)) in
-    over-err _ _ _ _ _ _ (rename_missing e.resources c.args.from.now.key c.args.to.now.key missing) (memory-same _ _ _ _ _ c.find.ensures.same)
+    over-err _ _ _ _ _ _ (rename_missing e.resources c.args.from.now.key c.args.to.now.key missing) (memory-same _ _ _ _ _ _ c.find.ensures.same)
 
 pub returns-then-is_below-clause-renamed : goal.returns-then-is_below-clause-renamed
 returns-then-is_below-clause-renamed g c =
@@ -25,7 +25,7 @@ returns-then-is_below-clause-renamed g c =
     let (place, found) = found-of e _ c.find.result c.find.ensures.found (c.is_none.ensures ∙ ap not c.if-is_none.false) in
     let here = found-key _ _ c.find.ensures.same from _ c.key.ensures.value _ _ found in
     let below : from ≢ [] = λ root. (let clash : true ≡ false = sym (c.is_root.ensures.1 (c.key-2.ensures.value ∙ root)) ∙ c.if-is_root.false in cc) in
-    over-err _ _ _ _ _ _ (rename_at e.resources from to found.stored here below ∙ ap (λ b. if b then Some Forbidden else create_dir_bar (get (tree_of e.resources) to) (get (tree_of e.resources) (parent to))) (sym c.is_below.ensures ∙ c.if-is_below.true)) (memory-same _ _ _ _ _ c.find.ensures.same)
+    over-err _ _ _ _ _ _ (rename_at e.resources from to found.stored here below ∙ ap (λ b. if b then Some Forbidden else create_dir_bar (get (tree_of e.resources) to) (get (tree_of e.resources) (parent to))) (sym c.is_below.ensures ∙ c.if-is_below.true)) (memory-same _ _ _ _ _ _ c.find.ensures.same)
 
 pub returns-then-is_some-clause-renamed : goal.returns-then-is_some-clause-renamed
 returns-then-is_some-clause-renamed g c =
@@ -36,7 +36,7 @@ returns-then-is_some-clause-renamed g c =
     let below : from ≢ [] = λ root. (let clash : true ≡ false = sym (c.is_root.ensures.1 (c.key-2.ensures.value ∙ root)) ∙ c.if-is_root.false in cc) in
     let (place2, found2) = found-of c.find.new.self _ c.find-2.result c.find-2.ensures.found (sym c.is_some.ensures ∙ c.if-is_some.true) in
     let there = (λ i. get (sym c.find.ensures.same i).resources (sym c.key-3.ensures.value i)) ∙ found2.at.there in
-    over-err _ _ _ _ _ _ (rename_at e.resources from to found.stored here below ∙ ap (λ b. if b then Some Forbidden else create_dir_bar (get (tree_of e.resources) to) (get (tree_of e.resources) (parent to))) (sym c.is_below.ensures ∙ c.if-is_below.false) ∙ place_taken e.resources to found2.stored _ there) (memory-same _ _ _ _ _ (c.find-2.ensures.same ∙ c.find.ensures.same))
+    over-err _ _ _ _ _ _ (rename_at e.resources from to found.stored here below ∙ ap (λ b. if b then Some Forbidden else create_dir_bar (get (tree_of e.resources) to) (get (tree_of e.resources) (parent to))) (sym c.is_below.ensures ∙ c.if-is_below.false) ∙ place_taken e.resources to found2.stored _ there) (memory-same _ _ _ _ _ _ (c.find-2.ensures.same ∙ c.find.ensures.same))
 
 pub rename-requires-clause-apart : goal.rename-requires-clause-apart
 rename-requires-clause-apart g c =
@@ -93,4 +93,4 @@ returns-clause-renamed g c =
     let above = directory-above e c.find-2.new.self (c.find-2.ensures.same ∙ c.find.ensures.same) to _ c.key-4.ensures.value _ c.has_directory_above.ensures c.if-not-has_directory_above.false in
     let moved = rw (c.key-5.ensures.value, c.key-6.ensures.value) at c.in_ok-rename.ensures.ok in
     over-ok _ _ _ _ _ _ (rename_at e.resources from to found.stored here below ∙ ap (λ b. if b then Some Forbidden else create_dir_bar (get (tree_of e.resources) to) (get (tree_of e.resources) (parent to))) (sym c.is_below.ensures ∙ c.if-is_below.false) ∙ place_free e.resources to _ free above)
-    (record { resources = subst (λ (k : Kept). IsMoved from to k.resources c.rename.new.self.resources) same moved.resources_are; version = refl; moment = refl; limit = refl; held = moved.held_are ∙ ap held_of same })
+    (record { resources = subst (λ (k : Kept). IsMoved from to k.resources c.rename.new.self.resources) same moved.resources_are; version = refl; moment = refl; limit = refl; tag_part = refl; held = moved.held_are ∙ ap held_of same })

@@ -43,6 +43,6 @@ returns-clause-opened g c =
     let key = c.args.path.now.key in
     let above = directory-above e e refl key _ c.key.ensures.value _ c.has_directory_above.ensures c.if-not-has_directory_above.false in
     over-ok _ _ _ _ _ _ (open_missing c.args.options.now key m c.requires.missing above ∙ ap (λ t. change_error (if t then None else Some NotFound) m) (sym c.may_make.ensures ∙ c.if-not-may_make.false) ∙ c.in_ok-version.ensures.1)
-    (memory-changed c.in_ok-version.version m.moment m.limit e e c.add_file.new.self (λ r. insert r key (fresh (File []) c.in_ok-version.version m.moment)) refl (rw c.key-2.ensures.value at c.in_ok-add_file.ensures.ok)
+    (memory-changed c.in_ok-version.version m.moment m.limit m.tag_part e e c.add_file.new.self (λ r. insert r key (fresh (File []) c.in_ok-version.version m.moment)) refl (rw c.key-2.ensures.value at c.in_ok-add_file.ensures.ok)
     ∙ ap (λ v. record m { resources = insert m.resources key (fresh (File []) v m.moment); version = v }) c.in_ok-version.ensures.0
     ∙ sym (opened-at c.args.options.now key m None c.requires.missing))

@@ -11,13 +11,13 @@ use Rattle.dav_tree.proofs.tree_fs.TreeFs.take_directory.Goals as goal
 pub returns-in_default-clause-removed : goal.returns-in_default-clause-removed
 returns-in_default-clause-removed g c =
     let missing = missing-key _ _ c.find.ensures.same _ _ c.key.ensures.value c.in_default.ensures.found in
-    over-err _ _ _ _ _ _ (remove_dir_missing c.args.self.now.entries.resources c.args.path.now.key missing) (memory-same _ _ _ _ _ c.find.ensures.same)
+    over-err _ _ _ _ _ _ (remove_dir_missing c.args.self.now.entries.resources c.args.path.now.key missing) (memory-same _ _ _ _ _ _ c.find.ensures.same)
 
 pub returns-then-not-place-clause-removed : goal.returns-then-not-place-clause-removed
 returns-then-not-place-clause-removed g c =
     let found = c.in-Some.ensures.found in
     let here = found-key _ _ c.find.ensures.same _ _ c.key.ensures.value _ _ found in
-    over-err _ _ _ _ _ _ (remove_dir_file c.args.self.now.entries.resources c.args.path.now.key found.stored here (sym found.kind ∙ not-true _ c.if-not-place.true)) (memory-same _ _ _ _ _ c.find.ensures.same)
+    over-err _ _ _ _ _ _ (remove_dir_file c.args.self.now.entries.resources c.args.path.now.key found.stored here (sym found.kind ∙ not-true _ c.if-not-place.true)) (memory-same _ _ _ _ _ _ c.find.ensures.same)
 
 pub returns-then-has_members-clause-removed : goal.returns-then-has_members-clause-removed
 returns-then-has_members-clause-removed g c =
@@ -25,7 +25,7 @@ returns-then-has_members-clause-removed g c =
     let here = found-key _ _ c.find.ensures.same _ _ c.key.ensures.value _ _ found in
     let below : c.args.path.now.key ≢ [] = λ root. (let clash : true ≡ false = sym (c.is_root.ensures.1 (c.key-2.ensures.value ∙ root)) ∙ c.if-is_root.false in cc) in
     over-err _ _ _ _ _ _ (remove_dir_full c.args.self.now.entries.resources c.args.path.now.key found.stored here (sym found.kind ∙ not-false _ c.if-not-place.false) below
-    (sym (c.has_members.ensures ∙ (λ i. not (length (members (tree_of (c.find.ensures.same i).resources) (c.key-3.ensures.value i)) == 0))) ∙ c.if-has_members.true)) (memory-same _ _ _ _ _ c.find.ensures.same)
+    (sym (c.has_members.ensures ∙ (λ i. not (length (members (tree_of (c.find.ensures.same i).resources) (c.key-3.ensures.value i)) == 0))) ∙ c.if-has_members.true)) (memory-same _ _ _ _ _ _ c.find.ensures.same)
 
 pub remove-requires-clause-there : goal.remove-requires-clause-there
 remove-requires-clause-there g c =
@@ -57,4 +57,4 @@ returns-clause-removed g c =
     let below : key ≢ [] = λ root. (let clash : true ≡ false = sym (c.is_root.ensures.1 (c.key-2.ensures.value ∙ root)) ∙ c.if-is_root.false in cc) in
     let none = no_names _ (sym (c.has_members.ensures ∙ (λ i. not (length (members (tree_of (c.find.ensures.same i).resources) (c.key-3.ensures.value i)) == 0))) ∙ c.if-has_members.false) in
     over-ok _ _ _ _ _ _ (remove_dir_free c.args.self.now.entries.resources key found.stored here (sym found.kind ∙ not-false _ c.if-not-place.false) below none)
-    (memory-changed _ _ _ c.args.self.now.entries c.find.new.self c.remove.new.self (λ r. remove r key) c.find.ensures.same (rw c.key-4.ensures.value at c.remove.ensures))
+    (memory-changed _ _ _ _ c.args.self.now.entries c.find.new.self c.remove.new.self (λ r. remove r key) c.find.ensures.same (rw c.key-4.ensures.value at c.remove.ensures))

@@ -10,13 +10,13 @@ use Rattle.dav_tree.proofs.tree_fs.TreeFs.take_file.Goals as goal
 pub returns-in_default-clause-removed : goal.returns-in_default-clause-removed
 returns-in_default-clause-removed g c =
     let missing = missing-key _ _ c.find.ensures.same _ _ c.key.ensures.value c.in_default.ensures.found in
-    over-err _ _ _ _ _ _ (ap must_be_file (node_at c.args.self.now.entries.resources c.args.path.now.key None missing)) (memory-same _ _ _ _ _ c.find.ensures.same)
+    over-err _ _ _ _ _ _ (ap must_be_file (node_at c.args.self.now.entries.resources c.args.path.now.key None missing)) (memory-same _ _ _ _ _ _ c.find.ensures.same)
 
 pub returns-then-place-clause-removed : goal.returns-then-place-clause-removed
 returns-then-place-clause-removed g c =
     let found = c.in-Some.ensures.found in
     let here = found-key _ _ c.find.ensures.same _ _ c.key.ensures.value _ _ found in
-    over-err _ _ _ _ _ _ (ap must_be_file (directory_at c.args.self.now.entries.resources c.args.path.now.key found.stored here (sym found.kind ∙ c.if-place.true))) (memory-same _ _ _ _ _ c.find.ensures.same)
+    over-err _ _ _ _ _ _ (ap must_be_file (directory_at c.args.self.now.entries.resources c.args.path.now.key found.stored here (sym found.kind ∙ c.if-place.true))) (memory-same _ _ _ _ _ _ c.find.ensures.same)
 
 pub remove-requires-clause-root : goal.remove-requires-clause-root
 remove-requires-clause-root g c = λ root.
@@ -53,4 +53,4 @@ returns-clause-removed g c =
     let here = found-key _ _ c.find.ensures.same _ _ c.key.ensures.value _ _ found in
     let key = c.args.path.now.key in
     over-ok _ _ _ _ _ _ (ap must_be_file (file_at c.args.self.now.entries.resources key found.stored here (sym found.kind ∙ c.if-place.false)))
-    (memory-changed _ _ _ c.args.self.now.entries c.find.new.self c.remove.new.self (λ r. remove r key) c.find.ensures.same (rw c.key-2.ensures.value at c.remove.ensures))
+    (memory-changed _ _ _ _ c.args.self.now.entries c.find.new.self c.remove.new.self (λ r. remove r key) c.find.ensures.same (rw c.key-2.ensures.value at c.remove.ensures))

@@ -4,7 +4,7 @@ use Rattle.dav_key.specs.Key.{parent}
 use Rattle.dav_resource.specs.PathText.{PathValue}
 use Rattle.dav_tree.specs.TreeFs.{memory_of}
 use Rattle.dav_store.specs.Transfers.{copy_call, IsCopiedTo}
-use Rattle.dav_tree.specs.Memory.{Memory, tree_of, contents_of, copied}
+use Rattle.dav_tree.specs.Memory.{Memory, tree_of, contents_of, copied, facts_of}
 use Rattle.dav_tree.specs.MemoryCalls.{copy_error}
 use Rattle.dav_tree.proofs.Answering.{answers-over, any_ok, change-none, lawful-change, copy_row, copies}
 use Rattle.dav_tree.proofs.tree_fs.TreeFsGuardedFileSystem.copy.Goals as goal
@@ -19,4 +19,4 @@ returns-clause-seen g c =
     c.end_record.ensures.answer c.in_ok-paths.ensures.memory c.end_record.ensures.memory c.in_ok-paths.ensures.log (ap (λ v. v.items) c.copy_file-answer.ensures.log) (ap (map (λ (p : PathValue). p.key)) c.in_ok-paths.ensures.paths)
     c.copy_file-answer.ensures.copied c.end_record.ensures.record
     (change-none (copy_call (contents_of m) c.args.from.now.key c.args.to.now.key).bar m) (λ e. lawful-change (copy_call (contents_of m) c.args.from.now.key c.args.to.now.key).bar m e (copy_row (get (tree_of m.resources) c.args.from.now.key) (get (tree_of m.resources) c.args.to.now.key) (get (tree_of m.resources) (parent c.args.to.now.key))))
-    (λ is. ap (λ (x : Memory). x.held) is) (any_ok c.copy_file-answer.result) (λ a says none is. copies c.args.from.now.key c.args.to.now.key m _ none is))
+    (λ is. ap facts_of is) (any_ok c.copy_file-answer.result) (λ a says none is. copies c.args.from.now.key c.args.to.now.key m _ none is))

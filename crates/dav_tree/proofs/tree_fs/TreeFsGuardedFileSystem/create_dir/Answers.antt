@@ -5,7 +5,7 @@ use Rattle.dav_resource.specs.PathText.{PathValue}
 use Rattle.dav_tree.specs.TreeFs.{memory_of}
 use Rattle.dav_store.specs.Store.{Directory}
 use Rattle.dav_store.specs.Calls.{create_dir_call, IsMadeAt}
-use Rattle.dav_tree.specs.Memory.{Memory, tree_of, contents_of, made}
+use Rattle.dav_tree.specs.Memory.{Memory, tree_of, contents_of, made, facts_of}
 use Rattle.dav_tree.specs.MemoryCalls.{create_dir_error}
 use Rattle.dav_tree.proofs.Answering.{answers-call, any_ok, change-none, lawful-change, create_dir_row, makes}
 use Rattle.dav_tree.proofs.tree_fs.TreeFsGuardedFileSystem.create_dir.Goals as goal
@@ -20,4 +20,4 @@ returns-clause-seen g c =
     c.end_record.ensures.answer c.in_ok-paths.ensures.memory c.end_record.ensures.memory c.in_ok-paths.ensures.log (ap (λ v. v.items) c.make_directory-answer.ensures.log) (ap (map (λ (p : PathValue). p.key)) c.in_ok-paths.ensures.paths)
     c.make_directory-answer.ensures.made c.end_record.ensures.record
     (change-none (create_dir_call (contents_of m) c.args.path.now.key).bar m) (λ e. lawful-change (create_dir_call (contents_of m) c.args.path.now.key).bar m e (create_dir_row (get (tree_of m.resources) c.args.path.now.key) (get (tree_of m.resources) (parent c.args.path.now.key))))
-    (λ is. ap (λ (x : Memory). x.held) is) (any_ok c.make_directory-answer.result) (λ a says none is. makes c.args.path.now.key m _ (change-none (create_dir_call (contents_of m) c.args.path.now.key).bar m none) is))
+    (λ is. ap facts_of is) (any_ok c.make_directory-answer.result) (λ a says none is. makes c.args.path.now.key m _ (change-none (create_dir_call (contents_of m) c.args.path.now.key).bar m none) is))

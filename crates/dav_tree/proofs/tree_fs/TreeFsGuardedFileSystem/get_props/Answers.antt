@@ -3,7 +3,7 @@ use Rattle.std.specs.FinMap.{get}
 use Rattle.dav_resource.specs.PathText.{PathValue}
 use Rattle.dav_tree.specs.TreeFs.{memory_of, store_of}
 use Rattle.dav_store.specs.PropertyCalls.{properties_at, get_props_call, ArePropertiesAt}
-use Rattle.dav_tree.specs.Memory.{Memory, tree_of, contents_of}
+use Rattle.dav_tree.specs.Memory.{Memory, tree_of, contents_of, facts_of}
 use Rattle.dav_tree.specs.MemoryCalls.{properties_error, IsPropertyList}
 use Rattle.dav_tree.proofs.Answering.{answers-call, lawful-bar, properties_row, lists_props}
 use Rattle.dav_tree.proofs.tree_fs.TreeFsGuardedFileSystem.get_props.Goals as goal
@@ -18,4 +18,4 @@ returns-clause-seen g c =
     c.end_record.ensures.answer c.in_ok-paths.ensures.memory c.end_record.ensures.memory c.in_ok-paths.ensures.log (ap (λ v. v.items) c.list_props-answer.ensures.log) (ap (map (λ (p : PathValue). p.key)) c.in_ok-paths.ensures.paths)
     c.list_props-answer.ensures.answer c.end_record.ensures.record
     (λ none. none) (λ e. lawful-bar (get_props_call (store_of c.args.self.now) c.args.path.now.key).bar e (properties_row (get (tree_of m.resources) c.args.path.now.key)))
-    (λ is. ap (λ (x : Memory). x.held) is) (subst (λ (x : Memory). IfOk c.list_props-answer.result (λ props. IsPropertyList (properties_at (contents_of x) c.args.path.now.key) props.items)) c.in_ok-paths.ensures.memory c.list_props-answer.ensures.props) (λ a says none is. lists_props c.args.path.now.key a.items m _ says is))
+    (λ is. ap facts_of is) (subst (λ (x : Memory). IfOk c.list_props-answer.result (λ props. IsPropertyList (properties_at (contents_of x) c.args.path.now.key) props.items)) c.in_ok-paths.ensures.memory c.list_props-answer.ensures.props) (λ a says none is. lists_props c.args.path.now.key a.items m _ says is))

@@ -7,7 +7,7 @@ use Rattle.dav_resource.specs.declared.error.FsError.{FsError}
 use Rattle.dav_tree.specs.Kept.{Kept}
 use Rattle.dav_tree.specs.TreeFs.{memory_of, IfHonest}
 use Rattle.dav_store.specs.Calls.{read_bytes_call, IsReadAt, bytes_from}
-use Rattle.dav_tree.specs.Memory.{Memory, tree_of, contents_of, file_bytes}
+use Rattle.dav_tree.specs.Memory.{Memory, tree_of, contents_of, file_bytes, facts_of}
 use Rattle.dav_tree.specs.MemoryCalls.{read_bytes_error}
 use Rattle.dav_tree.proofs.Answering.{answers-over, lawful-bar, must_be_file_row}
 use Rattle.dav_tree.proofs.Effects.{both_ok, of-honest}
@@ -37,5 +37,5 @@ returns-clause-seen g c =
     c.end_record.ensures.answer c.in_ok-paths.ensures.memory c.end_record.ensures.memory c.in_ok-paths.ensures.log (ap (λ v. v.items) c.read_file-answer.ensures.log) (ap (map (λ (p : PathValue). p.key)) c.in_ok-paths.ensures.paths)
     c.read_file-answer.ensures.answer c.end_record.ensures.record
     (λ none. none) (λ e. lawful-bar (read_bytes_call (contents_of m) key).bar e (must_be_file_row (get (tree_of m.resources) key)))
-    (λ is. ap (λ (x : Memory). x.held) is) (both_ok _ _ c.read_file-answer.result number answer)
+    (λ is. ap facts_of is) (both_ok _ _ c.read_file-answer.result number answer)
     (λ a says none is. record { number = says.0; answer = λ h. of-honest honest h says.1; same = ap contents_of is }))

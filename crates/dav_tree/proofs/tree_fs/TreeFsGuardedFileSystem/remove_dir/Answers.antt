@@ -3,7 +3,7 @@ use Rattle.std.specs.FinMap.{get}
 use Rattle.dav_resource.specs.PathText.{PathValue}
 use Rattle.dav_tree.specs.TreeFs.{memory_of}
 use Rattle.dav_store.specs.Members.{members, remove_dir_call, IsRemovedAt}
-use Rattle.dav_tree.specs.Memory.{Memory, tree_of, contents_of, without}
+use Rattle.dav_tree.specs.Memory.{Memory, tree_of, contents_of, without, facts_of}
 use Rattle.dav_tree.specs.MemoryCalls.{remove_dir_error}
 use Rattle.dav_tree.proofs.Answering.{answers-call, any_ok, lawful-bar, remove_dir_row, removes}
 use Rattle.dav_tree.proofs.tree_fs.TreeFsGuardedFileSystem.remove_dir.Goals as goal
@@ -18,4 +18,4 @@ returns-clause-seen g c =
     c.end_record.ensures.answer c.in_ok-paths.ensures.memory c.end_record.ensures.memory c.in_ok-paths.ensures.log (ap (λ v. v.items) c.take_directory-answer.ensures.log) (ap (map (λ (p : PathValue). p.key)) c.in_ok-paths.ensures.paths)
     c.take_directory-answer.ensures.removed c.end_record.ensures.record
     (λ none. none) (λ e. lawful-bar (remove_dir_call (contents_of m) c.args.path.now.key).bar e (remove_dir_row c.args.path.now.key (get (tree_of m.resources) c.args.path.now.key) (members (tree_of m.resources) c.args.path.now.key)))
-    (λ is. ap (λ (x : Memory). x.held) is) (any_ok c.take_directory-answer.result) (λ a says none is. removes c.args.path.now.key m _ is))
+    (λ is. ap facts_of is) (any_ok c.take_directory-answer.result) (λ a says none is. removes c.args.path.now.key m _ is))

@@ -4,7 +4,7 @@ use Rattle.dav_key.specs.Key.{parent}
 use Rattle.dav_resource.specs.PathText.{PathValue}
 use Rattle.dav_tree.specs.TreeFs.{memory_of}
 use Rattle.dav_store.specs.Transfers.{rename_call, IsRenamedTo}
-use Rattle.dav_tree.specs.Memory.{tree_of, contents_of, IsRenamed}
+use Rattle.dav_tree.specs.Memory.{tree_of, contents_of, IsRenamed, facts_by}
 use Rattle.dav_tree.specs.MemoryCalls.{rename_error}
 use Rattle.dav_tree.proofs.Answering.{answers-call, any_ok, lawful-bar, rename_row, renames}
 use Rattle.dav_tree.proofs.tree_fs.TreeFsGuardedFileSystem.rename.Goals as goal
@@ -19,4 +19,4 @@ returns-clause-seen g c =
     c.end_record.ensures.answer c.in_ok-paths.ensures.memory c.end_record.ensures.memory c.in_ok-paths.ensures.log (ap (λ v. v.items) c.move_all-answer.ensures.log) (ap (map (λ (p : PathValue). p.key)) c.in_ok-paths.ensures.paths)
     c.move_all-answer.ensures.renamed c.end_record.ensures.record
     (λ none. none) (λ e. lawful-bar (rename_call (contents_of m) c.args.from.now.key c.args.to.now.key).bar e (rename_row c.args.from.now.key c.args.to.now.key (get (tree_of m.resources) c.args.from.now.key) (get (tree_of m.resources) c.args.to.now.key) (get (tree_of m.resources) (parent c.args.to.now.key))))
-    (λ is. is.held) (any_ok c.move_all-answer.result) (λ a says none is. renames c.args.from.now.key c.args.to.now.key m _ is))
+    (λ is i. facts_by (is.tag_part i) (is.held i)) (any_ok c.move_all-answer.result) (λ a says none is. renames c.args.from.now.key c.args.to.now.key m _ is))

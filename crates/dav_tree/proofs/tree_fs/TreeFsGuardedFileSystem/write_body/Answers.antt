@@ -7,7 +7,7 @@ use Rattle.dav_resource.specs.declared.error.FsError.{FsError}
 use Rattle.dav_tree.specs.TreeFs.{memory_of}
 use Rattle.dav_store.specs.Calls.{file_call, IsWritten, place_of}
 use Rattle.dav_store.specs.BodyCalls.{stored_bytes}
-use Rattle.dav_tree.specs.Memory.{Memory, tree_of, contents_of}
+use Rattle.dav_tree.specs.Memory.{Memory, tree_of, contents_of, facts_of}
 use Rattle.dav_tree.specs.MemoryCalls.{GivesOver, write_error, written}
 use Rattle.dav_tree.proofs.Answering.{answers-over, any_ok, change-none, lawful-change, file_row, writes}
 use Rattle.dav_tree.proofs.tree_fs.TreeFsGuardedFileSystem.write_body.Goals as goal
@@ -41,4 +41,4 @@ returns-clause-written g c =
     (subst (λ (x : Memory). GivesOver g.M.Medium.refuses (write_error c.args.file.now.path.key (memory_of c.begin_record.new.self)) (written c.args.file.now (stored_bytes x.held.bodies c.args.number)) (memory_of c.begin_record.new.self) c.write_stored-answer.result (memory_of c.write_stored-answer.new.self)) c.in_ok-paths.ensures.memory c.write_stored-answer.ensures.written)
     c.end_record.ensures.record
     (change-none (file_call WriteBytes (contents_of m) c.args.file.now.path.key).bar m) (λ e. lawful-change (file_call WriteBytes (contents_of m) c.args.file.now.path.key).bar m e (file_row (get (tree_of m.resources) c.args.file.now.path.key)))
-    (λ is. ap (λ (x : Memory). x.held) is) (any_ok c.write_stored-answer.result) (λ a says none is. writes c.args.file.now bytes m _ none is))
+    (λ is. ap facts_of is) (any_ok c.write_stored-answer.result) (λ a says none is. writes c.args.file.now bytes m _ none is))

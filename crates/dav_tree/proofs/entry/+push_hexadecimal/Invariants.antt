@@ -1,4 +1,0 @@
-use Rattle.dav_tree.proofs.entry.+push_hexadecimal.Given as goal
-
-abbrev pub decreases-push_hexadecimal : goal.decreases-push_hexadecimal
-decreases-push_hexadecimal l = l.number
