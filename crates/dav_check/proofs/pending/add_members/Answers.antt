@@ -13,10 +13,10 @@ push_members-requires g c =
 pub returns-in-Ok : goal.returns-in-Ok
 returns-in-Ok g c =
     let seen = g.F.GuardedFileSystem.seen in
-    let cleared = ap (λ (s : Store). s.contents) c.clear_log.ensures in
+    let cleared = ap (λ (s : Store). s.contents) c.clear_log.ensures.seen in
     record {
       same = c.in-Ok.ensures.granted.same ∙ cleared;
-      fixed = c.in-Ok.ensures.granted.fixed ∙ ap (λ (s : Store). s.facts) c.clear_log.ensures;
+      fixed = c.in-Ok.ensures.granted.fixed ∙ ap (λ (s : Store). s.facts) c.clear_log.ensures.seen;
       ok = on_ok_weaker c.push_members.result
           (λ takes. subst (λ (contents : Contents). AddsMembers contents c.args.directory.now.key c.args.waiting.now.items c.push_members.new.waiting.items) cleared
           (adds c.args.directory.now (seen c.clear_log.new.self) (seen c.read_dir.new.self) _ c.args.waiting.now.items c.push_members.new.waiting.items c.in-Ok.ensures.granted takes))
@@ -27,7 +27,7 @@ pub returns-in-Err : goal.returns-in-Err
 returns-in-Err g c =
     let seen = g.F.GuardedFileSystem.seen in
     record {
-      same = unlisted_contents c.args.directory.now.key (seen c.clear_log.new.self) (seen c.read_dir.new.self) _ c.in-Err.ensures.declined ∙ ap (λ (s : Store). s.contents) c.clear_log.ensures;
-      fixed = unlisted_facts c.args.directory.now.key (seen c.clear_log.new.self) (seen c.read_dir.new.self) _ c.in-Err.ensures.declined ∙ ap (λ (s : Store). s.facts) c.clear_log.ensures;
+      same = unlisted_contents c.args.directory.now.key (seen c.clear_log.new.self) (seen c.read_dir.new.self) _ c.in-Err.ensures.declined ∙ ap (λ (s : Store). s.contents) c.clear_log.ensures.seen;
+      fixed = unlisted_facts c.args.directory.now.key (seen c.clear_log.new.self) (seen c.read_dir.new.self) _ c.in-Err.ensures.declined ∙ ap (λ (s : Store). s.facts) c.clear_log.ensures.seen;
       ok = tt;
     }
