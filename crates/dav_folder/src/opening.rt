@@ -71,6 +71,7 @@ pub fn read_files<D: Disk, E: Disk + Drop>(
     disk: E,
     changes: &[Change],
     limit: Option<Option<u64>>,
+    tag_part: Option<u128>,
 ) -> Result<Found<DataFile<E>>, OpenError>
     requires log_usable { IsTrue (D.Disk.is_usable files.old.log) }
     requires db_usable { IsTrue (D.Disk.is_usable files.old.db) }
@@ -83,6 +84,7 @@ pub fn read_files<D: Disk, E: Disk + Drop>(
         → IfOk result (λ found. AreClean D.Disk files.new.log files.new.db → IsEmptyIfHonest found (E.Disk.seen disk)) }
     ensures sealed { (tables : Contents) → Keeps (image_of D.Disk files.old) tables
         → IfOk result (λ found. AreClean D.Disk files.new.log files.new.db → IsSealed found.key tables) }
+    ensures tags { IfOk result (λ found. (memory_of found.store).tag_part ≡ tag_part) }
     ensures log { IfOk result (λ found. (store_of found.store).log ≡ []) }
     ensures sound { IfOk result (λ _. AreClean D.Disk files.new.log files.new.db → ¬ IsDamaged (image_of D.Disk files.old).log) }
     ensures only { AreOnlyRead D.Disk files.old files.new }
@@ -90,7 +92,7 @@ pub fn read_files<D: Disk, E: Disk + Drop>(
     let mut disk = disk;
     let loaded = judge(alloc, files, changes)?;
     expect_empty(loaded.version, files, &mut disk)?;
-    read_store(alloc, loaded.rows, loaded.version, disk, limit)
+    read_store(alloc, loaded.rows, loaded.version, disk, limit, tag_part)
 }
 
 /// Checks that there is no byte of a store beside the files of a database of this version, if that is new. It only reads the

@@ -36,8 +36,8 @@ pub struct Found<M: Medium> {
     pub rows: u128,
 }
 
-/// Reads the store of a folder from these rows of its database, over its data file. `limit` is the store's quota. The
-/// contents of the data file stay the same. The rows have the seal that was kept with them, unless they are of version 1,
+/// Reads the store of a folder from these rows of its database, over its data file. `limit` is the store's quota, and
+/// `tag_part` the part of its entity tags that comes before the version, if there is one. The contents of the data file stay the same. The rows have the seal that was kept with them, unless they are of version 1,
 /// which has none.
 ///
 /// - `Damaged`: the rows are not those of a store that was kept, or have another seal.
@@ -51,12 +51,14 @@ pub fn read_store<D: Disk + Drop>(
     version: Version,
     disk: D,
     limit: Option<Option<u64>>,
+    tag_part: Option<u128>,
 ) -> Result<Found<DataFile<D>>, OpenError>
     requires { D.Disk.is_usable disk ≡ true }
     ensures found { (image : Image) (tables : Contents) → AreRowsOfImage rows image tables → IfOk result (IsReadFrom image tables) }
     ensures some { (image : Image) (tables : Contents) → AreRowsOfImage rows image tables → IfOk result (HasSomeBytes image) }
     ensures bytes { (image : Image) (tables : Contents) → AreRowsOfImage rows image tables → IfOk result (HasReadBytes (D.Disk.seen disk) image) }
     ensures limit { (image : Image) (tables : Contents) → AreRowsOfImage rows image tables → IfOk result (λ found. (memory_of found.store).limit ≡ limit) }
+    ensures tags { IfOk result (λ found. (memory_of found.store).tag_part ≡ tag_part) }
     ensures sealed { version ≢ Older → IfOk result (λ found. AreSealed found.key rows) }
     ensures rows { IfOk result (λ found. found.rows ≡ row_count rows) }
     ensures log { IfOk result (λ found. (store_of found.store).log ≡ []) }
@@ -71,7 +73,8 @@ pub fn read_store<D: Disk + Drop>(
         Ok(medium) => medium,
         Err((error, _disk)) => return Err(OpenError::Data(error)),
     };
-    let store = TreeFs::load(alloc, medium, loaded.values, numbers.counter, limit)?;
+    let mut store = TreeFs::load(alloc, medium, loaded.values, numbers.counter, limit)?;
+    store.set_tag_part(tag_part);
     store.show_sound();
     Ok(Found {
         known,

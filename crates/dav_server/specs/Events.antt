@@ -10,7 +10,7 @@ use Rattle.dav_resource.specs.declared.error.DavError.TheVariants.{Memory, Statu
 use Rattle.dav_resource.specs.declared.error.FsError.{FsError}
 use Rattle.dav_resource.specs.declared.request.DavRequest.{DavRequest}
 use Rattle.dav_store.specs.BodyCalls.{StartsBody, AddsToBody, with_body}
-use Rattle.dav_store.specs.Store.{Store}
+use Rattle.dav_store.specs.Store.{Store, AreTagged}
 use Rattle.dav_memls.specs.Expiry.{earliest_expiry}
 use Rattle.dav_access.specs.Reading.{RevealsOnly, sight_by}
 use Rattle.dav_rights.specs.Access.{explanation_by, rights_under}
@@ -158,11 +158,12 @@ abbrev pub IsRejected : Rules → ServerState → RequestValue → DavError → 
 IsRejected rules state frame e = (e ≡ Memory) ⊎ IsUnfit rules.prefix frame e ⊎ ((e ≡ Status 403) × AsksForbidden rules state frame)
 
 -- the engine serves the request (`Serves`) on what its principal sees of the store, which reveals to it nothing else than its rules let it see (`RevealsOnly`);
--- and then the log is emptied
+-- each entity tag then begins as the facts of the store say; and the log is emptied
 pub record Executes (rules : Rules) (request : DavRequest) (answer : Answer) (old new : ServerState) : Type 0 where
   pub after : Seen
   pub served : Serves (method_of request.method) (settings_at rules (seen_for old request.principal)) (seen_for old request.principal) request answer after
   pub reveals : RevealsOnly (sight_by (rights_under old.rights request.principal)) (settings_at rules (seen_for old request.principal)) (seen_for old request.principal) (request ∷ []) (answer ∷ []) after
+  pub tagged : AreTagged after.store
   pub emptied : new ≡ record old { seen = seen_at_rest after }
 
 -- the request of the frame, at the server's time, asks nothing that is forbidden, and is executed

@@ -12,6 +12,7 @@ pub mod Batches
 pub mod Answers
 pub mod Guarantees
 pub mod HonestLaws
+pub mod TagLaws
 pub mod Exchanges
 pub mod Snapshots
 pub mod Keeping

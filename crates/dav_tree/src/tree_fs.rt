@@ -111,7 +111,7 @@ impl TreeFs<InMemory> {
 }
 
 impl<M: Medium> TreeFs<M> {
-    ghost use Rattle.dav_tree.specs.TreeFs.{memory_of, store_of, records_of, before_of, older_of, entries_of, honest_of};
+    ghost use Rattle.dav_tree.specs.TreeFs.{memory_of, store_of, records_of, before_of, older_of, entries_of};
     ghost use Rattle.dav_tree.specs.Memory.{first_memory, asked, modified_at};
     ghost use Rattle.dav_tree.specs.Modified.{SetsModified};
     ghost use Rattle.dav_nodes.specs.Rows.{row_in};
@@ -243,16 +243,14 @@ impl<M: Medium> TreeFs<M> {
         self.moment = now;
     }
 
-    /// Sets the part of each entity tag that comes before the version, with a hyphen, in lower-case hexadecimal. All
-    /// tags change, and nothing else. Two stores with different parts have no tag in common.
-    pub fn set_tag_part(&mut self, part: u128)
-        ensures memory { memory_of self.new ≡ record (memory_of self.old) { tag_part = Some part } }
-        ensures entries { entries_of self.new ≡ entries_of self.old }
-        ensures older { older_of self.new ≡ older_of self.old }
-        ensures honest { honest_of self.new ≡ honest_of self.old }
+    /// Sets the part of each entity tag that comes before the version, with a hyphen, in lower-case hexadecimal, or
+    /// that there is none. All tags change, and nothing else. Two stores with different parts have no tag in common.
+    pub fn set_tag_part(&mut self, part: Option<u128>)
+        ensures memory { memory_of self.new ≡ record (memory_of self.old) { tag_part = part } }
+        ensures entries { self.new.entries ≡ self.old.entries }
         ensures records { records_of self.new ≡ records_of self.old }
     {
-        self.tag_part = Some(part);
+        self.tag_part = part;
     }
 
     /// Sets when the resource at a path was last modified, in whole seconds since 1970. Nothing else changes: its entity

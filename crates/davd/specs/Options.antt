@@ -1,6 +1,9 @@
 -- What the arguments of the program mean: this project's own choice.
-use Rattle.std.specs.Prelude.{◌≡◌, ◌⊎◌, ℕ, ◌^◌, Bool, true, false, List, [], ◌∷◌, codes, bytes_eq, ◌==◌, nat_lt, not, if◌then◌else◌, is_ok, string_bytes, Option, Some, None}
+use Rattle.std.specs.Prelude.{◌≡◌, ◌⊎◌, ℕ, ◌^◌, Bool, true, false, List, [], ◌∷◌, codes, bytes_eq, ◌==◌, nat_lt, length, ◌&&◌, not, if◌then◌else◌, is_ok, string_bytes, Option, Some, None}
 use Rattle.std.specs.Option.{option_map, option_and_then}
+use Rattle.std.specs.List.{list_all}
+use Rattle.std.specs.Char.{is_ascii_digit}
+use Rattle.std.specs.Str.Parse.{digits_value}
 use Rattle.dav_resource.specs.PathText.{read_prefix}
 use Rattle.dav_headers.specs.Number.{number_in}
 use Rattle.davd.specs.declared.options.ProgramOptions.{ProgramOptions}
@@ -8,8 +11,8 @@ use Rattle.davd.specs.declared.program.Stopped.{Stopped}
 use Rattle.davd.specs.declared.program.Stopped.TheVariants.{Memory, Usage}
 
 -- the options of a run: the path prefix, whether anyone may remove and refresh a lock, how many bytes the content of a batch may have, the quota, the
--- folder in which everything is kept, whether it is served if it has lost its last batches, the key of a new folder and the seed of this start, which the
--- caller draws, and whether the folder is checked and not served
+-- folder in which everything is kept, whether it is served if it has lost its last batches, the key of a new folder, the seed of this start and its part in
+-- each entity tag, which the caller draws, and whether the folder is checked and not served
 pub record OptionsValue : Type 0 where
   pub prefix : List ℕ
   pub anyone_unlocks : Bool
@@ -19,11 +22,12 @@ pub record OptionsValue : Type 0 where
   pub accepts_loss : Bool
   pub key : ℕ
   pub seed : ℕ
+  pub tag_part : Option ℕ
   pub checks : Bool
 
 -- the options without arguments
 abbrev pub first_options : OptionsValue
-first_options = record { prefix = []; anyone_unlocks = false; max_batch = 2 ^ 30; quota = None; folder = None; accepts_loss = false; key = 0; seed = 0; checks = false }
+first_options = record { prefix = []; anyone_unlocks = false; max_batch = 2 ^ 30; quota = None; folder = None; accepts_loss = false; key = 0; seed = 0; tag_part = None; checks = false }
 
 abbrev pub is_unlocks : List ℕ → Bool
 is_unlocks name = bytes_eq name (codes "-anyone-unlocks")
@@ -43,6 +47,13 @@ accepting options = record options { accepts_loss = true }
 abbrev pub key_in : List ℕ → Option ℕ
 key_in text = option_and_then (λ n. if nat_lt n (2 ^ 63) then Some n else None) (number_in text)
 
+-- a part of entity tags: a decimal number below 2 ^ 128
+abbrev pub is_tag_part : List ℕ → Bool
+is_tag_part text = nat_lt 0 (length text) && (list_all is_ascii_digit text && nat_lt (digits_value 10 text) (2 ^ 128))
+
+abbrev pub tag_part_in : List ℕ → Option ℕ
+tag_part_in text = if is_tag_part text then Some (digits_value 10 text) else None
+
 -- the options after an option with a value: a prefix is one that can be parsed, and bytes and a seed are a decimal number below 2 ^ 64
 abbrev pub with_value : List ℕ → List ℕ → OptionsValue → Option OptionsValue
 with_value name value options =
@@ -50,7 +61,8 @@ with_value name value options =
     else (if bytes_eq name (codes "-max-batch") then option_map (λ bytes. record options { max_batch = bytes }) (number_in value)
     else (if bytes_eq name (codes "-quota") then option_map (λ bytes. record options { quota = Some bytes }) (number_in value)
     else (if bytes_eq name (codes "-key") then option_map (λ key. record options { key = key }) (key_in value)
-    else (if bytes_eq name (codes "-seed") then option_map (λ seed. record options { seed = seed }) (number_in value) else None))))
+    else (if bytes_eq name (codes "-seed") then option_map (λ seed. record options { seed = seed }) (number_in value)
+    else (if bytes_eq name (codes "-tags") then option_map (λ part. record options { tag_part = Some part }) (tag_part_in value) else None)))))
 
 -- the name of a folder is not empty, and does not begin with `-`
 abbrev pub is_folder : List ℕ → Bool
@@ -93,7 +105,7 @@ options_of (name ∷ folder ∷ next ∷ rest) = server_options_of (name ∷ fol
 -- the options that the program has read
 abbrev pub value_of : ProgramOptions → OptionsValue
 value_of options =
-    record { prefix = string_bytes options.server.prefix; anyone_unlocks = options.server.anyone_unlocks; max_batch = options.server.max_batch; quota = options.quota; folder = option_map string_bytes options.folder; accepts_loss = options.accepts_loss; key = options.key; seed = options.seed; checks = options.checks }
+    record { prefix = string_bytes options.server.prefix; anyone_unlocks = options.server.anyone_unlocks; max_batch = options.server.max_batch; quota = options.quota; folder = option_map string_bytes options.folder; accepts_loss = options.accepts_loss; key = options.key; seed = options.seed; tag_part = options.tag_part; checks = options.checks }
 
 -- why arguments are not read: memory runs out, or they are wrong as `Wrong` says
 abbrev pub IsFault : Type 0 → Stopped → Type 0

@@ -23,11 +23,12 @@ use Rattle.davd.specs.declared.program.Stopped.TheVariants.{Usage, Stream, Memor
 
 -- ---- runs in memory
 
--- a run by these rules, which begins with a store that has only its root, with this quota, without locks, at time 0 and before batch 1
-pub record ServesInMemory {M B : Type 0} (medium : Ghosts M B) (rules : Rules) (quota : Option ℕ) (input input' output output' : Option (List ℕ)) : Type 0 where
+-- a run by these rules, which begins with a store that has only its root, with this quota and this part of the entity tags, without locks, at time 0 and
+-- before batch 1
+pub record ServesInMemory {M B : Type 0} (medium : Ghosts M B) (rules : Rules) (quota tag_part : Option ℕ) (input input' output output' : Option (List ℕ)) : Type 0 where
   pub store : TreeFs M B medium
   pub locks : MemLs
-  pub empty : memory_of store ≡ first_memory 0 (option_map Some quota)
+  pub empty : memory_of store ≡ record (first_memory 0 (option_map Some quota)) { tag_part = tag_part }
   pub unlocked : list_of locks ≡ []
   pub final : ServerState
   pub runs : Runs (store_of {g = medium}) honest_of rules (first_state (store_of store) (locks_of locks)) final input input' output output'
@@ -40,7 +41,7 @@ rules_in options = first_rules options.prefix options.anyone_unlocks
 pub record ServesAll {M B : Type 0} (medium : Ghosts M B) (arguments : List (List ℕ)) (input input' output output' : Option (List ℕ)) : Type 0 where
   pub options : OptionsValue
   pub read : options_of arguments ≡ Some options
-  pub serves : ServesInMemory medium (rules_in options) options.quota input input' output output'
+  pub serves : ServesInMemory medium (rules_in options) options.quota options.tag_part input input' output output'
 
 -- the arguments do not say a folder
 abbrev pub HaveNoFolder : List (List ℕ) → Type 0
@@ -58,7 +59,7 @@ SayFolder arguments options = (options_of arguments ≡ Some options) × (option
 
 -- how its folder is opened
 abbrev pub start_of : OptionsValue → StartOptions
-start_of options = record { quota = options.quota; accepts_loss = options.accepts_loss; key = options.key; seed = options.seed }
+start_of options = record { quota = options.quota; accepts_loss = options.accepts_loss; key = options.key; seed = options.seed; tag_part = options.tag_part }
 
 -- `left` and `file` are what the files of its database and its data file held
 module _ {D E : Type 0} (d : disk.Ghosts D) {e : disk.Ghosts E} (medium : Ghosts (DataFile E e) (List Piece)) (left : database.Image) (file : List ℕ)

@@ -52,6 +52,8 @@ pub struct StartOptions {
     pub key: u64,
     /// A number of this start, from which the salts of the database's log are made.
     pub seed: u64,
+    /// The part of this start in each entity tag, or none.
+    pub tag_part: Option<u128>,
 }
 
 /// How the files of a folder are opened.
@@ -63,6 +65,8 @@ struct Opening {
     accepts_loss: bool,
     /// The seed of the start.
     seed: u64,
+    /// The part of the start in each entity tag, or none.
+    tag_part: Option<u128>,
     /// The files that are missing.
     absent: Absent,
 }
@@ -101,6 +105,7 @@ pub fn open_folder<R: Start, T: Start, N: Start>(
         limit: limit_of(options.quota),
         accepts_loss: options.accepts_loss,
         seed: options.seed,
+        tag_part: options.tag_part,
         absent,
     };
     let opened = match open_pairs(rt, folder, how, options.key, (left, file), &mut last) {

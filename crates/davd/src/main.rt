@@ -1,4 +1,4 @@
-//! `davd [-prefix PREFIX] [-anyone-unlocks] [-max-batch BYTES] [-quota BYTES] [-accept-loss] [-key KEY] [-seed SEED] [FOLDER]`:
+//! `davd [-prefix PREFIX] [-anyone-unlocks] [-max-batch BYTES] [-quota BYTES] [-accept-loss] [-key KEY] [-seed SEED] [-tags PART] [FOLDER]`:
 //! serves WebDAV requests. The requests come as frames on standard input, and the replies go to standard output.
 //!
 //! `davd --check FOLDER`: reads all rows and every byte of every file in a folder, and writes a line on standard output for

@@ -1,8 +1,10 @@
 //! The options of the program.
 ghost use Rattle.std.specs.Prelude.{◌≡◌, Some, None, IfOk, IfErr, OnOk, IsOk, IsErr};
+ghost use Rattle.std.specs.List.{list_all};
+ghost use Rattle.std.specs.Char.{is_ascii_digit};
 ghost use Rattle.dav_resource.specs.PathText.{read_prefix};
 ghost use Rattle.dav_resource.specs.Texts.{texts};
-ghost use Rattle.davd.specs.Options.{IsFault, first_options, options_of, server_options_of, check_of, key_in, value_of, with_value, with_folder, is_folder};
+ghost use Rattle.davd.specs.Options.{IsFault, first_options, options_of, server_options_of, check_of, key_in, tag_part_in, value_of, with_value, with_folder, is_folder};
 
 use crate::program::Stopped;
 use dav_headers::read_number;
@@ -32,6 +34,8 @@ pub struct ProgramOptions {
     pub key: u64,
     /// A number of this start, from which the salts of the database's log are made.
     pub seed: u64,
+    /// The part of this start in each entity tag. `None` is no part.
+    pub tag_part: Option<u128>,
     /// Whether the folder is checked, and nothing is served.
     pub checks: bool,
 }
@@ -52,6 +56,7 @@ impl ProgramOptions {
             accepts_loss: false,
             key: 0,
             seed: 0,
+            tag_part: None,
             checks: false,
         }
     }
@@ -73,6 +78,7 @@ impl ProgramOptions {
             "-quota" => self.quota = Some(read_number(value).ok_or(Stopped::Usage)?),
             "-key" => self.key = read_key(value).ok_or(Stopped::Usage)?,
             "-seed" => self.seed = read_number(value).ok_or(Stopped::Usage)?,
+            "-tags" => self.tag_part = Some(read_tag_part(value).ok_or(Stopped::Usage)?),
             _ => return Err(Stopped::Usage),
         }
         Ok(())
@@ -97,6 +103,23 @@ fn read_key(value: &str) -> Option<u64>
 {
     let key = read_number(value)?;
     if key < KEY_LIMIT { Some(key) } else { None }
+}
+
+/// Reads a part of entity tags: one or more decimal digits, without a sign, for a number below 2^128.
+fn read_tag_part(value: &str) -> Option<u128>
+    ensures { result ≡ tag_part_in value.now }
+{
+    if !has_digits_alone(value.as_bytes()) {
+        return None;
+    }
+    value.parse().ok()
+}
+
+/// Whether all bytes are decimal digits.
+fn has_digits_alone(text: &[u8]) -> bool
+    ensures { result ≡ list_all is_ascii_digit text.now }
+{
+    text.iter().all(|byte| byte.is_ascii_digit())
 }
 
 /// Whether this may be the name of a folder: it is not empty and does not begin with `-`.

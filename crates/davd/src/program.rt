@@ -157,6 +157,7 @@ pub fn run_program<R: Start, T: Start, N: Start, I: Read, O: Write>(
         accepts_loss,
         key,
         seed,
+        tag_part,
         checks,
     } = read_options(rt.alloc(), arguments)?;
     match folder {
@@ -167,32 +168,35 @@ pub fn run_program<R: Start, T: Start, N: Start, I: Read, O: Write>(
                 accepts_loss,
                 key,
                 seed,
+                tag_part,
             };
             let options = FolderOptions { server, start };
             let served = serve_folder(rt, folder.as_str(), held, options, input, output)?;
             served.0
         }
-        None => serve_in_memory(rt.alloc(), quota, server, input, output),
+        None => serve_in_memory(rt.alloc(), quota, tag_part, server, input, output),
     }
 }
 
-/// Serves the batches of the input over a store and a lock system in memory, with this quota, until the input ends.
+/// Serves the batches of the input over a store and a lock system in memory, with this quota and this part of the entity
+/// tags, until the input ends.
 ///
 /// Errors: `Memory` if memory runs out before the first batch; `Stream` if a stream fails, or if the input ends inside a
 /// batch.
 fn serve_in_memory<I: Read, O: Write>(
     alloc: Global,
     quota: Option<u64>,
+    tag_part: Option<u128>,
     options: Options,
     input: &mut I,
     output: &mut O,
 ) -> Result<(), Stopped>
-    ensures served { OnOk result (ServesInMemory ⟦<InMemory as Medium>⟧ (rules_for options) quota
+    ensures served { OnOk result (ServesInMemory ⟦<InMemory as Medium>⟧ (rules_for options) quota tag_part
         (I.remaining input.old) (I.remaining input.new) (O.contents output.old) (O.contents output.new)) }
     ensures end { OnOk result (IsAtEnd (I.remaining input.new)) }
     ensures err { IfErr result IsNotUsage }
 {
-    let store = new_store(alloc, quota)?;
+    let store = new_store(alloc, quota, tag_part)?;
     let mut store = Guarding::new(alloc, store, Access::Full);
     let mut locks = MemLs::new(alloc);
     let mut server = Server::new(alloc, &mut store, &mut locks, options);
@@ -202,14 +206,17 @@ fn serve_in_memory<I: Read, O: Write>(
     }
 }
 
-/// Creates a store that holds only the root, with this quota or without one. Fails only if memory runs out.
-fn new_store(alloc: Global, quota: Option<u64>) -> FsResult<MemFs>
-    ensures { IfOk result (λ store. memory_of store ≡ first_memory 0 (option_map Some quota)) }
+/// Creates a store that holds only the root, with this quota or without one, and with this part of the entity tags or
+/// without one. Fails only if memory runs out.
+fn new_store(alloc: Global, quota: Option<u64>, tag_part: Option<u128>) -> FsResult<MemFs>
+    ensures { IfOk result (λ store. memory_of store ≡ record (first_memory 0 (option_map Some quota)) { tag_part = tag_part }) }
 {
-    match quota {
-        Some(bytes) => MemFs::with_quota(alloc, Some(bytes)),
-        None => MemFs::new(alloc),
-    }
+    let mut store = match quota {
+        Some(bytes) => MemFs::with_quota(alloc, Some(bytes))?,
+        None => MemFs::new(alloc)?,
+    };
+    store.set_tag_part(tag_part);
+    Ok(store)
 }
 
 /// Writes why the program ends, if not at the end of its input, and returns its exit status.
@@ -250,7 +257,7 @@ const OUT_OF_MEMORY: &str = "davd: out of memory";
 fn line_of(stopped: &Stopped) -> &'static str {
     match stopped {
         Stopped::Usage =>
-            "usage: davd [-prefix PREFIX] [-anyone-unlocks] [-max-batch BYTES] [-quota BYTES] [-accept-loss] [-key KEY] [-seed SEED] [FOLDER]\n       davd --check FOLDER",
+            "usage: davd [-prefix PREFIX] [-anyone-unlocks] [-max-batch BYTES] [-quota BYTES] [-accept-loss] [-key KEY] [-seed SEED] [-tags PART] [FOLDER]\n       davd --check FOLDER",
         Stopped::Stream(error) => cause_of(error),
         Stopped::Memory => OUT_OF_MEMORY,
         Stopped::Refused(refusal) => refusal_of(*refusal),

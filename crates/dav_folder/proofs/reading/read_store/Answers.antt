@@ -19,11 +19,11 @@ returns-clause-found g c = λ image tables are.
     record {
       knows = c.in_ok-known.ensures.known image tables are;
       sound = are.whole.sound;
-      entries = store.entries image.tree loaded.values;
+      entries = ap (λ (k : Kept). k.tree) c.set_tag_part.ensures.entries ∙ store.entries image.tree loaded.values;
       resources = c.show_sound.ensures;
-      saved = store.saved;
+      saved = subst IsSaved (sym c.set_tag_part.ensures.entries) store.saved;
       locks_are = loaded.locks;
-      counter = ap (λ (m : Memory). m.version) (store.memory image.tree loaded.values) ∙ ap (λ (n : Numbers). n.counter) loaded.numbers;
+      counter = ap (λ (m : Memory). m.version) (tagged_as c.set_tag_part.ensures.memory (store.memory image.tree loaded.values)) ∙ ap (λ (n : Numbers). n.counter) loaded.numbers;
       time = ap (λ (n : Numbers). n.time) loaded.numbers;
       batch = ap (λ (n : Numbers). n.batch) loaded.numbers;
       key = ap (λ (n : Numbers). n.key) loaded.numbers;

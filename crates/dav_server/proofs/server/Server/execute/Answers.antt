@@ -39,5 +39,6 @@ returns-clause-executes g c =
       served = served;
       reveals = step_reveals (rights_under state.rights request.principal) settings old after (record { allows = λ call. refl; shows = λ key. refl }) (refl {a = old.store.facts})
           (log_allowed (lent c.serve-answer.new.self)) was request (answer_of c.serve-answer.result) is served;
+      tagged = g.met.F.GuardedFileSystem.tagged (inner_of (lent c.serve-answer.new.self));
       emptied = rw c.clear_log.ensures.inner refl;
     }
