@@ -5,7 +5,7 @@ ghost use Rattle.sqlite.specs.Held.{state};
 ghost use Rattle.sqlite.specs.State.{HasCleanDisk};
 ghost use Rattle.sqlite_wal.specs.Reads.{AreClean, OnlyReads};
 ghost use Rattle.dav_log.specs.Damage.{IsDamaged};
-ghost use Rattle.dav_tree.specs.TreeFs.{store_of};
+ghost use Rattle.dav_tree.specs.TreeFs.{memory_of, store_of};
 ghost use Rattle.dav_keep.specs.Images.{Image, StandForImage};
 ghost use Rattle.dav_keep.specs.Keeping.{connection_of};
 ghost use Rattle.dav_keep.specs.Loading.{IsWholeImage};

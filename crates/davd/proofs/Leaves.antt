@@ -201,6 +201,7 @@ module _ {D E : Type 0} {d : disk.Ghosts D} {e : disk.Ghosts E} {rows : store.Gh
     (opened : Opened (FileStore D d) (DataFile E e) (List Piece) rows g) (files : FileStore D d × DataFile E e) where
   -- `left` and `file` are what the files held
   module _ (left : database.Image) (file : List ℕ) (start : StartOptions) (finds : FindsKept left file start.quota opened) (finds_new : FindsFirst left file start.quota start.key opened) (held_sealed : HeldSealed left opened)
+      (tagged : (memory_of opened.store).tag_part ≡ start.tag_part)
       (was_clean : IsClean (view files.0) → HasCleanDatabase opened.folder) where
     lasts_at_start : HeldAStore left file files → IsOpenedAsKept opened
     lasts_at_start (clean, inl (held, hold)) = (finds held hold (was_clean clean)).lasts
@@ -217,6 +218,7 @@ module _ {D E : Type 0} {d : disk.Ghosts D} {e : disk.Ghosts E} {rows : store.Gh
       new = λ clean vacant. (finds_new.found vacant (was_clean clean)).is;
       empty = λ clean vacant. finds_new.empty vacant (was_clean clean);
       limit = limit_at_start;
+      tags = tagged;
       key = opened.key;
       sealed = λ tables clean keeps. held_sealed tables keeps (was_clean clean);
       keyed = λ clean vacant. finds_new.keyed vacant (was_clean clean);

@@ -106,7 +106,8 @@ module _ {D E : Type 0} {d : disk.Ghosts D} {e : disk.Ghosts E} (left : database
   abbrev pub HeldAStore : Type 0
   HeldAStore = IsClean (view files.0) × (((kept : KeptStore) × Hold left file kept) ⊎ IsVacant left)
 
-  -- A run begins with what the files held, or with a new store if they had no table, and with this quota. Only the bytes of files may differ, and they do
+  -- A run begins with what the files held, or with a new store if they had no table, and with this quota and
+  -- this part of the entity tags. Only the bytes of files may differ, and they do
   -- not if the data file is honest; then a new store is one whose data file had no byte. The tables that the files held are sealed under the key that the
   -- run has, which is the drawn one for a new store.
   pub record BeginsWith (start : StartOptions) {g : Ghosts (DataFile E e) (List Piece)} (first : At g) : Type 0 where
@@ -115,6 +116,7 @@ module _ {D E : Type 0} {d : disk.Ghosts D} {e : disk.Ghosts E} (left : database
     pub new : IsClean (view files.0) → IsVacant left → honest_of first.store ≡ true → kept_at first ≡ first_kept
     pub empty : IsClean (view files.0) → IsVacant left → honest_of first.store ≡ true → file ≡ []
     pub limit : HeldAStore → (memory_of first.store).limit ≡ option_map Some start.quota
+    pub tags : (memory_of first.store).tag_part ≡ start.tag_part
     pub key : ℕ
     pub sealed : (tables : Contents) → IsClean (view files.0) → Keeps left tables → IsSealed key tables
     pub keyed : IsClean (view files.0) → IsVacant left → key ≡ start.key

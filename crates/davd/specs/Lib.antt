@@ -4,4 +4,5 @@ pub mod Folder
 pub mod Leaving
 pub mod Program
 pub mod Joining
+pub mod TagLaws
 pub mod Checking

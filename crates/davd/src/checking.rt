@@ -106,7 +106,7 @@ fn check_files<D: Disk, E: Disk + Drop, L: Disk, O: Write>(
         Err(error) => return Err(Stopped::Disk(error)),
     };
     // Without changes a database that has no table gets no store.
-    let mut found = read_files(alloc, files, disk, &[], None)?;
+    let mut found = read_files(alloc, files, disk, &[], None, None)?;
     expect_up_to_date(last, found.key, found.last, false)?;
     let checked = check_store(alloc, &mut found.store)?;
     report_checked(output, found.rows, &checked)

@@ -15,6 +15,7 @@ ghost use Rattle.dav_rows.specs.Contents.{Contents};
 ghost use Rattle.dav_rows.specs.Creating.{first};
 ghost use Rattle.dav_rows_files.specs.Starting.{Keeps, IsVacant};
 ghost use Rattle.dav_seal.specs.Seals.{IsSealed};
+ghost use Rattle.dav_tree.specs.TreeFs.{memory_of};
 ghost use Rattle.davd.specs.Folder.{FindsKept, FindsFirst, FindsHeld, FindsNew, HeldSealed, MakesFirst, IsNotOlder, OpensUpToDate};
 ghost use Rattle.davd.specs.Program.{IsNotUsage};
 
@@ -91,6 +92,7 @@ pub fn open_folder<R: Start, T: Start, N: Start>(
     ensures kept { IfOk result (λ found. FindsKept (image_at R.Start) T.Start.db options.quota found.0) }
     ensures new { IfOk result (λ found. FindsFirst (image_at R.Start) T.Start.db options.quota options.key found.0) }
     ensures sealed { IfOk result (λ found. HeldSealed (image_at R.Start) found.0) }
+    ensures tags { IfOk result (λ found. (memory_of found.0.store).tag_part ≡ options.tag_part) }
     ensures last { IfOk result (λ found. number_of found.1 ≡ batch_of found.0.folder) }
     ensures key { IfOk result (λ found. key_of found.1 ≡ found.0.key) }
     ensures up_to_date { IfOk result (λ found. options.accepts_loss ≡ false → OpensUpToDate (image_at N.Start) found.0 found.1) }
@@ -136,6 +138,7 @@ fn open_pairs<R: Start, T: Start, L: Disk>(
     ensures kept { IfOk result (FindsHeld (image_at R.Start) T.Start.db how.limit) }
     ensures new { IfOk result (FindsNew (image_at R.Start) T.Start.db how.limit key) }
     ensures sealed { IfOk result (HeldSealed (image_at R.Start)) }
+    ensures tags { IfOk result (λ opened. (memory_of opened.store).tag_part ≡ how.tag_part) }
     ensures batch { IfOk result (λ opened. batch_of opened.folder ≡ opened.last) }
     ensures up_to_date { IfOk result (λ opened. how.accepts_loss ≡ false → AreClean L.Disk last.new.log last.new.db
         → IsNotOlder opened.key opened.last (L.Disk.seen last.old.log) (L.Disk.seen last.old.db)) }
@@ -176,6 +179,7 @@ fn open_over<D: Disk + Drop, E: Disk + Drop, L: Disk>(
     ensures kept { IfOk result (FindsHeld (image_of D.Disk pairs.0) (E.Disk.seen pairs.1.db) how.limit) }
     ensures new { (key : ℕ) → MakesFirst key changes.now → IfOk result (FindsNew (image_of D.Disk pairs.0) (E.Disk.seen pairs.1.db) how.limit key) }
     ensures sealed { IfOk result (HeldSealed (image_of D.Disk pairs.0)) }
+    ensures tags { IfOk result (λ opened. (memory_of opened.store).tag_part ≡ how.tag_part) }
     ensures batch { IfOk result (λ opened. batch_of opened.folder ≡ opened.last) }
     ensures up_to_date { IfOk result (λ opened. how.accepts_loss ≡ false → AreClean L.Disk last.new.log last.new.db
         → IsNotOlder opened.key opened.last (L.Disk.seen last.old.log) (L.Disk.seen last.old.db)) }
@@ -221,13 +225,14 @@ fn read_up_to_date<D: Disk, E: Disk + Drop, L: Disk>(
         → IfOk result (λ found. AreClean D.Disk files.new.log files.new.db → IsEmptyIfHonest found (E.Disk.seen disk)) }
     ensures sealed { (tables : Contents) → Keeps (image_of D.Disk files.old) tables
         → IfOk result (λ found. AreClean D.Disk files.new.log files.new.db → IsSealed found.key tables) }
+    ensures tags { IfOk result (λ found. (memory_of found.store).tag_part ≡ how.tag_part) }
     ensures only { AreOnlyRead D.Disk files.old files.new }
     ensures up_to_date { IfOk result (λ found. how.accepts_loss ≡ false → AreClean L.Disk last.new.log last.new.db
         → IsNotOlder found.key found.last (L.Disk.seen last.old.log) (L.Disk.seen last.old.db)) }
     ensures only_last { OnlyReadsBoth L.Disk (last.old.log, last.old.db) (last.new.log, last.new.db) }
     ensures err { IfErr result IsNotUsage }
 {
-    let found = read_files(alloc, files, disk, changes, how.limit)?;
+    let found = read_files(alloc, files, disk, changes, how.limit, how.tag_part)?;
     expect_up_to_date(last, found.key, found.last, how.accepts_loss)?;
     Ok(found)
 }

@@ -1,8 +1,10 @@
-use Rattle.std.proofs.Common.{◌≡◌, ◌∙◌, refl, sym, ap, inl, inr, arith}
+use Rattle.std.proofs.Common.{◌≡◌, ◌∙◌, ◌||◌, ℕ, Option, false, refl, sym, ap, subst, inl, inr, arith}
 use Rattle.dav_data.specs.Data.{data_of, is_below, body_bytes}
 use Rattle.dav_keep.specs.declared.numbers.Numbers.{Numbers}
 use Rattle.dav_pieces.specs.Pieces.{bytes_of}
 use Rattle.dav_tree.proofs.Keeping.{same-resources}
+use Rattle.dav_tree.specs.Before.{IsSaved}
+use Rattle.dav_tree.specs.Kept.{Kept}
 use Rattle.dav_tree.specs.Memory.{Memory}
 use Rattle.dav_folder.proofs.LoadedBytes.{tree_below}
 use Rattle.dav_keep.proofs.LoadedImages.{values_below}
@@ -11,6 +13,15 @@ use Rattle.dav_folder.proofs.Starts.{err_by, disk_failed, other_bytes}
 use Rattle.dav_folder.specs.Opening.{IsMemoryOrDisk}
 use Rattle.dav_folder.specs.declared.error.OpenError.TheVariants as errors
 use Rattle.dav_folder.proofs.reading.read_store.Goals as goal
+
+-- a store with this part of the entity tags
+abbrev with_part : Option ℕ → Memory → Memory
+with_part part memory = record memory { tag_part = part }
+
+pub returns-clause-limit : goal.returns-clause-limit
+returns-clause-limit g c = λ image tables are.
+    let values = (c.in_ok-known.ensures.loaded image tables are).values in
+    ap (λ (m : Memory). m.limit) (c.set_tag_part.ensures.memory ∙ ap (with_part c.args.tag_part) (c.in_ok-store.ensures.memory image.tree values))
 
 pub returns-clause-found : goal.returns-clause-found
 returns-clause-found g c = λ image tables are.
@@ -23,7 +34,7 @@ returns-clause-found g c = λ image tables are.
       resources = c.show_sound.ensures;
       saved = subst IsSaved (sym c.set_tag_part.ensures.entries) store.saved;
       locks_are = loaded.locks;
-      counter = ap (λ (m : Memory). m.version) (tagged_as c.set_tag_part.ensures.memory (store.memory image.tree loaded.values)) ∙ ap (λ (n : Numbers). n.counter) loaded.numbers;
+      counter = ap (λ (m : Memory). m.version) (c.set_tag_part.ensures.memory ∙ ap (with_part c.args.tag_part) (store.memory image.tree loaded.values)) ∙ ap (λ (n : Numbers). n.counter) loaded.numbers;
       time = ap (λ (n : Numbers). n.time) loaded.numbers;
       batch = ap (λ (n : Numbers). n.batch) loaded.numbers;
       key = ap (λ (n : Numbers). n.key) loaded.numbers;
@@ -32,15 +43,15 @@ returns-clause-found g c = λ image tables are.
 pub returns-clause-some : goal.returns-clause-some
 returns-clause-some g c = λ image tables are.
     let values = (c.in_ok-known.ensures.loaded image tables are).values in
-    record { file = data_of c.in-Ok.medium; are = ap (λ (m : Memory). m.resources) (c.in_ok-store.ensures.memory image.tree values) }
+    record { file = data_of c.in-Ok.medium; are = ap (λ (m : Memory). m.resources) (c.set_tag_part.ensures.memory ∙ ap (with_part c.args.tag_part) (c.in_ok-store.ensures.memory image.tree values)) }
 
 pub returns-clause-bytes : goal.returns-clause-bytes
 returns-clause-bytes g c = λ image tables are honest.
     let loaded = c.in_ok-known.loaded in
     let values = (c.in_ok-known.ensures.loaded image tables are).values in
     let store = c.in_ok-store.ensures in
-    let same = c.in-Ok.ensures.same (sym store.honest ∙ honest) in
-    ap (λ (m : Memory). m.resources) (store.memory image.tree values)
+    let same = c.in-Ok.ensures.same (sym store.honest ∙ sym (ap (λ (k : Kept). false || k.honest) c.set_tag_part.ensures.entries) ∙ honest) in
+    ap (λ (m : Memory). m.resources) (c.set_tag_part.ensures.memory ∙ ap (with_part c.args.tag_part) (store.memory image.tree values))
     ∙ same-resources (bytes_of (g.D.Disk.seen c.args.disk)) (body_bytes c.in-Ok.medium) (is_below loaded.end) (is_below loaded.end) (λ body below. below)
     (λ body below. ap (λ file. bytes_of file body) same) image.tree (tree_below loaded.values.items image.tree loaded.end values c.in_ok-known.ensures.end.reached)
 
