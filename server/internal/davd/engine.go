@@ -85,8 +85,14 @@ func (c Config) arguments() []string {
 // be noticed.
 func (c Config) first() Config {
 	if c.Lossy {
-		c.Args = append(append([]string(nil), c.Args...), "-accept-loss")
+		return c.with("-accept-loss")
 	}
+	return c
+}
+
+// with returns how davd is run with more arguments.
+func (c Config) with(arguments ...string) Config {
+	c.Args = append(append([]string(nil), c.Args...), arguments...)
 	return c
 }
 
@@ -120,6 +126,14 @@ type Engine struct {
 func Start(ctx context.Context, config Config) (*Engine, error) {
 	if config.pauses == (pauses{}) {
 		config.pauses = defaultPauses
+	}
+	if config.Folder != "" {
+		// One part for all davds: what clients have read from one, they may go on to read from the next.
+		tagged, err := config.tagged()
+		if err != nil {
+			return nil, fmt.Errorf("davd cannot be started: %w", err)
+		}
+		config = tagged
 	}
 	now := later(0, time.Now())
 	var rights *string

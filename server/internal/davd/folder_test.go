@@ -3,6 +3,7 @@ package davd
 import (
 	"context"
 	"errors"
+	"math/big"
 	"reflect"
 	"strconv"
 	"strings"
@@ -34,10 +35,11 @@ func TestTheFolderIsTheLastArgument(t *testing.T) {
 func TestNumbersAreDrawnForEachStart(t *testing.T) {
 	seen := make(map[string]bool)
 	for range [4]struct{}{} {
-		drawn, err := draw()
+		config, err := Config{Folder: "/f"}.drawn()
 		if err != nil {
 			t.Fatal(err)
 		}
+		drawn := config.Args
 		if len(drawn) != 4 || drawn[0] != "-key" || drawn[2] != "-seed" {
 			t.Fatalf("arguments: %q", drawn)
 		}
@@ -51,6 +53,27 @@ func TestNumbersAreDrawnForEachStart(t *testing.T) {
 			t.Errorf("a number came twice: %q", drawn)
 		}
 		seen[drawn[1]], seen[drawn[3]] = true, true
+	}
+}
+
+func TestAPartOfEntityTagsIsDrawn(t *testing.T) {
+	seen := make(map[string]bool)
+	for range [4]struct{}{} {
+		config, err := Config{Args: []string{"-quota", "7"}}.drawn()
+		if err != nil {
+			t.Fatal(err)
+		}
+		if len(config.Args) != 4 || config.Args[2] != "-tags" {
+			t.Fatalf("arguments: %q", config.Args)
+		}
+		part, ok := new(big.Int).SetString(config.Args[3], 10)
+		if !ok || part.Sign() < 0 || part.BitLen() > 128 {
+			t.Errorf("the part is %s", config.Args[3])
+		}
+		if seen[config.Args[3]] {
+			t.Errorf("a part came twice: %s", config.Args[3])
+		}
+		seen[config.Args[3]] = true
 	}
 }
 

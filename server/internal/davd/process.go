@@ -8,6 +8,7 @@ import (
 	"fmt"
 	"io"
 	"log"
+	"math/big"
 	"os/exec"
 	"strconv"
 	"syscall"
@@ -61,12 +62,9 @@ func start(config Config) (*process, error) {
 	if err != nil {
 		return nil, fmt.Errorf("davd cannot be started: %w", err)
 	}
-	if config.Folder != "" {
-		drawn, err := draw()
-		if err != nil {
-			return nil, fmt.Errorf("davd cannot be started: %w", err)
-		}
-		config.Args = append(append([]string(nil), config.Args...), drawn...)
+	config, err = config.drawn()
+	if err != nil {
+		return nil, fmt.Errorf("davd cannot be started: %w", err)
 	}
 	command := config.command(program)
 	command.SysProcAttr = &syscall.SysProcAttr{Setpgid: true}
@@ -93,16 +91,28 @@ func start(config Config) (*process, error) {
 	}, nil
 }
 
-// draw returns the arguments that give a davd over a folder what it does not draw itself: the key of the digests, if the
-// folder is new, and the seed of this start.
-func draw() ([]string, error) {
+// drawn returns how davd is run with what it does not draw itself. Over a folder that is the key of the digests, if the
+// folder is new, and the seed of this start. In memory, where the next davd begins anew, it is the part of entity tags.
+func (c Config) drawn() (Config, error) {
+	if c.Folder == "" {
+		return c.tagged()
+	}
 	var drawn [16]byte
 	if _, err := rand.Read(drawn[:]); err != nil {
-		return nil, err
+		return c, err
 	}
 	key := binary.BigEndian.Uint64(drawn[:8]) >> 1 // below 2^63
 	seed := binary.BigEndian.Uint64(drawn[8:])
-	return []string{"-key", strconv.FormatUint(key, 10), "-seed", strconv.FormatUint(seed, 10)}, nil
+	return c.with("-key", strconv.FormatUint(key, 10), "-seed", strconv.FormatUint(seed, 10)), nil
+}
+
+// tagged returns how davd is run with a new part of entity tags, so that it gives no tag that another one has given.
+func (c Config) tagged() (Config, error) {
+	var part [16]byte
+	if _, err := rand.Read(part[:]); err != nil {
+		return c, err
+	}
+	return c.with("-tags", new(big.Int).SetBytes(part[:]).String()), nil
 }
 
 // kill ends davd at once. Whoever reads its output finds the end.
