@@ -4,6 +4,7 @@ import hashlib
 import os
 import pathlib
 import random
+import re
 import shutil
 import signal
 import sqlite3
@@ -98,11 +99,35 @@ def again(starter: Starter):
     expect("the entity tags and times", look(server, long), before)
     server.stop()
     server = start(starter)
-    expect("the entity tags and times", look(server, long), before)
+    expect("the versions and times", versions(look(server, long)), versions(before))
     server.ask("PUT", "/new", b"new", status=201)
     kill(server)
     expect("/new", server.ask("GET", "/new", status=200).body, b"new")
     server.stop()
+
+
+def versions(found: tuple) -> list[str]:
+    """Entity tags and times without what a start puts before each tag."""
+    return [re.sub(r'^"[0-9a-f]{32}-', '"', it) for it in found]
+
+
+@GROUP.check("no entity tag is given again over an older copy of the folder")
+def tags(starter: Starter):
+    server = start(starter)
+    server.ask("PUT", "/f", b"one", status=201)
+    server.stop()
+    folder = starter.folder / "kept"
+    shutil.copytree(folder, starter.folder / "older")
+    given = []
+    for content in (b"two", b"three"):
+        server = start(starter)
+        given.append(server.ask("PUT", "/f", content, status=204).field("ETag"))
+        expect("the tag of a GET", server.ask("GET", "/f", status=200).field("ETag"), given[-1])
+        server.stop()
+        shutil.rmtree(folder)
+        shutil.copytree(starter.folder / "older", folder)
+    expect("the versions", len(set(versions(tuple(given)))), 1)
+    expect("how many tags there are", len(set(given)), 2)
 
 
 class Writer(threading.Thread):

@@ -12,12 +12,14 @@
 //! - With `-accept-loss` a folder is served whose database has lost its last batches, or may have lost them.
 //! - `-key` is the key of the digests of a new folder, below 2^63, and `-seed` a number from which the salts of the database's
 //!   log are made. Whoever starts the program draws both, a new seed for each start. Without them they are 0.
+//! - `-tags` is the part of each entity tag that comes before the number of the last change, below 2^128. Whoever starts the
+//!   program draws it, so that no tag is one that an earlier store gave. Without it a tag is that number alone.
 //!
 //! - With `FOLDER` the store and its locks are kept in this folder: each batch is kept before it is answered. The folder
 //!   is made if it is not there. Its name does not begin with `-`. Without a folder everything is in memory, and lost at
 //!   the end.
 //!
-//! A number is one or more decimal digits, and fits in 64 bits. It may begin with zeros. If an option is given
+//! Any other number is one or more decimal digits, and fits in 64 bits. It may begin with zeros. If an option is given
 //! twice, the last one counts.
 //!
 //! Exit statuses, of which one line on standard error says why:
