@@ -18,7 +18,6 @@ use Rattle.sqlite_pool.specs.Stored.{Adopts, StandsAs, is_summed, reserved, seal
 use Rattle.sqlite_pool.specs.StoredLaws.{trimmed_some}
 use Rattle.sqlite_pool.proofs.ProbeLemmas.{first_byte, reserved_word, size_by_file, size_by_log}
 use Rattle.sqlite_store.specs.declared.store.FileStore.{FileStore}
-use Rattle.sqlite_store.specs.declared.store.open.Unopened.{Unopened}
 use Rattle.sqlite_store.specs.FileStore.{state, view, recovers}
 use Rattle.sqlite_store.specs.Unopened.{state_of}
 use Rattle.sqlite_trees.specs.Objects.{catalog_tree}
