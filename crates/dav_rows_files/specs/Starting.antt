@@ -104,8 +104,8 @@ module _ {D : Type 0} {g : Ghosts D} where
   MayLeave (left.Unopened files) image = (state_of files).may_leave image
   MayLeave (left.Store it) image = (store.state it).may_leave image
 
-  -- Two cases are exempt, since SQLite's clauses do not exclude them: the open took pages that end in sums for pages that do not, or it stopped in a store
-  -- that does not number its tables.
+  -- Two cases are exempt, since SQLite's clauses do not exclude them: the open took pages that end in sums for pages that do not, or it stopped in a
+  -- store that does not number its tables.
   abbrev pub IsExempt : Image → Leftover D g → Type 0
   IsExempt image (left.Files files) = ⊥
   IsExempt image (left.Unopened files) = HasSums image × (is_summed (state_of files).page_size ≡ false)

@@ -23,9 +23,9 @@ use std::alloc::Global;
 /// the largest size that SQLite allows, or a row of the changes has more than a billion bytes. An error comes with what is
 /// left of the files.
 ///
-/// After an error, whatever a crash leaves of the files is what it might have left before the start, or they keep what they
-/// kept: the maps of a store, the tables of version 1, or no table. In place of the last two, they may keep what this was to
-/// make of them, and all of it. Two cases are exempt (`IsExempt`).
+/// After an error, if the disk did what its calls promise, a crash leaves files that it might have left before the start, or
+/// files that keep what these kept: the maps of a store, the tables of version 1, or no table. In place of the last two they
+/// may keep all that the start was to make of them. `IsExempt` names two exceptions.
 pub fn start<D: Disk + Drop>(
     alloc: Global,
     files: Files<D>,
