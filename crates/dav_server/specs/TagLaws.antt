@@ -8,16 +8,15 @@ use Rattle.dav_resource.specs.declared.error.FsError.{FsError}
 use Rattle.dav_resource.specs.declared.meta.Meta.{Meta}
 use Rattle.dav_store.specs.Store.{Store, StartsWith, HasTagFrom, AreTagged}
 use Rattle.dav_tree.specs.Modified.{SetsModified, modified_metas, modified_meta}
-use Rattle.dav_wire.specs.Frames.{ReadValue, ModifiedValue}
-use Rattle.dav_wire.specs.Replies.{PartValue, ReplyValue, Part, Done, Failed}
-use Rattle.dav_server.specs.Events.{Action, Malformed, OutOfMemory, BodyStarted, BodyExtended, BodyDropped, FileRead, ExpiryReturned, HeldReturned, BackupBegun, BackupEnded, RightsRead, RightsExplained, LocksListed, LockRemoved, ModifiedSet, Rejected, Served, Acts}
+use Rattle.dav_wire.specs.Frames.{ReadValue, ModifiedValue, UnlockValue}
+use Rattle.dav_wire.specs.Replies.{PartValue, ReplyValue, Part, Done, Failed, Refused}
+use Rattle.dav_rights.specs.Access.{refuses_to}
+use Rattle.dav_server.specs.Events.{Action, Malformed, OutOfMemory, BodyStarted, BodyExtended, BodyDropped, FileRead, ExpiryReturned, HeldReturned, BackupBegun, BackupEnded, RightsRead, RightsExplained, LocksListed, LockRemoved, ModifiedSet, Rejected, Served, Acts, ReadsRights}
 use Rattle.dav_server.specs.Guarantees.{ActInOrder, IsSameStore}
-use Rattle.dav_server.specs.Operating.{ChangesAt, ChangesAsked}
+use Rattle.dav_server.specs.Operating.{ChangesAt, ChangesAsked, RemovesAt, RemovesAsked}
 use Rattle.dav_server.specs.Parts.{ReadsBy}
 use Rattle.dav_server.specs.Snapshots.{OnlySavedDiffers}
 use Rattle.dav_server.specs.State.{Rules, ServerState}
-use Rattle.dav_server.proofs.OperatorSteps.{removes_keep}
-use Rattle.dav_server.proofs.Reactions.{rights_keep}
 
 -- each entity tag of the store begins with these bytes, and so do those that it gives later
 pub record IsTagged (start : List ℕ) (store : Store) : Type 0 where
@@ -67,6 +66,27 @@ asked_tags : (start : List ℕ) (read : Result PathValue DavError) (asked : Modi
 asked_tags start (Ok path) asked old new reply changes tags = changes_tags start path.key asked.time old new reply changes tags
 asked_tags start (Err e) asked old new reply (same, why) tags = subst (λ (s : ServerState). IsTagged start s.seen.store) (sym same) tags
 
+-- ---- what leaves the store
+
+-- a lock is removed, or not
+removal_leaves : (key : Key) (token : List ℕ) (old new : ServerState) (reply : ReplyValue) → RemovesAt key token old reply new → new.seen.store ≡ old.seen.store
+removal_leaves key token old new Done removed = ap (λ (s : ServerState). s.seen.store) removed.same
+removal_leaves key token old new (Failed status) (same, why) = ap (λ (s : ServerState). s.seen.store) same
+removal_leaves key token old new _ none = absurd none
+
+unlock_leaves : (read : Result PathValue DavError) (asked : UnlockValue) (old new : ServerState) (reply : ReplyValue) → RemovesAsked read asked old reply new
+    → new.seen.store ≡ old.seen.store
+unlock_leaves (Ok path) asked old new reply (inl h) = removal_leaves path.key asked.token old new reply h
+unlock_leaves (Ok path) asked old new reply (inr (same, none)) = ap (λ (s : ServerState). s.seen.store) same
+unlock_leaves (Err e) asked old new reply (same, why) = ap (λ (s : ServerState). s.seen.store) same
+
+-- other access rules are read, or not
+rights_leave : (text : List ℕ) (reply : ReplyValue) (old new : ServerState) → ReadsRights text reply old new → new.seen.store ≡ old.seen.store
+rights_leave text Done old new (rules, has, is) = ap (λ (s : ServerState). s.seen.store) is
+rights_leave text (Refused reason) old new (none, same) = ap (λ (s : ServerState). s.seen.store) same
+rights_leave text (Failed status) old new (recorded, same) = ap (λ (s : ServerState). s.seen.store) same
+rights_leave text _ old new none = absurd none
+
 -- ---- actions
 
 module _ {F : Type 0} (see_store : F → Store) (is_honest : F → Bool) (rules : Rules) (start : List ℕ) where
@@ -97,11 +117,11 @@ module _ {F : Type 0} (see_store : F → Store) (is_honest : F → Bool) (rules 
   action_tags (HeldReturned reply) old new acts tags = unchanged old new acts.0 tags
   action_tags BackupBegun old new acts tags = unchanged old new acts tags
   action_tags BackupEnded old new acts tags = unchanged old new acts tags
-  action_tags (RightsRead text reply) old new acts tags = subst (λ seen. IsTagged start seen.store) (sym (rights_keep text reply old new acts)) tags
+  action_tags (RightsRead text reply) old new acts tags = with_same old new old.seen.store (rights_leave text reply old new acts) tags
   action_tags (RightsExplained asked reply) old new acts tags = unchanged old new acts.0 tags
   action_tags (LocksListed reply) old new acts tags = unchanged old new acts.0 tags
   action_tags (LockRemoved asked reply) old new acts tags =
-      with_same old new old.seen.store (removes_keep (read_path asked.path rules.prefix) asked old new reply acts).store tags
+      with_same old new old.seen.store (unlock_leaves (read_path asked.path rules.prefix) asked old new reply acts) tags
   action_tags (ModifiedSet asked reply) old new acts tags = asked_tags start (read_path asked.path rules.prefix) asked old new reply acts tags
   action_tags (Rejected frame e) old new acts tags = unchanged old new acts.0 tags
   action_tags (Served frame request answer) old new acts tags =
@@ -122,11 +142,11 @@ module _ {F : Type 0} (see_store : F → Store) (is_honest : F → Bool) (rules 
     read_tag [] asked part honest more old new (before, after, same, acts, others) tags =
         by (read_path asked.path rules.prefix) acts.1.reads (keeps start old.seen.store before.seen.store same.store tags)
       where
-        by : (read : Result PathValue DavError) → ReadsBy read _ honest before.seen.store.contents asked (Part part) → HasTags before → ForSome part.version (StartsWith start)
+        by : (read : Result PathValue DavError) → ReadsBy read (refuses_to before.rights asked.principal) honest before.seen.store.contents asked (Part part) → HasTags before → ForSome part.version (StartsWith start)
         by (Ok path) (inl (may, returned)) tags = subst (λ (p : PartValue). ForSome p.version (StartsWith start)) (sym returned.is)
             (subst (λ begins. HasTagFrom begins returned.meta) tags.begins (tags.tagged path.key returned.meta returned.known))
-        by (Ok path) (inr no) tags = cc
-        by (Err e) (inl no) tags = cc
-        by (Err e) (inr no) tags = cc
+        by (Ok path) (inr other) tags = cc
+        by (Err e) (inl other) tags = cc
+        by (Err e) (inr other) tags = cc
     read_tag (action ∷ actions) asked part honest more old new (before, after, same, acts, others) tags =
         read_tag actions asked part honest more after new others (action_tags action before after acts (keeps start old.seen.store before.seen.store same.store tags))
