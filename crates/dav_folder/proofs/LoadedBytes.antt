@@ -1,6 +1,7 @@
 -- The files of a tree are below the place that those of its rows are below.
 use Rattle.std.proofs.Common.{◌≡◌, ◌∙◌, ◌<◌, ℕ, false, true, List, [], ◌∷◌, map, length, get_or, Option, Some, None, is_some, refl, sym, ap, subst, arith}
 use Rattle.std.proofs.lemmas.List.{length-map, get_or-map}
+use Rattle.std.specs.Prelude.{Bool}
 use Rattle.std.specs.FinMap.{get}
 use Rattle.std.specs.Option.{option_map}
 use Rattle.dav_data.specs.Data.{is_below}
@@ -12,6 +13,8 @@ use Rattle.dav_nodes.specs.TreeRows.{numbered_row, AreRowsOf}
 use Rattle.dav_nodes.specs.declared.nodes.loading.NumberedValue.{NumberedValue}
 use Rattle.dav_store_rows.specs.Resources.{Kept}
 use Rattle.dav_tree.specs.Entry.{is_held}
+use Rattle.dav_tree.specs.declared.entry.Content.{Content}
+use Rattle.dav_tree.specs.declared.entry.Content.TheVariants as contents
 use Rattle.dav_tree.specs.Kept.{AreHeld}
 
 abbrev IsRowBelow : ℕ → Row Kept → Type 0
@@ -34,3 +37,8 @@ tree_below values tree end are below = λ key e here. by key e here (get tree.nu
         let row : Row Kept = record { above = get tree.numbers (parent key); name = own_name key; value = e } in
         let has = (are.listed n row).1 (key, at, ap (option_map (λ value. record { above = get tree.numbers (parent key); name = own_name key; value = value })) here) in
         row_below values end has.0 n row below has.1 has.2
+
+-- a test that each file of a list passes, if it passes another
+pub held_more : {B : Type 0} (these those : B → Bool) → ((body : B) → these body ≡ true → those body ≡ true) → (content : Content B) → is_held these content ≡ true → is_held those content ≡ true
+held_more these those more (contents.File body) held = more body held
+held_more these those more contents.Directory held = refl

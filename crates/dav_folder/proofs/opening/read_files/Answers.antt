@@ -29,3 +29,7 @@ returns-clause-sealed g c = λ tables keeps. later _ c.read_store.result (λ cle
     let early = were_clean _ _ _ _ c.expect_empty.ensures.log.clean c.expect_empty.ensures.db.clean clean in
     let is = (c.in_ok-loaded.ensures.found early).kept tables keeps in
     also c.read_store.result (c.read_store.ensures.sealed (not_older _ is.1)) (λ found sealed. sealed tables is.0))
+
+pub returns-clause-sound : goal.returns-clause-sound
+returns-clause-sound g c = also c.read_store.result c.read_store.ensures.log (λ found empty clean.
+    c.in_ok-loaded.ensures.sound (were_clean _ _ _ _ c.expect_empty.ensures.log.clean c.expect_empty.ensures.db.clean clean))

@@ -1,12 +1,12 @@
-use Rattle.std.proofs.Common.{◌≡◌, ◌∙◌, ◌||◌, ℕ, Option, false, refl, sym, ap, subst, inl, inr, arith}
-use Rattle.dav_data.specs.Data.{data_of, is_below, body_bytes}
+use Rattle.std.proofs.Common.{◌≡◌, ◌∙◌, ◌||◌, ℕ, Option, false, get_or, refl, sym, ap, subst, inl, inr, arith}
+use Rattle.dav_data.specs.Data.{data_of, is_below, is_synced, body_bytes}
 use Rattle.dav_keep.specs.declared.numbers.Numbers.{Numbers}
 use Rattle.dav_pieces.specs.Pieces.{bytes_of}
 use Rattle.dav_tree.proofs.Keeping.{same-resources}
 use Rattle.dav_tree.specs.Before.{IsSaved}
 use Rattle.dav_tree.specs.Kept.{Kept}
 use Rattle.dav_tree.specs.Memory.{Memory}
-use Rattle.dav_folder.proofs.LoadedBytes.{tree_below}
+use Rattle.dav_folder.proofs.LoadedBytes.{tree_below, held_more}
 use Rattle.dav_keep.proofs.LoadedImages.{values_below}
 use Rattle.dav_nodes.specs.declared.nodes.loading.RowsError.TheVariants as causes
 use Rattle.dav_folder.proofs.Starts.{err_by, disk_failed, other_bytes}
@@ -17,6 +17,11 @@ use Rattle.dav_folder.proofs.reading.read_store.Goals as goal
 -- a store with this part of the entity tags
 abbrev with_part : Option ℕ → Memory → Memory
 with_part part memory = record memory { tag_part = part }
+
+pub load-requires-2 : goal.load-requires-2
+load-requires-2 g c = λ k d low.
+    held_more (is_below c.in_ok-known.loaded.end) (is_synced c.in-Ok.medium) c.in-Ok.ensures.held (get_or c.in_ok-known.loaded.values.items k d).value.content
+    (c.in_ok-known.ensures.end.reached k d low)
 
 pub returns-clause-limit : goal.returns-clause-limit
 returns-clause-limit g c = λ image tables are.
