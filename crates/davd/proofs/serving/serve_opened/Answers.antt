@@ -1,6 +1,7 @@
 use Rattle.davd.proofs.serving.serve_opened.Goals as goal
 use Rattle.davd.proofs.serving.serve_opened.Goals.{in-Ok, in-Err}
-use Rattle.std.proofs.Common.{rules}
+use Rattle.std.proofs.Common.{◌∙◌, sym, ap, inl, inr, refl}
+use Rattle.dav_guarding.specs.Guarding.{inner_of}
 
 pub returns-clause-served : goal.returns-clause-served
 returns-clause-served g c = elim c.match-ended.branch [
@@ -8,8 +9,8 @@ returns-clause-served g c = elim c.match-ended.branch [
     first = c.resume-server.result;
     last = c.serve_kept-ended.new.self;
     begins = record { snapshot = rw c.new-store.ensures.inner at c.resume-server.ensures.snapshot; state = rw c.new-store.ensures.inner at c.resume-server.ensures.state };
-    ends = search rules;
-    keep = record { keeper = c.new-keeper.result; keeper' = c.serve_kept-ended.new.keeper; begins = c.new-keeper.ensures; ends = search rules };
+    ends = sym (c.into_inner.ensures ∙ ap inner_of (c.store-2-1.given.1 (sym (c.into_store-store.ensures.loan ∙ ap (λ p. p.0) c.serve_kept-ended.ensures.loans ∙ ap (λ p. p.0) c.resume-server.ensures.loans))) ∙ ap inner_of c.into_store-store.ensures.store);
+    keep = record { keeper = c.new-keeper.result; keeper' = c.serve_kept-ended.new.keeper; begins = c.new-keeper.ensures; ends = sym c.into_parts-folder.ensures.folder };
     runs = rw c.resume-server.ensures.rules at w.in-Ok.ensures.ran;
   })
   | in-Err w ↦ rw w.ended-is tt
@@ -22,8 +23,11 @@ returns-clause-stopped g c = elim c.match-ended.branch [
     first = c.resume-server.result;
     last = c.serve_kept-ended.new.self;
     begins = record { snapshot = rw c.new-store.ensures.inner at c.resume-server.ensures.snapshot; state = rw c.new-store.ensures.inner at c.resume-server.ensures.state };
-    ends = search rules;
-    keep = record { keeper = c.new-keeper.result; keeper' = c.serve_kept-ended.new.keeper; begins = c.new-keeper.ensures; ends = search rules };
+    ends = sym (c.into_inner.ensures ∙ ap inner_of (c.store-2-1.given.1 (sym (c.into_store-store.ensures.loan ∙ ap (λ p. p.0) c.serve_kept-ended.ensures.loans ∙ ap (λ p. p.0) c.resume-server.ensures.loans))) ∙ ap inner_of c.into_store-store.ensures.store);
+    keep = record { keeper = c.new-keeper.result; keeper' = c.serve_kept-ended.new.keeper; begins = c.new-keeper.ensures; ends = sym c.into_parts-folder.ensures.folder };
     stops = rw c.resume-server.ensures.rules at w.in-Err.ensures.stopped;
   })
 ]
+
+pub returns-clause-err : goal.returns-clause-err
+returns-clause-err g c = elim c.match-ended.branch [ in-Ok w ↦ rw w.ended-is tt | in-Err w ↦ rw w.ended-is w.stopped_by.ensures ]
