@@ -8,7 +8,7 @@ GROUP = Group("davd alone", is_shared=False)
 GROUPS = [GROUP]
 
 USAGE = b"""\
-usage: davd [-prefix PREFIX] [-anyone-unlocks] [-max-batch BYTES] [-quota BYTES] [-accept-loss] [-key KEY] [-seed SEED] [FOLDER]
+usage: davd [-prefix PREFIX] [-anyone-unlocks] [-max-batch BYTES] [-quota BYTES] [-accept-loss] [-key KEY] [-seed SEED] [-tags PART] [FOLDER]
        davd --check FOLDER
 """
 CUT = b"davd: the input ends inside a batch\n"

@@ -248,7 +248,7 @@ func TestWithdraw(t *testing.T) {
 
 func TestCloseKillsADavdThatDoesNotEnd(t *testing.T) {
 	t.Setenv(behavior, "sound")
-	engine, err := Start(context.Background(), Config{Program: "/bin/sleep", Args: []string{"60"}, Log: (&logged{}).logger()})
+	engine, err := Start(context.Background(), Config{Program: "/bin/sh", Args: []string{"-c", "exec sleep 60"}, Log: (&logged{}).logger()})
 	if err != nil {
 		t.Fatal(err)
 	}
