@@ -1,6 +1,6 @@
 -- What is read of a folder, if the files of its database returned what was written.
 use Rattle.std.proofs.Common.{◌≡◌, ℕ, true, List, [], Option, Result, Ok, Err, IsTrue, sym, subst, ◌∙◌}
-use Rattle.std.specs.Prelude.{Bool, ◌&&◌, IfOk}
+use Rattle.std.specs.Prelude.{Bool, ◌&&◌, IfOk, OnErr}
 use Rattle.std.proofs.lemmas.Bool.{and_parts, and_from}
 use Rattle.dav_keep.specs.Images.{Image}
 use Rattle.dav_pieces.specs.declared.piece.Piece.{Piece}
@@ -16,6 +16,15 @@ use Rattle.dav_folder.specs.declared.reading.Found.{Found}
 pub later : {T E Q : Type 0} (P : T → Type 0) (result : Result T E) → (Q → IfOk result P) → IfOk result (λ x. Q → P x)
 later P (Ok x) f = λ q. f q
 later P (Err e) f = tt
+
+-- what holds anyway
+pub ok_anyway : {T E P : Type 0} (result : Result T E) → P → IfOk result (λ x. P)
+ok_anyway (Ok x) p = p
+ok_anyway (Err e) p = tt
+
+pub err_anyway : {T E P : Type 0} (result : Result T E) → P → OnErr result P
+err_anyway (Ok x) p = tt
+err_anyway (Err e) p = p
 
 -- what follows on Ok
 pub also : {T E : Type 0} {P Q : T → Type 0} (result : Result T E) → IfOk result P → ((x : T) → P x → Q x) → IfOk result Q

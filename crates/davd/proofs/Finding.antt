@@ -4,6 +4,9 @@ use Rattle.std.specs.FinMap.{get}
 use Rattle.std.specs.Option.{option_map}
 use Rattle.std.specs.Prelude.{IfOk}
 use Rattle.dav_cells.specs.Locks.{kept_lock}
+use Rattle.dav_data.specs.declared.claim.Claim as claim
+use Rattle.dav_data.specs.declared.claimed_file.ClaimedFile.{ClaimedFile}
+use Rattle.sqlite_disk.specs.declared.Disk as disk
 use Rattle.dav_folder.specs.Files.{KeptStore, outline_of}
 use Rattle.dav_folder.specs.Lasting.{HasCleanDatabase}
 use Rattle.dav_folder.specs.Opening.{Opens, OpensImage, HasBytes}
@@ -29,11 +32,11 @@ use Rattle.davd.specs.Folder.{IsFound, FindsHeld, FindsNew, MakesFirst, first_ke
 use Rattle.sqlite.specs.Recovery as files
 use Rattle.sqlite_trees.specs.declared.store.Store as store
 
-module _ {S M : Type 0} {rows : store.Ghosts S} {g : Ghosts M (List Piece)} (limit : Option (Option ℕ)) (file : List ℕ) where
+module _ {S E C : Type 0} {e : disk.Ghosts E} {c : claim.Ghosts C} {rows : store.Ghosts S} {g : Ghosts (ClaimedFile E C e c) (List Piece)} (limit : Option (Option ℕ)) (file : List ℕ) where
   -- the image of what was kept is opened, with the bytes in these contents of a data file
-  found : (image : Image) (kept : KeptStore) (opened : Opened S M (List Piece) rows g) (now : List ℕ) → resources_by (bytes_of file) image.tree ≡ kept.resources
+  found : (image : Image) (kept : KeptStore) (opened : Opened S (ClaimedFile E C e c) (List Piece) rows g) (now : List ℕ) → resources_by (bytes_of file) image.tree ≡ kept.resources
       → image.numbers.counter ≡ kept.counter → map kept_lock image.locks ≡ kept.locks → image.numbers.time ≡ kept.time → image.numbers.batch ≡ kept.batch
-      → Opens image opened → (memory_of opened.store).resources ≡ resources_by (bytes_of now) image.tree → HasBytes file image opened
+      → Opens c image opened → (memory_of opened.store).resources ≡ resources_by (bytes_of now) image.tree → HasBytes file image opened
       → (memory_of opened.store).limit ≡ limit → IsFound limit kept opened
   found image kept opened now resources counter locks_are time batch opens some bytes limit_is =
       let at = opens.lasts.at in
@@ -59,22 +62,22 @@ module _ {S M : Type 0} {rows : store.Ghosts S} {g : Ghosts M (List Piece)} (lim
 
   -- What was read of the files is opened over them. `left` is what they held, and `now` what they hold when they are opened; `Clean` says that they have
   -- returned what was written.
-  module _ (left now : files.Image) (same : now ≡ left) (Clean : Type 0) (read : Found M (List Piece) g) (opened : Opened S M (List Piece) rows g)
+  module _ (left now : files.Image) (same : now ≡ left) (Clean : Type 0) (read : Found (ClaimedFile E C e c) (List Piece) g) (opened : Opened S (ClaimedFile E C e c) (List Piece) rows g)
       (is_store : opened.store ≡ read.store) (was_clean : HasCleanDatabase opened.folder → Clean) where
     some_opened : (image : Image) (tables : Contents) (reads : ReadsImage file limit image tables read) → (memory_of opened.store).resources ≡ resources_by (bytes_of reads.some.file) image.tree
     some_opened image tables reads =
-        subst (λ (s : TreeFs M (List Piece) g). (memory_of s).resources ≡ resources_by (bytes_of reads.some.file) image.tree) (sym is_store) reads.some.are
+        subst (λ (s : TreeFs (ClaimedFile E C e c) (List Piece) g). (memory_of s).resources ≡ resources_by (bytes_of reads.some.file) image.tree) (sym is_store) reads.some.are
 
     bytes_opened : (image : Image) (tables : Contents) → ReadsImage file limit image tables read → HasBytes file image opened
     bytes_opened image tables reads =
-        subst (λ (s : TreeFs M (List Piece) g). honest_of s ≡ true → (memory_of s).resources ≡ resources_by (bytes_of file) image.tree) (sym is_store) reads.bytes
+        subst (λ (s : TreeFs (ClaimedFile E C e c) (List Piece) g). honest_of s ≡ true → (memory_of s).resources ≡ resources_by (bytes_of file) image.tree) (sym is_store) reads.bytes
 
     limit_opened : (image : Image) (tables : Contents) → ReadsImage file limit image tables read → (memory_of opened.store).limit ≡ limit
-    limit_opened image tables reads = subst (λ (s : TreeFs M (List Piece) g). (memory_of s).limit ≡ limit) (sym is_store) reads.limit_is
+    limit_opened image tables reads = subst (λ (s : TreeFs (ClaimedFile E C e c) (List Piece) g). (memory_of s).limit ≡ limit) (sym is_store) reads.limit_is
 
     -- if the files held a store, it is found
     pub finds_held : ((image : Image) (tables : Contents) → Keeps left tables → StandForImage tables image → IsWholeImage image → Clean → ReadsImage file limit image tables read)
-        → ((image : Image) (tables : Contents) → Keeps now tables → (Clean → IsReadFrom image tables read) → OpensImage image opened)
+        → ((image : Image) (tables : Contents) → Keeps now tables → (Clean → IsReadFrom image tables read) → OpensImage c image opened)
         → FindsHeld left file limit opened
     finds_held reads opens = λ kept hold clean.
         let read_image = reads hold.image hold.tables hold.keeps hold.stand hold.whole in
@@ -86,7 +89,7 @@ module _ {S M : Type 0} {rows : store.Ghosts S} {g : Ghosts M (List Piece)} (lim
     -- if they had no table, a new store is found, and the data file had no byte
     pub finds_new : (key : ℕ) (changes : List Change) → MakesFirst key changes
         → ((image : Image) → IsVacant left → StandForImage (first changes) image → IsWholeImage image → Clean → ReadsImage file limit image (first changes) read)
-        → ((image : Image) → IsVacant now → (Clean → IsReadFrom image (first changes) read) → OpensImage image opened)
+        → ((image : Image) → IsVacant now → (Clean → IsReadFrom image (first changes) read) → OpensImage c image opened)
         → (IsVacant left → Clean → IsEmptyIfHonest read file) → opened.key ≡ read.key → FindsNew left file limit key opened
     finds_new key changes stand reads opens empty same_key = record {
       found = λ vacant clean.
@@ -101,7 +104,7 @@ module _ {S M : Type 0} {rows : store.Ghosts S} {g : Ghosts M (List Piece)} (lim
     }
 
 -- the same, by what the files held
-module _ {S M X : Type 0} {rows : store.Ghosts S} {g : Ghosts M (List Piece)} (result : Result (Opened S M (List Piece) rows g) X) (left held : files.Image) (file bytes : List ℕ)
+module _ {S E C X : Type 0} {e : disk.Ghosts E} {c : claim.Ghosts C} {rows : store.Ghosts S} {g : Ghosts (ClaimedFile E C e c) (List Piece)} (result : Result (Opened S (ClaimedFile E C e c) (List Piece) rows g) X) (left held : files.Image) (file bytes : List ℕ)
     (limit other : Option (Option ℕ)) (same : left ≡ held) (same_bytes : file ≡ bytes) (same_limit : limit ≡ other) where
   pub held_as : IfOk result (FindsHeld left file limit) → IfOk result (FindsHeld held bytes other)
   held_as finds =

@@ -1,6 +1,6 @@
 use Rattle.dav_keep.specs.Loading.{AreRowsOfImage}
 use Rattle.dav_rows.specs.Creating.{first}
-use Rattle.dav_folder.proofs.FoundImages.{later, reads_image, reads_empty, were_clean, also, not_older}
+use Rattle.dav_folder.proofs.FoundImages.{later, ok_anyway, reads_image, reads_empty, were_clean, also, not_older}
 use Rattle.dav_folder.proofs.opening.read_files.Goals as goal
 
 pub returns-clause-kept : goal.returns-clause-kept
@@ -31,5 +31,5 @@ returns-clause-sealed g c = λ tables keeps. later _ c.read_store.result (λ cle
     also c.read_store.result (c.read_store.ensures.sealed (not_older _ is.1)) (λ found sealed. sealed tables is.0))
 
 pub returns-clause-sound : goal.returns-clause-sound
-returns-clause-sound g c = also c.read_store.result c.read_store.ensures.log (λ found empty clean.
-    c.in_ok-loaded.ensures.sound (were_clean _ _ _ _ c.expect_empty.ensures.log.clean c.expect_empty.ensures.db.clean clean))
+returns-clause-sound g c = later _ c.read_store.result (λ clean.
+    ok_anyway c.read_store.result (c.in_ok-loaded.ensures.sound (were_clean _ _ _ _ c.expect_empty.ensures.log.clean c.expect_empty.ensures.db.clean clean)))
