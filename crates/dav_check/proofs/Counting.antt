@@ -4,7 +4,7 @@ use Rattle.std.specs.FinMap.{get}
 use Rattle.dav_key.specs.Key.{Key}
 use Rattle.dav_resource.specs.PathText.{PathValue}
 use Rattle.dav_store.specs.Store.{Store, Contents, File, Directory, IsWellFormed}
-use Rattle.dav_store.specs.Calls.{bytes_at}
+use Rattle.dav_store.specs.Calls.{Reads, bytes_at}
 use Rattle.dav_store.specs.Members.{IsIn}
 use Rattle.dav_check.specs.Reading.{IsReadBelow, WasRefused}
 use Rattle.dav_check.specs.Pending.{AddsMembers, AreThere, key_of}
@@ -230,9 +230,9 @@ module _ (contents : Contents) where
           here : IsIn (key_of next) (counted.whole ++ named_keys later)
           here = subst (λ (ks : List Key). IsIn (key_of next) ks) (sym all) (in_right (key_of next) (counted.whole ++ named_keys checked) (key_of next ∷ []) (inl refl))
 
-      pub counts_checks : {F : Type 0} (seen : F → Store) (honest : F → Bool) → ChecksFile seen honest contents next checked later → IsCounted contents rest later
-      counts_checks seen honest one = which one.outcome
+      pub counts_checks : {F : Type 0} (seen : F → Store) (reads : F → Reads) → ChecksFile seen reads contents next checked later → IsCounted contents rest later
+      counts_checks seen reads one = which one.outcome
         where
-          which : (IsReadBelow seen honest contents next.path.key next.meta.len × CountsFile next checked later) ⊎ (WasRefused seen honest contents next.path.key × NamesFile next checked later) → IsCounted contents rest later
+          which : (IsReadBelow seen reads contents next.path.key next.meta.len × CountsFile next checked later) ⊎ (WasRefused seen reads contents next.path.key × NamesFile next checked later) → IsCounted contents rest later
           which (inl (was_read, counts)) = counts_whole one.files counts
           which (inr (was_refused, names)) = counts_named one.files names

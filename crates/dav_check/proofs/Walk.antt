@@ -5,7 +5,7 @@ use Rattle.dav_key.specs.Key.{Key}
 use Rattle.dav_resource.specs.PathText.{PathValue}
 use Rattle.dav_resource.specs.declared.meta.Meta.{Meta}
 use Rattle.dav_store.specs.Store.{Store, Contents, Node, File, Directory, IsWellFormed, MetaFits}
-use Rattle.dav_store.specs.Calls.{bytes_at}
+use Rattle.dav_store.specs.Calls.{Reads, bytes_at}
 use Rattle.dav_store.specs.Members.{IsIn, member}
 use Rattle.dav_store.specs.MemberLaws.{parent-member, there_members}
 use Rattle.dav_check.specs.Reading.{IsRead, IsReadBelow, WasRefused}
@@ -20,11 +20,11 @@ abbrev pub IsAwaited : List Pending → Key → Type 0
 IsAwaited waiting key = (p : Pending) × IsIn p waiting × (below : Key) × (key ≡ key_of p ++ below)
 
 -- each file is named, was read, or is at or below a resource that waits
-pub record IsUnderway {F : Type 0} (seen : F → Store) (honest : F → Bool) (contents : Contents) (waiting : List Pending) (checked : Checked) : Type 0 where
+pub record IsUnderway {F : Type 0} (seen : F → Store) (reads : F → Reads) (contents : Contents) (waiting : List Pending) (checked : Checked) : Type 0 where
   pub there : AreThere contents waiting
   pub files : (path : PathValue) → IsIn path checked.damaged.items → IsFile contents path.key
-  pub refused : (path : PathValue) → IsIn path checked.damaged.items → WasRefused seen honest contents path.key
-  pub read : (key : Key) → IsFile contents key → (IsNamed checked key ⊎ IsRead seen honest contents key) ⊎ IsAwaited waiting key
+  pub refused : (path : PathValue) → IsIn path checked.damaged.items → WasRefused seen reads contents path.key
+  pub read : (key : Key) → IsFile contents key → (IsNamed checked key ⊎ IsRead seen reads contents key) ⊎ IsAwaited waiting key
 
 -- ---- what exists
 
@@ -62,9 +62,9 @@ file_by (Some (File bytes)) (Some m) meta fits is dir = let same : m ≡ meta = 
 
 -- ---- the begin and the end
 
-module _ {F : Type 0} (seen : F → Store) (honest : F → Bool) (contents : Contents) where
+module _ {F : Type 0} (seen : F → Store) (reads : F → Reads) (contents : Contents) where
   -- at first the root waits
-  pub begins : (waiting : List Pending) (checked : Checked) (path : PathValue) (meta : Meta) → waiting ≡ (record { path = path; meta = meta }) ∷ [] → path.key ≡ [] → contents.metas path.key ≡ Some meta → checked.damaged.items ≡ [] → IsUnderway seen honest contents waiting checked
+  pub begins : (waiting : List Pending) (checked : Checked) (path : PathValue) (meta : Meta) → waiting ≡ (record { path = path; meta = meta }) ∷ [] → path.key ≡ [] → contents.metas path.key ≡ Some meta → checked.damaged.items ≡ [] → IsUnderway seen reads contents waiting checked
   begins waiting checked path meta is root at none = record {
     there = λ p i. only p (subst (λ ps. IsIn p ps) is i);
     files = λ p i. absurd (subst (λ ps. IsIn p ps) none i);
@@ -80,16 +80,16 @@ module _ {F : Type 0} (seen : F → Store) (honest : F → Bool) (contents : Con
       only p (inr i) = absurd i
 
   -- at last nothing waits
-  pub ends : (waiting : List Pending) (checked : Checked) → waiting ≡ [] → IsUnderway seen honest contents waiting checked → (key : Key) → IsFile contents key → IsNamed checked key ⊎ IsRead seen honest contents key
+  pub ends : (waiting : List Pending) (checked : Checked) → waiting ≡ [] → IsUnderway seen reads contents waiting checked → (key : Key) → IsFile contents key → IsNamed checked key ⊎ IsRead seen reads contents key
   ends waiting checked none underway key file = which (underway.read key file)
     where
-      which : (IsNamed checked key ⊎ IsRead seen honest contents key) ⊎ IsAwaited waiting key → IsNamed checked key ⊎ IsRead seen honest contents key
+      which : (IsNamed checked key ⊎ IsRead seen reads contents key) ⊎ IsAwaited waiting key → IsNamed checked key ⊎ IsRead seen reads contents key
       which (inl done) = done
       which (inr (p, inside, below, is)) = absurd (subst (λ ps. IsIn p ps) none inside)
 
   -- ---- one resource more
 
-  module _ (formed : IsWellFormed contents) (waiting rest : List Pending) (next : Pending) (checked : Checked) (last : waiting ≡ rest ++ next ∷ []) (underway : IsUnderway seen honest contents waiting checked) where
+  module _ (formed : IsWellFormed contents) (waiting rest : List Pending) (next : Pending) (checked : Checked) (last : waiting ≡ rest ++ next ∷ []) (underway : IsUnderway seen reads contents waiting checked) where
     pub next_there : contents.metas (key_of next) ≡ Some next.meta
     next_there = underway.there next (subst (λ ps. IsIn next ps) (sym last) (in_right next rest (next ∷ []) (inl refl)))
 
@@ -130,7 +130,7 @@ module _ {F : Type 0} (seen : F → Store) (honest : F → Bool) (contents : Con
       pub awaits_on : (key : Key) → IsFile contents key → IsAwaited waiting key → IsAwaited after key
       awaits_on key file waits = still key file (awaited key waits)
 
-      pub lists : IsUnderway seen honest contents after checked
+      pub lists : IsUnderway seen reads contents after checked
       lists = record {
         there = λ p i. which_there p (in_either p rest adds.added (subst (λ ps. IsIn p ps) adds.behind i));
         files = underway.files;
@@ -142,7 +142,7 @@ module _ {F : Type 0} (seen : F → Store) (honest : F → Bool) (contents : Con
           which_there p (inl i) = rest_there p i
           which_there p (inr i) = adds.there p i
 
-          which_read : (key : Key) → IsFile contents key → (IsNamed checked key ⊎ IsRead seen honest contents key) ⊎ IsAwaited waiting key → (IsNamed checked key ⊎ IsRead seen honest contents key) ⊎ IsAwaited after key
+          which_read : (key : Key) → IsFile contents key → (IsNamed checked key ⊎ IsRead seen reads contents key) ⊎ IsAwaited waiting key → (IsNamed checked key ⊎ IsRead seen reads contents key) ⊎ IsAwaited after key
           which_read key file (inl done) = inl done
           which_read key file (inr waits) = inr (awaits_on key file waits)
 
@@ -154,9 +154,9 @@ module _ {F : Type 0} (seen : F → Store) (honest : F → Bool) (contents : Con
       nothing_below : (below : Key) (name : List ℕ) → get contents.tree (key_of next ++ name ∷ below) ≢ None → ⊥
       nothing_below below name stands = let no : Some (File file.0) ≡ Some Directory = sym file.1 ∙ directory_above contents formed (key_of next) below name stands in cc
 
-      goes_on : (IsNamed later (key_of next) ⊎ IsRead seen honest contents (key_of next)) → ((key : Key) → IsNamed checked key → IsNamed later key)
-          → ((path : PathValue) → IsIn path later.damaged.items → IsFile contents path.key) → ((path : PathValue) → IsIn path later.damaged.items → WasRefused seen honest contents path.key)
-          → IsUnderway seen honest contents rest later
+      goes_on : (IsNamed later (key_of next) ⊎ IsRead seen reads contents (key_of next)) → ((key : Key) → IsNamed checked key → IsNamed later key)
+          → ((path : PathValue) → IsIn path later.damaged.items → IsFile contents path.key) → ((path : PathValue) → IsIn path later.damaged.items → WasRefused seen reads contents path.key)
+          → IsUnderway seen reads contents rest later
       goes_on done kept files refused = record {
         there = rest_there;
         files = files;
@@ -164,25 +164,25 @@ module _ {F : Type 0} (seen : F → Store) (honest : F → Bool) (contents : Con
         read = λ key is_file. which key is_file (underway.read key is_file);
       }
         where
-          at_below : (key below : Key) → IsFile contents key → key ≡ key_of next ++ below → IsNamed later key ⊎ IsRead seen honest contents key
-          at_below key [] is_file is = subst (λ k. IsNamed later k ⊎ IsRead seen honest contents k) (sym (is ∙ append-nil (key_of next))) done
+          at_below : (key below : Key) → IsFile contents key → key ≡ key_of next ++ below → IsNamed later key ⊎ IsRead seen reads contents key
+          at_below key [] is_file is = subst (λ k. IsNamed later k ⊎ IsRead seen reads contents k) (sym (is ∙ append-nil (key_of next))) done
           at_below key (name ∷ below) is_file is = absurd (nothing_below below name (subst (λ k. get contents.tree k ≢ None) is (file_stands contents key is_file)))
 
-          still : (key : Key) → IsFile contents key → IsAwaited rest key ⊎ ((below : Key) × (key ≡ key_of next ++ below)) → (IsNamed later key ⊎ IsRead seen honest contents key) ⊎ IsAwaited rest key
+          still : (key : Key) → IsFile contents key → IsAwaited rest key ⊎ ((below : Key) × (key ≡ key_of next ++ below)) → (IsNamed later key ⊎ IsRead seen reads contents key) ⊎ IsAwaited rest key
           still key is_file (inl waits) = inr waits
           still key is_file (inr (below, is)) = inl (at_below key below is_file is)
 
-          which : (key : Key) → IsFile contents key → (IsNamed checked key ⊎ IsRead seen honest contents key) ⊎ IsAwaited waiting key → (IsNamed later key ⊎ IsRead seen honest contents key) ⊎ IsAwaited rest key
+          which : (key : Key) → IsFile contents key → (IsNamed checked key ⊎ IsRead seen reads contents key) ⊎ IsAwaited waiting key → (IsNamed later key ⊎ IsRead seen reads contents key) ⊎ IsAwaited rest key
           which key is_file (inl (inl named)) = inl (inl (kept key named))
           which key is_file (inl (inr was_read)) = inl (inr was_read)
           which key is_file (inr waits) = still key is_file (awaited key waits)
 
-      pub checks : ChecksFile seen honest contents next checked later → IsUnderway seen honest contents rest later
+      pub checks : ChecksFile seen reads contents next checked later → IsUnderway seen reads contents rest later
       checks one = which one.outcome
         where
-          which : (IsReadBelow seen honest contents next.path.key next.meta.len × CountsFile next checked later) ⊎ (WasRefused seen honest contents next.path.key × NamesFile next checked later) → IsUnderway seen honest contents rest later
+          which : (IsReadBelow seen reads contents next.path.key next.meta.len × CountsFile next checked later) ⊎ (WasRefused seen reads contents next.path.key × NamesFile next checked later) → IsUnderway seen reads contents rest later
           which (inl (was_read, counts)) =
-              goes_on (inr (subst (IsReadBelow seen honest contents (key_of next)) (file.2 ∙ ap (λ n. length (bytes_at n)) (sym file.1)) was_read))
+              goes_on (inr (subst (IsReadBelow seen reads contents (key_of next)) (file.2 ∙ ap (λ n. length (bytes_at n)) (sym file.1)) was_read))
               (λ key named. (named.0, subst (λ ds. IsIn named.0 ds) (sym (ap (λ (v : Vec PathValue Global). v.items) counts.damaged)) named.1, named.2))
               (λ path i. underway.files path (subst (λ ds. IsIn path ds) (ap (λ (v : Vec PathValue Global). v.items) counts.damaged) i))
               (λ path i. underway.refused path (subst (λ ds. IsIn path ds) (ap (λ (v : Vec PathValue Global). v.items) counts.damaged) i))
@@ -197,7 +197,7 @@ module _ {F : Type 0} (seen : F → Store) (honest : F → Bool) (contents : Con
               which_file path (inr (inl e)) = subst (λ (p : PathValue). IsFile contents p.key) e (file.0, file.1)
               which_file path (inr (inr i)) = absurd i
 
-              which_refused : (path : PathValue) → IsIn path checked.damaged.items ⊎ IsIn path (next.path ∷ []) → WasRefused seen honest contents path.key
+              which_refused : (path : PathValue) → IsIn path checked.damaged.items ⊎ IsIn path (next.path ∷ []) → WasRefused seen reads contents path.key
               which_refused path (inl i) = underway.refused path i
-              which_refused path (inr (inl e)) = subst (λ (p : PathValue). WasRefused seen honest contents p.key) e was_refused
+              which_refused path (inr (inl e)) = subst (λ (p : PathValue). WasRefused seen reads contents p.key) e was_refused
               which_refused path (inr (inr i)) = absurd i

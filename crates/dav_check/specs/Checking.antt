@@ -4,9 +4,9 @@ use Rattle.std.specs.FinMap.{get}
 use Rattle.dav_key.specs.Key.{Key}
 use Rattle.dav_resource.specs.PathText.{PathValue}
 use Rattle.dav_store.specs.Store.{Store, Contents, File}
-use Rattle.dav_store.specs.Calls.{bytes_at}
+use Rattle.dav_store.specs.Calls.{Reads, bytes_at}
 use Rattle.dav_store.specs.Members.{IsIn, AreDistinct}
-use Rattle.dav_check.specs.Reading.{IsReadBelow, WasRefused}
+use Rattle.dav_check.specs.Reading.{IsRead, IsReadBelow, WasRefused}
 use Rattle.dav_check.specs.declared.checking.Checked.{Checked}
 use Rattle.dav_check.specs.declared.pending.Pending.{Pending}
 
@@ -29,9 +29,22 @@ pub record NamesFile (file : Pending) (old new : Checked) : Type 0 where
   pub damaged : new.damaged.items ≡ old.damaged.items ++ file.path ∷ []
 
 -- a file was read to its end, or a read of it was refused
-pub record ChecksFile {F : Type 0} (seen : F → Store) (honest : F → Bool) (contents : Contents) (file : Pending) (old new : Checked) : Type 0 where
+pub record ChecksFile {F : Type 0} (seen : F → Store) (reads : F → Reads) (contents : Contents) (file : Pending) (old new : Checked) : Type 0 where
   pub files : new.files ≡ old.files + 1
-  pub outcome : (IsReadBelow seen honest contents file.path.key file.meta.len × CountsFile file old new) ⊎ (WasRefused seen honest contents file.path.key × NamesFile file old new)
+  pub outcome : (IsReadBelow seen reads contents file.path.key file.meta.len × CountsFile file old new) ⊎ (WasRefused seen reads contents file.path.key × NamesFile file old new)
+
+-- each path that is named is that of a file
+abbrev pub NamesFiles : Contents → Checked → Type 0
+NamesFiles contents checked = (path : PathValue) → IsIn path checked.damaged.items → IsFile contents path.key
+
+module _ {F : Type 0} (seen : F → Store) (reads : F → Reads) (contents : Contents) (checked : Checked) where
+  -- a read of each file that is named was refused
+  abbrev pub WereRefused : Type 0
+  WereRefused = (path : PathValue) → IsIn path checked.damaged.items → WasRefused seen reads contents path.key
+
+  -- each file is named, or each of its bytes was read
+  abbrev pub AreNamedOrRead : Type 0
+  AreNamedOrRead = (key : Key) → IsFile contents key → IsNamed checked key ⊎ IsRead seen reads contents key
 
 -- ---- how many
 

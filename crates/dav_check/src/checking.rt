@@ -1,11 +1,7 @@
 //! A check of all files of a store.
 ghost use Rattle.std.specs.Prelude.{◌≡◌, ◌⊎◌, ◌+◌, ◌*◌, ◌^◌, ◌<◌, ◌≤◌, false, IfOk, OnOk, IfErr, Some};
-ghost use Rattle.dav_key.specs.Key.{Key};
-ghost use Rattle.dav_resource.specs.PathText.{PathValue};
 ghost use Rattle.dav_resource.specs.declared.error.FsError.TheVariants.{Memory};
-ghost use Rattle.dav_store.specs.Members.{IsIn};
-ghost use Rattle.dav_check.specs.Reading.{IsRead, WasRefused};
-ghost use Rattle.dav_check.specs.Checking.{IsFile, IsNamed, ChecksFile, CountsAll};
+ghost use Rattle.dav_check.specs.Checking.{ChecksFile, CountsAll, NamesFiles, WereRefused, AreNamedOrRead};
 
 use crate::pending::{Pending, add_members};
 use crate::reading::read_file;
@@ -34,9 +30,9 @@ pub fn check<F: GuardedFileSystem<()>>(alloc: Global, fs: &mut F) -> FsResult<Ch
     ensures same { (F.seen fs.new).contents ≡ (F.seen fs.old).contents }
     ensures fixed { (F.seen fs.new).facts ≡ (F.seen fs.old).facts }
     ensures counted { IfOk result (CountsAll (F.seen fs.old).contents) }
-    ensures files { IfOk result (λ checked. (path : PathValue) → IsIn path checked.damaged.items → IsFile (F.seen fs.old).contents path.key) }
-    ensures refused { IfOk result (λ checked. (path : PathValue) → IsIn path checked.damaged.items → WasRefused F.seen F.is_honest (F.seen fs.old).contents path.key) }
-    ensures read { IfOk result (λ checked. (key : Key) → IsFile (F.seen fs.old).contents key → IsNamed checked key ⊎ IsRead F.seen F.is_honest (F.seen fs.old).contents key) }
+    ensures files { IfOk result (NamesFiles (F.seen fs.old).contents) }
+    ensures refused { IfOk result (WereRefused F.seen F.reads (F.seen fs.old).contents) }
+    ensures read { IfOk result (AreNamedOrRead F.seen F.reads (F.seen fs.old).contents) }
 {
     let root = DavPath::root(alloc)?;
     let meta = fs.metadata(&root, &())?;
@@ -72,7 +68,7 @@ fn check_file<F: GuardedFileSystem<()>>(
     requires small { checked.old.bytes ≤ checked.old.files * 2 ^ 64 }
     ensures same { (F.seen fs.new).contents ≡ (F.seen fs.old).contents }
     ensures fixed { (F.seen fs.new).facts ≡ (F.seen fs.old).facts }
-    ensures ok { OnOk result (ChecksFile F.seen F.is_honest (F.seen fs.old).contents file checked.old checked.new) }
+    ensures ok { OnOk result (ChecksFile F.seen F.reads (F.seen fs.old).contents file checked.old checked.new) }
     ensures small { OnOk result (checked.new.bytes ≤ checked.new.files * 2 ^ 64) }
     ensures err { IfErr result (λ e. e ≡ Memory) }
 {

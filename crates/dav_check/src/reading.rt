@@ -16,8 +16,8 @@ pub(crate) fn read_file<F: GuardedFileSystem<()>>(
 ) -> FsResult<()>
     ensures same { (F.seen fs.new).contents ≡ (F.seen fs.old).contents }
     ensures fixed { (F.seen fs.new).facts ≡ (F.seen fs.old).facts }
-    ensures ok { OnOk result (IsReadBelow F.seen F.is_honest (F.seen fs.old).contents path.now.key len) }
-    ensures err { IfErr result (IsFailure F.seen F.is_honest (F.seen fs.old).contents path.now.key) }
+    ensures ok { OnOk result (IsReadBelow F.seen F.reads (F.seen fs.old).contents path.now.key len) }
+    ensures err { IfErr result (IsFailure F.seen F.reads (F.seen fs.old).contents path.now.key) }
 {
     let mut place = 0;
     while place < len {
@@ -46,8 +46,8 @@ fn read_piece<F: GuardedFileSystem<()>>(
 ) -> FsResult<()>
     ensures same { (F.seen fs.new).contents ≡ (F.seen fs.old).contents }
     ensures fixed { (F.seen fs.new).facts ≡ (F.seen fs.old).facts }
-    ensures ok { OnOk result (IsReadBetween F.seen F.is_honest (F.seen fs.old).contents path.now.key place (place + count)) }
-    ensures err { IfErr result (IsFailure F.seen F.is_honest (F.seen fs.old).contents path.now.key) }
+    ensures ok { OnOk result (IsReadBetween F.seen F.reads (F.seen fs.old).contents path.now.key place (place + count)) }
+    ensures err { IfErr result (IsFailure F.seen F.reads (F.seen fs.old).contents path.now.key) }
 {
     fs.clear_log();
     fs.read_bytes(path, place, count as usize, &())?;

@@ -16,7 +16,7 @@ use Rattle.dav_resource.specs.declared.error.FsError.TheVariants.{Memory, Forbid
 use Rattle.dav_store.specs.Logged.{logged_of, record_with, record_on}
 use Rattle.dav_store.specs.Allowed.{IsAllowed}
 use Rattle.dav_store.specs.Store.{Store}
-use Rattle.dav_store.specs.Calls.{ReadsBytes, Writes, place_of}
+use Rattle.dav_store.specs.Calls.{Reads, ReadsBytes, Writes, place_of}
 use Rattle.dav_store.specs.BodyCalls.{stored_bytes}
 use Rattle.dav_store.specs.Members.{Lists, ReadsDir, unseen_record}
 use Rattle.dav_wrapping.specs.Wrapping.{seen_with}
@@ -96,12 +96,16 @@ module _ {F P : Type 0} {g : Ghosts P} where
 
   -- ---- bytes
 
-  -- a read, as contracts see it, and as it is guarded; `is_honest` says whether the wrapped store's medium is
-  abbrev pub ReadsBehind : (F → Bool) → (F → Store) → Key → ℕ → ℕ → Guarding F P g → Result (Vec ℕ Global) FsError → Guarding F P g → Type 0
-  ReadsBehind is_honest see key place count old answer new = ReadsBytes (is_honest (inner_of new)) (seen_behind see old) key place count answer (seen_behind see new)
+  -- what is said of a read: what the wrapped store says, and that it may be refused
+  abbrev pub reads_behind : (F → Reads) → Guarding F P g → Reads
+  reads_behind reads store = record { reading = (reads (inner_of store)).reading; may_fail = λ e. (e ≡ Forbidden) ⊎ (reads (inner_of store)).may_fail e }
 
-  abbrev pub GuardsRead : (F → Bool) → (F → Store) → PathValue → ℕ → ℕ → Guarding F P g → Result (Vec ℕ Global) FsError → Guarding F P g → Type 0
-  GuardsRead is_honest see path place count old answer new = Guards see ReadBytes (path ∷ []) (λ s. ReadsBytes (is_honest (inner_of new)) s path.key place count) old answer new
+  -- a read, as contracts see it, and as it is guarded; `reads` is what the wrapped store says of it
+  abbrev pub ReadsBehind : (F → Reads) → (F → Store) → Key → ℕ → ℕ → Guarding F P g → Result (Vec ℕ Global) FsError → Guarding F P g → Type 0
+  ReadsBehind reads see key place count old answer new = ReadsBytes (reads (inner_of new)) (seen_behind see old) key place count answer (seen_behind see new)
+
+  abbrev pub GuardsRead : (F → Reads) → (F → Store) → PathValue → ℕ → ℕ → Guarding F P g → Result (Vec ℕ Global) FsError → Guarding F P g → Type 0
+  GuardsRead reads see path place count old answer new = Guards see ReadBytes (path ∷ []) (λ s. ReadsBytes (reads (inner_of new)) s path.key place count) old answer new
 
   -- a write of these bytes to an open file, as it is guarded
   abbrev pub GuardsWrite : (F → Store) → DavFile → List ℕ → Guarding F P g → Result (Unit {0}) FsError → Guarding F P g → Type 0

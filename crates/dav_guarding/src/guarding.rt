@@ -1,8 +1,8 @@
 //! A store that a policy guards.
-ghost use Rattle.std.specs.Prelude.{◌≡◌, ◌≢◌, ◌<◌, ◌+◌, ◌^◌, [], ◌∷◌, All, false, map, length, MatchResult, None};
+ghost use Rattle.std.specs.Prelude.{◌≡◌, ◌≢◌, ◌<◌, ◌+◌, ◌^◌, [], ◌∷◌, All, false, map, length, MatchResult, None, IfErr};
 ghost use Rattle.std.specs.Borrow.{sem};
 ghost use Rattle.dav_store.specs.Logged.{logged_of};
-ghost use Rattle.dav_store.specs.Calls.{LooksUp, MakesDirectory, Opens, Seeks, Writes, Flushes, LooksUpFile};
+ghost use Rattle.dav_store.specs.Calls.{LooksUp, MakesDirectory, Opens, FailsToRead, Seeks, Writes, Flushes, LooksUpFile};
 ghost use Rattle.dav_store.specs.Members.{ReadsDir, RemovesFile, RemovesDir};
 ghost use Rattle.dav_store.specs.BodyCalls.{StartsBody, AddsToBody, with_body};
 ghost use Rattle.dav_store.specs.Transfers.{Copies, Renames};
@@ -95,11 +95,11 @@ impl<F, P: Policy> Guarding<F, P> {
 }
 
 impl<C, F: GuardedFileSystem<C>, P: Policy> GuardedFileSystem<C> for Guarding<F, P> {
-    ghost use Rattle.dav_guarding.specs.Guarding.{seen_behind, inner_of, body_behind, policy_of, records_of, is_allowed, Guards, GuardsReading, ReadsBehind, GuardsRead, GuardsWrite, MovesHandle};
+    ghost use Rattle.dav_guarding.specs.Guarding.{seen_behind, inner_of, body_behind, policy_of, records_of, is_allowed, is_refused, reads_behind, Guards, GuardsReading, ReadsBehind, GuardsRead, GuardsWrite, MovesHandle};
 
     ghost seen = { seen_behind F.seen };
 
-    ghost is_honest = { λ store. F.is_honest store.inner };
+    ghost reads = { reads_behind F.reads };
 
     ghost well_formed = { λ store. F.well_formed store.inner };
 
@@ -213,8 +213,11 @@ impl<C, F: GuardedFileSystem<C>, P: Policy> GuardedFileSystem<C> for Guarding<F,
         count: usize,
         credentials: &C,
     ) -> FsResult<Vec<u8>>
-        ensures seen { ReadsBehind F.is_honest F.seen path.now.key place count self.old result self.new }
-        ensures guarded { GuardsRead F.is_honest F.seen path.now place count self.old result self.new }
+        ensures seen { ReadsBehind F.reads F.seen path.now.key place count self.old result self.new }
+        ensures guarded { GuardsRead F.reads F.seen path.now place count self.old result self.new }
+        ensures cause { IfErr result (FailsToRead (reads_behind F.reads self.new) (seen_behind F.seen self.old) path.now.key) }
+        ensures passed { is_refused self.old Op.ReadBytes (path.now ∷ []) ≡ false
+            → IfErr result (FailsToRead (F.reads (inner_of self.new)) (F.seen (inner_of self.old)) path.now.key) }
     {
         let paths = one_path(path)?;
         let mut call = self.guard.begin(Op::ReadBytes, paths)?;
@@ -390,7 +393,6 @@ impl<C, F: GuardedFileSystem<C>, P: Policy> GuardedFileSystem<C> for Guarding<F,
     fn clear_log(&mut self)
         ensures seen { seen_behind F.seen self.new ≡ record (seen_behind F.seen self.old) { log = [] } }
         ensures inner { F.seen (inner_of self.new) ≡ record (F.seen (inner_of self.old)) { log = [] } }
-        ensures honest { F.is_honest (inner_of self.new) ≡ F.is_honest (inner_of self.old) }
         ensures policy { policy_of self.new ≡ policy_of self.old }
         ensures records { records_of self.new ≡ [] }
     {

@@ -183,7 +183,7 @@ impl<C, F: GuardedFileSystem<C>> GuardedFileSystem<C> for Refusing<F> {
 
     ghost seen = { seen_behind F.seen };
 
-    ghost is_honest = { λ store. F.is_honest store.inner };
+    ghost reads = { λ store. record { reading = (F.reads store.inner).reading; may_fail = λ _. Unit {0} } };
 
     ghost well_formed = { λ store. F.well_formed store.inner };
 
@@ -296,8 +296,8 @@ impl<C, F: GuardedFileSystem<C>> GuardedFileSystem<C> for Refusing<F> {
         count: usize,
         credentials: &C,
     ) -> FsResult<Vec<u8>>
-        ensures seen { ReadsBytes (F.is_honest (inner_of self.new)) (seen_behind F.seen self.old) path.now.key place count result (seen_behind F.seen self.new) }
-        ensures plan { Follows F.seen Op.ReadBytes (path.now ∷ []) (λ s. ReadsBytes (F.is_honest (inner_of self.new)) s path.now.key place count) self.old result self.new }
+        ensures seen { ReadsBytes (F.reads (inner_of self.new)) (seen_behind F.seen self.old) path.now.key place count result (seen_behind F.seen self.new) }
+        ensures plan { Follows F.seen Op.ReadBytes (path.now ∷ []) (λ s. ReadsBytes (F.reads (inner_of self.new)) s path.now.key place count) self.old result self.new }
     {
         let paths = one_path(path)?;
         let mut call = self.begin(Op::ReadBytes, paths)?;
@@ -472,7 +472,6 @@ impl<C, F: GuardedFileSystem<C>> GuardedFileSystem<C> for Refusing<F> {
     fn clear_log(&mut self)
         ensures seen { seen_behind F.seen self.new ≡ record (seen_behind F.seen self.old) { log = [] } }
         ensures inner { F.seen (inner_of self.new) ≡ record (F.seen (inner_of self.old)) { log = [] } }
-        ensures honest { F.is_honest (inner_of self.new) ≡ F.is_honest (inner_of self.old) }
         ensures plan { pending_of self.new ≡ pending_of self.old }
         ensures records { records_of self.new ≡ [] }
     {

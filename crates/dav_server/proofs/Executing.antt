@@ -1,5 +1,5 @@
 -- Requests that the engine serves, as their callers see the store.
-use Rattle.std.proofs.Common.{◌≡◌, ◌∙◌, List, [], map, Option, refl, ap, inl, inr, ◌⊎◌, ℕ, Bool, Some}
+use Rattle.std.proofs.Common.{◌≡◌, ◌∙◌, List, [], map, Option, refl, ap, inl, inr, ◌⊎◌, ℕ, Some}
 use Rattle.dav_resource.specs.declared.error.DavError.{DavError}
 use Rattle.dav_resource.specs.declared.error.DavError.TheVariants.{Memory}
 use Rattle.dav_messages.specs.Reply.{Answer}
@@ -11,6 +11,7 @@ use Rattle.dav_rights.specs.Access.{refuses, refuses_by, refuses_to, rights_in, 
 use Rattle.dav_rights.specs.Rules.{Caller}
 use Rattle.dav_rights.specs.declared.access.Access.{Access}
 use Rattle.dav_rights.specs.declared.rules.WrittenRule.{WrittenRule}
+use Rattle.dav_store.specs.Calls.{Reads}
 use Rattle.dav_store.specs.Logged.{logged_of}
 use Rattle.dav_store.specs.Store.{Store}
 use Rattle.dav_wrapping.specs.Wrapping.{seen_with}
@@ -36,11 +37,11 @@ caller_view see old new access rights caller refusals inner policy none is =
 pub unfit : (rules : Rules) (state : ServerState) (frame : RequestValue) (e : DavError) → (e ≡ Memory) ⊎ IsUnfit rules.prefix frame e → IsRejected rules state frame e
 unfit rules state frame e h = elim h [ inl p ↦ inl p | inr q ↦ inr (inl q) ]
 
-module _ {F : Type 0} (see_store : F → Store) (is_honest : F → Bool) where
+module _ {F : Type 0} (see_store : F → Store) (says : F → Reads) where
   -- the reply to a request
   pub answers : (rules : Rules) (frame : RequestValue) (old : ServerState) (answer : Answer) (new : ServerState) (sent : Option (List ℕ))
       → AnswersRequest rules frame old answer new → Encodes (replies.Response (response_of answer)) sent
-      → Reacts see_store is_honest rules (Some (frames.Request frame)) old sent new
+      → Reacts see_store says rules (Some (frames.Request frame)) old sent new
   answers rules frame old answer new sent (inl h) encoded =
       record { action = events.Rejected frame h.0; of = refl; acts = (h.2, h.3); encoded = rw h.1 at encoded }
   answers rules frame old answer new sent (inr h) encoded =

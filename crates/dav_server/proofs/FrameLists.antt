@@ -1,10 +1,11 @@
 -- Frames that are served one after the other.
-use Rattle.std.proofs.Common.{◌≡◌, ℕ, Bool, List, [], ◌∷◌, ◌++◌, map, Option, Some, None, refl, ◌∙◌, ap, inl, inr, Vec, option_map, ◌+◌, ◌<◌, length, take, get_or}
+use Rattle.std.proofs.Common.{◌≡◌, ℕ, List, [], ◌∷◌, ◌++◌, map, Option, Some, None, refl, ◌∙◌, ap, inl, inr, Vec, option_map, ◌+◌, ◌<◌, length, take, get_or}
 use denote.Ref.{Bor}
 use Rattle.std.specs.List.{AllZip}
 use Rattle.std.specs.declared.alloc.Global.{Global}
 use Rattle.std.proofs.lemmas.List.{map-append, take_more}
 use Rattle.std.proofs.lemmas.Grind.{flat_map-append}
+use Rattle.dav_store.specs.Calls.{Reads}
 use Rattle.dav_store.specs.Store.{Store}
 use Rattle.dav_wire.specs.Numbers.{number}
 use Rattle.dav_wire.specs.Replies.{ReplyValue, reply, Failed}
@@ -30,21 +31,21 @@ AllZip-more R [] (b ∷ ys) x y h one = absurd h
 AllZip-more R (a ∷ xs) [] x y h one = absurd h
 AllZip-more R (a ∷ xs) (b ∷ ys) x y h one = (h.0, AllZip-more R xs ys x y h.1 one)
 
-module _ {F : Type 0} (see_store : F → Store) (is_honest : F → Bool) where
+module _ {F : Type 0} (see_store : F → Store) (says : F → Reads) where
   Happen-append : (rules : Rules) (xs ys : List Event) (old mid new : ServerState)
-      → Happen see_store is_honest rules xs old mid → Happen see_store is_honest rules ys mid new → Happen see_store is_honest rules (xs ++ ys) old new
+      → Happen see_store says rules xs old mid → Happen see_store says rules ys mid new → Happen see_store says rules (xs ++ ys) old new
   Happen-append rules [] ys old mid new first second = rw first at second
   Happen-append rules (x ∷ xs) ys old mid new first second = (first.0, first.1, Happen-append rules xs ys first.0 mid new first.2 second)
 
   -- no frame was served yet
-  pub serves_none : (rules : Rules) (state : ServerState) → ServesFrames see_store is_honest rules state [] [] state
+  pub serves_none : (rules : Rules) (state : ServerState) → ServesFrames see_store says rules state [] [] state
   serves_none rules state = record { actions = []; read = refl; happen = refl; sent = tt }
 
   -- one more frame
   pub serves_more : (rules : Rules) (old mid new : ServerState) (frames replies : List (List ℕ)) (bytes : List ℕ) (encoded : Option (Vec ℕ Global))
-      → ServesFrames see_store is_honest rules old frames replies mid
-      → ServesFrame see_store is_honest rules bytes mid (option_map (λ (v : Vec ℕ Global). v.items) encoded) new
-      → ServesFrames see_store is_honest rules old (frames ++ bytes ∷ []) (replies ++ sent_bytes encoded ∷ []) new
+      → ServesFrames see_store says rules old frames replies mid
+      → ServesFrame see_store says rules bytes mid (option_map (λ (v : Vec ℕ Global). v.items) encoded) new
+      → ServesFrames see_store says rules old (frames ++ bytes ∷ []) (replies ++ sent_bytes encoded ∷ []) new
   serves_more rules old mid new frames replies bytes encoded served one = record {
     actions = served.actions ++ one.action ∷ [];
     read = rw (map-append, map-append) (λ i. served.read i ++ one.of i ∷ []);
@@ -54,10 +55,10 @@ module _ {F : Type 0} (see_store : F → Store) (is_honest : F → Bool) where
 
   -- the same for a loop over the frames
   pub serves_next : (rules : Rules) (old mid new : ServerState) (frames : List (Bor (List ℕ))) (replies replies' : List (Option (Vec ℕ Global))) (i : ℕ) (d : Bor (List ℕ)) (encoded : Option (Vec ℕ Global))
-      → ServesFrames see_store is_honest rules old (map (λ (f : Bor (List ℕ)). f.now) (take i frames)) (map sent_bytes replies) mid
-      → ServesFrame see_store is_honest rules (get_or frames i d).now mid (option_map (λ (v : Vec ℕ Global). v.items) encoded) new
+      → ServesFrames see_store says rules old (map (λ (f : Bor (List ℕ)). f.now) (take i frames)) (map sent_bytes replies) mid
+      → ServesFrame see_store says rules (get_or frames i d).now mid (option_map (λ (v : Vec ℕ Global). v.items) encoded) new
       → i < length frames → replies' ≡ replies ++ encoded ∷ []
-      → ServesFrames see_store is_honest rules old (map (λ (f : Bor (List ℕ)). f.now) (take (i + 1) frames)) (map sent_bytes replies') new
+      → ServesFrames see_store says rules old (map (λ (f : Bor (List ℕ)). f.now) (take (i + 1) frames)) (map sent_bytes replies') new
   serves_next rules old mid new frames replies replies' i d encoded served one within grown =
       let taken : map (λ (f : Bor (List ℕ)). f.now) (take (i + 1) frames) ≡ map (λ (f : Bor (List ℕ)). f.now) (take i frames) ++ (get_or frames i d).now ∷ [] =
       ap (map (λ (f : Bor (List ℕ)). f.now)) (take_more frames i d within) ∙ map-append _ (take i frames) (get_or frames i d ∷ []) in

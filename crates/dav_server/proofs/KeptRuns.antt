@@ -1,9 +1,10 @@
 -- Runs whose batches are kept before they are answered.
-use Rattle.std.proofs.Common.{◌≡◌, ◌∙◌, ◌⊎◌, inl, inr, ℕ, Bool, true, List, [], ◌∷◌, ◌++◌, flat_map, refl, sym, ap, subst, Option, Some, None, Result, Ok, Err, OnOk, OnErr, append-nil, append_assoc}
+use Rattle.std.proofs.Common.{◌≡◌, ◌∙◌, ◌⊎◌, inl, inr, ℕ, true, List, [], ◌∷◌, ◌++◌, flat_map, refl, sym, ap, subst, Option, Some, None, Result, Ok, Err, OnOk, OnErr, append-nil, append_assoc}
 use Rattle.std.specs.Prelude.{is_some, option_map}
 use Rattle.std.specs.Io.KnownBytes.{Appends, Keeps}
 use Rattle.std.proofs.KnownBytes.{Appends-kept}
 use base.Stored.{Gv}
+use Rattle.dav_store.specs.Calls.{Reads}
 use Rattle.dav_store.specs.Locks.{Locks}
 use Rattle.dav_store.specs.Store.{Store}
 use Rattle.dav_engine.specs.DavInner.{lent_locks, has_locks}
@@ -108,16 +109,16 @@ either_of see_store lasts lasts_either same first second keeper earlier server (
 
 -- ---- one exchange
 
-module _ {F L K : Type 0} (see_store : F → Store) (see_locks : L → Locks) (is_honest : F → Bool) (rules : Rules)
+module _ {F L K : Type 0} (see_store : F → Store) (see_locks : L → Locks) (says : F → Reads) (rules : Rules)
     (lasts : K → Gv → Snapshot F L → Type 0) (lasts_either : K → Gv → Snapshot F L → Snapshot F L → Type 0) (same : Snapshot F L → Snapshot F L → Type 0) where
   -- a batch is answered, in the server between
   abbrev Answered : BatchAnswer → Server F L → Server F L → Option (List ℕ) → Option (List ℕ) → Type 0
   Answered answer old next input input' =
-      ReadsAndAnswers see_store is_honest rules answer (state_of see_store see_locks old) (state_of see_store see_locks next) input input'
+      ReadsAndAnswers see_store says rules answer (state_of see_store see_locks old) (state_of see_store see_locks next) input input'
 
   module _ (answer : BatchAnswer) (old next : Server F L) (input input' : Option (List ℕ)) (h : Answered answer old next input input') where
     same_lasting : lasting (state_of see_store see_locks next) ≡ lasting (state_of see_store see_locks old)
-    same_lasting = batch_lasts see_store is_honest rules h.exchange.header h.exchange.content h.exchange.answer _ _ h.answered.answers
+    same_lasting = batch_lasts see_store says rules h.exchange.header h.exchange.content h.exchange.answer _ _ h.answered.answers
 
     -- the snapshot that was kept, while the store is that of the server between
     pub still_lasts : (keeper : K) (earlier : Snapshot F L) → IsKeptSince see_store lasts same keeper earlier old
@@ -130,24 +131,24 @@ module _ {F L K : Type 0} (see_store : F → Store) (see_locks : L → Locks) (i
         ∙ is_some-map see_locks (lent_locks old.engine) ∙ (shown see_store see_locks old since.snapshot since.is).there
 
     module _ (new : Server F L) (saved : IsResaved (state_of see_store see_locks next) (state_of see_store see_locks new)) where
-      answered_and_saved : IsAnsweredAndSaved see_store is_honest rules h.exchange (state_of see_store see_locks old) (state_of see_store see_locks new)
+      answered_and_saved : IsAnsweredAndSaved see_store says rules h.exchange (state_of see_store see_locks old) (state_of see_store see_locks new)
       answered_and_saved = record { served = state_of see_store see_locks next; answered = h.answered; saved = saved }
 
       pub exchanged_and_saved : (output output' : Option (List ℕ)) → Appends output output' (answer_bytes answer)
-          → ExchangesAndSaves see_store is_honest rules (state_of see_store see_locks old) (state_of see_store see_locks new) input input' output output'
+          → ExchangesAndSaves see_store says rules (state_of see_store see_locks old) (state_of see_store see_locks new) input input' output output'
       exchanged_and_saved output output' written =
           record {
             exchange = h.exchange;
             answered = answered_and_saved;
             read = h.read;
-            written = answer_written see_store is_honest rules answer _ _ input input' output output' h written;
+            written = answer_written see_store says rules answer _ _ input input' output output' h written;
           }
 
       -- the keeper fails, and nothing is written
       pub stops_unkept : {T E : Type 0} (r : Result T E) (keeper keeper' : K) (output : Option (List ℕ))
           → ((before : Snapshot F L) → lasts keeper (saved_of (see_store (store_in next))) before → has_locks next.engine ≡ true
           → LastsEither see_store lasts_either keeper' before new)
-          → OnErr r (StopsInsideKept see_store see_locks lasts lasts_either same is_honest rules keeper keeper' old new output output)
+          → OnErr r (StopsInsideKept see_store see_locks lasts lasts_either same says rules keeper keeper' old new output output)
       stops_unkept (Ok x) keeper keeper' output either = tt
       stops_unkept (Err e) keeper keeper' output either =
           record {
@@ -161,7 +162,7 @@ module _ {F L K : Type 0} (see_store : F → Store) (see_locks : L → Locks) (i
           → ((keeper : K) (saved : Gv) (one other : Snapshot F L) → lasts keeper saved one → lasts_either keeper saved one other)
           → ((keeper : K) (saved : Gv) (one other : Snapshot F L) → lasts keeper saved other → lasts_either keeper saved one other)
           → ((before : Snapshot F L) → lasts keeper (saved_of (see_store (store_in next))) before → StaysKept see_store lasts same keeper' before new)
-          → OnErr r (StopsInsideKept see_store see_locks lasts lasts_either same is_honest rules keeper keeper' old new output output')
+          → OnErr r (StopsInsideKept see_store see_locks lasts lasts_either same says rules keeper keeper' old new output output')
       stops_unwritten (Ok x) keeper keeper' output output' first second now = tt
       stops_unwritten (Err e) keeper keeper' output output' first second now =
           record {
@@ -173,7 +174,7 @@ module _ {F L K : Type 0} (see_store : F → Store) (see_locks : L → Locks) (i
   -- nothing changed
   stops_here : (keeper : K) (server : Server F L) (output : Option (List ℕ))
       → ((keeper : K) (saved : Gv) (one other : Snapshot F L) → lasts keeper saved one → lasts_either keeper saved one other)
-      → StopsInsideKept see_store see_locks lasts lasts_either same is_honest rules keeper keeper server server output output
+      → StopsInsideKept see_store see_locks lasts lasts_either same says rules keeper keeper server server output output
   stops_here keeper server output first =
       record {
         stopped = inl refl;
@@ -187,20 +188,20 @@ module _ {F L K : Type 0} (see_store : F → Store) (see_locks : L → Locks) (i
 
   pub stops_unread : {T E : Type 0} (r : Result T E) (keeper : K) (old new : Server F L) (output : Option (List ℕ))
       → ((keeper : K) (saved : Gv) (one other : Snapshot F L) → lasts keeper saved one → lasts_either keeper saved one other)
-      → new ≡ old → OnErr r (StopsInsideKept see_store see_locks lasts lasts_either same is_honest rules keeper keeper old new output output)
+      → new ≡ old → OnErr r (StopsInsideKept see_store see_locks lasts lasts_either same says rules keeper keeper old new output output)
   stops_unread (Ok x) keeper old new output first as_before = tt
   stops_unread (Err e) keeper old new output first as_before =
-      subst (λ s. StopsInsideKept see_store see_locks lasts lasts_either same is_honest rules keeper keeper old s output output) (sym as_before) (stops_here keeper old output first)
+      subst (λ s. StopsInsideKept see_store see_locks lasts lasts_either same says rules keeper keeper old s output output) (sym as_before) (stops_here keeper old output first)
 
 -- ---- a run
 
 -- `alike` is a law of the keeper
-module _ {F L K : Type 0} (see_store : F → Store) (see_locks : L → Locks) (is_honest : F → Bool) (rules : Rules)
+module _ {F L K : Type 0} (see_store : F → Store) (see_locks : L → Locks) (says : F → Reads) (rules : Rules)
     (lasts : K → Gv → Snapshot F L → Type 0) (same : Snapshot F L → Snapshot F L → Type 0) (alike : (snapshot : Snapshot F L) → same snapshot snapshot) where
   -- a crash leaves what all exchanges led to
   kept_now : (exchanges : List Exchange) (old : ServerState) (server : Server F L) (keeper : K)
-      → InOrder (IsAnsweredAndSaved see_store is_honest rules) exchanges old (state_of see_store see_locks server) → IsKept see_store lasts keeper server
-      → IsKeptAfter see_store see_locks lasts same is_honest rules keeper exchanges old server
+      → InOrder (IsAnsweredAndSaved see_store says rules) exchanges old (state_of see_store see_locks server) → IsKept see_store lasts keeper server
+      → IsKeptAfter see_store see_locks lasts same says rules keeper exchanges old server
   kept_now exchanges old server keeper answered now =
       let state = (shown see_store see_locks server now.snapshot now.is).state in
       record {
@@ -210,7 +211,7 @@ module _ {F L K : Type 0} (see_store : F → Store) (see_locks : L → Locks) (i
           rest = [];
           rights = written_rules server.rights;
           all = sym (append-nil exchanges);
-          before = subst (InOrder (IsAnsweredAndSaved see_store is_honest rules) exchanges old) (sym state) answered;
+          before = subst (InOrder (IsAnsweredAndSaved see_store says rules) exchanges old) (sym state) answered;
           after = sym state;
         };
         since = record { snapshot = now.snapshot; is = now.is; kept = now.kept; unchanged = alike now.snapshot };
@@ -218,14 +219,14 @@ module _ {F L K : Type 0} (see_store : F → Store) (see_locks : L → Locks) (i
 
   -- a crash leaves what the first of some exchanges led to, and then there are more
   kept_on : (exchanges more all : List Exchange) (old : ServerState) (mid new : Server F L) (keeper keeper' : K) → all ≡ exchanges ++ more
-      → InOrder (IsAnsweredAndSaved see_store is_honest rules) exchanges old (state_of see_store see_locks mid)
-      → InOrder (IsAnsweredAndSaved see_store is_honest rules) more (state_of see_store see_locks mid) (state_of see_store see_locks new)
+      → InOrder (IsAnsweredAndSaved see_store says rules) exchanges old (state_of see_store see_locks mid)
+      → InOrder (IsAnsweredAndSaved see_store says rules) more (state_of see_store see_locks mid) (state_of see_store see_locks new)
       → ((earlier : Snapshot F L) → IsKeptSince see_store lasts same keeper earlier mid → StaysKept see_store lasts same keeper' earlier new)
-      → IsKeptAfter see_store see_locks lasts same is_honest rules keeper exchanges old mid
-      → IsKeptAfter see_store see_locks lasts same is_honest rules keeper' all old new
+      → IsKeptAfter see_store see_locks lasts same says rules keeper exchanges old mid
+      → IsKeptAfter see_store see_locks lasts same says rules keeper' all old new
   kept_on exchanges more all old mid new keeper keeper' is answered others stay before = by_stay (stay before.snapshot before.since)
     where
-      by_stay : StaysKept see_store lasts same keeper' before.snapshot new → IsKeptAfter see_store see_locks lasts same is_honest rules keeper' all old new
+      by_stay : StaysKept see_store lasts same keeper' before.snapshot new → IsKeptAfter see_store see_locks lasts same says rules keeper' all old new
       by_stay (inl since) =
           let passed = before.passed in
           record {
@@ -236,32 +237,32 @@ module _ {F L K : Type 0} (see_store : F → Store) (see_locks : L → Locks) (i
               rights = passed.rights;
               all = is ∙ ap (λ (xs : List Exchange). xs ++ more) passed.all ∙ append_assoc passed.first passed.rest more;
               before = passed.before;
-              after = InOrder-append (IsAnsweredAndSaved see_store is_honest rules) passed.rest more _ _ _ passed.after others;
+              after = InOrder-append (IsAnsweredAndSaved see_store says rules) passed.rest more _ _ _ passed.after others;
             };
             since = since;
           }
       by_stay (inr now) =
-          let whole = InOrder-append (IsAnsweredAndSaved see_store is_honest rules) exchanges more _ _ _ answered others in
+          let whole = InOrder-append (IsAnsweredAndSaved see_store says rules) exchanges more _ _ _ answered others in
           kept_now all old new keeper'
-          (subst (λ (xs : List Exchange). InOrder (IsAnsweredAndSaved see_store is_honest rules) xs old (state_of see_store see_locks new)) (sym is) whole) now
+          (subst (λ (xs : List Exchange). InOrder (IsAnsweredAndSaved see_store says rules) xs old (state_of see_store see_locks new)) (sym is) whole) now
 
-  pub keeps_none : (keeper : K) (server : Server F L) (a u : Option (List ℕ)) → RunsAndKeeps see_store see_locks lasts same is_honest rules keeper keeper server server a a u u
+  pub keeps_none : (keeper : K) (server : Server F L) (a u : Option (List ℕ)) → RunsAndKeeps see_store see_locks lasts same says rules keeper keeper server server a a u u
   unfolding runs_none
   keeps_none keeper server a u =
       record {
-        run = runs_none (IsAnsweredAndSaved see_store is_honest rules) (AreSavedRun see_store is_honest rules) (saved_run see_store is_honest rules) (state_of see_store see_locks server) a u;
+        run = runs_none (IsAnsweredAndSaved see_store says rules) (AreSavedRun see_store says rules) (saved_run see_store says rules) (state_of see_store see_locks server) a u;
         kept = λ kept. kept_now [] (state_of see_store see_locks server) server keeper refl kept;
       }
 
   pub keeps_more : (first keeper keeper' : K) (old mid new : Server F L) (a b c u v w : Option (List ℕ))
-      → RunsAndKeeps see_store see_locks lasts same is_honest rules first keeper old mid a b u v
-      → ExchangesAndSaves see_store is_honest rules (state_of see_store see_locks mid) (state_of see_store see_locks new) b c v w
+      → RunsAndKeeps see_store see_locks lasts same says rules first keeper old mid a b u v
+      → ExchangesAndSaves see_store says rules (state_of see_store see_locks mid) (state_of see_store see_locks new) b c v w
       → ((earlier : Snapshot F L) → IsKeptSince see_store lasts same keeper earlier mid → StaysKept see_store lasts same keeper' earlier new)
-      → RunsAndKeeps see_store see_locks lasts same is_honest rules first keeper' old new a c u w
+      → RunsAndKeeps see_store see_locks lasts same says rules first keeper' old new a c u w
   unfolding runs_more
   keeps_more first keeper keeper' old mid new a b c u v w so_far more stay =
       record {
-        run = runs_more (IsAnsweredAndSaved see_store is_honest rules) (AreSavedRun see_store is_honest rules) (saved_run see_store is_honest rules)
+        run = runs_more (IsAnsweredAndSaved see_store says rules) (AreSavedRun see_store says rules) (saved_run see_store says rules)
             (state_of see_store see_locks old) (state_of see_store see_locks mid) (state_of see_store see_locks new) a b c u v w so_far.run more;
         kept = λ kept. kept_on so_far.run.exchanges (more.exchange ∷ []) (so_far.run.exchanges ++ more.exchange ∷ []) (state_of see_store see_locks old) mid new keeper keeper' refl
             so_far.run.answered (state_of see_store see_locks new, more.answered, refl) stay (so_far.kept kept);
@@ -269,14 +270,14 @@ module _ {F L K : Type 0} (see_store : F → Store) (see_locks : L → Locks) (i
 
   -- the input ends after a run
   pub keeps_end : (first keeper keeper' : K) (old mid new : Server F L) (a b c u v w : Option (List ℕ))
-      → RunsAndKeeps see_store see_locks lasts same is_honest rules first keeper old mid a b u v
+      → RunsAndKeeps see_store see_locks lasts same says rules first keeper old mid a b u v
       → Ends (state_of see_store see_locks mid) (state_of see_store see_locks new) b c v w
       → ((earlier : Snapshot F L) → IsKeptSince see_store lasts same keeper earlier mid → StaysKept see_store lasts same keeper' earlier new)
-      → RunsAndKeeps see_store see_locks lasts same is_honest rules first keeper' old new a c u w
+      → RunsAndKeeps see_store see_locks lasts same says rules first keeper' old new a c u w
   unfolding runs_end
   keeps_end first keeper keeper' old mid new a b c u v w so_far end stay =
       record {
-        run = runs_end (IsAnsweredAndSaved see_store is_honest rules) (AreSavedRun see_store is_honest rules) (saved_run see_store is_honest rules)
+        run = runs_end (IsAnsweredAndSaved see_store says rules) (AreSavedRun see_store says rules) (saved_run see_store says rules)
             (state_of see_store see_locks old) (state_of see_store see_locks mid) (state_of see_store see_locks new) a b c u v w so_far.run end;
         kept = λ kept. kept_on so_far.run.exchanges [] so_far.run.exchanges (state_of see_store see_locks old) mid new keeper keeper' (sym (append-nil so_far.run.exchanges))
             so_far.run.answered end.same stay (so_far.kept kept);
@@ -285,14 +286,14 @@ module _ {F L K : Type 0} (see_store : F → Store) (see_locks : L → Locks) (i
 -- ---- a run that an error stops
 
 -- `first` and `alike` are laws of the keeper
-module _ {F L K : Type 0} (see_store : F → Store) (see_locks : L → Locks) (is_honest : F → Bool) (rules : Rules)
+module _ {F L K : Type 0} (see_store : F → Store) (see_locks : L → Locks) (says : F → Reads) (rules : Rules)
     (lasts : K → Gv → Snapshot F L → Type 0) (lasts_either : K → Gv → Snapshot F L → Snapshot F L → Type 0) (same : Snapshot F L → Snapshot F L → Type 0)
     (alike : (snapshot : Snapshot F L) → same snapshot snapshot) where
   -- an exchange stops after a run
   inside_run : (first keeper keeper' : K) (old mid new : Server F L) (a b u v w : Option (List ℕ))
-      → RunsAndKeeps see_store see_locks lasts same is_honest rules first keeper old mid a b u v
-      → StopsInsideKept see_store see_locks lasts lasts_either same is_honest rules keeper keeper' mid new v w
-      → StopsAfterKept see_store see_locks lasts lasts_either same is_honest rules first keeper' old new u w
+      → RunsAndKeeps see_store see_locks lasts same says rules first keeper old mid a b u v
+      → StopsInsideKept see_store see_locks lasts lasts_either same says rules keeper keeper' mid new v w
+      → StopsAfterKept see_store see_locks lasts lasts_either same says rules first keeper' old new u w
   inside_run first keeper keeper' old mid new a b u v w so_far inside =
       record {
         exchanges = so_far.run.exchanges;
@@ -304,8 +305,8 @@ module _ {F L K : Type 0} (see_store : F → Store) (see_locks : L → Locks) (i
         in_order = by_order inside.in_order;
       }
     where
-      or_now : IsKeptAfter see_store see_locks lasts same is_honest rules keeper so_far.run.exchanges (state_of see_store see_locks old) mid
-          → IsKeptOrNow see_store see_locks lasts lasts_either same is_honest rules keeper' so_far.run.exchanges (state_of see_store see_locks old) (state_of see_store see_locks mid) new
+      or_now : IsKeptAfter see_store see_locks lasts same says rules keeper so_far.run.exchanges (state_of see_store see_locks old) mid
+          → IsKeptOrNow see_store see_locks lasts lasts_either same says rules keeper' so_far.run.exchanges (state_of see_store see_locks old) (state_of see_store see_locks mid) new
       or_now before =
           record {
             snapshot = before.snapshot;
@@ -316,29 +317,29 @@ module _ {F L K : Type 0} (see_store : F → Store) (see_locks : L → Locks) (i
             either = inside.kept before.snapshot before.since;
           }
 
-      by_order : Keeps v w ⊎ KeepsBatch see_store see_locks lasts same is_honest rules keeper keeper' mid new
+      by_order : Keeps v w ⊎ KeepsBatch see_store see_locks lasts same says rules keeper keeper' mid new
           → Appends u w (flat_map bytes_out so_far.run.exchanges)
-          ⊎ KeepsLast see_store see_locks lasts same is_honest rules first keeper' so_far.run.exchanges old (state_of see_store see_locks mid) new
+          ⊎ KeepsLast see_store see_locks lasts same says rules first keeper' so_far.run.exchanges old (state_of see_store see_locks mid) new
       by_order (inl keeps) = inl (Appends-kept u v w (flat_map bytes_out so_far.run.exchanges) so_far.run.written keeps)
       by_order (inr batch) =
           inr (record {
             exchange = batch.exchange;
             answered = batch.answered;
-            kept = λ kept. kept_on see_store see_locks is_honest rules lasts same alike so_far.run.exchanges (batch.exchange ∷ []) (so_far.run.exchanges ++ batch.exchange ∷ [])
+            kept = λ kept. kept_on see_store see_locks says rules lasts same alike so_far.run.exchanges (batch.exchange ∷ []) (so_far.run.exchanges ++ batch.exchange ∷ [])
                 (state_of see_store see_locks old) mid new keeper keeper' refl so_far.run.answered (state_of see_store see_locks new, batch.answered, refl) batch.kept (so_far.kept kept);
           })
 
   pub stops_after : {T E : Type 0} (r : Result T E) (first keeper keeper' : K) (old mid new : Server F L) (a b u v w : Option (List ℕ))
-      → RunsAndKeeps see_store see_locks lasts same is_honest rules first keeper old mid a b u v
-      → StopsInsideKept see_store see_locks lasts lasts_either same is_honest rules keeper keeper' mid new v w
-      → OnErr r (StopsAfterKept see_store see_locks lasts lasts_either same is_honest rules first keeper' old new u w)
+      → RunsAndKeeps see_store see_locks lasts same says rules first keeper old mid a b u v
+      → StopsInsideKept see_store see_locks lasts lasts_either same says rules keeper keeper' mid new v w
+      → OnErr r (StopsAfterKept see_store see_locks lasts lasts_either same says rules first keeper' old new u w)
   stops_after (Ok x) first keeper keeper' old mid new a b u v w so_far inside = tt
   stops_after (Err e) first keeper keeper' old mid new a b u v w so_far inside = inside_run first keeper keeper' old mid new a b u v w so_far inside
 
   -- the loop ends before the input does
   pub stops_at_last : (first keeper : K) (old mid : Server F L) (a b u v : Option (List ℕ))
-      → RunsAndKeeps see_store see_locks lasts same is_honest rules first keeper old mid a b u v
+      → RunsAndKeeps see_store see_locks lasts same says rules first keeper old mid a b u v
       → ((keeper : K) (saved : Gv) (one other : Snapshot F L) → lasts keeper saved one → lasts_either keeper saved one other)
-      → StopsAfterKept see_store see_locks lasts lasts_either same is_honest rules first keeper old mid u v
+      → StopsAfterKept see_store see_locks lasts lasts_either same says rules first keeper old mid u v
   stops_at_last first keeper old mid a b u v so_far law =
-      inside_run first keeper keeper old mid mid a b u v v so_far (stops_here see_store see_locks is_honest rules lasts lasts_either same keeper mid v law)
+      inside_run first keeper keeper old mid mid a b u v v so_far (stops_here see_store see_locks says rules lasts lasts_either same keeper mid v law)

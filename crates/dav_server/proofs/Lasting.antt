@@ -4,6 +4,7 @@ use Rattle.std.specs.Prelude.{is_some, option_map}
 use base.Stored.{Gv}
 use Rattle.dav_resource.specs.PathText.{read_path}
 use Rattle.dav_resource.specs.declared.request.DavRequest.{DavRequest}
+use Rattle.dav_store.specs.Calls.{Reads}
 use Rattle.dav_store.specs.Locks.{Locks}
 use Rattle.dav_store.specs.Store.{Store}
 use Rattle.dav_messages.specs.Reply.{Answer}
@@ -36,8 +37,8 @@ request_lasts rules frame request answer old new served =
     sym (is_some-map (λ (l : Locks). l.reliable) after.locks) ∙ ap (λ p. is_some p.1) fixed ∙ is_some-map (λ (l : Locks). l.reliable) old.seen.locks in
     ap lasting served.executes.emptied ∙ (λ i. (saved i, there i))
 
-module _ {F : Type 0} (see_store : F → Store) (is_honest : F → Bool) (rules : Rules) where
-  action_lasts : (action : Action) (old new : ServerState) → Acts see_store is_honest rules action old new → lasting new ≡ lasting old
+module _ {F : Type 0} (see_store : F → Store) (says : F → Reads) (rules : Rules) where
+  action_lasts : (action : Action) (old new : ServerState) → Acts see_store says rules action old new → lasting new ≡ lasting old
   action_lasts Malformed old new acts = ap lasting acts
   action_lasts (OutOfMemory frame) old new acts = ap lasting acts
   action_lasts (BodyStarted (Ok number)) old new acts = ap lasting acts.same ∙ ap (λ (s : Store). (saved_of s, is_some old.seen.locks)) acts.change.started.begun
@@ -46,7 +47,7 @@ module _ {F : Type 0} (see_store : F → Store) (is_honest : F → Bool) (rules 
       ap lasting acts.same ∙ ap (λ (s : Store). (saved_of s, is_some old.seen.locks)) acts.change.added.extended
   action_lasts (BodyExtended number more (Err e)) old new acts = ap lasting acts.same ∙ ap (λ (s : Store). (saved_of s, is_some old.seen.locks)) acts.change.1
   action_lasts (BodyDropped number) old new acts = ap lasting acts
-  action_lasts (FileRead asked reply honest) old new acts = ap lasting acts.0
+  action_lasts (FileRead asked reply) old new acts = ap lasting acts.0
   action_lasts (ExpiryReturned time) old new acts = ap lasting acts.0
   action_lasts (HeldReturned reply) old new acts = ap lasting acts.0
   action_lasts BackupBegun old new acts = ap lasting acts
@@ -61,16 +62,16 @@ module _ {F : Type 0} (see_store : F → Store) (is_honest : F → Bool) (rules 
   action_lasts (Rejected frame e) old new acts = ap lasting acts.0
   action_lasts (Served frame request answer) old new acts = request_lasts rules frame request answer old new acts
 
-  event_lasts : (event : Event) (old new : ServerState) → Happens see_store is_honest rules event old new → lasting new ≡ lasting old
+  event_lasts : (event : Event) (old new : ServerState) → Happens see_store says rules event old new → lasting new ≡ lasting old
   event_lasts LocksExpired old new expired = ap lasting expired ∙ ap (λ b. (saved_of old.seen.store, b)) (is_some-map _ old.seen.locks)
   event_lasts (Does action) old new acts = action_lasts action old new acts
 
-  events_last : (events : List Event) (old new : ServerState) → Happen see_store is_honest rules events old new → lasting new ≡ lasting old
+  events_last : (events : List Event) (old new : ServerState) → Happen see_store says rules events old new → lasting new ≡ lasting old
   events_last [] old new same = ap lasting same
   events_last (event ∷ events) old new (mid, first, others) = events_last events mid new others ∙ event_lasts event old mid first
 
   pub batch_lasts : (header : BatchHeader) (content : List ℕ) (answer : BatchAnswer) (old new : ServerState)
-      → AnswersBatch see_store is_honest rules header content answer old new → lasting new ≡ lasting old
+      → AnswersBatch see_store says rules header content answer old new → lasting new ≡ lasting old
   batch_lasts header content answer old new (inl serves) = events_last (events_of serves.served.actions) (begun header old) new serves.served.happen
   batch_lasts header content answer old new (inr (inl (unread, skips))) = ap lasting skips.same
   batch_lasts header content answer old new (inr (inr (inl skips))) = ap lasting skips.same

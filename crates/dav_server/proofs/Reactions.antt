@@ -1,5 +1,5 @@
 -- What is done for a frame, and the reply.
-use Rattle.std.proofs.Common.{◌≡◌, ℕ, Bool, List, [], Option, Some, None, Result, Ok, Err, refl, ◌∙◌, ap, inl, inr, subst, length}
+use Rattle.std.proofs.Common.{◌≡◌, ℕ, List, [], Option, Some, None, Result, Ok, Err, refl, ◌∙◌, ap, inl, inr, subst, length}
 use Rattle.std.specs.Option.{option_map_or}
 use Rattle.std.proofs.lemmas.Option.{same_Some}
 use Rattle.dav_resource.specs.declared.error.FsError.{FsError}
@@ -7,7 +7,7 @@ use Rattle.dav_resource.specs.declared.error.FsError.TheVariants.{NotImplemented
 use Rattle.dav_store.specs.BodyCalls.{StartsBody, AddsToBody, with_body}
 use Rattle.dav_resource.specs.declared.record.Outcome.{Outcome}
 use Rattle.dav_resource.specs.declared.record.Outcome.TheVariants.{Granted, Barred, Refused}
-use Rattle.dav_store.specs.Calls.{IsOwn, IsLawful, error_of}
+use Rattle.dav_store.specs.Calls.{IsOwn, Reads, IsLawful, error_of}
 use Rattle.dav_store.specs.PropertyCalls.{GetsQuota, get_quota_bar}
 use Rattle.dav_store.specs.Store.{Store, Quota}
 use Rattle.dav_wire.specs.Frames.{FrameValue}
@@ -17,11 +17,11 @@ use Rattle.dav_server.specs.Frames.{Encodes, Reacts}
 use Rattle.dav_server.specs.Replies.{IsHeld, reply_with}
 use Rattle.dav_server.specs.State.{Rules, ServerState, at_rest, with_store, locks_at}
 
-module _ {F : Type 0} (see_store : F → Store) (is_honest : F → Bool) where
+module _ {F : Type 0} (see_store : F → Store) (says : F → Reads) where
   -- an action whose reply is that of the value that was encoded
   pub reacts : (rules : Rules) (frame : Option FrameValue) (old new : ServerState) (sent : Option (List ℕ)) (action : Action) (value : ReplyValue)
-      → frame_of action ≡ frame → Acts see_store is_honest rules action old new → value ≡ reply_of action → Encodes value sent
-      → Reacts see_store is_honest rules frame old sent new
+      → frame_of action ≡ frame → Acts see_store says rules action old new → value ≡ reply_of action → Encodes value sent
+      → Reacts see_store says rules frame old sent new
   reacts rules frame old new sent action value of acts is encoded =
       record { action = action; of = of; acts = acts; encoded = rw is at encoded }
 

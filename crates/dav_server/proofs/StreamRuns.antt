@@ -1,10 +1,11 @@
 -- An exchange from its parts, and runs of exchanges.
-use Rattle.std.proofs.Common.{◌≡◌, inr, ℕ, Bool, List, [], ◌∷◌, ◌++◌, length, flat_map, refl, sym, subst, Option, Some, None, IfSome, MatchOption, Result, Ok, Err, OnErr, Vec, append-nil}
+use Rattle.std.proofs.Common.{◌≡◌, inr, ℕ, List, [], ◌∷◌, ◌++◌, length, flat_map, refl, sym, subst, Option, Some, None, IfSome, MatchOption, Result, Ok, Err, OnErr, Vec, append-nil}
 use Rattle.std.specs.Prelude.{⊤}
 use Rattle.std.specs.Io.KnownBytes.{Appends, Consumes}
 use Rattle.std.specs.declared.alloc.Global.{Global}
 use Rattle.std.proofs.lemmas.List.{flat_map_more}
 use Rattle.std.proofs.KnownBytes.{Consumes-kept, Consumes-trans, Appends-trans, Appends-kept}
+use Rattle.dav_store.specs.Calls.{Reads}
 use Rattle.dav_store.specs.Store.{Store}
 use Rattle.dav_wire.specs.Batches.{batch_header}
 use Rattle.dav_wire.specs.declared.batch.BatchHeader.{BatchHeader}
@@ -12,19 +13,19 @@ use Rattle.dav_server.specs.Batches.{BatchAnswer, Exchange, AnswersBatch}
 use Rattle.dav_server.specs.Exchanges.{Skips, answer_bytes, bytes_in, bytes_out, InOrder, ExchangesBy, RunsBy, ReadsAndAnswers, Exchanges, Ends, StopsInside, Runs, StopsAfter}
 use Rattle.dav_server.specs.State.{Rules, ServerState}
 
-module _ {F : Type 0} (see_store : F → Store) (is_honest : F → Bool) (rules : Rules) where
+module _ {F : Type 0} (see_store : F → Store) (says : F → Reads) (rules : Rules) where
   -- the header of a batch was read, and then its content was read or skipped, and the batch was answered
   pub read_and_answered :
       (header : BatchHeader) (answer : BatchAnswer) (old new : ServerState) (input middle input' : Option (List ℕ)) (content : Option (Vec ℕ Global))
       → Consumes input middle (batch_header.encode header)
       → IfSome content (λ v. Consumes middle input' v.items) → IfSome content (λ v. length v.items ≡ header.length)
       → MatchOption content (Skips middle input' header.length) (λ _. ⊤)
-      → ((bytes : List ℕ) → IfSome content (λ v. bytes ≡ v.items) → AnswersBatch see_store is_honest rules header bytes answer old new)
-      → ReadsAndAnswers see_store is_honest rules answer old new input input'
+      → ((bytes : List ℕ) → IfSome content (λ v. bytes ≡ v.items) → AnswersBatch see_store says rules header bytes answer old new)
+      → ReadsAndAnswers see_store says rules answer old new input input'
   read_and_answered header answer old new input middle input' content first read all skipped answers = by_content content read all skipped answers
     where
-      of_bytes : (bytes : List ℕ) → Consumes middle input' bytes → length bytes ≡ header.length → AnswersBatch see_store is_honest rules header bytes answer old new
-          → ReadsAndAnswers see_store is_honest rules answer old new input input'
+      of_bytes : (bytes : List ℕ) → Consumes middle input' bytes → length bytes ≡ header.length → AnswersBatch see_store says rules header bytes answer old new
+          → ReadsAndAnswers see_store says rules answer old new input input'
       of_bytes bytes others all answers =
           record {
             exchange = record { header = header; content = bytes; answer = answer };
@@ -35,15 +36,15 @@ module _ {F : Type 0} (see_store : F → Store) (is_honest : F → Bool) (rules 
 
       by_content : (content : Option (Vec ℕ Global)) → IfSome content (λ v. Consumes middle input' v.items) → IfSome content (λ v. length v.items ≡ header.length)
           → MatchOption content (Skips middle input' header.length) (λ _. ⊤)
-          → ((bytes : List ℕ) → IfSome content (λ v. bytes ≡ v.items) → AnswersBatch see_store is_honest rules header bytes answer old new)
-          → ReadsAndAnswers see_store is_honest rules answer old new input input'
+          → ((bytes : List ℕ) → IfSome content (λ v. bytes ≡ v.items) → AnswersBatch see_store says rules header bytes answer old new)
+          → ReadsAndAnswers see_store says rules answer old new input input'
       by_content None read all skipped answers = of_bytes skipped.bytes skipped.read skipped.all (answers skipped.bytes tt)
       by_content (Some v) read all skipped answers = of_bytes v.items read all (answers v.items refl)
 
   -- the bytes of an answer are those of its exchange
   pub answer_written :
       (answer : BatchAnswer) (old new : ServerState) (input input' output output' : Option (List ℕ))
-      (h : ReadsAndAnswers see_store is_honest rules answer old new input input') → Appends output output' (answer_bytes answer)
+      (h : ReadsAndAnswers see_store says rules answer old new input input') → Appends output output' (answer_bytes answer)
       → Appends output output' (bytes_out h.exchange)
   answer_written answer old new input input' output output' h written =
       subst (λ a. Appends output output' (answer_bytes a)) (sym h.with_answer) written
@@ -51,15 +52,15 @@ module _ {F : Type 0} (see_store : F → Store) (is_honest : F → Bool) (rules 
   -- the whole exchange
   pub exchanged :
       (answer : BatchAnswer) (old new : ServerState) (input input' output output' : Option (List ℕ))
-      → ReadsAndAnswers see_store is_honest rules answer old new input input' → Appends output output' (answer_bytes answer)
-      → Exchanges see_store is_honest rules old new input input' output output'
+      → ReadsAndAnswers see_store says rules answer old new input input' → Appends output output' (answer_bytes answer)
+      → Exchanges see_store says rules old new input input' output output'
   exchanged answer old new input input' output output' h written =
       record { exchange = h.exchange; answered = h.answered; read = h.read; written = answer_written answer old new input input' output output' h written }
 
   -- the batch was answered, and then the output failed
   pub stopped :
       {T E : Type 0} (r : Result T E) (answer : BatchAnswer) (old new : ServerState) (input input' : Option (List ℕ))
-      → ReadsAndAnswers see_store is_honest rules answer old new input input' → OnErr r (StopsInside see_store is_honest rules old new)
+      → ReadsAndAnswers see_store says rules answer old new input input' → OnErr r (StopsInside see_store says rules old new)
   stopped (Ok x) answer old new input input' h = tt
   stopped (Err e) answer old new input input' h = inr (h.exchange, h.answered)
 
@@ -121,8 +122,8 @@ module _ (Does : Exchange → ServerState → ServerState → Type 0) (Law : Lis
 
 -- a stream fails after a run
 pub runs_stopped :
-    {F T E : Type 0} (see_store : F → Store) (is_honest : F → Bool) (rules : Rules) (r : Result T E) (old mid new : ServerState) (a b u v : Option (List ℕ))
-    → Runs see_store is_honest rules old mid a b u v → StopsInside see_store is_honest rules mid new → OnErr r (StopsAfter see_store is_honest rules old new)
-runs_stopped see_store is_honest rules (Ok x) old mid new a b u v run inside = tt
-runs_stopped see_store is_honest rules (Err e) old mid new a b u v run inside =
+    {F T E : Type 0} (see_store : F → Store) (says : F → Reads) (rules : Rules) (r : Result T E) (old mid new : ServerState) (a b u v : Option (List ℕ))
+    → Runs see_store says rules old mid a b u v → StopsInside see_store says rules mid new → OnErr r (StopsAfter see_store says rules old new)
+runs_stopped see_store says rules (Ok x) old mid new a b u v run inside = tt
+runs_stopped see_store says rules (Err e) old mid new a b u v run inside =
     record { exchanges = run.exchanges; mid = mid; answered = run.answered; law = run.law; stopped = inside }

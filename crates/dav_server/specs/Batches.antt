@@ -1,5 +1,6 @@
 -- Batches of frames, and the batches of replies that answer them.
-use Rattle.std.specs.Prelude.{◌≡◌, ◌⊎◌, ℕ, ◌+◌, max, Bool, List, [], Some, None}
+use Rattle.std.specs.Prelude.{◌≡◌, ◌⊎◌, ℕ, ◌+◌, max, List, [], Some, None}
+use Rattle.dav_store.specs.Calls.{Reads}
 use Rattle.dav_store.specs.Store.{Store}
 use Rattle.dav_wire.specs.Batches.{batch}
 use Rattle.dav_wire.specs.Codec.{decode}
@@ -43,7 +44,7 @@ pub record RefusesBatch (header : BatchHeader) (answer : BatchAnswer) (old new :
   pub answered : answer ≡ bare_answer old.last 409
   pub same : new ≡ old
 
-module _ {F : Type 0} (see_store : F → Store) (is_honest : F → Bool) where
+module _ {F : Type 0} (see_store : F → Store) (says : F → Reads) where
   -- each frame of the batch is served
   pub record ServesBatch (rules : Rules) (header : BatchHeader) (content : List ℕ) (answer : BatchAnswer) (old new : ServerState) : Type 0 where
     pub next : IsNext header old
@@ -51,7 +52,7 @@ module _ {F : Type 0} (see_store : F → Store) (is_honest : F → Bool) where
     pub status : answer.status ≡ 200
     pub frames : List (List ℕ)
     pub read : decode batch content ≡ Some frames
-    pub served : ServesFrames see_store is_honest rules (begun header old) frames answer.replies new
+    pub served : ServesFrames see_store says rules (begun header old) frames answer.replies new
 
   -- the batch is served; or its content is not a list of frames (400); or it is too large for memory (507); or it is not the next one (409)
   abbrev pub AnswersBatch : Rules → BatchHeader → List ℕ → BatchAnswer → ServerState → ServerState → Type 0

@@ -1,5 +1,5 @@
 -- What a server does, one event after the other. What each event does is this project's own choice, except that requests are served by the engine.
-use Rattle.std.specs.Prelude.{◌≡◌, ◌⊎◌, ℕ, Bool, true, false, List, [], ◌∷◌, flat_map, Option, Some, None, Result, Ok, Err}
+use Rattle.std.specs.Prelude.{◌≡◌, ◌⊎◌, ℕ, true, false, List, [], ◌∷◌, flat_map, Option, Some, None, Result, Ok, Err}
 use Rattle.std.specs.Option.{option_map_or}
 use Rattle.dav_key.specs.Key.{Key}
 use Rattle.dav_resource.specs.Errors.{dav_status, fs_status}
@@ -9,6 +9,7 @@ use Rattle.dav_resource.specs.declared.error.DavError.{DavError}
 use Rattle.dav_resource.specs.declared.error.DavError.TheVariants.{Memory, Status}
 use Rattle.dav_resource.specs.declared.error.FsError.{FsError}
 use Rattle.dav_resource.specs.declared.request.DavRequest.{DavRequest}
+use Rattle.dav_store.specs.Calls.{Reads}
 use Rattle.dav_store.specs.BodyCalls.{StartsBody, AddsToBody, with_body}
 use Rattle.dav_store.specs.Store.{Store, AreTagged}
 use Rattle.dav_memls.specs.Expiry.{earliest_expiry}
@@ -41,8 +42,8 @@ pub data Action : Type 0 where
   BodyStarted : Result ℕ FsError → Action
   BodyExtended : ℕ → List ℕ → Result (Unit {0}) FsError → Action
   BodyDropped : ℕ → Action
-  -- a part of a file is read, and whether the medium of the store was honest right after it
-  FileRead : ReadValue → ReplyValue → Bool → Action
+  -- a part of a file is read
+  FileRead : ReadValue → ReplyValue → Action
   -- the time of the next expiry is returned, and how much is held
   ExpiryReturned : Option ℕ → Action
   HeldReturned : ReplyValue → Action
@@ -75,7 +76,7 @@ frame_of (OutOfMemory frame) = frame
 frame_of (BodyStarted result) = Some frames.StartBody
 frame_of (BodyExtended number more result) = Some (frames.AddToBody number more)
 frame_of (BodyDropped number) = Some (frames.DropBody number)
-frame_of (FileRead asked reply honest) = Some (frames.Read asked)
+frame_of (FileRead asked reply) = Some (frames.Read asked)
 frame_of (ExpiryReturned time) = Some frames.NextExpiry
 frame_of (HeldReturned reply) = Some frames.Held
 frame_of BackupBegun = Some frames.BeginBackup
@@ -104,7 +105,7 @@ reply_of (OutOfMemory frame) = replies.Failed 507
 reply_of (BodyStarted result) = started_reply result
 reply_of (BodyExtended number more result) = extended_reply result
 reply_of (BodyDropped number) = replies.Done
-reply_of (FileRead asked reply honest) = reply
+reply_of (FileRead asked reply) = reply
 reply_of (ExpiryReturned time) = replies.NextExpiry time
 reply_of (HeldReturned reply) = reply
 reply_of BackupBegun = replies.Done
@@ -178,15 +179,15 @@ AnswersRequest rules frame old answer new =
     ((e : DavError) × (answer ≡ Err e) × (new ≡ old) × IsRejected rules old frame e)
     ⊎ ((request : DavRequest) × ServesRequest rules frame request answer old new)
 
--- `see_store` and `is_honest` are what contracts see of the store, and whether its medium is honest
-module _ {F : Type 0} (see_store : F → Store) (is_honest : F → Bool) where
+-- `see_store` and `says` are what contracts see of the store, and what it says of its reads
+module _ {F : Type 0} (see_store : F → Store) (says : F → Reads) where
   abbrev pub Acts : Rules → Action → ServerState → ServerState → Type 0
   Acts rules Malformed old new = new ≡ old
   Acts rules (OutOfMemory frame) old new = new ≡ old
   Acts rules (BodyStarted result) old new = OnStore (λ store after. StartsBody store result after) old new
   Acts rules (BodyExtended number more result) old new = OnStore (λ store after. AddsPiece number more store result after) old new
   Acts rules (BodyDropped number) old new = new ≡ with_store old (with_body old.seen.store number None)
-  Acts rules (FileRead asked reply honest) old new = (new ≡ old) × ReadsFile see_store is_honest rules old asked reply honest
+  Acts rules (FileRead asked reply) old new = (new ≡ old) × ReadsFile see_store says rules old asked reply
   Acts rules (ExpiryReturned time) old new = (new ≡ old) × (time ≡ option_map_or earliest_expiry (locks_at old) None)
   Acts rules (HeldReturned reply) old new = (new ≡ old) × IsHeld old reply
   Acts rules BackupBegun old new = new ≡ old

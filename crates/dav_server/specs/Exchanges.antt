@@ -1,6 +1,7 @@
 -- Batches read from an input and their answers written to an output.
-use Rattle.std.specs.Prelude.{◌≡◌, ◌⊎◌, ℕ, Bool, List, [], ◌∷◌, ◌++◌, length, flat_map, Option, Result, IfOk, IfSome, MatchOption, ⊤}
+use Rattle.std.specs.Prelude.{◌≡◌, ◌⊎◌, ℕ, List, [], ◌∷◌, ◌++◌, length, flat_map, Option, Result, IfOk, IfSome, MatchOption, ⊤}
 use Rattle.std.specs.Io.KnownBytes.{Appends, Consumes, IsAtEnd, Keeps}
+use Rattle.dav_store.specs.Calls.{Reads}
 use Rattle.dav_store.specs.Store.{Store}
 use Rattle.dav_wire.specs.Batches.{batch, batch_header}
 use Rattle.dav_wire.specs.Codec.{Codec}
@@ -87,11 +88,11 @@ module _ (Does : Exchange → ServerState → ServerState → Type 0) where
     pub written : Appends output output' (flat_map bytes_out exchanges)
     pub law : Law exchanges old new
 
-module _ {F : Type 0} (see_store : F → Store) (is_honest : F → Bool) where
+module _ {F : Type 0} (see_store : F → Store) (says : F → Reads) where
   -- the batch of this exchange is answered
   pub record IsAnswered (rules : Rules) (exchange : Exchange) (old new : ServerState) : Type 0 where
     pub length : HasLength exchange
-    pub answers : AnswersBatch see_store is_honest rules exchange.header exchange.content exchange.answer old new
+    pub answers : AnswersBatch see_store says rules exchange.header exchange.content exchange.answer old new
 
   -- a batch is read and gets this answer, which is not written yet
   pub record ReadsAndAnswers (rules : Rules) (answer : BatchAnswer) (old new : ServerState) (input input' : Option (List ℕ)) : Type 0 where
@@ -114,7 +115,7 @@ module _ {F : Type 0} (see_store : F → Store) (is_honest : F → Bool) where
 
   -- exchanges between which the store stays as it is, and in which what a PUT wrote is what a later read returns
   abbrev pub AreRun : Rules → List Exchange → ServerState → ServerState → Type 0
-  AreRun rules exchanges old new = AreOneRun see_store is_honest IsSameStore rules exchanges old new
+  AreRun rules exchanges old new = AreOneRun see_store says IsSameStore rules exchanges old new
 
   -- the exchanges of a run: their bytes are read, and those of their answers are written; what a PUT wrote is what a later read returns (`AreOneRun`)
   abbrev pub Runs : Rules → ServerState → ServerState → Option (List ℕ) → Option (List ℕ) → Option (List ℕ) → Option (List ℕ) → Type 0

@@ -1,7 +1,8 @@
 -- What exists at the path of a read.
-use Rattle.std.specs.Prelude.{◌≡◌, ℕ, Bool, Some, Result, Ok, Err}
+use Rattle.std.specs.Prelude.{◌≡◌, ℕ, Some, Result, Ok, Err}
 use Rattle.std.specs.FinMap.{get}
 use Rattle.dav_key.specs.Key.{Key}
+use Rattle.dav_store.specs.Calls.{Reads}
 use Rattle.dav_store.specs.Store.{Contents, Directory}
 use Rattle.dav_guarding.specs.Policy.{Refusals}
 use Rattle.dav_wire.specs.Frames.{ReadValue}
@@ -12,9 +13,9 @@ use Rattle.dav_server.specs.declared.parts.Found.{Found}
 use Rattle.dav_server.specs.declared.parts.Found.TheVariants.{Collection, Part}
 
 -- a collection, or a file of the requested version and the requested part of it
-abbrev pub Finds : Refusals → Bool → Contents → Key → ReadValue → Found → Type 0
-Finds refuses honest contents key asked Collection = MayList refuses key × (get contents.tree key ≡ Some Directory)
-Finds refuses honest contents key asked (Part meta bytes) = MayRead refuses key × ReturnsPart honest contents key asked (part_with key meta bytes.items)
+abbrev pub Finds : Refusals → Reads → Contents → Key → ReadValue → Found → Type 0
+Finds refuses said contents key asked Collection = MayList refuses key × (get contents.tree key ≡ Some Directory)
+Finds refuses said contents key asked (Part meta bytes) = MayRead refuses key × ReturnsPart said contents key asked (part_with key meta bytes.items)
 
 -- the reply to a read at this key that found this, or that failed with this status
 abbrev pub found_reply : Key → Result Found ℕ → ReplyValue

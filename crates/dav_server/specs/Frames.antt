@@ -1,6 +1,7 @@
 -- Frames served in order, each answered by a reply.
-use Rattle.std.specs.Prelude.{◌≡◌, ◌⊎◌, ℕ, Bool, List, map, Option, Some, None, ⊤}
+use Rattle.std.specs.Prelude.{◌≡◌, ◌⊎◌, ℕ, List, map, Option, Some, None, ⊤}
 use Rattle.std.specs.List.{AllZip}
+use Rattle.dav_store.specs.Calls.{Reads}
 use Rattle.dav_store.specs.Store.{Store}
 use Rattle.dav_wire.specs.Codec.{decode}
 use Rattle.dav_wire.specs.Frames.{FrameValue, frame}
@@ -18,12 +19,12 @@ Encodes value (Some bytes) = IsEncoding reply value bytes
 abbrev pub IsSent : ReplyValue → List ℕ → Type 0
 IsSent value bytes = IsEncoding reply value bytes ⊎ IsEncoding reply (Failed 507) bytes
 
-module _ {F : Type 0} (see_store : F → Store) (is_honest : F → Bool) where
+module _ {F : Type 0} (see_store : F → Store) (says : F → Reads) where
   -- an action for this frame (`None`: one that cannot be read), whose reply is encoded
   pub record Reacts (rules : Rules) (frame : Option FrameValue) (old : ServerState) (sent : Option (List ℕ)) (new : ServerState) : Type 0 where
     pub action : Action
     pub of : frame_of action ≡ frame
-    pub acts : Acts see_store is_honest rules action old new
+    pub acts : Acts see_store says rules action old new
     pub encoded : Encodes (reply_of action) sent
 
   -- the locks that have expired are removed, and then the action for the frame is done
@@ -34,5 +35,5 @@ module _ {F : Type 0} (see_store : F → Store) (is_honest : F → Bool) where
   pub record ServesFrames (rules : Rules) (old : ServerState) (frames replies : List (List ℕ)) (new : ServerState) : Type 0 where
     pub actions : List Action
     pub read : map frame_of actions ≡ map (decode frame) frames
-    pub happen : Happen see_store is_honest rules (events_of actions) old new
+    pub happen : Happen see_store says rules (events_of actions) old new
     pub sent : AllZip IsSent (map reply_of actions) replies

@@ -9,7 +9,7 @@ use Rattle.dav_resource.specs.declared.method.DavMethod.TheVariants.{Put, Patch,
 use Rattle.dav_resource.specs.declared.request.DavRequest.{DavRequest}
 use Rattle.dav_headers.specs.Range.{content_range_of}
 use Rattle.dav_store.specs.BodyCalls.{put_body, stored_bytes}
-use Rattle.dav_store.specs.Calls.{bytes_from}
+use Rattle.dav_store.specs.Calls.{Reads, bytes_from}
 use Rattle.dav_store.specs.Locks.{is_at_or_below}
 use Rattle.dav_store.specs.Store.{Store, Bodies}
 use Rattle.dav_messages.specs.Reply.{Answer}
@@ -93,35 +93,34 @@ pub record WritesAndReads (settings : Settings) (actions : List Action) : Type 0
   pub between : List Action
   pub asked : ReadValue
   pub reply : ReplyValue
-  pub honest : Bool
   pub after : List Action
-  pub in_order : actions ≡ before ++ Served frame put answer ∷ (between ++ FileRead asked reply honest ∷ after)
+  pub in_order : actions ≡ before ++ Served frame put answer ∷ (between ++ FileRead asked reply ∷ after)
   pub whole : WritesWhole put answer
   pub path : PathValue
   pub read : read_path asked.path settings.prefix ≡ Ok path
   pub same : path.key ≡ put.path.key
   pub unchanged : list_any (rewrites settings put.path.key) between ≡ false
 
--- the part that was asked for, of a file with these bytes: as many bytes, and these bytes if the medium was honest right after the read
-pub record IsPartOf (honest : Bool) (bytes : List ℕ) (asked : ReadValue) (part : PartValue) : Type 0 where
+-- the part that was asked for, of a file with these bytes: as many bytes, and as the store says of them
+pub record IsPartOf (said : Reads) (bytes : List ℕ) (asked : ReadValue) (part : PartValue) : Type 0 where
   pub whole : part.length ≡ length bytes
   pub count : length part.bytes ≡ length (bytes_from asked.place asked.length bytes)
-  pub answer : honest ≡ true → part.bytes ≡ bytes_from asked.place asked.length bytes
+  pub answer : said.reading bytes asked.place asked.length part.bytes
 
 -- the reply to a read of a file with these bytes: the part that was asked for; or the file has another version than an earlier part (412), the
 -- store fails for its own reasons, or memory runs out
-abbrev pub IsReplyFrom : Bool → List ℕ → ReadValue → ReplyValue → Type 0
-IsReplyFrom honest bytes asked (Part part) = IsPartOf honest bytes asked part
-IsReplyFrom honest bytes asked (Failed status) = ((status ≡ 412) × (asked.version ≢ None)) ⊎ IsStoresStatus status
-IsReplyFrom honest bytes asked _ = ⊥
+abbrev pub IsReplyFrom : Reads → List ℕ → ReadValue → ReplyValue → Type 0
+IsReplyFrom said bytes asked (Part part) = IsPartOf said bytes asked part
+IsReplyFrom said bytes asked (Failed status) = ((status ≡ 412) × (asked.version ≢ None)) ⊎ IsStoresStatus status
+IsReplyFrom said bytes asked _ = ⊥
 
 -- what a PUT among these actions wrote: its body, which may be one that the store held
 abbrev pub written_by : (settings : Settings) (actions : List Action) → WritesAndReads settings actions → List ℕ
 written_by settings actions h = new_bytes (bodies_after h.before settings.facts.bodies) h.put.body
 
--- what such a PUT wrote is what such a read returns, if the medium was honest right after that read
-abbrev pub ReadsBack : Settings → List Action → Type 0
-ReadsBack settings actions = (h : WritesAndReads settings actions) → IsReplyFrom h.honest (written_by settings actions h) h.asked h.reply
+-- what such a read returns is what such a PUT wrote, as the store says of what it reads, right after that
+abbrev pub ReadsBack : {F : Type 0} → (F → Reads) → Settings → List Action → Type 0
+ReadsBack {F} says settings actions = (h : WritesAndReads settings actions) → (store : F) × IsReplyFrom (says store) (written_by settings actions h) h.asked h.reply
 
 -- ---- a run
 
@@ -139,17 +138,17 @@ abbrev pub IsSameStore : Store → Store → Type 0
 IsSameStore old new = new ≡ old
 
 -- `Stays` says how the store may differ where no action is done
-module _ {F : Type 0} (see_store : F → Store) (is_honest : F → Bool) (Stays : Store → Store → Type 0) where
+module _ {F : Type 0} (see_store : F → Store) (says : F → Reads) (Stays : Store → Store → Type 0) where
   -- actions in order; before, between and after them the time, the number of the last batch and the locks may change, and the store as `Stays` says, but
   -- not the access rights
   abbrev pub ActInOrder : Rules → List Action → ServerState → ServerState → Type 0
   ActInOrder rules [] old new = IsQuiet Stays old new
   ActInOrder rules (action ∷ actions) old new =
-      (before after : ServerState) × IsQuiet Stays old before × Acts see_store is_honest rules action before after × ActInOrder rules actions after new
+      (before after : ServerState) × IsQuiet Stays old before × Acts see_store says rules action before after × ActInOrder rules actions after new
 
   -- the exchanges as one list of actions, for each exchange its own, in which what a PUT wrote is what a later read returns
   pub record AreOneRun (rules : Rules) (exchanges : List Exchange) (old new : ServerState) : Type 0 where
     pub actions : List (List Action)
     pub of : AllZip AreFor exchanges actions
     pub in_order : ActInOrder rules (joined actions) old new
-    pub reads_back : ReadsBack (settings_at rules old.seen) (joined actions)
+    pub reads_back : ReadsBack says (settings_at rules old.seen) (joined actions)

@@ -11,7 +11,7 @@ pub mod Frames
 pub mod Batches
 pub mod Answers
 pub mod Guarantees
-pub mod HonestLaws
+pub mod ExactLaws
 pub mod TagLaws
 pub mod Exchanges
 pub mod Snapshots

@@ -1,11 +1,11 @@
 -- The entity tags of a run: all begin as those of the store that it began with.
-use Rattle.std.proofs.Common.{◌≡◌, ◌∙◌, inl, inr, ℕ, Bool, List, [], ◌∷◌, ◌++◌, Option, Some, None, Result, Ok, Err, if◌then◌else◌, true, false, option_map, refl, sym, ap, subst}
+use Rattle.std.proofs.Common.{◌≡◌, ◌∙◌, inl, inr, ℕ, List, [], ◌∷◌, ◌++◌, Option, Some, None, Result, Ok, Err, if◌then◌else◌, true, false, option_map, refl, sym, ap, subst}
 use Rattle.std.specs.Option.{ForSome}
 use Rattle.dav_key.specs.Key.{Key, is_same_key}
 use Rattle.dav_resource.specs.PathText.{PathValue, read_path}
 use Rattle.dav_resource.specs.declared.error.DavError.{DavError}
-use Rattle.dav_resource.specs.declared.error.FsError.{FsError}
 use Rattle.dav_resource.specs.declared.meta.Meta.{Meta}
+use Rattle.dav_store.specs.Calls.{Reads}
 use Rattle.dav_store.specs.Store.{Store, StartsWith, HasTagFrom, AreTagged}
 use Rattle.dav_tree.specs.Modified.{SetsModified, modified_metas, modified_meta}
 use Rattle.dav_wire.specs.Frames.{ReadValue, ModifiedValue, UnlockValue}
@@ -89,7 +89,7 @@ rights_leave text _ old new none = absurd none
 
 -- ---- actions
 
-module _ {F : Type 0} (see_store : F → Store) (is_honest : F → Bool) (rules : Rules) (start : List ℕ) where
+module _ {F : Type 0} (see_store : F → Store) (says : F → Reads) (rules : Rules) (start : List ℕ) where
   -- the state has such tags
   abbrev HasTags : ServerState → Type 0
   HasTags state = IsTagged start state.seen.store
@@ -100,7 +100,7 @@ module _ {F : Type 0} (see_store : F → Store) (is_honest : F → Bool) (rules 
   with_same : (old : ServerState) (new : ServerState) (store : Store) → new.seen.store ≡ store → IsTagged start store → HasTags new
   with_same old new store is tags = subst (IsTagged start) (sym is) tags
 
-  action_tags : (action : Action) (old new : ServerState) → Acts see_store is_honest rules action old new → HasTags old → HasTags new
+  action_tags : (action : Action) (old new : ServerState) → Acts see_store says rules action old new → HasTags old → HasTags new
   action_tags Malformed old new acts tags = unchanged old new acts tags
   action_tags (OutOfMemory frame) old new acts tags = unchanged old new acts tags
   action_tags (BodyStarted (Ok number)) old new acts tags =
@@ -112,7 +112,7 @@ module _ {F : Type 0} (see_store : F → Store) (is_honest : F → Bool) (rules 
       with_same old new _ acts.change.1 (record { begins = tags.begins; tagged = tags.tagged })
   action_tags (BodyDropped number) old new acts tags =
       unchanged _ new acts (record { begins = tags.begins; tagged = tags.tagged })
-  action_tags (FileRead asked reply honest) old new acts tags = unchanged old new acts.0 tags
+  action_tags (FileRead asked reply) old new acts tags = unchanged old new acts.0 tags
   action_tags (ExpiryReturned time) old new acts tags = unchanged old new acts.0 tags
   action_tags (HeldReturned reply) old new acts tags = unchanged old new acts.0 tags
   action_tags BackupBegun old new acts tags = unchanged old new acts tags
@@ -130,23 +130,23 @@ module _ {F : Type 0} (see_store : F → Store) (is_honest : F → Bool) (rules 
 
   module _ (Stays : Store → Store → Type 0) (keeps : KeepsTags Stays) where
     -- after these actions the tags of the store begin as before
-    pub tags_stay : (actions : List Action) (old new : ServerState) → ActInOrder see_store is_honest Stays rules actions old new → HasTags old → HasTags new
+    pub tags_stay : (actions : List Action) (old new : ServerState) → ActInOrder see_store says Stays rules actions old new → HasTags old → HasTags new
     tags_stay [] old new run tags = keeps start old.seen.store new.seen.store run.store tags
     tags_stay (action ∷ actions) old new (before, after, same, acts, others) tags =
         tags_stay actions after new others (action_tags action before after acts (keeps start old.seen.store before.seen.store same.store tags))
 
     -- the tag of a part that is read begins so
-    pub read_tag : (actions : List Action) (asked : ReadValue) (part : PartValue) (honest : Bool) (more : List Action) (old new : ServerState)
-        → ActInOrder see_store is_honest Stays rules (actions ++ FileRead asked (Part part) honest ∷ more) old new → HasTags old
+    pub read_tag : (actions : List Action) (asked : ReadValue) (part : PartValue) (more : List Action) (old new : ServerState)
+        → ActInOrder see_store says Stays rules (actions ++ FileRead asked (Part part) ∷ more) old new → HasTags old
         → ForSome part.version (StartsWith start)
-    read_tag [] asked part honest more old new (before, after, same, acts, others) tags =
+    read_tag [] asked part more old new (before, after, same, acts, others) tags =
         by (read_path asked.path rules.prefix) acts.1.reads (keeps start old.seen.store before.seen.store same.store tags)
       where
-        by : (read : Result PathValue DavError) → ReadsBy read (refuses_to before.rights asked.principal) honest before.seen.store.contents asked (Part part) → HasTags before → ForSome part.version (StartsWith start)
+        by : (read : Result PathValue DavError) → ReadsBy read (refuses_to before.rights asked.principal) (says acts.1.store) before.seen.store.contents asked (Part part) → HasTags before → ForSome part.version (StartsWith start)
         by (Ok path) (inl (may, returned)) tags = subst (λ (p : PartValue). ForSome p.version (StartsWith start)) (sym returned.is)
             (subst (λ begins. HasTagFrom begins returned.meta) tags.begins (tags.tagged path.key returned.meta returned.known))
         by (Ok path) (inr other) tags = cc
         by (Err e) (inl other) tags = cc
         by (Err e) (inr other) tags = cc
-    read_tag (action ∷ actions) asked part honest more old new (before, after, same, acts, others) tags =
-        read_tag actions asked part honest more after new others (action_tags action before after acts (keeps start old.seen.store before.seen.store same.store tags))
+    read_tag (action ∷ actions) asked part more old new (before, after, same, acts, others) tags =
+        read_tag actions asked part more after new others (action_tags action before after acts (keeps start old.seen.store before.seen.store same.store tags))

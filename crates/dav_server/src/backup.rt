@@ -16,7 +16,7 @@ impl<'a, F: TimedStore, L: ExpiringLocks> Server<'a, F, L> {
     pub(crate) fn begin_backup(&mut self) -> Option<Vec<u8>>
         ensures rules { rules_of self.new ≡ rules_of self.old }
         ensures loans { loans_of self.new ≡ loans_of self.old }
-        ensures reacts { Reacts F.seen F.is_honest (rules_of self.old) (Some frames.BeginBackup) (state_of F.seen L.seen self.old) (option_map (λ v. v.items) result) (state_of F.seen L.seen self.new) }
+        ensures reacts { Reacts F.seen F.reads (rules_of self.old) (Some frames.BeginBackup) (state_of F.seen L.seen self.old) (option_map (λ v. v.items) result) (state_of F.seen L.seen self.new) }
         ensures store { lent self.new.engine ≡ lent self.old.engine }
         ensures begun { self.new.in_backup ≡ true }
     {
@@ -28,7 +28,7 @@ impl<'a, F: TimedStore, L: ExpiringLocks> Server<'a, F, L> {
     pub(crate) fn end_backup(&mut self) -> Option<Vec<u8>>
         ensures rules { rules_of self.new ≡ rules_of self.old }
         ensures loans { loans_of self.new ≡ loans_of self.old }
-        ensures reacts { Reacts F.seen F.is_honest (rules_of self.old) (Some frames.EndBackup) (state_of F.seen L.seen self.old) (option_map (λ v. v.items) result) (state_of F.seen L.seen self.new) }
+        ensures reacts { Reacts F.seen F.reads (rules_of self.old) (Some frames.EndBackup) (state_of F.seen L.seen self.old) (option_map (λ v. v.items) result) (state_of F.seen L.seen self.new) }
         ensures store { lent self.new.engine ≡ lent self.old.engine }
         ensures ended { self.new.in_backup ≡ false }
     {

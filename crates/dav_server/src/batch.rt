@@ -48,7 +48,7 @@ impl<'a, F: TimedStore, L: ExpiringLocks> Server<'a, F, L> {
     pub fn serve_batch(&mut self, header: &BatchHeader, content: &[u8]) -> BatchReply
         ensures rules { rules_of self.new ≡ rules_of self.old }
         ensures loans { loans_of self.new ≡ loans_of self.old }
-        ensures answers { AnswersBatch F.seen F.is_honest (rules_of self.old) header.entry.now content.now (answer_of result) (state_of F.seen L.seen self.old) (state_of F.seen L.seen self.new) }
+        ensures answers { AnswersBatch F.seen F.reads (rules_of self.old) header.entry.now content.now (answer_of result) (state_of F.seen L.seen self.old) (state_of F.seen L.seen self.new) }
     {
         let (alloc, number) = (self.alloc, header.number);
         if !self.begin(header) {
@@ -82,7 +82,7 @@ impl<'a, F: TimedStore, L: ExpiringLocks> Server<'a, F, L> {
     fn serve_frames(&mut self, frames: &[&[u8]]) -> Option<Vec<Option<Vec<u8>>>>
         ensures rules { rules_of self.new ≡ rules_of self.old }
         ensures loans { loans_of self.new ≡ loans_of self.old }
-        ensures served { IfSome result (λ replies. ServesFrames F.seen F.is_honest (rules_of self.old) (state_of F.seen L.seen self.old) (map (λ f. f.now) frames.now) (map sent_bytes replies.items) (state_of F.seen L.seen self.new)) }
+        ensures served { IfSome result (λ replies. ServesFrames F.seen F.reads (rules_of self.old) (state_of F.seen L.seen self.old) (map (λ f. f.now) frames.now) (map sent_bytes replies.items) (state_of F.seen L.seen self.new)) }
         ensures unserved { result ≡ None → state_of F.seen L.seen self.new ≡ state_of F.seen L.seen self.old }
     {
         let Ok(mut replies) = Vec::with_capacity(self.alloc, frames.len()) else {
@@ -99,7 +99,7 @@ impl<'a, F: TimedStore, L: ExpiringLocks> Server<'a, F, L> {
     pub fn skip_batch(&mut self, header: &BatchHeader) -> BatchReply
         ensures rules { rules_of self.new ≡ rules_of self.old }
         ensures loans { loans_of self.new ≡ loans_of self.old }
-        ensures answers { (content : List ℕ) → AnswersBatch F.seen F.is_honest (rules_of self.old) header.entry.now content (answer_of result) (state_of F.seen L.seen self.old) (state_of F.seen L.seen self.new) }
+        ensures answers { (content : List ℕ) → AnswersBatch F.seen F.reads (rules_of self.old) header.entry.now content (answer_of result) (state_of F.seen L.seen self.old) (state_of F.seen L.seen self.new) }
     {
         let alloc = self.alloc;
         if self.begin(header) {

@@ -38,10 +38,10 @@ impl<'a, F: TimedStore, L: ExpiringLocks> Server<'a, F, L> {
         ensures rules { rules_of self.new ≡ rules_of self.old }
         ensures loans { loans_of self.new ≡ loans_of self.old }
         ensures end { OnOk result (IsAtEnd (R.remaining input.new)) }
-        ensures ran { OnOk result (Runs F.seen F.is_honest (rules_of self.old)
+        ensures ran { OnOk result (Runs F.seen F.reads (rules_of self.old)
             (state_of F.seen L.seen self.old) (state_of F.seen L.seen self.new)
             (R.remaining input.old) (R.remaining input.new) (W.contents output.old) (W.contents output.new)) }
-        ensures stopped { OnErr result (StopsAfter F.seen F.is_honest (rules_of self.old)
+        ensures stopped { OnErr result (StopsAfter F.seen F.reads (rules_of self.old)
             (state_of F.seen L.seen self.old) (state_of F.seen L.seen self.new)) }
     {
         // A loop is proved to end, so this one counts the batches.
@@ -60,13 +60,13 @@ impl<'a, F: TimedStore, L: ExpiringLocks> Server<'a, F, L> {
     pub fn exchange<R: Read, W: Write>(&mut self, input: &mut R, output: &mut W) -> io::Result<bool>
         ensures rules { rules_of self.new ≡ rules_of self.old }
         ensures loans { loans_of self.new ≡ loans_of self.old }
-        ensures served { IfOk result (λ more. more ≡ true → Exchanges F.seen F.is_honest (rules_of self.old)
+        ensures served { IfOk result (λ more. more ≡ true → Exchanges F.seen F.reads (rules_of self.old)
             (state_of F.seen L.seen self.old) (state_of F.seen L.seen self.new)
             (R.remaining input.old) (R.remaining input.new) (W.contents output.old) (W.contents output.new)) }
         ensures ended { IfOk result (λ more. more ≡ false →
             Ends (state_of F.seen L.seen self.old) (state_of F.seen L.seen self.new)
             (R.remaining input.old) (R.remaining input.new) (W.contents output.old) (W.contents output.new)) }
-        ensures stopped { OnErr result (StopsInside F.seen F.is_honest (rules_of self.old)
+        ensures stopped { OnErr result (StopsInside F.seen F.reads (rules_of self.old)
             (state_of F.seen L.seen self.old) (state_of F.seen L.seen self.new)) }
     {
         let Some(answer) = self.answer_next(input)? else {
@@ -82,7 +82,7 @@ impl<'a, F: TimedStore, L: ExpiringLocks> Server<'a, F, L> {
     pub(crate) fn answer_next<R: Read>(&mut self, input: &mut R) -> io::Result<Option<BatchReply>>
         ensures rules { rules_of self.new ≡ rules_of self.old }
         ensures loans { loans_of self.new ≡ loans_of self.old }
-        ensures answered { IfRead result (λ answer. ReadsAndAnswers F.seen F.is_honest (rules_of self.old) (answer_of answer)
+        ensures answered { IfRead result (λ answer. ReadsAndAnswers F.seen F.reads (rules_of self.old) (answer_of answer)
             (state_of F.seen L.seen self.old) (state_of F.seen L.seen self.new) (R.remaining input.old) (R.remaining input.new)) }
         ensures ended { OnNone result (IsAtEnd (R.remaining input.new)) }
         ensures unread { OnNone result (Keeps (R.remaining input.old) (R.remaining input.new)) }
@@ -100,7 +100,7 @@ impl<'a, F: TimedStore, L: ExpiringLocks> Server<'a, F, L> {
     fn answer_batch(&mut self, header: &BatchHeader, content: Option<Vec<u8>>) -> BatchReply
         ensures rules { rules_of self.new ≡ rules_of self.old }
         ensures loans { loans_of self.new ≡ loans_of self.old }
-        ensures answers { (bytes : List ℕ) → IfSome content (λ v. bytes ≡ v.items) → AnswersBatch F.seen F.is_honest
+        ensures answers { (bytes : List ℕ) → IfSome content (λ v. bytes ≡ v.items) → AnswersBatch F.seen F.reads
             (rules_of self.old) header.entry.now bytes (answer_of result)
             (state_of F.seen L.seen self.old) (state_of F.seen L.seen self.new) }
     {

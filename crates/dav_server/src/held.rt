@@ -19,7 +19,7 @@ impl<'a, F: TimedStore, L: ExpiringLocks> Server<'a, F, L> {
 
     /// Returns the encoded reply with the time at which the next lock expires.
     pub(crate) fn next_expiry(&self) -> Option<Vec<u8>>
-        ensures reacts { Reacts F.seen F.is_honest (rules_of self.entry.now) (Some frames.NextExpiry) (state_of F.seen L.seen self.entry.now) (option_map (λ v. v.items) result) (state_of F.seen L.seen self.entry.now) }
+        ensures reacts { Reacts F.seen F.reads (rules_of self.entry.now) (Some frames.NextExpiry) (state_of F.seen L.seen self.entry.now) (option_map (λ v. v.items) result) (state_of F.seen L.seen self.entry.now) }
     {
         encode(self.alloc, &Reply::NextExpiry(self.earliest()))
     }
@@ -48,7 +48,7 @@ impl<'a, F: TimedStore, L: ExpiringLocks> Server<'a, F, L> {
     pub(crate) fn held(&mut self) -> Option<Vec<u8>>
         ensures rules { rules_of self.new ≡ rules_of self.old }
         ensures loans { loans_of self.new ≡ loans_of self.old }
-        ensures reacts { Reacts F.seen F.is_honest (rules_of self.old) (Some frames.Held) (state_of F.seen L.seen self.old) (option_map (λ v. v.items) result) (state_of F.seen L.seen self.new) }
+        ensures reacts { Reacts F.seen F.reads (rules_of self.old) (Some frames.Held) (state_of F.seen L.seen self.old) (option_map (λ v. v.items) result) (state_of F.seen L.seen self.new) }
         ensures log { HasEmptyLog F.seen self.old → HasEmptyLog F.seen self.new }
     {
         let quota = self.engine.fs.get_quota(&());

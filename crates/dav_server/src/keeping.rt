@@ -37,9 +37,9 @@ impl<'a, F: TimedStore, L: ExpiringLocks> Server<'a, F, L> {
         ensures loans { loans_of self.new ≡ loans_of self.old }
         ensures end { OnOk result (IsAtEnd (R.remaining input.new)) }
         ensures clean { K.is_clean keeper.new → K.is_clean keeper.old }
-        ensures ran { OnOk result (RunsAndKeeps F.seen L.seen K.lasts K.same F.is_honest (rules_of self.old) keeper.old keeper.new
+        ensures ran { OnOk result (RunsAndKeeps F.seen L.seen K.lasts K.same F.reads (rules_of self.old) keeper.old keeper.new
             self.old self.new (R.remaining input.old) (R.remaining input.new) (W.contents output.old) (W.contents output.new)) }
-        ensures stopped { OnErr result (StopsAfterKept F.seen L.seen K.lasts K.lasts_either K.same F.is_honest (rules_of self.old)
+        ensures stopped { OnErr result (StopsAfterKept F.seen L.seen K.lasts K.lasts_either K.same F.reads (rules_of self.old)
             keeper.old keeper.new self.old self.new (W.contents output.old) (W.contents output.new)) }
     {
         // A loop is proved to end, so this one counts the batches.
@@ -69,7 +69,7 @@ impl<'a, F: TimedStore, L: ExpiringLocks> Server<'a, F, L> {
         ensures rules { rules_of self.new ≡ rules_of self.old }
         ensures loans { loans_of self.new ≡ loans_of self.old }
         ensures clean { K.is_clean keeper.new → K.is_clean keeper.old }
-        ensures served { IfOk result (λ more. more ≡ true → ExchangesAndSaves F.seen F.is_honest (rules_of self.old)
+        ensures served { IfOk result (λ more. more ≡ true → ExchangesAndSaves F.seen F.reads (rules_of self.old)
             (state_of F.seen L.seen self.old) (state_of F.seen L.seen self.new)
             (R.remaining input.old) (R.remaining input.new) (W.contents output.old) (W.contents output.new)) }
         ensures ended { IfOk result (λ more. more ≡ false →
@@ -77,7 +77,7 @@ impl<'a, F: TimedStore, L: ExpiringLocks> Server<'a, F, L> {
             (R.remaining input.old) (R.remaining input.new) (W.contents output.old) (W.contents output.new)) }
         ensures kept { OnOk result ((earlier : Snapshot F L) → IsKeptSince F.seen K.lasts K.same keeper.old earlier self.old
             → StaysKept F.seen K.lasts K.same keeper.new earlier self.new) }
-        ensures stopped { OnErr result (StopsInsideKept F.seen L.seen K.lasts K.lasts_either K.same F.is_honest (rules_of self.old)
+        ensures stopped { OnErr result (StopsInsideKept F.seen L.seen K.lasts K.lasts_either K.same F.reads (rules_of self.old)
             keeper.old keeper.new self.old self.new (W.contents output.old) (W.contents output.new)) }
     {
         let Some(answer) = self.answer_next(input)? else {

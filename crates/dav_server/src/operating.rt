@@ -21,7 +21,7 @@ impl<'a, F: TimedStore, L: ExpiringLocks> Server<'a, F, L> {
 
     /// Returns the encoded reply with all locks.
     pub(crate) fn list_locks(&self) -> Option<Vec<u8>>
-        ensures reacts { Reacts F.seen F.is_honest (rules_of self.entry.now) (Some frames.ListLocks) (state_of F.seen L.seen self.entry.now) (option_map (λ v. v.items) result) (state_of F.seen L.seen self.entry.now) }
+        ensures reacts { Reacts F.seen F.reads (rules_of self.entry.now) (Some frames.ListLocks) (state_of F.seen L.seen self.entry.now) (option_map (λ v. v.items) result) (state_of F.seen L.seen self.entry.now) }
     {
         let alloc = self.alloc;
         let Ok(locks) = self.locks() else {
@@ -47,7 +47,7 @@ impl<'a, F: TimedStore, L: ExpiringLocks> Server<'a, F, L> {
     pub(crate) fn remove_lock(&mut self, asked: UnlockFrame<'_>) -> Option<Vec<u8>>
         ensures rules { rules_of self.new ≡ rules_of self.old }
         ensures loans { loans_of self.new ≡ loans_of self.old }
-        ensures reacts { Reacts F.seen F.is_honest (rules_of self.old) (Some (frames.RemoveLock (unlock_frame_of asked.entry))) (state_of F.seen L.seen self.old) (option_map (λ v. v.items) result) (state_of F.seen L.seen self.new) }
+        ensures reacts { Reacts F.seen F.reads (rules_of self.old) (Some (frames.RemoveLock (unlock_frame_of asked.entry))) (state_of F.seen L.seen self.old) (option_map (λ v. v.items) result) (state_of F.seen L.seen self.new) }
         ensures log { HasEmptyLog F.seen self.old → HasEmptyLog F.seen self.new }
     {
         let alloc = self.alloc;
@@ -78,7 +78,7 @@ impl<'a, F: TimedStore, L: ExpiringLocks> Server<'a, F, L> {
     pub(crate) fn set_modified(&mut self, asked: ModifiedFrame<'_>) -> Option<Vec<u8>>
         ensures rules { rules_of self.new ≡ rules_of self.old }
         ensures loans { loans_of self.new ≡ loans_of self.old }
-        ensures reacts { Reacts F.seen F.is_honest (rules_of self.old) (Some (frames.SetModified (modified_frame_of asked.entry))) (state_of F.seen L.seen self.old) (option_map (λ v. v.items) result) (state_of F.seen L.seen self.new) }
+        ensures reacts { Reacts F.seen F.reads (rules_of self.old) (Some (frames.SetModified (modified_frame_of asked.entry))) (state_of F.seen L.seen self.old) (option_map (λ v. v.items) result) (state_of F.seen L.seen self.new) }
         ensures log { HasEmptyLog F.seen self.old → HasEmptyLog F.seen self.new }
     {
         let alloc = self.alloc;

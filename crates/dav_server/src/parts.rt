@@ -40,7 +40,7 @@ impl<'a, F: TimedStore, L: ExpiringLocks> Server<'a, F, L> {
     pub(crate) fn read_part(&mut self, asked: ReadFrame<'_>) -> Option<Vec<u8>>
         ensures rules { rules_of self.new ≡ rules_of self.old }
         ensures loans { loans_of self.new ≡ loans_of self.old }
-        ensures reacts { Reacts F.seen F.is_honest (rules_of self.old) (Some (frames.Read (read_frame_of asked.entry))) (state_of F.seen L.seen self.old) (option_map (λ v. v.items) result) (state_of F.seen L.seen self.new) }
+        ensures reacts { Reacts F.seen F.reads (rules_of self.old) (Some (frames.Read (read_frame_of asked.entry))) (state_of F.seen L.seen self.old) (option_map (λ v. v.items) result) (state_of F.seen L.seen self.new) }
         ensures log { HasEmptyLog F.seen self.old → HasEmptyLog F.seen self.new }
     {
         let alloc = self.alloc;
@@ -63,8 +63,8 @@ impl<'a, F: TimedStore, L: ExpiringLocks> Server<'a, F, L> {
         ensures rules { rules_of self.new ≡ rules_of self.old }
         ensures loans { loans_of self.new ≡ loans_of self.old }
         ensures same { state_of F.seen L.seen self.new ≡ state_of F.seen L.seen self.old }
-        ensures found { IfOk result (λ found. Finds (refusals_in self.old) (F.is_honest (store_in self.new)) (F.seen (store_in self.old)).contents path.now.key (read_frame_of asked.entry.now) found) }
-        ensures failed { IfErr result (λ status. IsUnread (refusals_in self.old) (F.seen (store_in self.old)).contents path.now.key (read_frame_of asked.entry.now) status) }
+        ensures found { IfOk result (λ found. Finds (refusals_in self.old) (F.reads (store_in self.new)) (F.seen (store_in self.old)).contents path.now.key (read_frame_of asked.entry.now) found) }
+        ensures failed { IfErr result (λ status. IsUnread (refusals_in self.old) (F.reads (store_in self.new)) (F.seen (store_in self.old)).contents path.now.key (read_frame_of asked.entry.now) status) }
     {
         let meta = self.look(path)?;
         if meta.dir {
@@ -99,9 +99,9 @@ impl<'a, F: TimedStore, L: ExpiringLocks> Server<'a, F, L> {
         ensures rules { rules_of self.new ≡ rules_of self.old }
         ensures loans { loans_of self.new ≡ loans_of self.old }
         ensures same { state_of F.seen L.seen self.new ≡ state_of F.seen L.seen self.old }
-        ensures found { IfOk result (λ bytes. IsRead (F.is_honest (store_in self.new)) (F.seen (store_in self.old)).contents path.now.key place length bytes.items) }
+        ensures found { IfOk result (λ bytes. IsRead (F.reads (store_in self.new)) (F.seen (store_in self.old)).contents path.now.key place length bytes.items) }
         ensures readable { OnOk result (refusals_in self.old Op.ReadBytes (path.now.key ∷ []) ≡ false) }
-        ensures failed { IfErr result (IsMissing (F.seen (store_in self.old)).contents path.now.key) }
+        ensures failed { IfErr result (IsMissing (refusals_in self.old) (F.reads (store_in self.new)) (F.seen (store_in self.old)).contents path.now.key) }
     {
         match self.engine.fs.read_bytes(path, place, length as usize, &()) {
             Ok(bytes) => Ok(bytes),

@@ -26,7 +26,7 @@ impl<'a, F: TimedStore, L: ExpiringLocks> Server<'a, F, L> {
     pub(crate) fn set_rights(&mut self, text: &str) -> Option<Vec<u8>>
         ensures rules { rules_of self.new ≡ rules_of self.old }
         ensures loans { loans_of self.new ≡ loans_of self.old }
-        ensures reacts { Reacts F.seen F.is_honest (rules_of self.old) (Some (frames.SetRights text.now)) (state_of F.seen L.seen self.old) (option_map (λ v. v.items) result) (state_of F.seen L.seen self.new) }
+        ensures reacts { Reacts F.seen F.reads (rules_of self.old) (Some (frames.SetRights text.now)) (state_of F.seen L.seen self.old) (option_map (λ v. v.items) result) (state_of F.seen L.seen self.new) }
         ensures log { HasEmptyLog F.seen self.old → HasEmptyLog F.seen self.new }
     {
         match read_rules(self.alloc, text) {
@@ -45,7 +45,7 @@ impl<'a, F: TimedStore, L: ExpiringLocks> Server<'a, F, L> {
     /// Returns the encoded reply with what the access rules allow a principal at a path, or with the status of the path's
     /// error.
     pub(crate) fn explain(&self, asked: ExplainFrame<'_>) -> Option<Vec<u8>>
-        ensures reacts { Reacts F.seen F.is_honest (rules_of self.entry.now) (Some (frames.Explain (explain_frame_of asked.entry))) (state_of F.seen L.seen self.entry.now) (option_map (λ v. v.items) result) (state_of F.seen L.seen self.entry.now) }
+        ensures reacts { Reacts F.seen F.reads (rules_of self.entry.now) (Some (frames.Explain (explain_frame_of asked.entry))) (state_of F.seen L.seen self.entry.now) (option_map (λ v. v.items) result) (state_of F.seen L.seen self.entry.now) }
     {
         let alloc = self.alloc;
         let path = match DavPath::from_str_and_prefix(alloc, asked.path, self.engine.prefix()) {

@@ -154,14 +154,35 @@ read_bytes_call old key = record { op = ReadBytes; keys = key ∷ []; bar = must
 abbrev pub bytes_from : ℕ → ℕ → List ℕ → List ℕ
 bytes_from place count bytes = take count (drop place bytes)
 
--- the result has as many bytes as the file has there, and they are the file's bytes if the medium is honest; the contents stay the same
-pub record IsReadAt (honest : Bool) (key : Key) (place count : ℕ) (bytes : List ℕ) (old new : Contents) : Type 0 where
+-- what a store says of bytes that it has read: of the bytes of the file, the offset, how many were asked for, and the bytes that were read
+abbrev pub Reading : Type 1
+Reading = List ℕ → ℕ → ℕ → List ℕ → Type 0
+
+-- they are those of the file, whatever the medium does
+abbrev pub are_exact : Reading
+are_exact bytes place count read = read ≡ bytes_from place count bytes
+
+-- what a store says of its reads of bytes: of bytes that it has read, and why it may fail to read for reasons of its own
+pub record Reads : Type 1 where
+  pub reading : Reading
+  pub may_fail : FsError → Type 0
+
+-- the bytes are those of the file, and any reason will do
+abbrev pub exact_reads : Reads
+exact_reads = record { reading = are_exact; may_fail = λ _. Unit {0} }
+
+-- the result has as many bytes as the file has there, and this is said of them; the contents stay the same
+pub record IsReadAt (Says : Reading) (key : Key) (place count : ℕ) (bytes : List ℕ) (old new : Contents) : Type 0 where
   pub number : length bytes ≡ length (bytes_from place count (bytes_at (get old.tree key)))
-  pub answer : honest ≡ true → bytes ≡ bytes_from place count (bytes_at (get old.tree key))
+  pub answer : Says (bytes_at (get old.tree key)) place count bytes
   pub same : new ≡ old
 
-abbrev pub ReadsBytes : Bool → Store → Key → ℕ → ℕ → Result (Vec ℕ Global) FsError → Store → Type 0
-ReadsBytes honest old key place count = Answers (read_bytes_call old.contents key) (λ bytes. IsReadAt honest key place count bytes.items) old
+abbrev pub ReadsBytes : Reads → Store → Key → ℕ → ℕ → Result (Vec ℕ Global) FsError → Store → Type 0
+ReadsBytes reads old key place count = Answers (read_bytes_call old.contents key) (λ bytes. IsReadAt reads.reading key place count bytes.items) old
+
+-- why a read fails: memory runs out, no file is at the key, or a reason of the store's own
+abbrev pub FailsToRead : Reads → Store → Key → FsError → Type 0
+FailsToRead reads old key e = (e ≡ Memory) ⊎ (must_be_file (get old.contents.tree key) ≡ Some e) ⊎ reads.may_fail e
 
 -- ---- the calls on an open file
 

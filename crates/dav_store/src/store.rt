@@ -1,8 +1,8 @@
 //! The contract of a store.
-ghost use Rattle.std.specs.Prelude.{◌≡◌, ◌≢◌, ◌+◌, ◌<◌, ◌^◌, All, Bool, false, true, [], length, map, option_map, None, MatchResult};
+ghost use Rattle.std.specs.Prelude.{◌≡◌, ◌≢◌, ◌+◌, ◌<◌, ◌^◌, All, false, true, [], length, map, option_map, None, MatchResult, IfErr};
 ghost use Rattle.dav_store.specs.Logged.{logged_of};
 ghost use Rattle.dav_store.specs.Store.{Store, AreTagged, IsWellFormed};
-ghost use Rattle.dav_store.specs.Calls.{LooksUp, MakesDirectory, Opens, ReadsBytes, Seeks, Writes, Flushes, LooksUpFile, place_of};
+ghost use Rattle.dav_store.specs.Calls.{LooksUp, MakesDirectory, Opens, ReadsBytes, Reads, FailsToRead, exact_reads, Seeks, Writes, Flushes, LooksUpFile, place_of};
 ghost use Rattle.dav_store.specs.Members.{ReadsDir, RemovesFile, RemovesDir};
 ghost use Rattle.dav_store.specs.Allowed.{IsAllowed};
 ghost use Rattle.dav_store.specs.BodyCalls.{StartsBody, AddsToBody, with_body, stored_bytes};
@@ -43,9 +43,9 @@ pub trait GuardedFileSystem<C> {
     /// that no recorded call changes, and the log.
     ghost seen: { Self → Store };
 
-    /// Whether the medium has returned what was written to it, up to this state. Only the bytes that
-    /// `read_bytes` returns rest on it. A store in memory is always honest.
-    ghost is_honest: { Self → Bool } = { λ _. true };
+    /// What the store says of `read_bytes`, in the state after that call: of the bytes, and why it may fail for the
+    /// store's own reasons. By default the bytes are those of the file.
+    ghost reads: { Self → Reads } = { λ _. exact_reads };
 
     /// Returns the metadata of a file or directory. Barred: `NotFound` if nothing exists at the path.
     fn metadata(&mut self, path: &DavPath, credentials: &C) -> FsResult<Meta>
@@ -124,8 +124,8 @@ pub trait GuardedFileSystem<C> {
     /// Returns bytes of a file: `count` of them from the offset `place`, or fewer if the file ends before. No
     /// call of a method needs it: it is for the HTTP server, which answers a GET with it.
     ///
-    /// The number of bytes is right on any medium. The bytes are right on an honest one (`is_honest`), in the
-    /// state after this call.
+    /// The number of bytes is right on any medium. What is known of the bytes themselves is what the store says
+    /// (`reads`).
     ///
     /// Barred: `NotFound` if nothing exists at the path, `Forbidden` if a directory does.
     fn read_bytes(
@@ -135,7 +135,8 @@ pub trait GuardedFileSystem<C> {
         count: usize,
         credentials: &C,
     ) -> FsResult<Vec<u8>>
-        ensures { ReadsBytes (is_honest self.new) (seen self.old) path.now.key place count result (seen self.new) };
+        ensures read { ReadsBytes (reads self.new) (seen self.old) path.now.key place count result (seen self.new) }
+        ensures cause { IfErr result (FailsToRead (reads self.new) (seen self.old) path.now.key) };
 
     /// Sets the offset of an open file, in bytes. It may be past the end of the file.
     ///
@@ -248,8 +249,7 @@ pub trait GuardedFileSystem<C> {
 
     /// Empties the log. Nothing else changes.
     fn clear_log(&mut self)
-        ensures seen { seen self.new ≡ record (seen self.old) { log = [] } }
-        ensures honest { is_honest self.new ≡ is_honest self.old };
+        ensures seen { seen self.new ≡ record (seen self.old) { log = [] } };
 
     /// The root is a directory, and the parent of every other file or directory is a directory. Every key that
     /// exists is a valid key. Exactly the files and directories that exist have metadata, and only these have

@@ -108,7 +108,7 @@ fn count_prefixes(patches: &[(bool, DavProp)]) -> usize {
 impl<F: GuardedFileSystem<u64>> GuardedFileSystem<u64> for Noting<F> {
     ghost seen = { λ store. F.seen store.inner };
 
-    ghost is_honest = { λ store. F.is_honest store.inner };
+    ghost reads = { λ store. F.reads store.inner };
 
     ghost well_formed = { λ store. F.well_formed store.inner };
 

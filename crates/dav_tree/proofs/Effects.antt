@@ -1,5 +1,5 @@
 -- What the calls of a store make of what is kept, and what they answer.
-use Rattle.std.proofs.Common.{◌≡◌, ◌∙◌, ℕ, ◌+◌, ◌<◌, ◌^◌, ◌||◌, if◌then◌else◌, arith, Bool, true, false, Option, Some, None, Result, Ok, Err, refl, sym, ap, subst, inl, inr, ◌⊎◌}
+use Rattle.std.proofs.Common.{◌≡◌, ◌∙◌, ℕ, ◌+◌, ◌<◌, ◌^◌, if◌then◌else◌, arith, Bool, true, false, Option, Some, None, Result, Ok, Err, refl, sym, ap, subst, inl, inr, ◌⊎◌}
 use Rattle.std.specs.Prelude.{OnOk, OnErr, IfErr, IfOk}
 use Rattle.std.specs.Result.{IsErrAnd}
 use Rattle.std.proofs.lemmas.Result.{err_from_is_err_and}
@@ -11,7 +11,6 @@ use Rattle.dav_tree.specs.Memory.{Resources, Held, Memory, IsSound}
 use Rattle.dav_tree.specs.MemoryCalls.{IsDue, YieldsOver}
 use Rattle.dav_key.specs.Below.{IsMoved}
 use Rattle.dav_tree.specs.Kept.{Kept, held_of, Has, HasMoved}
-use Rattle.dav_tree.specs.TreeFs.{IfHonest}
 
 -- ---- answers
 
@@ -59,17 +58,6 @@ over-either refuses error Becomes old new (Err e) none becomes same fails = over
 pub both-ways : {A : Type 0} {P : Type 0} (answer : Result A FsError) → P → OnOk answer P × OnErr answer P
 both-ways (Ok a) p = (p, tt)
 both-ways (Err e) p = (tt, p)
-
--- ---- bytes that are read
-
-pub if-honest : {P : Type 0} (trusted honest : Bool) → (trusted ≡ true → honest ≡ true) → (honest ≡ true → P) → IfHonest (trusted || honest) P
-if-honest true honest trust p = p (trust refl)
-if-honest false true trust p = p refl
-if-honest false false trust p = tt
-
-pub of-honest : {P : Type 0} (honest : Bool) → honest ≡ true → IfHonest honest P → P
-of-honest true is p = p
-of-honest false is p = absurd cc
 
 pub both_ok : {A : Type 0} (P Q : A → Type 0) (answer : Result A FsError) → IfOk answer P → IfOk answer Q → IfOk answer (λ a. P a × Q a)
 both_ok P Q (Ok a) p q = (p, q)

@@ -1,5 +1,6 @@
 -- From the outcome of one call to that of another.
-use Rattle.std.specs.Prelude.{Option, Some, None, IfSome, Result, Ok, Err, IfOk, IfErr, OnOk, OnErr}
+use Rattle.std.specs.Prelude.{◌⊎◌, Option, Some, None, IfSome, Result, Ok, Err, IfOk, IfErr, OnOk, OnErr}
+use Rattle.std.proofs.Common.{inl, inr}
 
 pub ok_then : {A E : Type 0} {P Q : A → Type 0} (answer : Result A E) → ((a : A) → P a → Q a) → IfOk answer P → IfOk answer Q
 ok_then (Ok a) f h = f a h
@@ -33,3 +34,8 @@ on_err (Err e) p = p
 pub some_then : {A : Type 0} {P Q : A → Type 0} (found : Option A) → ((a : A) → P a → Q a) → IfSome found P → IfSome found Q
 some_then None f h = tt
 some_then (Some a) f h = f a h
+
+-- one of three, the first or the last, from one of two
+pub or_right : {A B C : Type 0} → A ⊎ C → A ⊎ (B ⊎ C)
+or_right (inl a) = inl a
+or_right (inr c) = inr (inr c)

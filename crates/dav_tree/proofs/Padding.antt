@@ -1,5 +1,5 @@
 -- What the entity tag is made of.
-use Rattle.std.proofs.Common.{◌≡◌, ◌∙◌, ℕ, ◌-◌, ◌/◌, ◌%◌, ◌^◌, false, List, [], length, replicate, ◌++◌, codes, Option, Some, Result, Ok, Err, IfOk, sym, ap, subst, append-nil, append_assoc, arith}
+use Rattle.std.proofs.Common.{◌≡◌, ◌∙◌, ℕ, ◌-◌, ◌/◌, ◌%◌, ◌^◌, false, List, [], length, replicate, ◌++◌, codes, Option, Some, Result, Ok, Err, IfOk, sym, ap, append-nil, append_assoc, arith}
 use Rattle.std.specs.Fmt.{padded_integral, format_spec, char_count, digits}
 use Rattle.dav_tree.specs.Memory.{sixteen_digits, hexadecimal, tag_text}
 

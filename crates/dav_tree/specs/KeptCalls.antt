@@ -1,9 +1,9 @@
 -- What the calls on numbered resources change: this project's own choice.
-use Rattle.std.specs.Prelude.{◌≡◌, ℕ, true, Result, Some, None, Vec, IfOk, OnOk, length}
+use Rattle.std.specs.Prelude.{◌≡◌, ℕ, Bool, Result, Some, None, Vec, IfOk, OnOk, length}
 use Rattle.std.specs.declared.alloc.Global.{Global}
 use Rattle.std.specs.FinMap.{get, insert}
 use Rattle.dav_key.specs.Key.{Key}
-use Rattle.dav_store.specs.Calls.{bytes_at, bytes_from}
+use Rattle.dav_store.specs.Calls.{Reading, bytes_at, bytes_from}
 use Rattle.dav_tree.specs.Memory.{Stored, change_at, copy_of}
 use Rattle.dav_tree.specs.Kept.{Kept, held_of, Has, IsAt}
 
@@ -38,10 +38,10 @@ module _ {A E : Type 0} (answer : Result A E) where
       (key : Key) (s : Stored) → IsAt old key from s → OnOk answer (Has (insert old.resources to (copy_of None version now s)) (held_of old) new)
 
 module _ {E : Type 0} (answer : Result (Vec ℕ Global) E) where
-  -- what is read of the file with a number, if the medium is honest
-  abbrev pub ReadsFrom : ℕ → ℕ → ℕ → Kept → Kept → Type 0
-  ReadsFrom number place count old new =
-      (key : Key) (s : Stored) → IsAt old key number s → IfOk answer (λ found. new.honest ≡ true → found.items ≡ bytes_from place count (bytes_at (Some s.node)))
+  -- what is said of the bytes that are read of the file with a number
+  abbrev pub ReadsFrom : (Bool → Reading) → ℕ → ℕ → ℕ → Kept → Kept → Type 0
+  ReadsFrom Says number place count old new =
+      (key : Key) (s : Stored) → IsAt old key number s → IfOk answer (λ found. Says new.honest (bytes_at (Some s.node)) place count found.items)
 
   -- how many bytes are read
   abbrev pub ReadsCount : ℕ → ℕ → ℕ → Kept → Type 0

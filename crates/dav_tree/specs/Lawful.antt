@@ -8,7 +8,6 @@ use Rattle.std.proofs.lemmas.List.Folds.{list_all-append}
 use Rattle.std.specs.FinMap.{get, empty, len, len-empty}
 use Rattle.dav_key.specs.Key.{Key, key_cmp}
 use Rattle.dav_resource.specs.Tree as elements
-use Rattle.dav_resource.specs.declared.meta.Meta.{Meta}
 use Rattle.dav_store.specs.Logged.{Logged}
 use Rattle.dav_store.specs.Store.{Node, File, Directory, PropertyMap, IsWellFormed, AreNamed, MetaFits, IsTagText, is_tag_byte, StartsWith, HasTagFrom, AreTagged}
 use Rattle.dav_store.specs.PropertyCalls.{some_properties}

@@ -1,10 +1,11 @@
 -- What contracts see of a store with its tree in memory.
-use Rattle.std.specs.Prelude.{ℕ, Bool, true, false, List, map, Option, Result, ◌||◌}
+use Rattle.std.specs.Prelude.{ℕ, Bool, List, map, Option, Result}
 use base.Stored.{Gv}
 use Rattle.dav_key.specs.Key.{Key}
 use Rattle.dav_resource.specs.declared.error.FsError.{FsError}
 use Rattle.dav_resource.specs.declared.record.Record.{Record}
 use Rattle.dav_store.specs.Logged.{logged_of}
+use Rattle.dav_store.specs.Calls.{Reads}
 use Rattle.dav_store.specs.Store.{Store}
 use Rattle.dav_store.specs.BodyCalls.{stored_bytes}
 use Rattle.dav_tree.specs.Memory.{Memory, seen_of, file_bytes}
@@ -61,9 +62,12 @@ module _ {M B : Type 0} {g : Ghosts M B} where
 
   -- its reads so far have returned what was written
   abbrev pub honest_of : TreeFs M B g → Bool
-  honest_of store = g.is_trusted || store.entries.honest
+  honest_of store = store.entries.honest
 
--- this holds if the medium is honest
-abbrev pub IfHonest : Bool → Type 0 → Type 0
-IfHonest true P = P
-IfHonest false P = Unit {0}
+  -- nothing below it has failed, and this is so
+  abbrev pub faultless_of : TreeFs M B g → Bool
+  faultless_of store = store.entries.faultless
+
+  -- what its medium says of a read, right after that
+  abbrev pub reads_of : TreeFs M B g → Reads
+  reads_of store = record { reading = g.reading (honest_of store); may_fail = g.may_fail (faultless_of store) }

@@ -1,6 +1,6 @@
 //! A medium in memory.
-ghost use Rattle.std.specs.Prelude.{◌≡◌, ◌≤◌, ◌<◌, ◌+◌, ◌-◌, ◌^◌, ◌++◌, true, false, length, take, drop, replicate, List, IfOk, OnOk, OnErr, refl};
-ghost use Rattle.dav_store.specs.Calls.{bytes_from, written_at};
+ghost use Rattle.std.specs.Prelude.{◌≡◌, ◌≤◌, ◌<◌, ◌+◌, ◌-◌, ◌^◌, ◌++◌, true, false, length, take, drop, replicate, List, IfOk, OnOk, OnErr};
+ghost use Rattle.dav_store.specs.Calls.{are_exact, bytes_from, written_at};
 ghost use Rattle.dav_tree.specs.Bodies.{is_small, small_is, none_own};
 
 use crate::medium::Medium;
@@ -58,15 +58,17 @@ impl Medium for InMemory {
 
     ghost is_honest = { λ _. true };
 
-    ghost is_trusted = { true };
+    ghost is_faultless = { λ _. true };
+
+    ghost reading = { λ _. are_exact };
+
+    ghost may_fail = { λ _ _. ⊥ };
 
     ghost safe_held = { λ _ _ held. held };
 
     ghost small = { λ _ body held. small_is body held };
 
     ghost own = { λ _ refused. none_own refused };
-
-    ghost trusted = { λ _ _. refl };
 
     fn empty(&self, alloc: Global) -> Bytes {
         Bytes {

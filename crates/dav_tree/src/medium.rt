@@ -1,9 +1,9 @@
 //! What holds the bytes of files.
-ghost use Rattle.std.specs.Prelude.{◌≡◌, ◌<◌, ◌+◌, ◌^◌, Bool, true, List, ℕ, [], length, IfOk, IfErr, OnOk, OnErr};
+ghost use Rattle.std.specs.Prelude.{◌≡◌, ◌⊎◌, ◌<◌, ◌+◌, ◌^◌, Bool, true, List, ℕ, [], length, IfOk, IfErr, OnOk, OnErr};
 ghost use Rattle.std.specs.Coded.{Coded};
 ghost use Rattle.dav_resource.specs.declared.error.FsError.{FsError};
 ghost use Rattle.dav_resource.specs.declared.record.Outcome.TheVariants.{Refused};
-ghost use Rattle.dav_store.specs.Calls.{bytes_from, written_at};
+ghost use Rattle.dav_store.specs.Calls.{Reading, bytes_from, written_at};
 ghost use Rattle.dav_tree.specs.Bodies.{KeepsBodies, KeepsMarks, KeepsMarked, IsCopy, FailsFor};
 ghost use Rattle.dav_tree.specs.MemoryCalls.{outcome_of};
 
@@ -41,8 +41,14 @@ pub trait Medium: Drop {
     /// Whether each read so far has returned what was written.
     ghost is_honest: { Self → Bool };
 
-    /// Whether each read always returns what was written.
-    ghost is_trusted: { Bool };
+    /// Whether nothing below the medium has failed so far, and each read has returned what was written.
+    ghost is_faultless: { Self → Bool };
+
+    /// What the medium says of bytes that it has read, if it is honest right after the read, or not.
+    ghost reading: { Bool → Reading };
+
+    /// Why a read may fail for the medium's own reasons, if it is faultless right after the read, or not.
+    ghost may_fail: { Bool → FsError → Type 0 };
 
     /// Creates a body of no bytes.
     fn empty(&self, alloc: Global) -> Self::Body
@@ -97,7 +103,8 @@ pub trait Medium: Drop {
         ensures kept { KeepsBodies bytes holds safe self.old self.new };
 
     /// Returns `count` bytes of a body from an offset on, or fewer if the body ends before. How many they are
-    /// is always right. Returns `Memory` if memory runs out, or an error of the medium's own.
+    /// is always right; of the bytes, what the medium says (`reading`) holds. Returns `Memory` if memory runs
+    /// out, or an error of the medium's own, for a reason that it has (`may_fail`).
     fn read(
         &mut self,
         alloc: Global,
@@ -106,9 +113,10 @@ pub trait Medium: Drop {
         count: usize,
     ) -> FsResult<Vec<u8>>
         requires { holds self.old body.now ≡ true }
-        ensures bytes { IfOk result (λ found. is_honest self.new ≡ true → found.items ≡ bytes_from place count (bytes self.old body.now)) }
+        ensures bytes { IfOk result (λ found. reading (is_honest self.new) (bytes self.old body.now) place count found.items) }
         ensures count { IfOk result (λ found. length found.items ≡ length (bytes_from place count (bytes self.old body.now))) }
         ensures err { IfErr result (FailsFor refuses) }
+        ensures cause { IfErr result (λ e. (e ≡ FsError.Memory) ⊎ may_fail (is_faultless self.new) e) }
         ensures kept { KeepsBodies bytes holds safe self.old self.new };
 
     /// Makes each body safe that the medium holds. Returns an error of the medium's own if it cannot, and may
@@ -140,7 +148,4 @@ pub trait Medium: Drop {
 
     /// An error of the medium's own says nothing of the paths of a call.
     ghost own: { (e : FsError) → refuses e ≡ true → outcome_of e ≡ Refused e };
-
-    /// What is trusted is always honest.
-    ghost trusted: { (medium : Self) → is_trusted ≡ true → is_honest medium ≡ true };
 }

@@ -3,7 +3,7 @@ ghost use Rattle.std.specs.Prelude.{◌≡◌, ◌≢◌, ◌⊎◌, ◌<◌, �
 ghost use Rattle.std.specs.FinMap.{get};
 ghost use Rattle.dav_store.specs.Logged.{logged_of};
 ghost use Rattle.dav_store.specs.Store.{Directory};
-ghost use Rattle.dav_store.specs.Calls.{LooksUp, MakesDirectory, Opens, ReadsBytes, bytes_from, Seeks, Writes, Flushes, LooksUpFile};
+ghost use Rattle.dav_store.specs.Calls.{LooksUp, MakesDirectory, Opens, ReadsBytes, FailsToRead, bytes_from, Seeks, Writes, Flushes, LooksUpFile};
 ghost use Rattle.dav_store.specs.BodyCalls.{StartsBody, AddsToBody, with_body};
 ghost use Rattle.dav_store.specs.Members.{ReadsDir, RemovesFile, RemovesDir};
 ghost use Rattle.dav_store.specs.Transfers.{Copies, Renames};
@@ -273,11 +273,11 @@ impl<M: Medium> TreeFs<M> {
 }
 
 impl<C, M: Medium> GuardedFileSystem<C> for TreeFs<M> {
-    ghost use Rattle.dav_tree.specs.TreeFs.{memory_of, store_of, records_of, body_of, file_of, honest_of, IfHonest, GivesIn, GivesOverIn, YieldsIn};
+    ghost use Rattle.dav_tree.specs.TreeFs.{memory_of, store_of, records_of, body_of, file_of, reads_of, GivesIn, GivesOverIn, YieldsIn};
 
     ghost seen = { store_of };
 
-    ghost is_honest = { honest_of };
+    ghost reads = { reads_of };
 
     ghost well_formed = { λ store. is_well_formed (memory_of store) store.sound };
 
@@ -354,8 +354,9 @@ impl<C, M: Medium> GuardedFileSystem<C> for TreeFs<M> {
         count: usize,
         _credentials: &C,
     ) -> FsResult<Vec<u8>>
-        ensures seen { ReadsBytes (honest_of self.new) (store_of self.old) path.now.key place count result (store_of self.new) }
-        ensures bytes { IfOk result (λ bytes. IfHonest (honest_of self.new) (bytes.items ≡ bytes_from place count (file_of self.old path.now.key))) }
+        ensures read { ReadsBytes (reads_of self.new) (store_of self.old) path.now.key place count result (store_of self.new) }
+        ensures cause { IfErr result (FailsToRead (reads_of self.new) (store_of self.old) path.now.key) }
+        ensures bytes { IfOk result (λ bytes. (reads_of self.new).reading (file_of self.old path.now.key) place count bytes.items) }
         ensures count { IfOk result (λ bytes. length bytes.items ≡ length (bytes_from place count (file_of self.old path.now.key))) }
         ensures memory { GivesOverIn (read_bytes_error path.now.key) kept self.old result self.new }
         ensures record { Records Op.ReadBytes (path.now ∷ []) result (records_of self.old) (records_of self.new) }
@@ -545,7 +546,6 @@ impl<C, M: Medium> GuardedFileSystem<C> for TreeFs<M> {
 
     fn clear_log(&mut self)
         ensures seen { store_of self.new ≡ record (store_of self.old) { log = [] } }
-        ensures honest { honest_of self.new ≡ honest_of self.old }
         ensures memory { memory_of self.new ≡ memory_of self.old }
         ensures records { records_of self.new ≡ [] }
     {

@@ -6,7 +6,7 @@ use Rattle.dav_resource.specs.PathText.{PathValue}
 use Rattle.dav_resource.specs.declared.meta.OpenOptions.{OpenOptions}
 use Rattle.dav_resource.specs.declared.meta.DavFile.{DavFile}
 use Rattle.dav_resource.specs.declared.record.Op.TheVariants.{Metadata, ReadBytes, CreateDir, RemoveFile, RemoveDir, Copy, Rename, OpenFile, Seek, WriteBytes, Flush, FileMetadata, GetProp, GetProps, GetQuota}
-use Rattle.dav_store.specs.Calls.{metadata_bar, IsMetaAt, LooksUp, create_dir_bar, IsMadeAt, MakesDirectory, open_bar, IsOpened, Opens, must_be_file, IsReadAt, ReadsBytes, file_bar, Seeks, IsWritten, Writes, Flushes, LooksUpFile}
+use Rattle.dav_store.specs.Calls.{metadata_bar, IsMetaAt, LooksUp, create_dir_bar, IsMadeAt, MakesDirectory, open_bar, IsOpened, Opens, must_be_file, Reads, IsReadAt, ReadsBytes, file_bar, Seeks, IsWritten, Writes, Flushes, LooksUpFile}
 use Rattle.dav_store.specs.Members.{members, IsRemovedAt, RemovesFile, remove_dir_bar, RemovesDir}
 use Rattle.dav_store.specs.Transfers.{copy_bar, IsCopiedTo, Copies, rename_bar, IsRenamedTo, Renames}
 use Rattle.dav_store.specs.PropertyCalls.{properties_at, get_prop_bar, IsPropertyAt, GetsProp, properties_bar, ArePropertiesAt, GetsProps, get_quota_bar, IsQuota, GetsQuota}
@@ -33,8 +33,8 @@ renames_call from to = answers_call Rename (from ∷ to ∷ []) (λ keeps old. r
 pub opens_call : (path : PathValue) (options : OpenOptions) → IsCall OpenFile (path.key ∷ []) no_statuses (λ s. Opens s path options)
 opens_call path options = answers_call OpenFile (path.key ∷ []) (λ keeps old. open_bar options (get old.tree path.key) (get old.tree (parent path.key))) (IsOpened path options)
 
-pub reads_bytes_call : (honest : Bool) (key : Key) (place count : ℕ) → IsCall ReadBytes (key ∷ []) no_statuses (λ s. ReadsBytes honest s key place count)
-reads_bytes_call honest key place count = answers_call ReadBytes (key ∷ []) (λ keeps old. must_be_file (get old.tree key)) (λ bytes. IsReadAt honest key place count bytes.items)
+pub reads_bytes_call : (reads : Reads) (key : Key) (place count : ℕ) → IsCall ReadBytes (key ∷ []) no_statuses (λ s. ReadsBytes reads s key place count)
+reads_bytes_call reads key place count = answers_call ReadBytes (key ∷ []) (λ keeps old. must_be_file (get old.tree key)) (λ bytes. IsReadAt reads.reading key place count bytes.items)
 
 pub seeks_call : (key : Key) → IsCall Seek (key ∷ []) no_statuses (λ s. Seeks s key)
 seeks_call key = answers_call Seek (key ∷ []) (λ keeps old. file_bar (get old.tree key)) (λ _ before after. after ≡ before)

@@ -1,8 +1,9 @@
 //! What files contain.
-ghost use Rattle.std.specs.Prelude.{◌≡◌, ◌<◌, ◌+◌, ◌^◌, true, [], length, IfErr, OnErr, Some, IsSome};
+ghost use Rattle.std.specs.Prelude.{◌≡◌, ◌⊎◌, ◌<◌, ◌+◌, ◌^◌, true, [], length, IfErr, OnErr, Some, IsSome};
 ghost use Rattle.std.specs.FinMap as map;
 ghost use Rattle.dav_key.specs.Key.{parent};
 ghost use Rattle.dav_store.specs.BodyCalls.{stored_bytes};
+ghost use Rattle.dav_resource.specs.declared.error.FsError.{FsError};
 ghost use Rattle.dav_tree.specs.Bodies.{FailsFor};
 ghost use Rattle.dav_tree.specs.Memory.{with_bytes, wrote};
 ghost use Rattle.dav_tree.specs.KeptCalls.{IsUnchanged, IsChangedAt, ChangesAt, CopiesOver, CopiesNew, ReadsFrom, ReadsCount};
@@ -19,10 +20,10 @@ impl<M: Medium> Entries<M> {
     /// or an error of the medium's own.
     pub fn read(&mut self, number: usize, place: u64, count: usize) -> FsResult<Vec<u8>>
         requires { IsFileNumber self.old number }
-        ensures bytes { ReadsFrom result number place count self.old self.new }
+        ensures bytes { ReadsFrom result M.reading number place count self.old self.new }
         ensures count { ReadsCount result number place count self.old }
         ensures err { IfErr result (FailsFor M.refuses) }
-        ensures trusted { M.is_trusted ≡ true → self.new.honest ≡ true }
+        ensures cause { IfErr result (λ e. (e ≡ FsError.Memory) ⊎ M.may_fail self.new.faultless e) }
         ensures same { IsUnchanged self.old self.new }
     {
         let tree = &self.tree;

@@ -1,8 +1,8 @@
 //! The store's calls on open files.
-ghost use Rattle.std.specs.Prelude.{◌≡◌, ◌<◌, ◌+◌, ◌^◌, IsTrue, false, length, IfOk, ◌||◌, if◌then◌else◌};
+ghost use Rattle.std.specs.Prelude.{◌≡◌, ◌<◌, ◌+◌, ◌^◌, IsTrue, false, length, IfOk, IfErr, ◌||◌, if◌then◌else◌};
 ghost use Rattle.dav_key.specs.Key.{Key};
-ghost use Rattle.dav_store.specs.Calls.{bytes_from};
-ghost use Rattle.dav_tree.specs.TreeFs.{memory_of, body_of, honest_of, IfHonest, GivesIn, GivesOverIn, file_of};
+ghost use Rattle.dav_store.specs.Calls.{bytes_from, FailsToRead};
+ghost use Rattle.dav_tree.specs.TreeFs.{memory_of, store_of, body_of, reads_of, GivesIn, GivesOverIn, file_of};
 ghost use Rattle.dav_tree.specs.Kept.{IsAt, IsNumber, IsAbsent, IsFound};
 ghost use Rattle.dav_tree.specs.Memory.{Stored, contents_of, size_of};
 ghost use Rattle.dav_tree.specs.MemoryCalls.{kept, read_bytes_error, open_error, opened, file_error, write_error, written, after_write, PlacesFile};
@@ -80,9 +80,10 @@ impl<M: Medium> TreeFs<M> {
         count: usize,
     ) -> FsResult<Vec<u8>>
         ensures log { self.new.log ≡ self.old.log }
-        ensures bytes { IfOk result (λ bytes. IfHonest (honest_of self.new) (bytes.items ≡ bytes_from place count (file_of self.old path.now.key))) }
+        ensures bytes { IfOk result (λ bytes. (reads_of self.new).reading (file_of self.old path.now.key) place count bytes.items) }
         ensures count { IfOk result (λ bytes. length bytes.items ≡ length (bytes_from place count (file_of self.old path.now.key))) }
         ensures answer { GivesOverIn (read_bytes_error path.now.key) kept self.old result self.new }
+        ensures cause { IfErr result (FailsToRead (reads_of self.new) (store_of self.old) path.now.key) }
     {
         let Some(found) = self.entries.find(path.key()) else {
             return Err(FsError::NotFound);

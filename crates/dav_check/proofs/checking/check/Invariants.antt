@@ -8,7 +8,7 @@ abbrev pub invariant-loop-visited : goal.invariant-loop-visited
 invariant-loop-visited g l = record {
   same : (g.F.GuardedFileSystem.seen l.fs).contents ≡ (g.F.GuardedFileSystem.seen l.fn.fs).contents;
   fixed : (g.F.GuardedFileSystem.seen l.fs).facts ≡ (g.F.GuardedFileSystem.seen l.fn.fs).facts;
-  underway : IsUnderway g.F.GuardedFileSystem.seen g.F.GuardedFileSystem.is_honest (g.F.GuardedFileSystem.seen l.fn.fs).contents l.waiting.items l.checked;
+  underway : IsUnderway g.F.GuardedFileSystem.seen g.F.GuardedFileSystem.reads (g.F.GuardedFileSystem.seen l.fn.fs).contents l.waiting.items l.checked;
   counted : IsCounted (g.F.GuardedFileSystem.seen l.fn.fs).contents l.waiting.items l.checked;
   files : l.checked.files ≤ l.visited;
   bytes : l.checked.bytes ≤ l.checked.files * 2 ^ 64;

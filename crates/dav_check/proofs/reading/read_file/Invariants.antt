@@ -7,7 +7,7 @@ abbrev pub invariant-loop-place : goal.invariant-loop-place
 invariant-loop-place g l = record {
   same : (g.F.GuardedFileSystem.seen l.fs).contents ≡ (g.F.GuardedFileSystem.seen l.initial.fs).contents;
   fixed : (g.F.GuardedFileSystem.seen l.fs).facts ≡ (g.F.GuardedFileSystem.seen l.initial.fs).facts;
-  read : IsReadBelow g.F.GuardedFileSystem.seen g.F.GuardedFileSystem.is_honest (g.F.GuardedFileSystem.seen l.initial.fs).contents l.path.key l.place;
+  read : IsReadBelow g.F.GuardedFileSystem.seen g.F.GuardedFileSystem.reads (g.F.GuardedFileSystem.seen l.initial.fs).contents l.path.key l.place;
   within : l.place ≤ l.len;
 }
 

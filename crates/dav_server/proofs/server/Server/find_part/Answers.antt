@@ -1,7 +1,11 @@
-use Rattle.std.proofs.Common.{rules, refl, ap, sym, ◌∙◌, ◌≡◌, Some}
+use Rattle.std.proofs.Common.{rules, refl, ap, sym, subst, ◌∙◌, ◌≡◌, Some}
+use Rattle.std.proofs.lemmas.Result.{err_from_is_err_and}
 use Rattle.std.specs.FinMap.{get}
-use Rattle.dav_store.specs.Store.{MetaFits, File}
-use Rattle.dav_server.specs.State.{ServerState, store_in}
+use Rattle.dav_guarding.specs.Policy.{Refusals}
+use Rattle.dav_store.specs.Store.{Contents, MetaFits, File}
+use Rattle.dav_server.specs.Parts.{IsMissing}
+use Rattle.dav_server.proofs.PartReads.{read_of_file}
+use Rattle.dav_server.specs.State.{ServerState, store_in, refusals_in}
 use Rattle.dav_server.proofs.server.Server.find_part.Goals as goal
 
 pub returns-clause-found : goal.returns-clause-found
@@ -27,3 +31,19 @@ returns-clause-found g c =
         answer = part.answer;
       },
     )
+
+pub returns-in_err-bytes-clause-failed : goal.returns-in_err-bytes-clause-failed
+returns-in_err-bytes-clause-failed g c =
+    let key = c.args.path.now.key in
+    let status = c.in_err-bytes.field-0.0 in
+    let store = store_in c.args.self.now in
+    let contents = (g.F.GuardedFileSystem.seen store).contents in
+    let said = g.F.GuardedFileSystem.reads (store_in c.read.new.self) in
+    let looked : IsMissing (refusals_in c.args.self.now) said (g.F.GuardedFileSystem.seen (store_in c.look.new.self)).contents key status =
+    subst (λ (refuses : Refusals). IsMissing refuses said (g.F.GuardedFileSystem.seen (store_in c.look.new.self)).contents key status) c.in_ok-meta.ensures.refusals c.in_err-bytes.ensures.failed in
+    let missing : IsMissing (refusals_in c.args.self.now) said contents key status =
+    subst (λ (these : Contents). IsMissing (refusals_in c.args.self.now) said these key status) (ap (λ (s : ServerState). s.seen.store.contents) c.look.ensures.same) looked in
+    let p = err_from_is_err_and c.from_residual-in_err-bytes.result c.from_residual-in_err-bytes.ensures.1 in
+    rw (p.1, p.2)
+    (read_of_file (refusals_in c.args.self.now) said contents key _ c.in_ok-meta.meta status c.in_ok-meta.ensures.listed c.in_ok-meta.ensures.found c.if-meta.false
+    ((g.met.F.GuardedFileSystem.well_formed store).metas key) missing)

@@ -3,4 +3,6 @@ use Rattle.dav_server.proofs.server.Server.read.Goals as goal
 
 pub returns-in-Err-clause-failed : goal.returns-in-Err-clause-failed
 returns-in-Err-clause-failed g c =
-    rw c.statuscode.ensures (read_fails _ _ _ _ _ _ c.in-Err.error (c.in-Err.ensures {u = tt}).seen)
+    let read = c.in-Err.ensures {u = tt} in
+    rw c.statuscode.ensures
+    (read_fails g.F.GuardedFileSystem.seen g.F.GuardedFileSystem.reads c.args.self.now.engine.fs.now c.read_bytes.new.self c.args.path.now c.args.place _ c.in-Err.error read.guarded read.passed)

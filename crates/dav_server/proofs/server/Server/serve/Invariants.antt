@@ -7,6 +7,6 @@ abbrev pub invariant-loop : goal.invariant-loop
 invariant-loop g l =
     (rules_of l.self ≡ rules_of l.fn.self)
     × (loans_of l.self ≡ loans_of l.fn.self)
-    × Runs g.F.GuardedFileSystem.seen g.F.GuardedFileSystem.is_honest (rules_of l.fn.self)
+    × Runs g.F.GuardedFileSystem.seen g.F.GuardedFileSystem.reads (rules_of l.fn.self)
     (state_of g.F.GuardedFileSystem.seen g.L.DavLockSystem.seen l.fn.self) (state_of g.F.GuardedFileSystem.seen g.L.DavLockSystem.seen l.self)
     (g.R.Read.remaining l.fn.input) (g.R.Read.remaining l.input) (g.W.Write.contents l.fn.output) (g.W.Write.contents l.output)

@@ -8,7 +8,7 @@ loop-frame-preserved g c = record {
   rules = grind (arith, common_steps);
   loans = grind (arith, common_steps);
   served =
-      serves_next g.F.GuardedFileSystem.seen g.F.GuardedFileSystem.is_honest _ _ _ _ _ _ _ c.loop-frame.frame-index _ c.serve_frame.result
+      serves_next g.F.GuardedFileSystem.seen g.F.GuardedFileSystem.reads _ _ _ _ _ _ _ c.loop-frame.frame-index _ c.serve_frame.result
       c.loop-frame.invariant.served (rw c.loop-frame.invariant.rules at c.serve_frame.ensures.served) c.loop-frame-test.true (grind (arith, common_steps));
   counted = grind (arith, common_steps);
   capacity = grind (arith, common_steps);

@@ -13,7 +13,7 @@ invariant-loop-frame g l =
       rules : rules_of l.self ≡ rules_of l.fn.self;
       loans : loans_of l.self ≡ loans_of l.fn.self;
       served :
-          ServesFrames see_store g.F.GuardedFileSystem.is_honest (rules_of l.fn.self) (state_of see_store see_locks l.fn.self)
+          ServesFrames see_store g.F.GuardedFileSystem.reads (rules_of l.fn.self) (state_of see_store see_locks l.fn.self)
           (map (λ f. f.now) (take l.frame-index l.frames)) (map sent_bytes l.replies.items) (state_of see_store see_locks l.self);
       counted : vec_len l.replies ≡ l.frame-index;
       capacity : length l.frames ≤ vec_capacity l.replies;

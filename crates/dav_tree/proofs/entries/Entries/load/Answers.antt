@@ -22,4 +22,4 @@ invariant_of-result g c =
 pub returns-clause-loaded : goal.returns-clause-loaded
 returns-clause-loaded g c =
     let m = g.M.Medium in
-    is-loaded (m.bytes c.args.medium) c.args.nodes (tree_of c.saved.result) c.saved.ensures.tree c.new.result c.new.ensures.empty m.body_code (m.is_honest c.args.medium) (before_of c.saved.result) c.saved.ensures.before
+    is-loaded (m.bytes c.args.medium) c.args.nodes (tree_of c.saved.result) c.saved.ensures.tree c.new.result c.new.ensures.empty m.body_code (m.is_honest c.args.medium) (m.is_faultless c.args.medium) (before_of c.saved.result) c.saved.ensures.before

@@ -1,4 +1,4 @@
-use Rattle.std.proofs.Common.{◌≡◌, ◌∙◌, ap, sym, length, Some, refl}
+use Rattle.std.proofs.Common.{◌≡◌, ◌∙◌, ap, sym, subst, length, Some, refl}
 use Rattle.dav_store.specs.Calls.{bytes_from, bytes_at}
 use Rattle.dav_tree.specs.Memory.{is_directory}
 use Rattle.dav_tree.specs.Entry.{node_by, is_held}
@@ -38,7 +38,7 @@ returns-clause-bytes g c = λ key s at.
     let f = c.self.inside in let b = g.M.Medium.bytes f.medium in let h = g.M.Medium.holds f.medium in
     let same = stored-in b _ f.tree.nodes f.bodies f.next _ c.args.self.now c.self.view_is key c.args.number s c.entry_at.result.now at c.entry_at.ensures in
     let bytes : b c.in-File.body ≡ bytes_at (Some s.node) = ap (λ x. bytes_at (Some (node_by b x))) (sym c.in-File.is) ∙ ap (λ x. bytes_at (Some x.node)) same in
-    ok_then c.read.result (λ found is honest. is honest ∙ ap (bytes_from c.args.place c.args.count) bytes) c.read.ensures.bytes
+    ok_then c.read.result (λ found. subst (λ bs. g.M.Medium.reading (g.M.Medium.is_honest c.read.new.self) bs c.args.place c.args.count found.items) bytes) c.read.ensures.bytes
 
 pub returns-clause-count : goal.returns-clause-count
 returns-clause-count g c = λ key s at.

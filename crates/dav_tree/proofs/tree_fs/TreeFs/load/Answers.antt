@@ -1,4 +1,4 @@
-use Rattle.std.proofs.Common.{◌≡◌, ◌∙◌, ◌||◌, Bool, true, false, None, refl, sym, ap, subst}
+use Rattle.std.proofs.Common.{◌≡◌, ◌∙◌, true, false, None, refl, sym, ap, subst}
 use Rattle.dav_tree.specs.Before.{entries_code, saved_code}
 use Rattle.dav_tree.specs.Entry.{is_held}
 use Rattle.dav_tree.specs.Kept.{resources_by}
@@ -6,11 +6,6 @@ use Rattle.dav_tree.specs.Loading.{loaded_held}
 use Rattle.dav_tree.specs.Memory.{Held, IsSound}
 use Rattle.dav_tree.proofs.Dumps.{flat-keys}
 use Rattle.dav_tree.proofs.tree_fs.TreeFs.load.Goals as goal
-
--- what is trusted is honest
-trusted_or : (trusted honest : Bool) → (trusted ≡ true → honest ≡ true) → (trusted || honest) ≡ honest
-trusted_or true honest law = sym (law refl)
-trusted_or false honest law = refl
 
 pub load-requires-clause-safe : goal.load-requires-clause-safe
 load-requires-clause-safe g c = c.in_ok-nodes.ensures.values (λ e. is_held (g.M.Medium.safe c.args.medium) e.content) c.requires
@@ -54,9 +49,3 @@ returns-clause-saved g c =
 
 pub returns-clause-older : goal.returns-clause-older
 returns-clause-older g c = c.in_ok-load.ensures.loaded.older
-
-pub returns-clause-honest : goal.returns-clause-honest
-returns-clause-honest g c =
-    let m = g.M.Medium in
-    ap (λ honest. m.is_trusted || honest) c.in_ok-load.ensures.honest
-    ∙ trusted_or m.is_trusted (m.is_honest c.args.medium) (g.met.M.Medium.trusted c.args.medium)

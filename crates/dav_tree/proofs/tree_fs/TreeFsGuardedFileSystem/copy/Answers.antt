@@ -4,7 +4,7 @@ use Rattle.dav_key.specs.Key.{parent}
 use Rattle.dav_resource.specs.PathText.{PathValue}
 use Rattle.dav_tree.specs.TreeFs.{memory_of}
 use Rattle.dav_store.specs.Transfers.{copy_call, IsCopiedTo}
-use Rattle.dav_tree.specs.Memory.{Memory, tree_of, contents_of, copied, facts_of}
+use Rattle.dav_tree.specs.Memory.{tree_of, contents_of, copied, facts_of}
 use Rattle.dav_tree.specs.MemoryCalls.{copy_error}
 use Rattle.dav_tree.proofs.Answering.{answers-over, any_ok, change-none, lawful-change, copy_row, copies}
 use Rattle.dav_tree.proofs.tree_fs.TreeFsGuardedFileSystem.copy.Goals as goal

@@ -5,7 +5,7 @@ use Rattle.dav_resource.specs.PathText.{PathValue}
 use Rattle.dav_tree.specs.TreeFs.{memory_of}
 use Rattle.dav_store.specs.Store.{Directory}
 use Rattle.dav_store.specs.Calls.{create_dir_call, IsMadeAt}
-use Rattle.dav_tree.specs.Memory.{Memory, tree_of, contents_of, made, facts_of}
+use Rattle.dav_tree.specs.Memory.{tree_of, contents_of, made, facts_of}
 use Rattle.dav_tree.specs.MemoryCalls.{create_dir_error}
 use Rattle.dav_tree.proofs.Answering.{answers-call, any_ok, change-none, lawful-change, create_dir_row, makes}
 use Rattle.dav_tree.proofs.tree_fs.TreeFsGuardedFileSystem.create_dir.Goals as goal

@@ -4,7 +4,7 @@ use Rattle.dav_key.specs.Key.{parent}
 use Rattle.dav_resource.specs.PathText.{PathValue}
 use Rattle.dav_tree.specs.TreeFs.{memory_of}
 use Rattle.dav_store.specs.Calls.{open_call, IsOpened}
-use Rattle.dav_tree.specs.Memory.{Memory, tree_of, contents_of, facts_of}
+use Rattle.dav_tree.specs.Memory.{tree_of, contents_of, facts_of}
 use Rattle.dav_tree.specs.MemoryCalls.{open_error, opened}
 use Rattle.dav_tree.proofs.Answering.{answers-call, opening-none, opening-law, open_row, facts-opened, opens}
 use Rattle.dav_tree.proofs.tree_fs.TreeFsGuardedFileSystem.open.Goals as goal

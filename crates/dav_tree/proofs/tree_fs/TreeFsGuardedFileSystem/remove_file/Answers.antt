@@ -3,7 +3,7 @@ use Rattle.std.specs.FinMap.{get}
 use Rattle.dav_resource.specs.PathText.{PathValue}
 use Rattle.dav_tree.specs.TreeFs.{memory_of}
 use Rattle.dav_store.specs.Members.{remove_file_call, IsRemovedAt}
-use Rattle.dav_tree.specs.Memory.{Memory, tree_of, contents_of, without, facts_of}
+use Rattle.dav_tree.specs.Memory.{tree_of, contents_of, without, facts_of}
 use Rattle.dav_tree.specs.MemoryCalls.{remove_file_error}
 use Rattle.dav_tree.proofs.Answering.{answers-call, any_ok, lawful-bar, must_be_file_row, removes}
 use Rattle.dav_tree.proofs.tree_fs.TreeFsGuardedFileSystem.remove_file.Goals as goal

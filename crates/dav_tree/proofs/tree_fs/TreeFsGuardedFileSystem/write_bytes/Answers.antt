@@ -4,7 +4,7 @@ use Rattle.std.specs.FinMap.{get}
 use Rattle.dav_resource.specs.PathText.{PathValue}
 use Rattle.dav_tree.specs.TreeFs.{memory_of}
 use Rattle.dav_store.specs.Calls.{file_call, IsWritten}
-use Rattle.dav_tree.specs.Memory.{Memory, tree_of, contents_of, facts_of}
+use Rattle.dav_tree.specs.Memory.{tree_of, contents_of, facts_of}
 use Rattle.dav_tree.specs.MemoryCalls.{write_error, written}
 use Rattle.dav_tree.proofs.Answering.{answers-over, any_ok, change-none, lawful-change, file_row, writes}
 use Rattle.dav_tree.proofs.tree_fs.TreeFsGuardedFileSystem.write_bytes.Goals as goal
