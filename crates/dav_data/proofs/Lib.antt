@@ -11,3 +11,4 @@ pub mod Appending
 pub mod Causes
 pub mod Collisions
 pub mod Claims
+mod ClaimedReads

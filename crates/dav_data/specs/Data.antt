@@ -1,5 +1,5 @@
 -- What contracts see of a `DataFile`: this project's own choice.
-use Rattle.std.specs.Prelude.{◌≡◌, ◌⊎◌, ◌≤◌, ◌<◌, ℕ, ◌+◌, ◌*◌, ◌^◌, Bool, true, false, ◌&&◌, ◌||◌, ltb, nat_lt, nat_le, List, [], ◌∷◌, ◌++◌, length, take, slice_index_or, Option, IfSome, Err}
+use Rattle.std.specs.Prelude.{◌≡◌, ◌⊎◌, ◌≤◌, ◌<◌, ℕ, ◌+◌, ◌*◌, ◌^◌, Bool, true, false, ◌&&◌, ◌||◌, ◌==◌, ltb, nat_lt, nat_le, List, [], ◌∷◌, ◌++◌, length, take, slice_index_or, Option, IfSome, Err}
 use Rattle.sqlite_disk.specs.declared.Disk.{Ghosts}
 use Rattle.sqlite_disk.specs.Disk.{MoreFaults}
 use Rattle.sqlite_disk.specs.Digest.{digest}
@@ -25,7 +25,7 @@ use Rattle.dav_data.specs.declared.data_file.writing.Added.{Added}
 use Rattle.dav_data.specs.declared.data_file.writing.Grown.{Grown}
 use Rattle.dav_data.specs.declared.hash.Tail.{Tail}
 use Rattle.dav_data.specs.Digests.{IsHashed, is_right, are_right, IsChecked, AreChecked, no_tail}
-use Rattle.dav_data.specs.Collisions.{HasCollision}
+use Rattle.dav_data.specs.Collisions.{IsRightOrCollides}
 
 -- the blocks of a body end at or before a place, and it has fewer than 2^63 bytes
 abbrev pub is_below : ℕ → List Piece → Bool
@@ -63,6 +63,10 @@ module _ {D : Type 0} {g : Ghosts D} where
   -- no sync has failed
   abbrev pub is_usable : DataFile D g → Bool
   is_usable it = blocks.is_usable it.file
+
+  -- no sync has failed, the disk has counted no failure, and no wrong answer of it has been taken as true
+  abbrev pub is_faultless : DataFile D g → Bool
+  is_faultless it = is_usable it && (is_honest it && (g.faults (disk_of it) == 0))
 
   -- the contents that a crash at this moment may leave
   abbrev pub may_leave : DataFile D g → List ℕ → Type 0
@@ -267,9 +271,10 @@ module _ {D : Type 0} {g : Ghosts D} where
     pub sound : (test : Block → Bool) → are_sound test body ≡ true → are_sound test pieces ≡ true
     pub checked : AreChecked it.key pieces found
 
-  -- the bytes from a place of a body on, or a part of bytes that collide with those of one of its blocks, whatever the disk has answered
+  -- the bytes from a place of a body on, or others where bytes collide with those of one of its blocks, whatever the disk has answered
   abbrev pub IsReadOrCollides : DataFile D g → List Piece → ℕ → ℕ → List ℕ → Type 0
-  IsReadOrCollides it body place count found = (found ≡ bytes_from place count (body_bytes it body)) ⊎ HasCollision it.key (data_of it) body found
+  IsReadOrCollides it body place count found =
+      IsRightOrCollides it.key (data_of it) body (bytes_from place count (body_bytes it body)) found
 
   -- unless a file ended before a place, each body below that has the bytes that it had there, whatever the disk has answered
   abbrev pub OpensBytes : ℕ → List ℕ → DataFile D g → Type 0
@@ -277,8 +282,10 @@ module _ {D : Type 0} {g : Ghosts D} where
 
   -- and its blocks have their digests, if they had them there
   abbrev pub OpensDigests : ℕ → List ℕ → DataFile D g → Type 0
-  OpensDigests end file it = end ≤ length file → (body : List Piece) → is_below end body ≡ true → are_right it.key file body ≡ true → has_digests it body ≡ true
+  OpensDigests end file it =
+      end ≤ length file → (body : List Piece) → is_below end body ≡ true → are_right it.key file body ≡ true → has_digests it body ≡ true
 
   -- under each key, the blocks of a marked body have their digests, if they had them
   abbrev pub KeepsDigests : DataFile D g → DataFile D g → Type 0
-  KeepsDigests old new = (key : ℕ) (body : List Piece) → is_marked old body ≡ true → are_right key (data_of old) body ≡ true → are_right key (data_of new) body ≡ true
+  KeepsDigests old new =
+      (key : ℕ) (body : List Piece) → is_marked old body ≡ true → are_right key (data_of old) body ≡ true → are_right key (data_of new) body ≡ true

@@ -5,5 +5,6 @@ pub mod Digests
 pub mod Collisions
 pub mod Data
 pub mod Owning
+pub mod Readings
 pub mod Claimed
 pub mod ClaimedOwning

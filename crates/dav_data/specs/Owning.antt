@@ -1,5 +1,5 @@
 -- What the store has to know of a data file's errors and bodies.
-use Rattle.std.specs.Prelude.{◌≡◌, ℕ, ◌<◌, ◌^◌, true, false, ltb, List, length, refl}
+use Rattle.std.specs.Prelude.{◌≡◌, ℕ, ◌<◌, ◌^◌, true, ltb, List, length, refl}
 use Rattle.std.proofs.lemmas.Bool.{and_parts, and_from, ltb-true}
 use Rattle.std.proofs.Common.{subst, sym}
 use Rattle.sqlite_disk.specs.declared.Disk.{Ghosts}
@@ -47,7 +47,3 @@ held_small it body held =
     let both = and_parts (ltb (size_of body) (2 ^ 63)) (blocks_pass (in_use it) body) held in
     let P : ℕ → Type 0 = λ n. n < 2 ^ 63 in
     subst P (sym (length-bytes_of (data_of it) body)) (ltb-true (size_of body) (2 ^ 63) both.0)
-
--- it is not trusted without a look
-pub none_trusted : {P : Type 0} → false ≡ true → P
-none_trusted e = absurd (let x = e in cc)

@@ -9,14 +9,16 @@ use sqlite_disk::Disk;
 use std::alloc::Global;
 
 impl<D: Disk + Drop, C: Claim> Medium for ClaimedFile<D, C> {
-    ghost use Rattle.std.specs.Prelude.{◌≡◌, ◌<◌, ◌+◌, ◌^◌, List, true, false, is_ok, length, IfOk, IfErr, OnOk, OnErr};
+    ghost use Rattle.std.specs.Prelude.{◌≡◌, ◌⊎◌, ◌<◌, ◌+◌, ◌^◌, List, true, is_ok, length, IfOk, IfErr, OnOk, OnErr};
     ghost use Rattle.std.specs.Coded.{coded_list};
     ghost use Rattle.dav_pieces.specs.Pieces.{piece_code};
     ghost use Rattle.dav_store.specs.Calls.{bytes_from, written_at};
     ghost use Rattle.dav_tree.specs.Bodies.{KeepsBodies, FailsFor};
     ghost use Rattle.dav_data.specs.Errors.{is_own_error};
-    ghost use Rattle.dav_data.specs.Data.{is_honest, has_digests, FailsToWrite, IsReadChecked, IsReadOrCollides, IsUnread};
-    ghost use Rattle.dav_data.specs.Owning.{own_refused, none_trusted};
+    ghost use Rattle.dav_resource.specs.declared.error.FsError.TheVariants.{Memory};
+    ghost use Rattle.dav_data.specs.Data.{is_honest, is_faultless, FailsToWrite, IsReadChecked, IsUnread};
+    ghost use Rattle.dav_data.specs.Owning.{own_refused};
+    ghost use Rattle.dav_data.specs.Readings.{AreRead, FailsWithFault};
     ghost use Rattle.dav_data.specs.Claimed.{file_of, bytes_in, is_kept, is_safe, is_spared};
     ghost use Rattle.dav_data.specs.ClaimedOwning.{safe_kept, kept_small};
 
@@ -36,15 +38,17 @@ impl<D: Disk + Drop, C: Claim> Medium for ClaimedFile<D, C> {
 
     ghost is_honest = { λ it. is_honest (file_of it) };
 
-    ghost is_trusted = { false };
+    ghost is_faultless = { λ it. is_faultless (file_of it) };
+
+    ghost reading = { AreRead C.Claim };
+
+    ghost may_fail = { FailsWithFault C.Claim };
 
     ghost safe_held = { λ it body safe. safe_kept it body safe };
 
     ghost small = { λ medium body held. kept_small medium body held };
 
     ghost own = { own_refused };
-
-    ghost trusted = { λ _ trusted. none_trusted trusted };
 
     fn empty(&self, alloc: Global) -> Body {
         Body::empty(alloc)
@@ -83,12 +87,12 @@ impl<D: Disk + Drop, C: Claim> Medium for ClaimedFile<D, C> {
 
     fn read(&mut self, alloc: Global, body: &Body, place: u64, count: usize) -> FsResult<Vec<u8>>
         requires { is_kept self.old body.now ≡ true }
-        ensures bytes { IfOk result (λ found. is_honest self.new.file ≡ true → found.items ≡ bytes_from place count (bytes_in self.old body.now)) }
+        ensures bytes { IfOk result (λ found. AreRead C.Claim (is_honest (file_of self.new)) (bytes_in self.old body.now) place count found.items) }
         ensures count { IfOk result (λ found. length found.items ≡ length (bytes_from place count (bytes_in self.old body.now))) }
         ensures checked { IfOk result (λ found. IsReadChecked (file_of self.old) body.now place count found.items) }
-        ensures right { C.Claim.holds ≡ true → IfOk result (λ found. IsReadOrCollides (file_of self.old) body.now place count found.items) }
         ensures err { IfErr result (FailsFor is_own_error) }
-        ensures cause { C.Claim.holds ≡ true → IfErr result (IsUnread true (file_of self.old) (file_of self.new)) }
+        ensures cause { IfErr result (λ e. (e ≡ Memory) ⊎ FailsWithFault C.Claim (is_faultless (file_of self.new)) e) }
+        ensures why { C.Claim.holds ≡ true → IfErr result (IsUnread true (file_of self.old) (file_of self.new)) }
         ensures kept { KeepsBodies bytes_in is_kept is_safe self.old self.new }
     {
         self.file.read_checked(alloc, body, place, count)

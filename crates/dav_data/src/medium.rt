@@ -20,8 +20,9 @@ impl<D: Disk + Drop> Medium for DataFile<D> {
     ghost use Rattle.dav_store.specs.Calls.{bytes_from, written_at};
     ghost use Rattle.dav_tree.specs.Bodies.{KeepsBodies, KeepsMarked, IsCopy, FailsFor};
     ghost use Rattle.dav_data.specs.Errors.{is_own_error};
-    ghost use Rattle.dav_data.specs.Data.{body_bytes, is_held, is_synced, has_digests, is_marked, is_honest, is_usable, HasFailed, KeepsSweep, KeepsPlaces, IsBegun, GivesUpRest, FailsToWrite, FailsToJoin, IsReadChecked, IsReadOrCollides, IsUnread, Keeps};
-    ghost use Rattle.dav_data.specs.Owning.{synced_held, held_small, own_refused, none_trusted};
+    ghost use Rattle.dav_data.specs.Readings.{are_honest};
+    ghost use Rattle.dav_data.specs.Data.{body_bytes, is_held, is_synced, has_digests, is_marked, is_honest, is_faultless, is_usable, HasFailed, KeepsSweep, KeepsPlaces, IsBegun, GivesUpRest, FailsToWrite, FailsToJoin, IsReadChecked, IsReadOrCollides, IsUnread, Keeps};
+    ghost use Rattle.dav_data.specs.Owning.{synced_held, held_small, own_refused};
 
     type Body = Body;
 
@@ -39,15 +40,17 @@ impl<D: Disk + Drop> Medium for DataFile<D> {
 
     ghost is_honest = { is_honest };
 
-    ghost is_trusted = { false };
+    ghost is_faultless = { is_faultless };
+
+    ghost reading = { are_honest };
+
+    ghost may_fail = { λ _ _. Unit {0} };
 
     ghost safe_held = { λ it body safe. synced_held it body safe };
 
     ghost small = { λ medium body held. held_small medium body held };
 
     ghost own = { own_refused };
-
-    ghost trusted = { λ _ trusted. none_trusted trusted };
 
     fn empty(&self, alloc: Global) -> Body {
         Body::empty(alloc)
@@ -118,7 +121,7 @@ impl<D: Disk + Drop> Medium for DataFile<D> {
 
     fn read(&mut self, alloc: Global, body: &Body, place: u64, count: usize) -> FsResult<Vec<u8>>
         requires { is_held self.old body.now ≡ true }
-        ensures bytes { IfOk result (λ found. is_honest self.new ≡ true → found.items ≡ bytes_from place count (body_bytes self.old body.now)) }
+        ensures bytes { IfOk result (λ found. are_honest (is_honest self.new) (body_bytes self.old body.now) place count found.items) }
         ensures count { IfOk result (λ found. length found.items ≡ length (bytes_from place count (body_bytes self.old body.now))) }
         ensures checked { IfOk result (λ found. IsReadChecked self.old body.now place count found.items) }
         ensures right { IfOk result (λ found. has_digests self.old body.now ≡ true → IsReadOrCollides self.old body.now place count found.items) }
