@@ -5,6 +5,7 @@ use Rattle.sqlite.specs.State.{HasCleanDisk}
 use Rattle.sqlite_trees.specs.View.{doubt}
 use Rattle.sqlite_trees.specs.declared.store.Store as store
 use Rattle.dav_cells.specs.Locks.{kept_lock}
+use Rattle.dav_data.specs.declared.claim.Claim as claim
 use Rattle.dav_keep.proofs.Committing.{leaves_known}
 use Rattle.dav_keep.proofs.Images.{Settles}
 use Rattle.dav_keep.specs.Images.{Image}
@@ -34,16 +35,16 @@ pub was_clean : {S : Type 0} {rows : store.Ghosts S} (old new : Keeping S rows) 
     → HasCleanDisk (database new) → HasCleanDisk (database old)
 was_clean old new doubts clean = omega arith
 
-module _ {S M : Type 0} {rows : store.Ghosts S} {g : Ghosts M (List Piece)} (old new : Folder S rows) (first mid : TreeFs M (List Piece) g)
-    (locks : MemLs) (now batch : ℕ) (before : At g) (lasts : Lasts old (before_of first) before) where
+module _ {C : Type 0} (c : claim.Ghosts C) {S M : Type 0} {rows : store.Ghosts S} {g : Ghosts M (List Piece)} (old new : Folder S rows) (first mid : TreeFs M (List Piece) g)
+    (locks : MemLs) (now batch : ℕ) (before : At g) (lasts : Lasts c old (before_of first) before) where
   -- the image is saved under another value, which is the same
-  abbrev resaved : (saved : Gv) → saved ≡ before_of first → IsImageAt saved before lasts.image
-  resaved saved same = record { is = lasts.at.is; time = lasts.at.time; batch = lasts.at.batch; sound = lasts.at.sound; resources = lasts.at.resources; saved_is = lasts.at.saved_is ∙ sym same }
+  abbrev resaved : (saved : Gv) → saved ≡ before_of first → IsImageAt c saved before lasts.image
+  resaved saved same = record { is = lasts.at.is; time = lasts.at.time; batch = lasts.at.batch; keyed = lasts.at.keyed; sound = lasts.at.sound; resources = lasts.at.resources; saved_is = lasts.at.saved_is ∙ sym same }
 
   module _ (settles : Settles rows) (saved : IsSaved mid.entries) where
     -- something has changed, and then the medium may have been swept
     keeps_next : IsSound (memory_of mid).resources → (last : TreeFs M (List Piece) g) → KeepsNow true lasts.image (keeping_of new) mid locks now batch → memory_of last ≡ memory_of mid → entries_of last ≡ entries_of mid
-        → batch_of new ≡ batch → KeepsOne Lasts IsSameKept new (before_of last) before (snapshot_at last locks now batch)
+        → batch_of new ≡ batch → KeepsOne (Lasts c) IsSameKept new (before_of last) before (snapshot_at last locks now batch)
     keeps_next resources last keeps memory entries number =
         let same : before_of last ≡ before_of mid = ap (λ (m : Memory). m.held.before) memory in
         inl (record {
@@ -52,6 +53,7 @@ module _ {S M : Type 0} {rows : store.Ghosts S} {g : Ghosts M (List Piece)} (old
             is = record { tree = keeps.is.tree ∙ sym entries; locks_are = keeps.is.locks_are; counter = keeps.is.counter ∙ sym (ap (λ (m : Memory). m.version) memory) };
             time = keeps.since.time;
             batch = keeps.since.batch_is;
+            keyed = λ holds. keeps.since.key ∙ lasts.at.keyed holds;
             sound = keeps.kept.sound;
             resources = subst (λ (m : Memory). IsSound m.resources) (sym memory) resources;
             saved_is = ap₂ saved_code entries (ap (λ (m : Memory). m.resources) memory) ∙ saved ∙ sym same;
@@ -63,7 +65,7 @@ module _ {S M : Type 0} {rows : store.Ghosts S} {g : Ghosts M (List Piece)} (old
 
     -- nothing has changed, and then the medium may have been swept
     keeps_same : (last : TreeFs M (List Piece) g) → KeepsNow false lasts.image (keeping_of new) mid locks now batch → before_of mid ≡ before_of first → memory_of last ≡ memory_of mid
-        → batch_of new ≡ batch_of old → KeepsOne Lasts IsSameKept new (before_of last) before (snapshot_at last locks now batch)
+        → batch_of new ≡ batch_of old → KeepsOne (Lasts c) IsSameKept new (before_of last) before (snapshot_at last locks now batch)
     keeps_same last keeps unchanged memory number =
         let same : before_of last ≡ before_of mid = ap (λ (m : Memory). m.held.before) memory in
         let kept = subst (IsKept g.body_code (keeping_of new) (before_of mid)) keeps.since keeps.kept in
@@ -87,17 +89,17 @@ module _ {S M : Type 0} {rows : store.Ghosts S} {g : Ghosts M (List Piece)} (old
     -- something has changed or not, and then the medium may have been swept
     pub keeps_one : (changed : Bool) → IsSound (memory_of mid).resources → (last : TreeFs M (List Piece) g) → KeepsNow changed lasts.image (keeping_of new) mid locks now batch
         → (changed ≡ false → before_of mid ≡ before_of first) → memory_of last ≡ memory_of mid → entries_of last ≡ entries_of mid
-        → batch_of new ≡ cond changed batch (batch_of old) → KeepsOne Lasts IsSameKept new (before_of last) before (snapshot_at last locks now batch)
+        → batch_of new ≡ cond changed batch (batch_of old) → KeepsOne (Lasts c) IsSameKept new (before_of last) before (snapshot_at last locks now batch)
     keeps_one true resources last keeps unchanged memory entries number = keeps_next resources last keeps memory entries number
     keeps_one false resources last keeps unchanged memory entries number = keeps_same last keeps (unchanged refl) memory number
 
   -- the call failed
-  pub stops : IsSound (memory_of mid).resources → Stops lasts.image (keeping_of new) first mid locks now batch → LastsEither new (before_of mid) before (snapshot_at mid locks now batch)
+  pub stops : IsSound (memory_of mid).resources → Stops lasts.image (keeping_of new) first mid locks now batch → LastsEither c new (before_of mid) before (snapshot_at mid locks now batch)
   stops resources (inl early) = inl (record { image = lasts.image; at = resaved (before_of mid) early.saved; left = early.left })
   stops resources (inr between) = inr (inr (record {
     first = lasts.image;
     second = between.image;
     at_first = resaved _ between.older;
-    at_second = record { is = between.is; time = between.dated.time; batch = between.dated.batch_is; sound = between.sound; resources = resources; saved_is = between.saved };
+    at_second = record { is = between.is; time = between.dated.time; batch = between.dated.batch_is; keyed = λ holds. between.dated.key ∙ lasts.at.keyed holds; sound = between.sound; resources = resources; saved_is = between.saved };
     left = between.left;
   }))

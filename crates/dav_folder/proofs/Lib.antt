@@ -6,4 +6,3 @@ pub mod LoadedBytes
 pub mod Utf8Texts
 pub mod Utf8Tables
 pub mod FoundImages
-pub mod Outlines

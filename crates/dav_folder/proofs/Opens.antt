@@ -3,6 +3,7 @@ use Rattle.std.proofs.Common.{◌≡◌, ◌∙◌, ℕ, Bool, true, false, ◌|
 use Rattle.std.specs.Prelude.{◌==◌}
 use Rattle.sqlite_trees.specs.declared.store.Store as store
 use Rattle.dav_cells.specs.Locks.{kept_lock}
+use Rattle.dav_data.specs.declared.claim.Claim as claim
 use Rattle.dav_keep.proofs.Committing.{leaves_known}
 use Rattle.dav_keep.proofs.Images.{Settles}
 use Rattle.dav_keep.specs.Images.{Image, IsSound, AreSameLocks}
@@ -17,6 +18,7 @@ use Rattle.dav_tree.specs.Memory as memory
 use Rattle.dav_tree.specs.TreeFs.{memory_of, before_of, entries_of}
 use Rattle.dav_tree.specs.declared.medium.Medium.{Ghosts}
 use Rattle.dav_tree.specs.declared.tree_fs.TreeFs.{TreeFs}
+use Rattle.dav_folder.specs.Claims.{IsKeyed}
 use Rattle.dav_folder.specs.Folders.{keeping_of, batch_of}
 use Rattle.dav_folder.specs.Lasting.{Lasts}
 use Rattle.dav_folder.specs.declared.folder.Folder.{Folder}
@@ -37,16 +39,17 @@ kept_again (lock ∷ locks) = ap₂ ◌∷◌ (kept_once lock) (kept_again locks
 pub same_kept : (locks loaded : List DavLock) → loaded ≡ map kept_lock locks → AreSameLocks locks loaded
 same_kept locks loaded is = sym (kept_again locks) ∙ sym (ap (map kept_lock) is)
 
-module _ {S M : Type 0} {rows : store.Ghosts S} {g : Ghosts M (List Piece)} (settles : Settles rows) (folder : Folder S rows) (store : TreeFs M (List Piece) g) (locks : MemLs)
+module _ {C : Type 0} (c : claim.Ghosts C) {S M : Type 0} {rows : store.Ghosts S} {g : Ghosts M (List Piece)} (settles : Settles rows) (folder : Folder S rows) (store : TreeFs M (List Piece) g) (locks : MemLs)
     (now last : ℕ) (image : Image) where
   abbrev pub lasts : IsKnown (keeping_of folder) image → IsSound image → memory.IsSound (memory_of store).resources → entries_of store ≡ entries_code g.body_code image.tree → IsSaved store.entries → list_of locks ≡ map kept_lock image.locks
-      → (memory_of store).version ≡ image.numbers.counter → now ≡ image.numbers.time → last ≡ image.numbers.batch → batch_of folder ≡ last → Lasts folder (before_of store) (snapshot_at store locks now last)
-  lasts known sound resources entries saved locks_are counter time batch number = record {
+      → (memory_of store).version ≡ image.numbers.counter → now ≡ image.numbers.time → last ≡ image.numbers.batch → IsKeyed c image.numbers.key → batch_of folder ≡ last → Lasts c folder (before_of store) (snapshot_at store locks now last)
+  lasts known sound resources entries saved locks_are counter time batch keyed number = record {
     image = image;
     at = record {
       is = record { tree = sym entries; locks_are = same_kept image.locks (list_of locks) locks_are; counter = sym counter };
       time = sym time;
       batch = sym batch;
+      keyed = keyed;
       sound = sound;
       resources = resources;
       saved_is = saved;

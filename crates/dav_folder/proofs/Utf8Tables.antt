@@ -7,6 +7,7 @@ use Rattle.std.specs.Option.{option_map, unwrap_or}
 use Rattle.std.specs.Str.{IsUtf8}
 use Rattle.std.proofs.lemmas.Bool.{and_parts}
 use Rattle.std.proofs.lemmas.Option.{same_Some}
+use Rattle.dav_data.specs.declared.claim.Claim as claim
 use Rattle.dav_cells.specs.Elements.{element_codec, element_levels}
 use Rattle.dav_cells.specs.Locks.{lock_codec}
 use Rattle.dav_key.specs.Key.{Key, key_cmp_total, key_cmp_exact}
@@ -104,8 +105,8 @@ locks_utf8 (e ∷ es) all = (all.0, locks_utf8 es all.1)
 
 -- ---- what was kept
 
-pub holds_utf8 : HoldsUtf8
-holds_utf8 left file kept hold =
+pub holds_utf8 : {C : Type 0} (c : claim.Ghosts C) → HoldsUtf8 c
+holds_utf8 c left file kept hold =
     let stand = hold.stand in
     let sound = subst IsSound (sym hold.bytes) hold.sound in
     let numbered = hold.whole.sound.tree.numbered in

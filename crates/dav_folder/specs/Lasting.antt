@@ -4,6 +4,7 @@ use Rattle.std.proofs.Common.{inl, inr}
 use base.Stored.{Gv}
 use Rattle.sqlite.specs.State.{HasCleanDisk}
 use Rattle.sqlite_trees.specs.declared.store.Store as store
+use Rattle.dav_data.specs.declared.claim.Claim as claim
 use Rattle.dav_keep.specs.Images.{Image, IsSound, IsImageOf, AreSameLocks}
 use Rattle.dav_keep.specs.Keeping.{database, IsKept, Leaves, LeavesEither}
 use Rattle.dav_memls.specs.MemLs.{list_of}
@@ -15,6 +16,7 @@ use Rattle.dav_tree.specs.Memory as memory
 use Rattle.dav_tree.specs.TreeFs.{memory_of, entries_of, older_of}
 use Rattle.dav_tree.specs.declared.medium.Medium.{Ghosts}
 use Rattle.dav_tree.specs.declared.tree_fs.TreeFs.{TreeFs}
+use Rattle.dav_folder.specs.Claims.{IsKeyed}
 use Rattle.dav_folder.specs.Folders.{keeping_of, batch_of}
 use Rattle.dav_folder.specs.declared.folder.Folder.{Folder}
 
@@ -27,11 +29,12 @@ module _ {M : Type 0} {g : Ghosts M (List Piece)} where
   abbrev pub all_of : TreeFs M (List Piece) g → Gv
   all_of store = saved_code (entries_of store) (memory_of store).resources
 
-  -- the image is that of a snapshot, with its time and its number, and all that its store has is saved
-  pub record IsImageAt (saved : Gv) (snapshot : At g) (image : Image) : Type 0 where
+  -- The image is that of a snapshot, with its time and its number, and all that its store has is saved. It has the key of the claim.
+  pub record IsImageAt {C : Type 0} (c : claim.Ghosts C) (saved : Gv) (snapshot : At g) (image : Image) : Type 0 where
     pub is : IsImageOf snapshot.store snapshot.locks image
     pub time : image.numbers.time ≡ snapshot.now
     pub batch : image.numbers.batch ≡ snapshot.last
+    pub keyed : IsKeyed c image.numbers.key
     pub sound : IsSound image
     pub resources : memory.IsSound (memory_of snapshot.store).resources
     pub saved_is : all_of snapshot.store ≡ saved
@@ -49,11 +52,11 @@ module _ {M : Type 0} {g : Ghosts M (List Piece)} where
 abbrev pub HasCleanDatabase : {S : Type 0} {rows : store.Ghosts S} → Folder S rows → Type 0
 HasCleanDatabase folder = HasCleanDisk (database (keeping_of folder))
 
-module _ {S M : Type 0} {rows : store.Ghosts S} {g : Ghosts M (List Piece)} where
+module _ {C : Type 0} (c : claim.Ghosts C) {S M : Type 0} {rows : store.Ghosts S} {g : Ghosts M (List Piece)} where
   -- the folder keeps the image of a snapshot
   pub record Lasts (folder : Folder S rows) (saved : Gv) (snapshot : At g) : Type 0 where
     pub image : Image
-    pub at : IsImageAt saved snapshot image
+    pub at : IsImageAt c saved snapshot image
     pub kept : IsKept g.body_code (keeping_of folder) saved image
     pub left : Leaves (database (keeping_of folder)) image
     pub number : batch_of folder ≡ snapshot.last
@@ -61,15 +64,15 @@ module _ {S M : Type 0} {rows : store.Ghosts S} {g : Ghosts M (List Piece)} wher
   -- a crash leaves the image of a snapshot
   pub record LastsAlone (folder : Folder S rows) (saved : Gv) (snapshot : At g) : Type 0 where
     pub image : Image
-    pub at : IsImageAt saved snapshot image
+    pub at : IsImageAt c saved snapshot image
     pub left : Leaves (database (keeping_of folder)) image
 
   -- a crash leaves the image of the one snapshot, whose tree is still safe, or that of the other
   pub record LastsBetween (folder : Folder S rows) (saved : Gv) (one other : At g) : Type 0 where
     pub first : Image
     pub second : Image
-    pub at_first : IsImageAt (older_of other.store) one first
-    pub at_second : IsImageAt saved other second
+    pub at_first : IsImageAt c (older_of other.store) one first
+    pub at_second : IsImageAt c saved other second
     pub left : LeavesEither (database (keeping_of folder)) first second
 
   abbrev pub LastsEither : Folder S rows → Gv → At g → At g → Type 0

@@ -1,3 +1,4 @@
+pub mod Claims
 pub mod Folders
 pub mod Lasting
 pub mod Files

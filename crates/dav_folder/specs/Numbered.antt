@@ -3,6 +3,7 @@ use Rattle.std.specs.Prelude.{List}
 use base.Stored.{Gv}
 use Rattle.sqlite_disk.specs.declared.Disk as disk
 use Rattle.sqlite_trees.specs.declared.store.Store as store
+use Rattle.dav_data.specs.declared.claim.Claim as claim
 use Rattle.dav_last.specs.declared.last_batch.LastBatch.{LastBatch}
 use Rattle.dav_pieces.specs.declared.piece.Piece.{Piece}
 use Rattle.dav_tree.specs.declared.medium.Medium.{Ghosts}
@@ -24,17 +25,17 @@ module _ {S L : Type 0} {rows : store.Ghosts S} {l : disk.Ghosts L} where
   abbrev pub HasCleanFolder : Numbered S L rows l → Type 0
   HasCleanFolder keeper = HasCleanDatabase (folder_of keeper)
 
-  module _ {M : Type 0} {g : Ghosts M (List Piece)} where
+  module _ {C : Type 0} (c : claim.Ghosts C) {M : Type 0} {g : Ghosts M (List Piece)} where
     -- its folder keeps the image of a snapshot
     abbrev pub LastsNumbered : Numbered S L rows l → Gv → At g → Type 0
-    LastsNumbered keeper saved snapshot = Lasts (folder_of keeper) saved snapshot
+    LastsNumbered keeper saved snapshot = Lasts c (folder_of keeper) saved snapshot
 
     -- a crash leaves one of two snapshots of its folder
     abbrev pub LastsEitherNumbered : Numbered S L rows l → Gv → At g → At g → Type 0
-    LastsEitherNumbered keeper saved one other = LastsEither (folder_of keeper) saved one other
+    LastsEitherNumbered keeper saved one other = LastsEither c (folder_of keeper) saved one other
 
     pub as_first : (keeper : Numbered S L rows l) (saved : Gv) (one other : At g) → LastsNumbered keeper saved one → LastsEitherNumbered keeper saved one other
-    as_first keeper saved one other lasts = folders.as_first (folder_of keeper) saved one other lasts
+    as_first keeper saved one other lasts = folders.as_first c (folder_of keeper) saved one other lasts
 
     pub as_second : (keeper : Numbered S L rows l) (saved : Gv) (one other : At g) → LastsNumbered keeper saved other → LastsEitherNumbered keeper saved one other
-    as_second keeper saved one other lasts = folders.as_second (folder_of keeper) saved one other lasts
+    as_second keeper saved one other lasts = folders.as_second c (folder_of keeper) saved one other lasts

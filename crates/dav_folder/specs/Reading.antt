@@ -1,8 +1,9 @@
 -- What is read of a folder.
-use Rattle.std.specs.Prelude.{◌≡◌, ℕ, ◌+◌, true, List, [], length, map, Option}
+use Rattle.std.specs.Prelude.{◌≡◌, ◌≤◌, ℕ, ◌+◌, true, List, [], length, map, Option}
 use Rattle.dav_cells.specs.Locks.{kept_lock}
 use Rattle.dav_keep.specs.Images.{Image, IsSound}
 use Rattle.dav_keep.specs.Keeping.{Knows}
+use Rattle.dav_keep.specs.Loading.{IsWholeImage}
 use Rattle.dav_memls.specs.MemLs.{list_of}
 use Rattle.dav_pieces.specs.Pieces.{bytes_of}
 use Rattle.dav_pieces.specs.declared.piece.Piece.{Piece}
@@ -34,20 +35,14 @@ module _ {M : Type 0} {g : Ghosts M (List Piece)} where
     pub batch : found.last ≡ image.numbers.batch
     pub key : found.key ≡ image.numbers.key
 
-  -- if the data file is honest, the store has the resources of an image with the bytes in these contents of the data file
-  abbrev pub HasReadBytes : List ℕ → Image → Found M (List Piece) g → Type 0
-  HasReadBytes file image found = honest_of found.store ≡ true → (memory_of found.store).resources ≡ resources_by (bytes_of file) image.tree
-
-  -- the store has the resources of an image, with the bytes in some contents of a data file
-  pub record HasSomeBytes (image : Image) (found : Found M (List Piece) g) : Type 0 where
-    pub file : List ℕ
-    pub are : (memory_of found.store).resources ≡ resources_by (bytes_of file) image.tree
+  -- unless these contents of the data file end before the files of an image, the store has the resources of the image with the bytes in them
+  abbrev pub HasReadBytes : List ℕ → (image : Image) → IsWholeImage image → Found M (List Piece) g → Type 0
+  HasReadBytes file image whole found = whole.end ≤ length file → (memory_of found.store).resources ≡ resources_by (bytes_of file) image.tree
 
   -- an image is read, with the bytes in these contents of the data file, and this limit is set
-  pub record ReadsImage (file : List ℕ) (limit : Option (Option ℕ)) (image : Image) (tables : Contents) (found : Found M (List Piece) g) : Type 0 where
+  pub record ReadsImage (file : List ℕ) (limit : Option (Option ℕ)) (image : Image) (whole : IsWholeImage image) (tables : Contents) (found : Found M (List Piece) g) : Type 0 where
     pub read : IsReadFrom image tables found
-    pub some : HasSomeBytes image found
-    pub bytes : HasReadBytes file image found
+    pub bytes : HasReadBytes file image whole found
     pub limit_is : (memory_of found.store).limit ≡ limit
 
   -- if the data file is honest, it had no byte

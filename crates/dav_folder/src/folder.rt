@@ -1,5 +1,5 @@
 //! The keeper of a folder.
-use dav_data::DataFile;
+use dav_data::{Claim, ClaimedFile};
 use dav_keep::{KeepError, Keeping};
 use dav_memls::MemLs;
 use dav_reserve::Roomy;
@@ -58,9 +58,9 @@ impl<S: Alter> Folder<S> {
 
     /// Has the data file use again what nothing needs any more, if it is time for that and nobody copies the files.
     /// `changed` says whether something that is kept has changed since the last call.
-    fn reuse<D: Roomy + Drop>(
+    fn reuse<D: Roomy + Drop, C: Claim>(
         &mut self,
-        store: &mut TreeFs<DataFile<D>>,
+        store: &mut TreeFs<ClaimedFile<D, C>>,
         changed: bool,
         in_backup: bool,
     )
@@ -76,7 +76,7 @@ impl<S: Alter> Folder<S> {
             return;
         }
         self.has_swept = true;
-        self.refused = store.medium().disk().tally().refused;
+        self.refused = store.medium().file().disk().tally().refused;
         // A sweep gives nothing up before what was written is on the disk.
         if changed || store.take_changes().is_ok() {
             store.sweep();
@@ -87,11 +87,15 @@ impl<S: Alter> Folder<S> {
     /// what a DELETE gave up is there for the next PUT; or there was none yet, and so nobody knows what was lost when the
     /// program ended. Otherwise a write has found no room since the last sweep, so that what a PUT wrote before it failed is
     /// there again.
-    fn wants_sweep<D: Roomy + Drop>(&self, store: &TreeFs<DataFile<D>>, changed: bool) -> bool {
-        let medium = store.medium();
-        let disk = medium.disk();
+    fn wants_sweep<D: Roomy + Drop, C: Claim>(
+        &self,
+        store: &TreeFs<ClaimedFile<D, C>>,
+        changed: bool,
+    ) -> bool {
+        let file = store.medium().file();
+        let disk = file.disk();
         if changed {
-            !self.has_swept || medium.wants_sweep() || disk.is_full()
+            !self.has_swept || file.wants_sweep() || disk.is_full()
         } else {
             disk.tally().refused != self.refused
         }
@@ -118,9 +122,9 @@ impl<S: Alter> Folder<S> {
     ///
     /// - `InvalidInput`: the number is less. Nothing has changed.
     /// - `Other`: the batch cannot be kept, for the reason that `failure` returns.
-    pub fn keep_batch<D: Roomy + Drop>(
+    pub fn keep_batch<D: Roomy + Drop, C: Claim>(
         &mut self,
-        store: &mut TreeFs<DataFile<D>>,
+        store: &mut TreeFs<ClaimedFile<D, C>>,
         locks: &MemLs,
         now: u64,
         last: u64,
@@ -130,10 +134,10 @@ impl<S: Alter> Folder<S> {
         ensures clean { HasCleanDatabase self.new → HasCleanDatabase self.old }
         ensures rises { batch_of self.old ≤ batch_of self.new }
         ensures failed { OnErr result (batch_of self.new ≡ batch_of self.old) }
-        ensures ok { OnOk result ((before : At ⟦<DataFile<D> as Medium>⟧) → Lasts self.old (before_of store.old) before
-            → KeepsOne Lasts IsSameKept self.new (before_of store.new) before (snapshot_at store.new locks.now now last)) }
-        ensures err { OnErr result ((before : At ⟦<DataFile<D> as Medium>⟧) → Lasts self.old (before_of store.old) before
-            → LastsEither self.new (before_of store.new) before (snapshot_at store.new locks.now now last)) }
+        ensures ok { OnOk result ((before : At ⟦<ClaimedFile<D, C> as Medium>⟧) → Lasts C.Claim self.old (before_of store.old) before
+            → KeepsOne (Lasts C.Claim) IsSameKept self.new (before_of store.new) before (snapshot_at store.new locks.now now last)) }
+        ensures err { OnErr result ((before : At ⟦<ClaimedFile<D, C> as Medium>⟧) → Lasts C.Claim self.old (before_of store.old) before
+            → LastsEither C.Claim self.new (before_of store.new) before (snapshot_at store.new locks.now now last)) }
     {
         if last < self.batch {
             return Err(io::Error::from(ErrorKind::InvalidInput));

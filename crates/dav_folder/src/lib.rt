@@ -2,6 +2,7 @@
 #![tactic(auto)]
 
 mod closing;
+mod confirm;
 mod error;
 mod folder;
 mod laws;
@@ -10,6 +11,7 @@ mod opening;
 mod reading;
 
 pub use closing::{FolderFiles, close_folder, give_up};
+pub use confirm::Confirm;
 pub use error::OpenError;
 pub use folder::Folder;
 pub use laws::show_utf8;

@@ -4,7 +4,7 @@ ghost use Rattle.dav_folder.specs.Folders.{batch_of};
 ghost use Rattle.dav_last.specs.Batches.{number_of, is_usable};
 
 use crate::Folder;
-use dav_data::DataFile;
+use dav_data::{Claim, ClaimedFile};
 use dav_keep::KeepError;
 use dav_last::LastBatch;
 use dav_memls::MemLs;
@@ -77,27 +77,28 @@ fn note_batch<L: Disk>(last: &mut LastBatch<L>, noted: &mut u64, batch: u64, now
     }
 }
 
-impl<D: Roomy + Drop, S: Alter, L: Disk> Keeper<TreeFs<DataFile<D>>, MemLs> for Numbered<S, L> {
+impl<D: Roomy + Drop, C: Claim, S: Alter, L: Disk> Keeper<TreeFs<ClaimedFile<D, C>>, MemLs>
+    for Numbered<S, L> {
     ghost use Rattle.dav_folder.specs.Lasting.{IsSameKept, same_as};
     ghost use Rattle.dav_folder.specs.Numbered.{LastsNumbered, LastsEitherNumbered, HasCleanFolder, as_first, as_second};
 
-    ghost lasts = { LastsNumbered };
+    ghost lasts = { LastsNumbered C.Claim };
 
-    ghost lasts_either = { LastsEitherNumbered };
+    ghost lasts_either = { LastsEitherNumbered C.Claim };
 
     ghost same = { IsSameKept };
 
     ghost is_clean = { HasCleanFolder };
 
-    ghost as_first = { as_first };
+    ghost as_first = { as_first C.Claim };
 
-    ghost as_second = { as_second };
+    ghost as_second = { as_second C.Claim };
 
     ghost same_as = { same_as };
 
     fn keep(
         &mut self,
-        store: &mut TreeFs<DataFile<D>>,
+        store: &mut TreeFs<ClaimedFile<D, C>>,
         locks: &MemLs,
         now: u64,
         last: u64,

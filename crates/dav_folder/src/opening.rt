@@ -15,6 +15,7 @@ ghost use Rattle.dav_rows.specs.Saving.{IsAt};
 ghost use Rattle.dav_rows.specs.declared.opening.Version.TheVariants.{New};
 ghost use Rattle.dav_rows_files.specs.Starting.{Keeps, IsVacant};
 ghost use Rattle.dav_seal.specs.Seals.{IsSealed};
+ghost use Rattle.dav_folder.specs.Claims.{IsKeyed};
 ghost use Rattle.dav_folder.specs.Errors.{IsLate};
 ghost use Rattle.dav_folder.specs.Folders.{keeping_of, batch_of};
 ghost use Rattle.dav_folder.specs.Lasting.{HasCleanDatabase};
@@ -23,11 +24,10 @@ ghost use Rattle.dav_folder.specs.Opening.{Opens, OpensImage, AreOnlyRead};
 
 use crate::error::opening_error;
 use crate::reading::read_store;
-use crate::{Folder, Found, OpenError};
-use dav_data::DataFile;
+use crate::{Confirm, Folder, Found, OpenError};
+use dav_data::{Claim, ClaimedFile};
 use dav_keep::Keeping;
 use dav_memls::MemLs;
-use dav_pieces::Body;
 use dav_rows::{Change, Version};
 use dav_rows_files::{judge, start};
 use dav_tree::{Medium, TreeFs};
@@ -59,31 +59,33 @@ const MIN_LOG: usize = 32 + 24 + 512;
 /// is nothing, it returns a new store, whose tables these changes make of none. `limit` is the store's quota. The rows have
 /// the seal that was kept with them, unless they are of version 1, which has none.
 ///
-/// - `Damaged`: the database is damaged, or its rows are not those of a store that was kept, or have another seal.
+/// - `Damaged`: the database is damaged, or its rows are not those of a store that was kept, or have another seal, or are
+///   others than those that are claimed.
 /// - `Foreign`: the database has other tables.
 /// - `NoDatabase`: the database has no table, but the data file has bytes, or the log has pages.
 /// - `Data`: the data file cannot be read, or it is shorter than the rows say.
 /// - `Database`: the database cannot be read.
 /// - `Memory`: memory runs out.
-pub fn read_files<D: Disk, E: Disk + Drop>(
+pub fn read_files<D: Disk, E: Disk + Drop, C: Confirm>(
     alloc: Global,
     files: &mut Files<D>,
     disk: E,
     changes: &[Change],
     limit: Option<Option<u64>>,
     tag_part: Option<u128>,
-) -> Result<Found<DataFile<E>>, OpenError>
+) -> Result<Found<ClaimedFile<E, C>>, OpenError>
     requires log_usable { IsTrue (D.Disk.is_usable files.old.log) }
     requires db_usable { IsTrue (D.Disk.is_usable files.old.db) }
     requires usable { E.Disk.is_usable disk ≡ true }
-    ensures kept { (image : Image) (tables : Contents) → Keeps (image_of D.Disk files.old) tables → StandForImage tables image → IsWholeImage image
-        → IfOk result (λ found. AreClean D.Disk files.new.log files.new.db → ReadsImage (E.Disk.seen disk) limit image tables found) }
-    ensures new { (image : Image) → IsVacant (image_of D.Disk files.old) → StandForImage (first changes.now) image → IsWholeImage image
-        → IfOk result (λ found. AreClean D.Disk files.new.log files.new.db → ReadsImage (E.Disk.seen disk) limit image (first changes.now) found) }
+    ensures kept { (image : Image) (tables : Contents) → Keeps (image_of D.Disk files.old) tables → StandForImage tables image → (whole : IsWholeImage image)
+        → IfOk result (λ found. AreClean D.Disk files.new.log files.new.db → ReadsImage (E.Disk.seen disk) limit image whole tables found) }
+    ensures new { (image : Image) → IsVacant (image_of D.Disk files.old) → StandForImage (first changes.now) image → (whole : IsWholeImage image)
+        → IfOk result (λ found. AreClean D.Disk files.new.log files.new.db → ReadsImage (E.Disk.seen disk) limit image whole (first changes.now) found) }
     ensures empty { IsVacant (image_of D.Disk files.old)
         → IfOk result (λ found. AreClean D.Disk files.new.log files.new.db → IsEmptyIfHonest found (E.Disk.seen disk)) }
     ensures sealed { (tables : Contents) → Keeps (image_of D.Disk files.old) tables
         → IfOk result (λ found. AreClean D.Disk files.new.log files.new.db → IsSealed found.key tables) }
+    ensures keyed { IfOk result (λ found. IsKeyed C.Claim found.key) }
     ensures tags { IfOk result (λ found. (memory_of found.store).tag_part ≡ tag_part) }
     ensures log { IfOk result (λ found. (store_of found.store).log ≡ []) }
     ensures sound { IfOk result (λ _. AreClean D.Disk files.new.log files.new.db → ¬ IsDamaged (image_of D.Disk files.old).log) }
@@ -128,7 +130,7 @@ fn expect_empty<D: Disk, E: Disk>(
     Ok(())
 }
 
-impl<M: Medium<Body = Body>> Found<M> {
+impl<E: Disk + Drop, C: Claim> Found<ClaimedFile<E, C>> {
     /// Opens the database from whose files this was read, and goes on from there. If the database has no table, its tables
     /// are made with these changes. Tables of version 1 are sealed. `seed` is a random number.
     ///
@@ -140,13 +142,14 @@ impl<M: Medium<Body = Body>> Found<M> {
         files: Files<D>,
         seed: u64,
         changes: &[Change],
-    ) -> Result<Opened<FileStore<D>, M>, OpenError>
+    ) -> Result<Opened<FileStore<D>, ClaimedFile<E, C>>, OpenError>
         requires log_usable { IsTrue (D.Disk.is_usable files.log) }
         requires db_usable { IsTrue (D.Disk.is_usable files.db) }
+        requires keyed { IsKeyed C.Claim self.key }
         ensures kept { (image : Image) (tables : Contents) → Keeps (image_of D.Disk files) tables
-            → (AreClean D.Disk files.log files.db → IsReadFrom image tables self) → IfOk result (OpensImage image) }
+            → (AreClean D.Disk files.log files.db → IsReadFrom image tables self) → IfOk result (OpensImage C.Claim image) }
         ensures new { (image : Image) → IsVacant (image_of D.Disk files)
-            → (AreClean D.Disk files.log files.db → IsReadFrom image (first changes.now) self) → IfOk result (OpensImage image) }
+            → (AreClean D.Disk files.log files.db → IsReadFrom image (first changes.now) self) → IfOk result (OpensImage C.Claim image) }
         ensures clean { IfOk result (λ opened. HasCleanDatabase opened.folder → AreClean D.Disk files.log files.db) }
         ensures store { IfOk result (λ opened. opened.store ≡ self.store) }
         ensures last { IfOk result (λ opened. opened.last ≡ self.last) }
@@ -164,15 +167,20 @@ impl<M: Medium<Body = Body>> Found<M> {
     }
 
     /// Goes on from what was read, and keeps it in this database.
-    fn keep_in<S: Alter + Drop>(self, alloc: Global, conn: Connection<S>) -> Opened<S, M>
-        requires { conn.in_transaction ≡ false }
+    fn keep_in<S: Alter + Drop>(
+        self,
+        alloc: Global,
+        conn: Connection<S>,
+    ) -> Opened<S, ClaimedFile<E, C>>
+        requires idle { conn.in_transaction ≡ false }
+        requires keyed { IsKeyed C.Claim self.key }
         ensures same { connection_of (keeping_of result.folder) ≡ conn }
         ensures store { result.store ≡ self.store }
         ensures last { result.last ≡ self.last }
         ensures batch { batch_of result.folder ≡ result.last }
         ensures key { result.key ≡ self.key }
         ensures opened { (image : Image) (tables : Contents) → IsReadFrom image tables self
-            → (HasCleanDisk (state S.Store conn) → IsAt (state S.Store conn) tables) → Opens image result }
+            → (HasCleanDisk (state S.Store conn) → IsAt (state S.Store conn) tables) → Opens C.Claim image result }
     {
         let Found {
             known,

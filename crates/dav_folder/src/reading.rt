@@ -5,11 +5,12 @@ ghost use Rattle.dav_keep.specs.Loading.{AreRowsOfImage, AreSealed};
 ghost use Rattle.dav_rows.specs.Contents.{Contents};
 ghost use Rattle.dav_rows.specs.declared.opening.Version.TheVariants.{Older};
 ghost use Rattle.dav_tree.specs.TreeFs.{memory_of, store_of, honest_of};
-ghost use Rattle.dav_folder.specs.Reading.{row_count, IsReadFrom, HasSomeBytes, HasReadBytes};
+ghost use Rattle.dav_folder.specs.Claims.{IsKeyed};
+ghost use Rattle.dav_folder.specs.Reading.{row_count, IsReadFrom, HasReadBytes};
 ghost use Rattle.dav_folder.specs.Opening.{HasFiles, IsMemoryOrDisk};
 
-use crate::OpenError;
-use dav_data::DataFile;
+use crate::{Confirm, OpenError};
+use dav_data::ClaimedFile;
 use dav_keep::{Known, load};
 use dav_memls::MemLs;
 use dav_rows::{Rows, Version};
@@ -37,39 +38,44 @@ pub struct Found<M: Medium> {
 }
 
 /// Reads the store of a folder from these rows of its database, over its data file. `limit` is the store's quota, and
-/// `tag_part` the part of its entity tags that comes before the version, if there is one. The contents of the data file stay the same. The rows have the seal that was kept with them, unless they are of version 1,
-/// which has none.
+/// `tag_part` the part of its entity tags that comes before the version, if there is one. The contents of the data file stay
+/// the same. The rows have the seal that was kept with them, unless they are of version 1, which has none.
 ///
-/// - `Damaged`: the rows are not those of a store that was kept, or have another seal.
+/// - `Damaged`: the rows are not those of a store that was kept, or have another seal, or are others than those that are
+///   claimed.
 /// - `Data`: the data file cannot be read, or it is shorter than the rows say.
 /// - `Memory`: memory runs out.
 ///
-/// On the rows of a store whose files the data file has, it fails only if memory runs out, or if the disk fails.
-pub fn read_store<D: Disk + Drop>(
+/// On the rows of a store whose files the data file has, as claimed, it fails only if memory runs out, or if the disk fails.
+/// If the claim holds, the blocks of the store's files have their digests from then on, under the key of the rows.
+pub fn read_store<D: Disk + Drop, C: Confirm>(
     alloc: Global,
     rows: Rows,
     version: Version,
     disk: D,
     limit: Option<Option<u64>>,
     tag_part: Option<u128>,
-) -> Result<Found<DataFile<D>>, OpenError>
+) -> Result<Found<ClaimedFile<D, C>>, OpenError>
     requires { D.Disk.is_usable disk ≡ true }
     ensures found { (image : Image) (tables : Contents) → AreRowsOfImage rows image tables → IfOk result (IsReadFrom image tables) }
-    ensures some { (image : Image) (tables : Contents) → AreRowsOfImage rows image tables → IfOk result (HasSomeBytes image) }
-    ensures bytes { (image : Image) (tables : Contents) → AreRowsOfImage rows image tables → IfOk result (HasReadBytes (D.Disk.seen disk) image) }
+    ensures bytes { (image : Image) (tables : Contents) (are : AreRowsOfImage rows image tables) → IfOk result (HasReadBytes (D.Disk.seen disk) image are.whole) }
     ensures limit { (image : Image) (tables : Contents) → AreRowsOfImage rows image tables → IfOk result (λ found. (memory_of found.store).limit ≡ limit) }
+    ensures keyed { IfOk result (λ found. IsKeyed C.Claim found.key) }
     ensures tags { IfOk result (λ found. (memory_of found.store).tag_part ≡ tag_part) }
     ensures sealed { version ≢ Older → IfOk result (λ found. AreSealed found.key rows) }
     ensures rows { IfOk result (λ found. found.rows ≡ row_count rows) }
     ensures log { IfOk result (λ found. (store_of found.store).log ≡ []) }
     ensures honest { IfOk result (λ found. honest_of found.store ≡ true → D.Disk.is_clean disk ≡ true) }
-    ensures err { (image : Image) (tables : Contents) (are : AreRowsOfImage rows image tables) → HasFiles (D.Disk.seen disk) image are.whole
+    ensures err { (image : Image) (tables : Contents) (are : AreRowsOfImage rows image tables) → HasFiles C.Claim (D.Disk.seen disk) image are.whole
         → IfErr result (IsMemoryOrDisk D.Disk disk) }
 {
     let count = count_rows(&rows);
     let (known, loaded) = load(alloc, rows, version)?;
     let numbers = loaded.numbers;
-    let medium = match DataFile::open(alloc, disk, numbers.key, loaded.end) {
+    if !C::confirms(&disk, numbers.key, loaded.end, &loaded.values) {
+        return Err(OpenError::Damaged);
+    }
+    let medium = match ClaimedFile::open(alloc, disk, numbers.key, loaded.end) {
         Ok(medium) => medium,
         Err((error, _disk)) => return Err(OpenError::Data(error)),
     };

@@ -126,6 +126,11 @@ first_whole key = record {
   below = λ name e is. subst (λ (v : Kept). is_held (is_below 0) v.content ≡ true) (sym (only_here root e name is).1) refl;
 }
 
+-- it has no file, so no data file ends before its files do
+pub first_end : (key : ℕ) → (first_whole key).end ≡ 0
+unfolding first_whole
+first_end key = refl
+
 -- a new store has the root, whatever a data file contains
 pub first_resources : (bytes : List Piece → List ℕ) (key : ℕ) → resources_by bytes (first_image key).tree ≡ insert empty [] (fresh store.Directory 0 0)
 first_resources bytes key =

@@ -1,7 +1,8 @@
 -- A run over the files of a folder, with the options that the arguments say.
 use Rattle.std.proofs.Common.{◌≡◌, ◌⊎◌, inl, inr, ℕ, List, Option, Some, Result, subst}
 use Rattle.std.specs.Prelude.{OnOk, OnErr}
-use Rattle.dav_data.specs.declared.data_file.DataFile.{DataFile}
+use Rattle.dav_data.specs.declared.claim.Claim as claim
+use Rattle.dav_data.specs.declared.claimed_file.ClaimedFile.{ClaimedFile}
 use Rattle.dav_last.specs.declared.last_batch.LastBatch.{LastBatch}
 use Rattle.dav_pieces.specs.declared.piece.Piece.{Piece}
 use Rattle.dav_tree.specs.declared.medium.Medium.{Ghosts}
@@ -17,8 +18,8 @@ use Rattle.davd.specs.declared.program.Stopped.{Stopped}
 pub some_same : {X : Type 0} (x y : X) → Some x ≡ Some y → x ≡ y
 some_same x y is = cc
 
-module _ {D E : Type 0} {d : disk.Ghosts D} {e : disk.Ghosts E} (medium : Ghosts (DataFile E e) (List Piece)) (left : database.Image) (file : List ℕ)
-    (read options : OptionsValue) (is : read ≡ options) (files : FileStore D d × DataFile E e) (result : Result (Unit {0}) Stopped) where
+module _ {D E C : Type 0} {d : disk.Ghosts D} {e : disk.Ghosts E} {c : claim.Ghosts C} (medium : Ghosts (ClaimedFile E C e c) (List Piece)) (left : database.Image) (file : List ℕ)
+    (read options : OptionsValue) (is : read ≡ options) (files : FileStore D d × ClaimedFile E C e c) (result : Result (Unit {0}) Stopped) where
   pub serves_folder : {L : Type 0} {l : disk.Ghosts L} (said : database.Image) (number : LastBatch L l) (input input' output output' : Option (List ℕ))
       → OnOk result (GoesOn left file files said number medium (rules_in read) (start_of read) input input' output output')
       → OnOk result (ServesFolder d l medium left file said options input input' output output')

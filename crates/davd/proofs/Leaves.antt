@@ -3,8 +3,10 @@ use Rattle.std.proofs.Common.{◌≡◌, ◌∙◌, inl, inr, ℕ, List, [], ◌
 use Rattle.std.specs.Prelude.{IfSome, Bool, true, false, IsOk, IsErr, IfErr, OnOk, OnErr, option_map}
 use Rattle.std.specs.Result.{IsErrAnd}
 use base.Stored.{Gv}
-use Rattle.dav_data.specs.declared.data_file.DataFile.{DataFile}
+use Rattle.dav_data.specs.declared.claim.Claim as claim
+use Rattle.dav_data.specs.declared.claimed_file.ClaimedFile.{ClaimedFile}
 use Rattle.dav_engine.specs.DavInner.{lent_locks}
+use Rattle.dav_folder.specs.Claims.{IsKeyed}
 use Rattle.dav_folder.specs.Closing.{LeavesAlone, LeavesWhole, LeavesOneOf}
 use Rattle.dav_folder.specs.Files.{KeptStore, Leave, kept_at}
 use Rattle.dav_folder.specs.Folders.{batch_of}
@@ -22,7 +24,7 @@ use Rattle.dav_server.specs.Batches.{Exchange}
 use Rattle.dav_server.specs.Keeping.{snapshot_of, IsKept, IsKeptAfter, IsKeptOrNow}
 use Rattle.dav_server.specs.Snapshots.{snapshot_at}
 use Rattle.dav_server.specs.State.{Rules, ServerState, store_in}
-use Rattle.dav_tree.specs.TreeFs.{memory_of, store_of, honest_of, before_of}
+use Rattle.dav_tree.specs.TreeFs.{memory_of, store_of, before_of, reads_of}
 use Rattle.dav_tree.specs.declared.medium.Medium.{Ghosts}
 use Rattle.dav_tree.specs.declared.tree_fs.TreeFs.{TreeFs}
 use Rattle.sqlite.specs.Recovery as database
@@ -96,31 +98,31 @@ module _ {M : Type 0} {g : Ghosts M (List Piece)} where
       subst (λ these. IfSome these (λ (s : At g). s.store ≡ store_in server)) is
       (has_store (store_in server) (lent_locks server.engine) server.now server.last)
 
-alone : {S M : Type 0} {rows : store.Ghosts S} {g : Ghosts M (List Piece)} (folder : Folder S rows) (saved : Gv) (snapshot : At g) → Lasts folder saved snapshot
-    → LastsAlone folder saved snapshot
-alone folder saved snapshot lasts = record { image = lasts.image; at = lasts.at; left = lasts.left }
+alone : {C : Type 0} (c : claim.Ghosts C) {S M : Type 0} {rows : store.Ghosts S} {g : Ghosts M (List Piece)} (folder : Folder S rows) (saved : Gv) (snapshot : At g) → Lasts c folder saved snapshot
+    → LastsAlone c folder saved snapshot
+alone c folder saved snapshot lasts = record { image = lasts.image; at = lasts.at; left = lasts.left }
 
-module _ {D E : Type 0} {d : disk.Ghosts D} {e : disk.Ghosts E} {rows : store.Ghosts (FileStore D d)} {g : Ghosts (DataFile E e) (List Piece)} (rules : Rules)
-    (opened : Opened (FileStore D d) (DataFile E e) (List Piece) rows g) (folder : Folder (FileStore D d) rows) (kept : TreeFs (DataFile E e) (List Piece) g)
-    (files : FileStore D d × DataFile E e) {L : Type 0} {l : disk.Ghosts L} where
+module _ {D E C : Type 0} {d : disk.Ghosts D} {e : disk.Ghosts E} {c : claim.Ghosts C} {rows : store.Ghosts (FileStore D d)} {g : Ghosts (ClaimedFile E C e c) (List Piece)} (rules : Rules)
+    (opened : Opened (FileStore D d) (ClaimedFile E C e c) (List Piece) rows g) (folder : Folder (FileStore D d) rows) (kept : TreeFs (ClaimedFile E C e c) (List Piece) g)
+    (files : FileStore D d × ClaimedFile E C e c) {L : Type 0} {l : disk.Ghosts L} where
   begins_kept : (keep : Keep l opened folder) (first : Serving g) → BeginsOpened first opened → IsOpenedAsKept opened
-      → IsKept (store_of {g = g}) LastsNumbered keep.keeper first
+      → IsKept (store_of {g = g}) (LastsNumbered c) keep.keeper first
   begins_kept keep first begins lasts = record {
     snapshot = opened_at opened;
     is = begins.snapshot;
-    kept = subst (λ (f : Folder (FileStore D d) rows). Lasts f (before_of opened.store) (opened_at opened)) (sym keep.begins) lasts;
+    kept = subst (λ (f : Folder (FileStore D d) rows). Lasts c f (before_of opened.store) (opened_at opened)) (sym keep.begins) lasts;
   }
 
   module _ (keep : Keep l opened folder) (last : Serving g) (ends : store_in last ≡ kept) where
     after : (IsLeft : KeptStore → Type 0) (exchanges : List Exchange) (old : ServerState)
-        → ((snapshot : At g) → Lasts folder (before_of kept) snapshot → IsLeft (kept_at snapshot))
-        → IsKeptAfter store_of locks_of LastsNumbered IsSameKept honest_of rules keep.keeper' exchanges old last → LeavesAfter g rules exchanges old last IsLeft
+        → ((snapshot : At g) → Lasts c folder (before_of kept) snapshot → IsLeft (kept_at snapshot))
+        → IsKeptAfter store_of locks_of (LastsNumbered c) IsSameKept reads_of rules keep.keeper' exchanges old last → LeavesAfter g rules exchanges old last IsLeft
     after IsLeft exchanges old leaves is_kept =
         let same = snapshot_store last is_kept.since.snapshot is_kept.since.is ∙ ends in
-        let here : Lasts folder (before_of is_kept.since.snapshot.store) is_kept.snapshot =
-        subst (λ (f : Folder (FileStore D d) rows). Lasts f (before_of is_kept.since.snapshot.store) is_kept.snapshot) keep.ends is_kept.since.kept in
-        let lasts : Lasts folder (before_of kept) is_kept.snapshot =
-        subst (λ (these : TreeFs (DataFile E e) (List Piece) g). Lasts folder (before_of these) is_kept.snapshot) same here in
+        let here : Lasts c folder (before_of is_kept.since.snapshot.store) is_kept.snapshot =
+        subst (λ (f : Folder (FileStore D d) rows). Lasts c f (before_of is_kept.since.snapshot.store) is_kept.snapshot) keep.ends is_kept.since.kept in
+        let lasts : Lasts c folder (before_of kept) is_kept.snapshot =
+        subst (λ (these : TreeFs (ClaimedFile E C e c) (List Piece) g). Lasts c folder (before_of these) is_kept.snapshot) same here in
         record {
           snapshot = is_kept.snapshot;
           passed = is_kept.passed;
@@ -131,13 +133,13 @@ module _ {D E : Type 0} {d : disk.Ghosts D} {e : disk.Ghosts E} {rows : store.Gh
         }
 
     after_or_now : (exchanges : List Exchange) (old mid : ServerState) → LeavesOneOf folder kept files
-        → IsKeptOrNow store_of locks_of LastsNumbered LastsEitherNumbered IsSameKept honest_of rules keep.keeper' exchanges old mid last
+        → IsKeptOrNow store_of locks_of (LastsNumbered c) (LastsEitherNumbered c) IsSameKept reads_of rules keep.keeper' exchanges old mid last
         → LeavesAfterOrNow g rules exchanges old mid last files
     after_or_now exchanges old mid one_of is_kept =
         let now = is_kept.either.snapshot in
         let same = snapshot_store last now is_kept.either.is ∙ ends in
-        let here : LastsEither folder (before_of now.store) is_kept.snapshot now =
-        subst (λ (f : Folder (FileStore D d) rows). LastsEither f (before_of now.store) is_kept.snapshot now) keep.ends is_kept.either.kept in
+        let here : LastsEither c folder (before_of now.store) is_kept.snapshot now =
+        subst (λ (f : Folder (FileStore D d) rows). LastsEither c f (before_of now.store) is_kept.snapshot now) keep.ends is_kept.either.kept in
         record {
           snapshot = is_kept.snapshot;
           passed = is_kept.passed;
@@ -147,7 +149,7 @@ module _ {D E : Type 0} {d : disk.Ghosts D} {e : disk.Ghosts E} {rows : store.Gh
           now = now;
           is = is_kept.either.is;
           left = one_of is_kept.snapshot now
-              (subst (λ (these : TreeFs (DataFile E e) (List Piece) g). LastsEither folder (before_of these) is_kept.snapshot now) same here) same;
+              (subst (λ (these : TreeFs (ClaimedFile E C e c) (List Piece) g). LastsEither c folder (before_of these) is_kept.snapshot now) same here) same;
         }
 
   -- a run whose keeper keeps it leaves it in the files
@@ -156,8 +158,8 @@ module _ {D E : Type 0} {d : disk.Ghosts D} {e : disk.Ghosts E} {rows : store.Gh
         → ServesOpened l rules opened (folder, kept) input input' output output'
         → RunsAndLeaves g rules (IsOpenedAsKept opened) (state_from (opened_at opened)) files number input input' output output'
     runs_and_leaves number whole survives serves =
-        let leaves : (snapshot : At g) → Lasts folder (before_of kept) snapshot → LeaveNumbered files number (kept_at snapshot) =
-        λ snapshot lasts. (whole snapshot (alone folder (before_of kept) snapshot lasts), subst (λ batch. Survives batch number) lasts.number survives) in
+        let leaves : (snapshot : At g) → Lasts c folder (before_of kept) snapshot → LeaveNumbered files number (kept_at snapshot) =
+        λ snapshot lasts. (whole snapshot (alone c folder (before_of kept) snapshot lasts), subst (λ batch. Survives batch number) lasts.number survives) in
         subst (λ old. RunsAndLeaves g rules (IsOpenedAsKept opened) old files number input input' output output') serves.begins.state
         (record {
           last = serves.last;
@@ -192,16 +194,16 @@ module _ {D E : Type 0} {d : disk.Ghosts D} {e : disk.Ghosts E} {rows : store.Gh
               exchange = more.exchange;
               served = more.answered;
               leaves = λ lasts. after serves.keep serves.last serves.ends (Leave files) (serves.stops.exchanges ++ more.exchange ∷ []) (state_now serves.first)
-                  (λ snapshot here. leaves snapshot (alone folder (before_of kept) snapshot here)) (more.kept (begins_kept serves.keep serves.first serves.begins lasts));
+                  (λ snapshot here. leaves snapshot (alone c folder (before_of kept) snapshot here)) (more.kept (begins_kept serves.keep serves.first serves.begins lasts));
             })
           ];
         })
 
-module _ {D E : Type 0} {d : disk.Ghosts D} {e : disk.Ghosts E} {rows : store.Ghosts (FileStore D d)} {g : Ghosts (DataFile E e) (List Piece)} (rules : Rules)
-    (opened : Opened (FileStore D d) (DataFile E e) (List Piece) rows g) (files : FileStore D d × DataFile E e) where
+module _ {D E C : Type 0} {d : disk.Ghosts D} {e : disk.Ghosts E} {c : claim.Ghosts C} {rows : store.Ghosts (FileStore D d)} {g : Ghosts (ClaimedFile E C e c) (List Piece)} (rules : Rules)
+    (opened : Opened (FileStore D d) (ClaimedFile E C e c) (List Piece) rows g) (files : FileStore D d × ClaimedFile E C e c) where
   -- `left` and `file` are what the files held
   module _ (left : database.Image) (file : List ℕ) (start : StartOptions) (finds : FindsKept left file start.quota opened) (finds_new : FindsFirst left file start.quota start.key opened) (held_sealed : HeldSealed left opened)
-      (tagged : (memory_of opened.store).tag_part ≡ start.tag_part)
+      (tagged : (memory_of opened.store).tag_part ≡ start.tag_part) (keyed : IsKeyed c opened.key)
       (was_clean : IsClean (view files.0) → HasCleanDatabase opened.folder) where
     lasts_at_start : HeldAStore left file files → IsOpenedAsKept opened
     lasts_at_start (clean, inl (held, hold)) = (finds held hold (was_clean clean)).lasts
@@ -213,7 +215,6 @@ module _ {D E : Type 0} {d : disk.Ghosts D} {e : disk.Ghosts E} {rows : store.Gh
 
     begins_with : BeginsWith left file files start (opened_at opened)
     begins_with = record {
-      same = λ held clean hold. (finds held hold (was_clean clean)).same;
       kept = λ held clean hold. (finds held hold (was_clean clean)).is;
       new = λ clean vacant. (finds_new.found vacant (was_clean clean)).is;
       empty = λ clean vacant. finds_new.empty vacant (was_clean clean);
@@ -222,6 +223,7 @@ module _ {D E : Type 0} {d : disk.Ghosts D} {e : disk.Ghosts E} {rows : store.Gh
       key = opened.key;
       sealed = λ tables clean keeps. held_sealed tables keeps (was_clean clean);
       keyed = λ clean vacant. finds_new.keyed vacant (was_clean clean);
+      claimed = keyed;
     }
 
     -- what was found goes on

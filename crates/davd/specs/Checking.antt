@@ -11,7 +11,7 @@ use Rattle.dav_pieces.specs.declared.piece.Piece.{Piece}
 use Rattle.dav_rows.specs.Contents.{Contents}
 use Rattle.dav_rows_files.specs.Starting.{Keeps}
 use Rattle.dav_seal.specs.Seals.{IsSealed}
-use Rattle.dav_tree.specs.TreeFs.{store_of, honest_of}
+use Rattle.dav_tree.specs.TreeFs.{store_of, reads_of}
 use Rattle.dav_tree.specs.declared.medium.Medium.{Ghosts}
 use Rattle.sqlite.specs.Recovery as files
 use Rattle.sqlite_disk.specs.declared.Disk as disks
@@ -28,9 +28,9 @@ module _ {D E L M : Type 0} (d : disks.Ghosts D) (e : disks.Ghosts E) (l : disks
     pub shown : List ℕ
     pub found : Found M (List Piece) g
     pub same : IsClean e disk → shown ≡ file
-    pub rows : (image : Image) (tables : Contents) → Keeps left tables → StandForImage tables image → IsWholeImage image → AreClean d of.log of.db → ReadsImage shown None image tables found
+    pub rows : (image : Image) (tables : Contents) → Keeps left tables → StandForImage tables image → (whole : IsWholeImage image) → AreClean d of.log of.db → ReadsImage shown None image whole tables found
     pub sealed : (tables : Contents) → Keeps left tables → AreClean d of.log of.db → IsSealed found.key tables
-    pub read : (key : Key) → IsFile (store_of found.store).contents key → IsRead (store_of {g = g}) (honest_of {g = g}) (store_of found.store).contents key
+    pub read : (key : Key) → IsFile (store_of found.store).contents key → IsRead (store_of {g = g}) (reads_of {g = g}) (store_of found.store).contents key
     pub up_to_date : AreClean l last.log last.db → IsNotOlder found.key found.last said.log said.db
 
   -- the same, over files that nobody has any more

@@ -2,7 +2,9 @@
 use Rattle.std.specs.Prelude.{◌≡◌, ◌≤◌, ⊤, ℕ, true, List, [], string_bytes, Option, Some, None}
 use Rattle.std.specs.FinMap.{empty, insert}
 use Rattle.std.specs.Option.{option_map}
-use Rattle.dav_folder.specs.Files.{KeptStore, kept_at, Hold, IsSameButBytes}
+use Rattle.dav_data.specs.declared.claim.Claim as claim
+use Rattle.dav_data.specs.declared.claimed_file.ClaimedFile.{ClaimedFile}
+use Rattle.dav_folder.specs.Files.{KeptStore, kept_at, Hold}
 use Rattle.dav_folder.specs.Lasting.{At, Lasts, IsSameKept, HasCleanDatabase}
 use Rattle.dav_folder.specs.Opening.{opened_at}
 use Rattle.dav_folder.specs.Numbered.{folder_of, LastsNumbered, LastsEitherNumbered}
@@ -31,7 +33,7 @@ use Rattle.dav_server.specs.declared.server.Server.{Server}
 use Rattle.dav_folder.specs.declared.folder.Folder.{Folder}
 use Rattle.dav_store.specs.Store as store_specs
 use Rattle.dav_tree.specs.Memory.{fresh}
-use Rattle.dav_tree.specs.TreeFs.{memory_of, store_of, before_of, honest_of}
+use Rattle.dav_tree.specs.TreeFs.{memory_of, store_of, before_of, honest_of, reads_of}
 use Rattle.dav_tree.specs.declared.medium.Medium.{Ghosts}
 use Rattle.dav_tree.specs.declared.tree_fs.TreeFs.{TreeFs}
 use Rattle.sqlite.specs.Recovery as files
@@ -79,77 +81,76 @@ first_kept = record { resources = insert empty [] (fresh store_specs.Directory 0
 abbrev pub MakesFirst : ℕ → List Change → Type 0
 MakesFirst key changes = StandForImage (first changes) (first_image key)
 
-module _ {S M : Type 0} {rows : store.Ghosts S} {g : Ghosts M (List Piece)} where
+module _ {S E C : Type 0} {e : disk.Ghosts E} {c : claim.Ghosts C} {rows : store.Ghosts S} {g : Ghosts (ClaimedFile E C e c) (List Piece)} where
   -- what is opened is kept
-  abbrev pub IsOpenedAsKept : Opened S M (List Piece) rows g → Type 0
-  IsOpenedAsKept opened = Lasts opened.folder (before_of opened.store) (opened_at opened)
+  abbrev pub IsOpenedAsKept : Opened S (ClaimedFile E C e c) (List Piece) rows g → Type 0
+  IsOpenedAsKept opened = Lasts c opened.folder (before_of opened.store) (opened_at opened)
 
   -- the server goes on from what was opened
-  pub record BeginsOpened (first : Serving g) (opened : Opened S M (List Piece) rows g) : Type 0 where
+  pub record BeginsOpened (first : Serving g) (opened : Opened S (ClaimedFile E C e c) (List Piece) rows g) : Type 0 where
     pub snapshot : snapshot_of first ≡ Some (opened_at opened)
     pub state : state_now first ≡ state_from (opened_at opened)
 
-  -- this store is opened, with this limit, and it is kept; only the bytes of its files may be others, unless the data file is honest
-  pub record IsFound (limit : Option (Option ℕ)) (kept : KeptStore) (opened : Opened S M (List Piece) rows g) : Type 0 where
+  -- this store is opened, with this limit, and it is kept
+  pub record IsFound (limit : Option (Option ℕ)) (kept : KeptStore) (opened : Opened S (ClaimedFile E C e c) (List Piece) rows g) : Type 0 where
     pub lasts : IsOpenedAsKept opened
-    pub same : IsSameButBytes kept (kept_at (opened_at opened))
-    pub is : honest_of opened.store ≡ true → kept_at (opened_at opened) ≡ kept
+    pub is : kept_at (opened_at opened) ≡ kept
     pub limit_is : (memory_of opened.store).limit ≡ limit
 
   -- so it is if the disk of the database is clean
-  abbrev pub IsFoundIfClean : Option (Option ℕ) → KeptStore → Opened S M (List Piece) rows g → Type 0
+  abbrev pub IsFoundIfClean : Option (Option ℕ) → KeptStore → Opened S (ClaimedFile E C e c) (List Piece) rows g → Type 0
   IsFoundIfClean limit kept opened = HasCleanDatabase opened.folder → IsFound limit kept opened
 
   -- if the files held a store, it is found
-  abbrev pub FindsHeld : files.Image → List ℕ → Option (Option ℕ) → Opened S M (List Piece) rows g → Type 0
-  FindsHeld left file limit opened = (kept : KeptStore) → Hold left file kept → IsFoundIfClean limit kept opened
+  abbrev pub FindsHeld : files.Image → List ℕ → Option (Option ℕ) → Opened S (ClaimedFile E C e c) (List Piece) rows g → Type 0
+  FindsHeld left file limit opened = (kept : KeptStore) → Hold c left file kept → IsFoundIfClean limit kept opened
 
   -- if the files had no table, a new store is found, with this key, and the data file had no byte if it is honest
-  pub record FindsNew (left : files.Image) (file : List ℕ) (limit : Option (Option ℕ)) (key : ℕ) (opened : Opened S M (List Piece) rows g) : Type 0 where
+  pub record FindsNew (left : files.Image) (file : List ℕ) (limit : Option (Option ℕ)) (key : ℕ) (opened : Opened S (ClaimedFile E C e c) (List Piece) rows g) : Type 0 where
     pub found : IsVacant left → IsFoundIfClean limit first_kept opened
     pub keyed : IsVacant left → HasCleanDatabase opened.folder → opened.key ≡ key
     pub empty : IsVacant left → HasCleanDatabase opened.folder → honest_of opened.store ≡ true → file ≡ []
 
   -- the same with a quota
-  abbrev pub FindsKept : files.Image → List ℕ → Option ℕ → Opened S M (List Piece) rows g → Type 0
+  abbrev pub FindsKept : files.Image → List ℕ → Option ℕ → Opened S (ClaimedFile E C e c) (List Piece) rows g → Type 0
   FindsKept left file quota = FindsHeld left file (option_map Some quota)
 
-  abbrev pub FindsFirst : files.Image → List ℕ → Option ℕ → ℕ → Opened S M (List Piece) rows g → Type 0
+  abbrev pub FindsFirst : files.Image → List ℕ → Option ℕ → ℕ → Opened S (ClaimedFile E C e c) (List Piece) rows g → Type 0
   FindsFirst left file quota = FindsNew left file (option_map Some quota)
 
   -- the tables that the files held are sealed under the key that was found
-  abbrev pub HeldSealed : files.Image → Opened S M (List Piece) rows g → Type 0
+  abbrev pub HeldSealed : files.Image → Opened S (ClaimedFile E C e c) (List Piece) rows g → Type 0
   HeldSealed left opened = (tables : Contents) → Keeps left tables → HasCleanDatabase opened.folder → IsSealed opened.key tables
 
   -- what is opened is not older than the files of the number said, which held this, if their disks are clean now
-  abbrev pub OpensUpToDate : {L : Type 0} {l : disk.Ghosts L} → files.Image → Opened S M (List Piece) rows g → LastBatch L l → Type 0
+  abbrev pub OpensUpToDate : {L : Type 0} {l : disk.Ghosts L} → files.Image → Opened S (ClaimedFile E C e c) (List Piece) rows g → LastBatch L l → Type 0
   OpensUpToDate {l = l} said opened last = AreClean l (unsynced_of last) (synced_of last) → IsNotOlder opened.key opened.last said.log said.db
 
   -- ---- what a run leaves in the keeper
 
   -- the keepers of a run: it begins with the folder that was opened, and ends with this one; `L` is the disk of the last number
-  pub record Keep {L : Type 0} (l : disk.Ghosts L) (opened : Opened S M (List Piece) rows g) (last : Folder S rows) : Type 0 where
+  pub record Keep {L : Type 0} (l : disk.Ghosts L) (opened : Opened S (ClaimedFile E C e c) (List Piece) rows g) (last : Folder S rows) : Type 0 where
     pub keeper : Numbered S L rows l
     pub keeper' : Numbered S L rows l
     pub begins : folder_of keeper ≡ opened.folder
     pub ends : folder_of keeper' ≡ last
 
   -- a run of a server that goes on from what was opened, and what its keeper keeps then
-  pub record ServesOpened {L : Type 0} (l : disk.Ghosts L) (rules : Rules) (opened : Opened S M (List Piece) rows g) (kept : Folder S rows × TreeFs M (List Piece) g)
+  pub record ServesOpened {L : Type 0} (l : disk.Ghosts L) (rules : Rules) (opened : Opened S (ClaimedFile E C e c) (List Piece) rows g) (kept : Folder S rows × TreeFs (ClaimedFile E C e c) (List Piece) g)
       (input input' output output' : Option (List ℕ)) : Type 0 where
     pub first : Serving g
     pub last : Serving g
     pub begins : BeginsOpened first opened
     pub ends : store_in last ≡ kept.1
     pub keep : Keep l opened kept.0
-    pub runs : RunsAndKeeps (store_of {g = g}) locks_of LastsNumbered IsSameKept honest_of rules keep.keeper keep.keeper' first last input input' output output'
+    pub runs : RunsAndKeeps (store_of {g = g}) locks_of (LastsNumbered c) IsSameKept reads_of rules keep.keeper keep.keeper' first last input input' output output'
 
   -- such a run that an error stops
-  pub record StopsOpened {L : Type 0} (l : disk.Ghosts L) (rules : Rules) (opened : Opened S M (List Piece) rows g) (kept : Folder S rows × TreeFs M (List Piece) g)
+  pub record StopsOpened {L : Type 0} (l : disk.Ghosts L) (rules : Rules) (opened : Opened S (ClaimedFile E C e c) (List Piece) rows g) (kept : Folder S rows × TreeFs (ClaimedFile E C e c) (List Piece) g)
       (output output' : Option (List ℕ)) : Type 0 where
     pub first : Serving g
     pub last : Serving g
     pub begins : BeginsOpened first opened
     pub ends : store_in last ≡ kept.1
     pub keep : Keep l opened kept.0
-    pub stops : StopsAfterKept (store_of {g = g}) locks_of LastsNumbered LastsEitherNumbered IsSameKept honest_of rules keep.keeper keep.keeper' first last output output'
+    pub stops : StopsAfterKept (store_of {g = g}) locks_of (LastsNumbered c) (LastsEitherNumbered c) IsSameKept reads_of rules keep.keeper keep.keeper' first last output output'

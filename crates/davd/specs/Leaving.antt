@@ -2,8 +2,10 @@
 use Rattle.std.specs.Prelude.{◌≡◌, ◌⊎◌, ℕ, true, false, List, [], ◌∷◌, ◌++◌, flat_map, Option, Some}
 use Rattle.std.specs.Io.KnownBytes.{Appends}
 use Rattle.std.specs.Option.{option_map}
-use Rattle.dav_data.specs.declared.data_file.DataFile.{DataFile}
-use Rattle.dav_folder.specs.Files.{KeptStore, kept_at, Hold, IsSameButBytes, Leave, LeaveWhole, LeaveEither}
+use Rattle.dav_data.specs.declared.claim.Claim as claim
+use Rattle.dav_data.specs.declared.claimed_file.ClaimedFile.{ClaimedFile}
+use Rattle.dav_folder.specs.Claims.{IsKeyed}
+use Rattle.dav_folder.specs.Files.{KeptStore, kept_at, Hold, Leave, LeaveWhole, LeaveEither}
 use Rattle.dav_folder.specs.Lasting.{At, IsSameKept}
 use Rattle.dav_last.specs.Batches.{Survives, unsynced_of, synced_of}
 use Rattle.dav_last.specs.declared.last_batch.LastBatch.{LastBatch}
@@ -17,7 +19,7 @@ use Rattle.dav_server.specs.Exchanges.{bytes_out, InOrder, StopsBy}
 use Rattle.dav_server.specs.Keeping.{snapshot_of, IsAnsweredAndSaved, AreSavedRun, RunsAndSaves, LeadThrough}
 use Rattle.dav_server.specs.Snapshots.{state_at}
 use Rattle.dav_server.specs.State.{Rules, ServerState}
-use Rattle.dav_tree.specs.TreeFs.{memory_of, store_of, honest_of}
+use Rattle.dav_tree.specs.TreeFs.{memory_of, store_of, honest_of, reads_of}
 use Rattle.dav_tree.specs.declared.medium.Medium.{Ghosts}
 use Rattle.sqlite.specs.Recovery as database
 use Rattle.sqlite_disk.specs.declared.Disk as disk
@@ -29,14 +31,14 @@ use Rattle.davd.specs.Folder.{Serving, state_now, state_from, first_kept, IsNotO
 use Rattle.davd.specs.declared.folder.StartOptions.{StartOptions}
 
 -- `g` says how the data file is a medium; an exchange is a batch with its answer
-module _ {E : Type 0} {e : disk.Ghosts E} (g : Ghosts (DataFile E e) (List Piece)) (rules : Rules) where
+module _ {E C : Type 0} {e : disk.Ghosts E} {c : claim.Ghosts C} (g : Ghosts (ClaimedFile E C e c) (List Piece)) (rules : Rules) where
   -- a batch is served
   abbrev Serves : Exchange → ServerState → ServerState → Type 0
-  Serves = IsAnsweredAndSaved (store_of {g = g}) honest_of rules
+  Serves = IsAnsweredAndSaved (store_of {g = g}) reads_of rules
 
   -- these exchanges lead from one state to the other, and through what this snapshot has
   abbrev Pass : List Exchange → ServerState → At g → ServerState → Type 0
-  Pass exchanges old snapshot new = LeadThrough store_of locks_of honest_of rules exchanges old snapshot new
+  Pass exchanges old snapshot new = LeadThrough store_of locks_of reads_of rules exchanges old snapshot new
 
   -- What was in the server after the first ones of these exchanges is left, with the time and the number of then. Of what is kept, the server has the same
   -- now.
@@ -51,16 +53,17 @@ module _ {E : Type 0} {e : disk.Ghosts E} (g : Ghosts (DataFile E e) (List Piece
   -- A run to the end of the input, after which the log is not copied into the database file, or the number of the last batch is not on the disk.
   pub record RunsWithLog (old : ServerState) (input input' output output' : Option (List ℕ)) : Type 0 where
     pub last : Serving g
-    pub run : RunsAndSaves (store_of {g = g}) honest_of rules old (state_now last) input input' output output'
+    pub run : RunsAndSaves (store_of {g = g}) reads_of rules old (state_now last) input input' output output'
 
 -- whatever a crash leaves of the files holds this store, also without the log of the database; and the files of the number name its batch, or a later one
-abbrev pub LeaveNumbered : {D E L : Type 0} {d : disk.Ghosts D} {e : disk.Ghosts E} {l : disk.Ghosts L} → FileStore D d × DataFile E e → LastBatch L l → KeptStore → Type 0
+abbrev pub LeaveNumbered : {D E L C : Type 0} {d : disk.Ghosts D} {e : disk.Ghosts E} {l : disk.Ghosts L} {c : claim.Ghosts C} → FileStore D d × ClaimedFile E C e c
+    → LastBatch L l → KeptStore → Type 0
 LeaveNumbered files number kept = LeaveWhole files kept × Survives kept.batch number
 
 -- `D` is the disk of the database, and `E` that of the data file
-module _ {D E : Type 0} {d : disk.Ghosts D} {e : disk.Ghosts E} (g : Ghosts (DataFile E e) (List Piece)) (rules : Rules) where
+module _ {D E C : Type 0} {d : disk.Ghosts D} {e : disk.Ghosts E} {c : claim.Ghosts C} (g : Ghosts (ClaimedFile E C e c) (List Piece)) (rules : Rules) where
   -- a crash leaves what is in the server now, or what was in it after the first ones of these exchanges; of what is kept, it had the same after all of them
-  pub record LeavesAfterOrNow (exchanges : List Exchange) (old mid : ServerState) (last : Serving g) (files : FileStore D d × DataFile E e) : Type 0 where
+  pub record LeavesAfterOrNow (exchanges : List Exchange) (old mid : ServerState) (last : Serving g) (files : FileStore D d × ClaimedFile E C e c) : Type 0 where
     pub snapshot : At g
     pub passed : Pass g rules exchanges old snapshot mid
     pub after : At g
@@ -74,25 +77,25 @@ module _ {D E : Type 0} {d : disk.Ghosts D} {e : disk.Ghosts E} (g : Ghosts (Dat
 
   module _ (If : Type 0) (old : ServerState) where
     -- a run to the end of the input; whatever a crash leaves of the files then has all that was kept, also without the log, and the number of the last batch
-    pub record RunsAndLeaves {L : Type 0} {l : disk.Ghosts L} (files : FileStore D d × DataFile E e) (number : LastBatch L l)
+    pub record RunsAndLeaves {L : Type 0} {l : disk.Ghosts L} (files : FileStore D d × ClaimedFile E C e c) (number : LastBatch L l)
         (input input' output output' : Option (List ℕ)) : Type 0 where
       pub last : Serving g
-      pub run : RunsAndSaves (store_of {g = g}) honest_of rules old (state_now last) input input' output output'
+      pub run : RunsAndSaves (store_of {g = g}) reads_of rules old (state_now last) input input' output output'
       pub leaves : If → LeavesAfter g rules run.exchanges old last (LeaveNumbered files number)
 
     -- one more batch is served and kept after these exchanges
-    pub record LeavesLast (exchanges : List Exchange) (mid : ServerState) (last : Serving g) (files : FileStore D d × DataFile E e) : Type 0 where
+    pub record LeavesLast (exchanges : List Exchange) (mid : ServerState) (last : Serving g) (files : FileStore D d × ClaimedFile E C e c) : Type 0 where
       pub exchange : Exchange
       pub served : Serves g rules exchange mid (state_now last)
       pub leaves : If → LeavesAfter g rules (exchanges ++ exchange ∷ []) old last (Leave files)
 
     -- An error stops a run, after these exchanges and in this state. Nothing changed since, or one more batch was served (`stopped`). Nothing but the
     -- answers of the exchanges was written, or the last batch was kept as well (`in_order`).
-    pub record StopsAndLeaves (files : FileStore D d × DataFile E e) (output output' : Option (List ℕ)) : Type 0 where
+    pub record StopsAndLeaves (files : FileStore D d × ClaimedFile E C e c) (output output' : Option (List ℕ)) : Type 0 where
       pub exchanges : List Exchange
       pub mid : ServerState
       pub answered : InOrder (Serves g rules) exchanges old mid
-      pub law : AreSavedRun (store_of {g = g}) honest_of rules exchanges old mid
+      pub law : AreSavedRun (store_of {g = g}) reads_of rules exchanges old mid
       pub last : Serving g
       pub stopped : StopsBy (Serves g rules) mid (state_now last)
       pub leaves : If → LeavesAfterOrNow exchanges old mid last files
@@ -101,27 +104,26 @@ module _ {D E : Type 0} {d : disk.Ghosts D} {e : disk.Ghosts E} (g : Ghosts (Dat
 -- ---- runs over the files of a folder
 
 -- `left` and `file` are what the files of the database and the data file held
-module _ {D E : Type 0} {d : disk.Ghosts D} {e : disk.Ghosts E} (left : database.Image) (file : List ℕ) (files : FileStore D d × DataFile E e) where
+module _ {D E C : Type 0} {d : disk.Ghosts D} {e : disk.Ghosts E} {c : claim.Ghosts C} (left : database.Image) (file : List ℕ) (files : FileStore D d × ClaimedFile E C e c) where
   -- the files held a store or had no table, and the disk of the database is clean at the end
   abbrev pub HeldAStore : Type 0
-  HeldAStore = IsClean (view files.0) × (((kept : KeptStore) × Hold left file kept) ⊎ IsVacant left)
+  HeldAStore = IsClean (view files.0) × (((kept : KeptStore) × Hold c left file kept) ⊎ IsVacant left)
 
-  -- A run begins with what the files held, or with a new store if they had no table, and with this quota and
-  -- this part of the entity tags. Only the bytes of files may differ, and they do
-  -- not if the data file is honest; then a new store is one whose data file had no byte. The tables that the files held are sealed under the key that the
-  -- run has, which is the drawn one for a new store.
-  pub record BeginsWith (start : StartOptions) {g : Ghosts (DataFile E e) (List Piece)} (first : At g) : Type 0 where
-    pub same : (kept : KeptStore) → IsClean (view files.0) → Hold left file kept → IsSameButBytes kept (kept_at first)
-    pub kept : (kept : KeptStore) → IsClean (view files.0) → Hold left file kept → honest_of first.store ≡ true → kept_at first ≡ kept
-    pub new : IsClean (view files.0) → IsVacant left → honest_of first.store ≡ true → kept_at first ≡ first_kept
+  -- A run begins with what the files held, or with a new store if they had no table, and with this quota and this part of the entity tags. A new store is
+  -- one whose data file had no byte, if the data file is honest. The tables that the files held are sealed under the key that the run has, which is the drawn
+  -- one for a new store, and that of the claim, if it holds.
+  pub record BeginsWith (start : StartOptions) {g : Ghosts (ClaimedFile E C e c) (List Piece)} (first : At g) : Type 0 where
+    pub kept : (kept : KeptStore) → IsClean (view files.0) → Hold c left file kept → kept_at first ≡ kept
+    pub new : IsClean (view files.0) → IsVacant left → kept_at first ≡ first_kept
     pub empty : IsClean (view files.0) → IsVacant left → honest_of first.store ≡ true → file ≡ []
     pub limit : HeldAStore → (memory_of first.store).limit ≡ option_map Some start.quota
     pub tags : (memory_of first.store).tag_part ≡ start.tag_part
     pub key : ℕ
     pub sealed : (tables : Contents) → IsClean (view files.0) → Keeps left tables → IsSealed key tables
     pub keyed : IsClean (view files.0) → IsVacant left → key ≡ start.key
+    pub claimed : IsKeyed c key
 
-  module _ (g : Ghosts (DataFile E e) (List Piece)) (rules : Rules) (start : StartOptions) where
+  module _ (g : Ghosts (ClaimedFile E C e c) (List Piece)) (rules : Rules) (start : StartOptions) where
     -- a run that goes on from what the files held, after which the log is not copied into the database file, or the number is not on the disk
     pub record GoesOnWithLog (input input' output output' : Option (List ℕ)) : Type 0 where
       pub first : At g
@@ -135,8 +137,8 @@ module _ {D E : Type 0} {d : disk.Ghosts D} {e : disk.Ghosts E} (left : database
       pub stops : StopsAndLeaves g rules HeldAStore (state_from first) files output output'
 
 -- `number` is that of the last batch, at the end, and `said` what its files held at the start
-module _ {D E L : Type 0} {d : disk.Ghosts D} {e : disk.Ghosts E} {l : disk.Ghosts L} (left : database.Image) (file : List ℕ) (files : FileStore D d × DataFile E e)
-    (said : database.Image) (number : LastBatch L l) (g : Ghosts (DataFile E e) (List Piece)) (rules : Rules) (start : StartOptions) where
+module _ {D E L C : Type 0} {d : disk.Ghosts D} {e : disk.Ghosts E} {l : disk.Ghosts L} {c : claim.Ghosts C} (left : database.Image) (file : List ℕ) (files : FileStore D d × ClaimedFile E C e c)
+    (said : database.Image) (number : LastBatch L l) (g : Ghosts (ClaimedFile E C e c) (List Piece)) (rules : Rules) (start : StartOptions) where
   -- A run goes on from what the files held, and what a crash leaves of them then. Unless a loss is accepted, the last batch that they held is not an
   -- earlier one than the files of the number said, if their disks were clean when the number was begun.
   pub record GoesOn (input input' output output' : Option (List ℕ)) : Type 0 where

@@ -1,7 +1,7 @@
 -- What the program does.
 use Rattle.std.specs.Prelude.{◌≡◌, ℕ, true, false, List, [], Option, Some, None, Result, Ok, Err}
 use Rattle.std.specs.Option.{option_map}
-use Rattle.dav_tree.specs.TreeFs.{memory_of, store_of, honest_of}
+use Rattle.dav_tree.specs.TreeFs.{memory_of, store_of, reads_of}
 use Rattle.dav_tree.specs.Memory.{first_memory}
 use Rattle.dav_tree.specs.declared.medium.Medium.{Ghosts}
 use Rattle.dav_tree.specs.declared.tree_fs.TreeFs.{TreeFs}
@@ -9,7 +9,8 @@ use Rattle.dav_memls.specs.MemLs.{list_of, locks_of}
 use Rattle.dav_memls.specs.declared.memory_locks.MemLs.{MemLs}
 use Rattle.dav_server.specs.Exchanges.{Runs}
 use Rattle.dav_server.specs.State.{Rules, ServerState, first_rules, first_state}
-use Rattle.dav_data.specs.declared.data_file.DataFile.{DataFile}
+use Rattle.dav_data.specs.declared.claim.Claim as claim
+use Rattle.dav_data.specs.declared.claimed_file.ClaimedFile.{ClaimedFile}
 use Rattle.dav_last.specs.declared.last_batch.LastBatch.{LastBatch}
 use Rattle.dav_pieces.specs.declared.piece.Piece.{Piece}
 use Rattle.sqlite.specs.Recovery as database
@@ -31,7 +32,7 @@ pub record ServesInMemory {M B : Type 0} (medium : Ghosts M B) (rules : Rules) (
   pub empty : memory_of store ≡ record (first_memory 0 (option_map Some quota)) { tag_part = tag_part }
   pub unlocked : list_of locks ≡ []
   pub final : ServerState
-  pub runs : Runs (store_of {g = medium}) honest_of rules (first_state (store_of store) (locks_of locks)) final input input' output output'
+  pub runs : Runs (store_of {g = medium}) reads_of rules (first_state (store_of store) (locks_of locks)) final input input' output output'
 
 -- the rules that the options say
 abbrev pub rules_in : OptionsValue → Rules
@@ -62,22 +63,22 @@ abbrev pub start_of : OptionsValue → StartOptions
 start_of options = record { quota = options.quota; accepts_loss = options.accepts_loss; key = options.key; seed = options.seed; tag_part = options.tag_part }
 
 -- `left` and `file` are what the files of its database and its data file held
-module _ {D E : Type 0} (d : disk.Ghosts D) {e : disk.Ghosts E} (medium : Ghosts (DataFile E e) (List Piece)) (left : database.Image) (file : List ℕ)
+module _ {D E C : Type 0} (d : disk.Ghosts D) {e : disk.Ghosts E} {c : claim.Ghosts C} (medium : Ghosts (ClaimedFile E C e c) (List Piece)) (left : database.Image) (file : List ℕ)
     (options : OptionsValue) where
   -- such a run, after which the log is not copied into the database file, or the number of the last batch is not on the disk
   pub record ServesWithLog (input input' output output' : Option (List ℕ)) : Type 0 where
-    pub files : FileStore D d × DataFile E e
+    pub files : FileStore D d × ClaimedFile E C e c
     pub goes_on : GoesOnWithLog left file files medium (rules_in options) (start_of options) input input' output output'
 
   -- an error stops such a run
   pub record StopsInFolder (output output' : Option (List ℕ)) : Type 0 where
-    pub files : FileStore D d × DataFile E e
+    pub files : FileStore D d × ClaimedFile E C e c
     pub stops : GoesOnAndStops left file files medium (rules_in options) (start_of options) output output'
 
 -- a run goes on from what they held; `L` is the disk of the number of the last batch, whose files held `said`
-pub record ServesFolder {D E L : Type 0} (d : disk.Ghosts D) (l : disk.Ghosts L) {e : disk.Ghosts E} (medium : Ghosts (DataFile E e) (List Piece))
+pub record ServesFolder {D E L C : Type 0} (d : disk.Ghosts D) (l : disk.Ghosts L) {e : disk.Ghosts E} {c : claim.Ghosts C} (medium : Ghosts (ClaimedFile E C e c) (List Piece))
     (left : database.Image) (file : List ℕ) (said : database.Image) (options : OptionsValue) (input input' output output' : Option (List ℕ)) : Type 0 where
-  pub files : FileStore D d × DataFile E e
+  pub files : FileStore D d × ClaimedFile E C e c
   pub number : LastBatch L l
   pub goes_on : GoesOn left file files said number medium (rules_in options) (start_of options) input input' output output'
 

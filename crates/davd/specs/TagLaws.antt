@@ -6,7 +6,8 @@ use Rattle.dav_tree.specs.Memory.{Memory, tag_start}
 use Rattle.dav_tree.specs.TreeFs.{memory_of, store_of}
 use Rattle.dav_tree.specs.declared.medium.Medium.{Ghosts}
 use Rattle.dav_tree.specs.declared.tree_fs.TreeFs.{TreeFs}
-use Rattle.dav_data.specs.declared.data_file.DataFile.{DataFile}
+use Rattle.dav_data.specs.declared.claim.Claim as claim
+use Rattle.dav_data.specs.declared.claimed_file.ClaimedFile.{ClaimedFile}
 use Rattle.dav_folder.specs.Lasting.{At}
 use Rattle.dav_pieces.specs.declared.piece.Piece.{Piece}
 use Rattle.dav_server.specs.TagLaws.{IsTagged}
@@ -23,8 +24,9 @@ tagged_by : {M B : Type 0} {g : Ghosts M B} (store : TreeFs M B g) (part : Optio
 tagged_by store part is = record { begins = ap tag_start is; tagged = are_tagged (memory_of store) (map logged_of store.log.items) }
 
 -- The store that a run over a folder begins with has tags that begin with the part of its start.
-pub begins_tagged : {D E : Type 0} {d : disk.Ghosts D} {e : disk.Ghosts E} (left : database.Image) (file : List ℕ) (files : FileStore D d × DataFile E e)
-    (start : StartOptions) {g : Ghosts (DataFile E e) (List Piece)} (first : At g) → BeginsWith left file files start first
+pub begins_tagged : {D E C : Type 0} {d : disk.Ghosts D} {e : disk.Ghosts E} {c : claim.Ghosts C} (left : database.Image) (file : List ℕ)
+    (files : FileStore D d × ClaimedFile E C e c)
+    (start : StartOptions) {g : Ghosts (ClaimedFile E C e c) (List Piece)} (first : At g) → BeginsWith left file files start first
     → IsTagged (tag_start start.tag_part) (store_of first.store)
 begins_tagged left file files start first begins = tagged_by first.store start.tag_part begins.tags
 

@@ -6,7 +6,7 @@ ghost use Rattle.dav_check.specs.Checking.{IsFile, IsNamed};
 ghost use Rattle.dav_check.specs.Reading.{IsRead};
 ghost use Rattle.dav_folder.specs.Opening.{AreOnlyRead};
 ghost use Rattle.dav_key.specs.Key.{Key};
-ghost use Rattle.dav_tree.specs.TreeFs.{store_of, honest_of};
+ghost use Rattle.dav_tree.specs.TreeFs.{store_of, reads_of};
 ghost use Rattle.davd.specs.Checking.{IsVerified, ChecksFolder};
 ghost use Rattle.davd.specs.Program.{IsNotUsage};
 
@@ -14,7 +14,7 @@ use crate::files::{Absent, DATA, DATABASE, LAST, expect_database};
 use crate::folder::{Held, expect_up_to_date, open_pair};
 use crate::program::Stopped;
 use dav_check::{Checked, check};
-use dav_data::DataFile;
+use dav_data::{ClaimedFile, Unclaimed};
 use dav_folder::read_files;
 use dav_resource::FsError;
 use dav_tree::{Medium, TreeFs};
@@ -25,7 +25,10 @@ use std::alloc::Global;
 use std::io::Write;
 
 /// The data file of a folder that is only read.
-pub type CheckedData<T> = DataFile<ReadOnly<FileFrom<T>>>;
+pub type CheckedData<T> = CheckedFile<FileFrom<T>>;
+
+/// The same, over such a disk.
+type CheckedFile<E> = ClaimedFile<ReadOnly<E>, Unclaimed>;
 
 /// Reads the store of a folder, all its rows and every byte of every file. It writes a line for each file that cannot be
 /// read, and a last line with the number of rows, of files, of the bytes in those that can be read, and of those that
@@ -33,10 +36,10 @@ pub type CheckedData<T> = DataFile<ReadOnly<FileFrom<T>>>;
 ///
 /// Errors: `Damaged` if a file cannot be read; `Refused` as for `open_folder`; `Disk` if the folder has no database, or
 /// cannot be read; `Memory`; `Stream` if the output fails.
-pub fn check_folder<R: Start, T: Start, N: Start, O: Write>(
+pub fn check_folder<R: Start, T: Start, N: Start, C: Drop, O: Write>(
     rt: &HostRuntime,
     folder: &str,
-    held: Held<R, T, N>,
+    held: Held<R, T, N, C>,
     output: &mut O,
 ) -> Result<(), Stopped>
     ensures whole { OnOk result (ChecksFolder ⟦<FileFrom<R> as Disk>⟧ ⟦<FileFrom<T> as Disk>⟧ ⟦<FileFrom<N> as Disk>⟧ ⟦<CheckedData<T> as Medium>⟧
@@ -45,7 +48,7 @@ pub fn check_folder<R: Start, T: Start, N: Start, O: Write>(
 {
     expect_database(rt, folder)?;
     let absent = Absent::find(rt, folder)?;
-    let (left, file, number) = held;
+    let (left, file, number, _claim) = held;
     let mut last = open_pair(rt, folder, LAST, number)?;
     let checked = check_pairs(rt, folder, absent, (left, file), &mut last, output);
     absent.remove_last(rt, folder)?;
@@ -95,7 +98,7 @@ fn check_files<D: Disk, E: Disk + Drop, L: Disk, O: Write>(
     requires usable { IsTrue (E.Disk.is_usable file) }
     requires other { IsTrue (L.Disk.is_usable last.old.log) }
     requires last { IsTrue (L.Disk.is_usable last.old.db) }
-    ensures whole { OnOk result (IsVerified D.Disk E.Disk L.Disk ⟦<DataFile<ReadOnly<E>> as Medium>⟧
+    ensures whole { OnOk result (IsVerified D.Disk E.Disk L.Disk ⟦<CheckedFile<E> as Medium>⟧
         (image_of D.Disk files.old) (E.Disk.seen file) (image_of L.Disk last.old) files.new last.new) }
     ensures only { AreOnlyRead D.Disk files.old files.new }
     ensures only_last { AreOnlyRead L.Disk last.old last.new }
@@ -106,7 +109,7 @@ fn check_files<D: Disk, E: Disk + Drop, L: Disk, O: Write>(
         Err(error) => return Err(Stopped::Disk(error)),
     };
     // Without changes a database that has no table gets no store.
-    let mut found = read_files(alloc, files, disk, &[], None, None)?;
+    let mut found = read_files::<D, ReadOnly<E>, Unclaimed>(alloc, files, disk, &[], None, None)?;
     expect_up_to_date(last, found.key, found.last, false)?;
     let checked = check_store(alloc, &mut found.store)?;
     report_checked(output, found.rows, &checked)
@@ -115,7 +118,7 @@ fn check_files<D: Disk, E: Disk + Drop, L: Disk, O: Write>(
 /// Reads every byte of every file of a store. Errors: `Memory`; `Damaged` if a directory cannot be listed.
 fn check_store<M: Medium>(alloc: Global, store: &mut TreeFs<M>) -> Result<Checked, Stopped>
     ensures read { IfOk result (λ checked. (key : Key) → IsFile (store_of store.old).contents key
-        → IsNamed checked key ⊎ IsRead (store_of {g = M.Medium}) (honest_of {g = M.Medium}) (store_of store.old).contents key) }
+        → IsNamed checked key ⊎ IsRead (store_of {g = M.Medium}) (reads_of {g = M.Medium}) (store_of store.old).contents key) }
     ensures err { IfErr result IsNotUsage }
 {
     match check(alloc, store) {

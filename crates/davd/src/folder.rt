@@ -5,6 +5,7 @@ ghost use Rattle.sqlite.specs.Files.{image_of};
 ghost use Rattle.sqlite.specs.WalFiles.{image_at};
 ghost use Rattle.sqlite_wal.specs.Reads.{AreClean, OnlyReadsBoth};
 ghost use Rattle.sqlite_std_file.specs.File.{IsFresh, file_is_usable};
+ghost use Rattle.dav_folder.specs.Claims.{IsKeyed};
 ghost use Rattle.dav_folder.specs.Folders.{batch_of};
 ghost use Rattle.dav_folder.specs.Opening.{AreOnlyRead};
 ghost use Rattle.dav_folder.specs.Reading.{ReadsImage, IsEmptyIfHonest};
@@ -21,8 +22,8 @@ ghost use Rattle.davd.specs.Program.{IsNotUsage};
 
 use crate::files::{Absent, DATA, DATABASE, LAST, empty_reserve, expect_files, make_folder};
 use crate::program::{Refusal, Stopped};
-use dav_data::DataFile;
-use dav_folder::{Found, OpenError, Opened, read_files};
+use dav_data::ClaimedFile;
+use dav_folder::{Confirm, Found, OpenError, Opened, read_files};
 use dav_keep::first_changes;
 use dav_last::{Last, LastBatch, read_last};
 use dav_reserve::{ROOM, Reserved};
@@ -34,13 +35,14 @@ use std::alloc::Global;
 use std::io::{self, ErrorKind};
 
 /// A store in the files of a database and a data file, beside which a third one keeps room back.
-pub type OpenedFiles<R, T> = OpenedOver<FileFrom<R>, FileFrom<T>>;
+pub type OpenedFiles<R, T, C> = OpenedOver<FileFrom<R>, FileFrom<T>, C>;
 
 /// A store in a database and a data file, beside which room is kept back on such a disk.
-type OpenedOver<D, E> = Opened<FileStore<D>, DataFile<Reserved<E, E>>>;
+type OpenedOver<D, E, C> = Opened<FileStore<D>, ClaimedFile<Reserved<E, E>, C>>;
 
-/// What is supposed of the files of a folder: those of the database, the data file, and those of the last number.
-pub type Held<R, T, N> = (R, T, N);
+/// What is supposed of the files of a folder: those of the database, the data file, and those of the last number; and what is
+/// claimed of the digests in the data file.
+pub type Held<R, T, N, C> = (R, T, N, C);
 
 /// How a folder is opened.
 #[derive(Clone, Copy)]
@@ -83,15 +85,16 @@ struct Opening {
 ///
 /// Errors: `Refused` if a file of the store is missing, or the folder is not one of a store, is damaged or has lost
 /// batches; `InUse` if another process has it open; `Disk` if it cannot be read or written; `Memory`.
-pub fn open_folder<R: Start, T: Start, N: Start>(
+pub fn open_folder<R: Start, T: Start, N: Start, C: Confirm>(
     rt: &HostRuntime,
     folder: &str,
     options: StartOptions,
-    held: Held<R, T, N>,
-) -> Result<(OpenedFiles<R, T>, LastBatch<FileFrom<N>>), Stopped>
+    held: Held<R, T, N, C>,
+) -> Result<(OpenedFiles<R, T, C>, LastBatch<FileFrom<N>>), Stopped>
     ensures kept { IfOk result (λ found. FindsKept (image_at R.Start) T.Start.db options.quota found.0) }
     ensures new { IfOk result (λ found. FindsFirst (image_at R.Start) T.Start.db options.quota options.key found.0) }
     ensures sealed { IfOk result (λ found. HeldSealed (image_at R.Start) found.0) }
+    ensures keyed { IfOk result (λ found. IsKeyed C.Claim found.0.key) }
     ensures tags { IfOk result (λ found. (memory_of found.0.store).tag_part ≡ options.tag_part) }
     ensures last { IfOk result (λ found. number_of found.1 ≡ batch_of found.0.folder) }
     ensures key { IfOk result (λ found. key_of found.1 ≡ found.0.key) }
@@ -101,7 +104,7 @@ pub fn open_folder<R: Start, T: Start, N: Start>(
     make_folder(rt, folder)?;
     expect_files(rt, folder)?;
     let absent = Absent::find(rt, folder)?;
-    let (left, file, number) = held;
+    let (left, file, number, _claim) = held;
     let mut last = open_pair(rt, folder, LAST, number)?;
     let how = Opening {
         limit: limit_of(options.quota),
@@ -125,19 +128,20 @@ pub fn open_folder<R: Start, T: Start, N: Start>(
 
 /// The same, over the files that are there. `last` are those of the number of the last batch, which are only read. `key` is
 /// that of a new store.
-fn open_pairs<R: Start, T: Start, L: Disk>(
+fn open_pairs<R: Start, T: Start, L: Disk, C: Confirm>(
     rt: &HostRuntime,
     folder: &str,
     how: Opening,
     key: u64,
     held: (R, T),
     last: &mut Files<L>,
-) -> Result<OpenedFiles<R, T>, Stopped>
+) -> Result<OpenedFiles<R, T, C>, Stopped>
     requires other { IsTrue (L.Disk.is_usable last.old.log) }
     requires last { IsTrue (L.Disk.is_usable last.old.db) }
     ensures kept { IfOk result (FindsHeld (image_at R.Start) T.Start.db how.limit) }
     ensures new { IfOk result (FindsNew (image_at R.Start) T.Start.db how.limit key) }
     ensures sealed { IfOk result (HeldSealed (image_at R.Start)) }
+    ensures keyed { IfOk result (λ opened. IsKeyed C.Claim opened.key) }
     ensures tags { IfOk result (λ opened. (memory_of opened.store).tag_part ≡ how.tag_part) }
     ensures batch { IfOk result (λ opened. batch_of opened.folder ≡ opened.last) }
     ensures up_to_date { IfOk result (λ opened. how.accepts_loss ≡ false → AreClean L.Disk last.new.log last.new.db
@@ -162,14 +166,14 @@ fn open_pairs<R: Start, T: Start, L: Disk>(
 /// Opens the store over the files of a database and a data file. The file that comes with it keeps room back.
 ///
 /// Errors: `Refused`, `Disk` and `Memory`, as for `open_folder`.
-fn open_over<D: Disk + Drop, E: Disk + Drop, L: Disk>(
+fn open_over<D: Disk + Drop, E: Disk + Drop, L: Disk, C: Confirm>(
     rt: &HostRuntime,
     folder: &str,
     how: Opening,
     pairs: (Files<D>, Files<E>),
     last: &mut Files<L>,
     changes: &[Change],
-) -> Result<OpenedOver<D, E>, Stopped>
+) -> Result<OpenedOver<D, E, C>, Stopped>
     requires log_usable { IsTrue (D.Disk.is_usable pairs.0.log) }
     requires db_usable { IsTrue (D.Disk.is_usable pairs.0.db) }
     requires usable { E.Disk.is_usable pairs.1.db ≡ true }
@@ -179,6 +183,7 @@ fn open_over<D: Disk + Drop, E: Disk + Drop, L: Disk>(
     ensures kept { IfOk result (FindsHeld (image_of D.Disk pairs.0) (E.Disk.seen pairs.1.db) how.limit) }
     ensures new { (key : ℕ) → MakesFirst key changes.now → IfOk result (FindsNew (image_of D.Disk pairs.0) (E.Disk.seen pairs.1.db) how.limit key) }
     ensures sealed { IfOk result (HeldSealed (image_of D.Disk pairs.0)) }
+    ensures keyed { IfOk result (λ opened. IsKeyed C.Claim opened.key) }
     ensures tags { IfOk result (λ opened. (memory_of opened.store).tag_part ≡ how.tag_part) }
     ensures batch { IfOk result (λ opened. batch_of opened.folder ≡ opened.last) }
     ensures up_to_date { IfOk result (λ opened. how.accepts_loss ≡ false → AreClean L.Disk last.new.log last.new.db
@@ -204,27 +209,28 @@ fn open_over<D: Disk + Drop, E: Disk + Drop, L: Disk>(
 /// Reads the store of a folder, and checks that it has lost no batch. It only reads the files.
 ///
 /// Errors: `Refused`, `Disk` and `Memory`, as for `open_folder`.
-fn read_up_to_date<D: Disk, E: Disk + Drop, L: Disk>(
+fn read_up_to_date<D: Disk, E: Disk + Drop, L: Disk, C: Confirm>(
     alloc: Global,
     files: &mut Files<D>,
     disk: E,
     last: &mut Files<L>,
     changes: &[Change],
     how: Opening,
-) -> Result<Found<DataFile<E>>, Stopped>
+) -> Result<Found<ClaimedFile<E, C>>, Stopped>
     requires log_usable { IsTrue (D.Disk.is_usable files.old.log) }
     requires db_usable { IsTrue (D.Disk.is_usable files.old.db) }
     requires usable { E.Disk.is_usable disk ≡ true }
     requires other { IsTrue (L.Disk.is_usable last.old.log) }
     requires last { IsTrue (L.Disk.is_usable last.old.db) }
-    ensures kept { (image : Image) (tables : Contents) → Keeps (image_of D.Disk files.old) tables → StandForImage tables image → IsWholeImage image
-        → IfOk result (λ found. AreClean D.Disk files.new.log files.new.db → ReadsImage (E.Disk.seen disk) how.limit image tables found) }
-    ensures new { (image : Image) → IsVacant (image_of D.Disk files.old) → StandForImage (first changes.now) image → IsWholeImage image
-        → IfOk result (λ found. AreClean D.Disk files.new.log files.new.db → ReadsImage (E.Disk.seen disk) how.limit image (first changes.now) found) }
+    ensures kept { (image : Image) (tables : Contents) → Keeps (image_of D.Disk files.old) tables → StandForImage tables image → (whole : IsWholeImage image)
+        → IfOk result (λ found. AreClean D.Disk files.new.log files.new.db → ReadsImage (E.Disk.seen disk) how.limit image whole tables found) }
+    ensures new { (image : Image) → IsVacant (image_of D.Disk files.old) → StandForImage (first changes.now) image → (whole : IsWholeImage image)
+        → IfOk result (λ found. AreClean D.Disk files.new.log files.new.db → ReadsImage (E.Disk.seen disk) how.limit image whole (first changes.now) found) }
     ensures empty { IsVacant (image_of D.Disk files.old)
         → IfOk result (λ found. AreClean D.Disk files.new.log files.new.db → IsEmptyIfHonest found (E.Disk.seen disk)) }
     ensures sealed { (tables : Contents) → Keeps (image_of D.Disk files.old) tables
         → IfOk result (λ found. AreClean D.Disk files.new.log files.new.db → IsSealed found.key tables) }
+    ensures keyed { IfOk result (λ found. IsKeyed C.Claim found.key) }
     ensures tags { IfOk result (λ found. (memory_of found.store).tag_part ≡ how.tag_part) }
     ensures only { AreOnlyRead D.Disk files.old files.new }
     ensures up_to_date { IfOk result (λ found. how.accepts_loss ≡ false → AreClean L.Disk last.new.log last.new.db

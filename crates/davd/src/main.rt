@@ -43,6 +43,7 @@ mod options;
 mod program;
 mod serving;
 
+use dav_data::Unclaimed;
 use program::{Stopped, report, run_program};
 use sqlite::Unknown;
 use std::env;
@@ -66,7 +67,7 @@ fn run(rt: &HostRuntime) -> Result<(), Stopped> {
     run_program(
         rt,
         &arguments,
-        (Unknown, Unknown, Unknown),
+        (Unknown, Unknown, Unknown, Unclaimed),
         &mut input,
         &mut output,
     )

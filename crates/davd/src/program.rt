@@ -16,6 +16,7 @@ use crate::checking::{CheckedData, check_folder};
 use crate::folder::{Held, StartOptions};
 use crate::options::{ProgramOptions, read_options};
 use crate::serving::{FolderData, FolderOptions, serve_folder};
+use dav_folder::Confirm;
 use dav_guarding::Guarding;
 use dav_memls::MemLs;
 use dav_resource::{FsError, FsResult};
@@ -118,28 +119,28 @@ impl From<FsError> for Stopped {
 
 /// Serves the batches of the input, with the options that the arguments say, until the input ends. Or checks a folder, and
 /// reads no input, if the arguments say so. `held` stands for what the files of the folder's database and its data file
-/// held: in the program this is not known, so the clauses hold for all contents.
+/// held, and for what is claimed of them: in the program this is not known, so the clauses hold for all contents and each claim.
 ///
 /// Errors: `Usage` if the arguments are wrong; `Memory` if memory runs out before the first batch; `Stream` if a stream
 /// fails, or if the input ends inside a batch; over a folder those of `serve_folder`; of a check those of `check_folder`.
 /// With wrong arguments nothing is read or written.
-pub fn run_program<R: Start, T: Start, N: Start, I: Read, O: Write>(
+pub fn run_program<R: Start, T: Start, N: Start, C: Confirm, I: Read, O: Write>(
     rt: &HostRuntime,
     arguments: &[String],
-    held: Held<R, T, N>,
+    held: Held<R, T, N, C>,
     input: &mut I,
     output: &mut O,
 ) -> Result<(), Stopped>
     ensures served { HaveNoFolder (texts arguments.now) → OnOk result (ServesAll ⟦<InMemory as Medium>⟧ (texts arguments.now)
         (I.remaining input.old) (I.remaining input.new) (O.contents output.old) (O.contents output.new)) }
     ensures kept { (options : OptionsValue) → SayFolder (texts arguments.now) options
-        → OnOk result (ServesFolder ⟦<FileFrom<R> as Disk>⟧ ⟦<FileFrom<N> as Disk>⟧ ⟦<FolderData<T> as Medium>⟧ (image_at R.Start) T.Start.db (image_at N.Start)
+        → OnOk result (ServesFolder ⟦<FileFrom<R> as Disk>⟧ ⟦<FileFrom<N> as Disk>⟧ ⟦<FolderData<T, C> as Medium>⟧ (image_at R.Start) T.Start.db (image_at N.Start)
         options (I.remaining input.old) (I.remaining input.new) (O.contents output.old) (O.contents output.new)) }
     ensures stopped { (options : OptionsValue) → SayFolder (texts arguments.now) options
         → OnErr result (HasNotBegun input.old input.new output.old output.new
-        ⊎ (StopsInFolder ⟦<FileFrom<R> as Disk>⟧ ⟦<FolderData<T> as Medium>⟧ (image_at R.Start) T.Start.db options
+        ⊎ (StopsInFolder ⟦<FileFrom<R> as Disk>⟧ ⟦<FolderData<T, C> as Medium>⟧ (image_at R.Start) T.Start.db options
         (O.contents output.old) (O.contents output.new)
-        ⊎ ServesWithLog ⟦<FileFrom<R> as Disk>⟧ ⟦<FolderData<T> as Medium>⟧ (image_at R.Start) T.Start.db options
+        ⊎ ServesWithLog ⟦<FileFrom<R> as Disk>⟧ ⟦<FolderData<T, C> as Medium>⟧ (image_at R.Start) T.Start.db options
         (I.remaining input.old) (I.remaining input.new) (O.contents output.old) (O.contents output.new))) }
     ensures end { OnOk result (DoCheck (texts arguments.now) ⊎ IsAtEnd (I.remaining input.new)) }
     ensures checked { DoCheck (texts arguments.now) → input.new ≡ input.old }

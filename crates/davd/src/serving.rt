@@ -14,8 +14,8 @@ ghost use Rattle.davd.specs.Program.{IsNotUsage};
 
 use crate::folder::{Held, StartOptions, open_folder};
 use crate::program::Stopped;
-use dav_data::DataFile;
-use dav_folder::{Folder, FolderFiles, Numbered, Opened, close_folder, give_up};
+use dav_data::{Claim, ClaimedFile};
+use dav_folder::{Confirm, Folder, FolderFiles, Numbered, Opened, close_folder, give_up};
 use dav_guarding::Guarding;
 use dav_keep::KeepError;
 use dav_last::LastBatch;
@@ -30,7 +30,7 @@ use std::alloc::Global;
 use std::io::{self, Read, Write};
 
 /// The data file of a folder, beside which a third file keeps room back.
-pub type FolderData<T> = DataFile<Reserved<FileFrom<T>, FileFrom<T>>>;
+pub type FolderData<T, C> = ClaimedFile<Reserved<FileFrom<T>, FileFrom<T>>, C>;
 
 /// How a folder is served.
 #[derive(Drop)]
@@ -43,10 +43,15 @@ pub struct FolderOptions {
 
 /// How serving over a folder ended, and what it leaves: the files of the database and the data file, and those of the number
 /// of the last batch.
-pub type Ended<R, T, N> = EndedOver<FileFrom<R>, Reserved<FileFrom<T>, FileFrom<T>>, FileFrom<N>>;
+pub type Ended<R, T, N, C> = EndedOver<
+    FileFrom<R>,
+    Reserved<FileFrom<T>, FileFrom<T>>,
+    FileFrom<N>,
+    C,
+>;
 
 /// The same, over such disks.
-type EndedOver<D, E, L> = (Result<(), Stopped>, FolderFiles<D, E>, LastBatch<L>);
+type EndedOver<D, E, L, C> = (Result<(), Stopped>, FolderFiles<D, E, C>, LastBatch<L>);
 
 /// Opens the store of a folder, or makes a new one, and serves the batches of the input over it, and keeps each before its
 /// answer is written, until the input ends. Then the log of the database is copied into its file, the number of the last
@@ -58,19 +63,19 @@ type EndedOver<D, E, L> = (Result<(), Stopped>, FolderFiles<D, E>, LastBatch<L>)
 /// After an error it leaves this of the batches that were answered, or what was in the server at last.
 ///
 /// Errors at the start are those of `open_folder`, and later ones those of `serve_to_the_end`.
-pub fn serve_folder<R: Start, T: Start, N: Start, I: Read, O: Write>(
+pub fn serve_folder<R: Start, T: Start, N: Start, C: Confirm, I: Read, O: Write>(
     rt: &HostRuntime,
     folder: &str,
-    held: Held<R, T, N>,
+    held: Held<R, T, N, C>,
     options: FolderOptions,
     input: &mut I,
     output: &mut O,
-) -> Result<Ended<R, T, N>, Stopped>
+) -> Result<Ended<R, T, N, C>, Stopped>
     ensures served { IfOk result (λ ended. OnOk ended.0 (GoesOn (image_at R.Start) T.Start.db ended.1 (image_at N.Start) ended.2
-        ⟦<FolderData<T> as Medium>⟧ (rules_for options.server) options.start (I.remaining input.old) (I.remaining input.new) (O.contents output.old) (O.contents output.new))) }
-    ensures stopped { IfOk result (λ ended. OnErr ended.0 (GoesOnAndStops (image_at R.Start) T.Start.db ended.1 ⟦<FolderData<T> as Medium>⟧
+        ⟦<FolderData<T, C> as Medium>⟧ (rules_for options.server) options.start (I.remaining input.old) (I.remaining input.new) (O.contents output.old) (O.contents output.new))) }
+    ensures stopped { IfOk result (λ ended. OnErr ended.0 (GoesOnAndStops (image_at R.Start) T.Start.db ended.1 ⟦<FolderData<T, C> as Medium>⟧
         (rules_for options.server) options.start (O.contents output.old) (O.contents output.new)
-        ⊎ GoesOnWithLog (image_at R.Start) T.Start.db ended.1 ⟦<FolderData<T> as Medium>⟧ (rules_for options.server) options.start
+        ⊎ GoesOnWithLog (image_at R.Start) T.Start.db ended.1 ⟦<FolderData<T, C> as Medium>⟧ (rules_for options.server) options.start
         (I.remaining input.old) (I.remaining input.new) (O.contents output.old) (O.contents output.new))) }
     ensures end { IfOk result (λ ended. OnOk ended.0 (IsAtEnd (I.remaining input.new))) }
     ensures unread { OnErr result (input.new ≡ input.old) }
@@ -89,20 +94,27 @@ pub fn serve_folder<R: Start, T: Start, N: Start, I: Read, O: Write>(
 ///
 /// Errors: `WithLog` if the log cannot be copied; `Unnumbered` if the number cannot be brought to the disk; otherwise those
 /// of `serve_opened`, and then nothing more is written.
-pub fn serve_to_the_end<D: Disk + Drop, E: Roomy + Drop, L: Disk + Drop, I: Read, O: Write>(
+pub fn serve_to_the_end<
+    D: Disk + Drop,
+    E: Roomy + Drop,
+    L: Disk + Drop,
+    C: Claim,
+    I: Read,
+    O: Write,
+>(
     alloc: Global,
-    opened: Opened<FileStore<D>, DataFile<E>>,
+    opened: Opened<FileStore<D>, ClaimedFile<E, C>>,
     last: LastBatch<L>,
     options: Options,
     input: &mut I,
     output: &mut O,
-) -> EndedOver<D, E, L>
+) -> EndedOver<D, E, L, C>
     requires { number_of last ≡ batch_of opened.folder }
-    ensures served { OnOk result.0 (RunsAndLeaves ⟦<DataFile<E> as Medium>⟧ (rules_for options) (IsOpenedAsKept opened)
+    ensures served { OnOk result.0 (RunsAndLeaves ⟦<ClaimedFile<E, C> as Medium>⟧ (rules_for options) (IsOpenedAsKept opened)
         (state_from (opened_at opened)) result.1 result.2 (I.remaining input.old) (I.remaining input.new) (O.contents output.old) (O.contents output.new)) }
-    ensures stopped { OnErr result.0 (StopsAndLeaves ⟦<DataFile<E> as Medium>⟧ (rules_for options) (IsOpenedAsKept opened)
+    ensures stopped { OnErr result.0 (StopsAndLeaves ⟦<ClaimedFile<E, C> as Medium>⟧ (rules_for options) (IsOpenedAsKept opened)
         (state_from (opened_at opened)) result.1 (O.contents output.old) (O.contents output.new)
-        ⊎ RunsWithLog ⟦<DataFile<E> as Medium>⟧ (rules_for options) (state_from (opened_at opened))
+        ⊎ RunsWithLog ⟦<ClaimedFile<E, C> as Medium>⟧ (rules_for options) (state_from (opened_at opened))
         (I.remaining input.old) (I.remaining input.new) (O.contents output.old) (O.contents output.new)) }
     ensures clean { IsClean (view result.1.0) → HasCleanDatabase opened.folder }
     ensures end { OnOk result.0 (IsAtEnd (I.remaining input.new)) }
@@ -138,9 +150,9 @@ fn ended_by(copied: bool, synced: io::Result<()>) -> Result<(), Stopped>
 }
 
 /// How serving ended over what was opened: why, the folder and the store as they are then, and the number that was noted.
-type EndedOpen<S, D, L> = (
+type EndedOpen<S, D, L, C> = (
     Result<(), Stopped>,
-    (Folder<S>, TreeFs<DataFile<D>>),
+    (Folder<S>, TreeFs<ClaimedFile<D, C>>),
     LastBatch<L>,
 );
 
@@ -148,14 +160,14 @@ type EndedOpen<S, D, L> = (
 /// ends. After each batch that changed something it notes its number.
 ///
 /// Errors: `Full` or `NotKept` if a batch cannot be kept; `Stream` if a stream fails, or if the input ends inside a batch.
-pub fn serve_opened<S: Alter + Drop, D: Roomy + Drop, L: Disk + Drop, I: Read, O: Write>(
+pub fn serve_opened<S: Alter + Drop, D: Roomy + Drop, L: Disk + Drop, C: Claim, I: Read, O: Write>(
     alloc: Global,
-    opened: Opened<S, DataFile<D>>,
+    opened: Opened<S, ClaimedFile<D, C>>,
     last: LastBatch<L>,
     options: Options,
     input: &mut I,
     output: &mut O,
-) -> EndedOpen<S, D, L>
+) -> EndedOpen<S, D, L, C>
     requires { number_of last ≡ batch_of opened.folder }
     ensures served { OnOk result.0 (ServesOpened L.Disk (rules_for options) opened result.1
         (I.remaining input.old) (I.remaining input.new) (O.contents output.old) (O.contents output.new)) }

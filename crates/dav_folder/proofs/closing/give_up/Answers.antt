@@ -4,7 +4,7 @@ use Rattle.sqlite.specs.Files.{file_state}
 use Rattle.sqlite.specs.State.{HasCleanDisk}
 use Rattle.sqlite_store.specs.FileStore.{view}
 use Rattle.sqlite_trees.specs.View.{IsClean}
-use Rattle.dav_data.specs.Data.{body_bytes, is_synced}
+use Rattle.dav_data.specs.Claimed.{bytes_in, is_safe}
 use Rattle.dav_keep.specs.Keeping.{connection_of}
 use Rattle.dav_pieces.specs.Pieces.{piece_code}
 use Rattle.dav_rows_files.specs.Starting.{LeavesDatabases}
@@ -12,7 +12,7 @@ use Rattle.dav_tree.specs.Before.{HasSaved}
 use Rattle.dav_tree.specs.TreeFs.{before_of, older_of}
 use Rattle.dav_folder.specs.Files.{kept_at}
 use Rattle.dav_folder.specs.Folders.{keeping_of}
-use Rattle.dav_folder.proofs.Leaving.{leave, leave_either, leave_first, leave_second}
+use Rattle.dav_folder.proofs.Leaving.{left_by, leave, leave_either, leave_first, leave_second}
 use Rattle.dav_folder.proofs.closing.give_up.Goals as goal
 
 pub returns-clause-alone : goal.returns-clause-alone
@@ -22,7 +22,8 @@ returns-clause-alone g c = λ snapshot lasts.
     leave c.into_medium-data.result c.safe_end.result c.safe_end.ensures.below c.safe_end.ensures.small files (file_state (connection_of (keeping_of c.args.folder)))
     (subst (λ conn. IsClean (view files) → HasCleanDisk (file_state conn)) is c.into_files-files.ensures.clean)
     (subst (λ conn. LeavesDatabases (file_state conn) files) is c.into_files-files.ensures.left)
-    c.show_synced.ensures.bytes c.safe_end.ensures.left (before_of c.args.store) snapshot lasts.image c.into_medium-data.ensures.last lasts.at lasts.left
+    (left_by c.into_medium-data.result c.safe_end.result c.show_right.ensures.bytes c.safe_end.ensures.left c.show_right.ensures.left)
+    (before_of c.args.store) snapshot lasts.image c.into_medium-data.ensures.last lasts.at lasts.left
 
 pub returns-clause-either : goal.returns-clause-either
 returns-clause-either g c = λ one other lasts same.
@@ -36,8 +37,9 @@ returns-clause-either g c = λ one other lasts same.
           leave_either medium c.safe_end.result c.safe_end.ensures.below c.safe_end.ensures.small files (file_state (connection_of (keeping_of c.args.folder)))
           (subst (λ conn. IsClean (view files) → HasCleanDisk (file_state conn)) is c.into_files-files.ensures.clean)
           (subst (λ conn. LeavesDatabases (file_state conn) files) is c.into_files-files.ensures.left)
-          c.show_synced.ensures.bytes c.safe_end.ensures.left (older_of other.store) (before_of c.args.store) one other between.first between.second
-          (subst (λ store. HasSaved (coded_list piece_code) (body_bytes medium) (is_synced medium) (older_of store)) (sym same) c.into_medium-data.ensures.older)
+          (left_by c.into_medium-data.result c.safe_end.result c.show_right.ensures.bytes c.safe_end.ensures.left c.show_right.ensures.left)
+          (older_of other.store) (before_of c.args.store) one other between.first between.second
+          (subst (λ store. HasSaved (coded_list piece_code) (bytes_in medium) (is_safe medium) (older_of store)) (sym same) c.into_medium-data.ensures.older)
           c.into_medium-data.ensures.last between.at_first between.at_second between.left
     ]
 

@@ -9,7 +9,7 @@ returns-clause-served g c =
     let served = c.serve_to_the_end in
     let opened = c.in_ok-opened in
     on_ok served.result.0 served.ensures.served
-    (goes_on (rules_for c.args.options.server) opened.opened served.result.1 (image_at g.R.Start) g.T.Start.db c.args.options.start opened.ensures.kept opened.ensures.new opened.ensures.sealed opened.ensures.tags
+    (goes_on (rules_for c.args.options.server) opened.opened served.result.1 (image_at g.R.Start) g.T.Start.db c.args.options.start opened.ensures.kept opened.ensures.new opened.ensures.sealed opened.ensures.tags opened.ensures.keyed
     served.ensures.clean (image_at g.N.Start) opened.last served.result.2 _ _ _ _ opened.ensures.up_to_date)
 
 pub returns-clause-stopped : goal.returns-clause-stopped
@@ -18,7 +18,7 @@ returns-clause-stopped g c =
     let opened = c.in_ok-opened in
     on_err served.result.0 served.ensures.stopped (λ either. elim either [
       | inl stops ↦ inl (goes_on_and_stops (rules_for c.args.options.server) opened.opened served.result.1 (image_at g.R.Start) g.T.Start.db c.args.options.start
-          opened.ensures.kept opened.ensures.new opened.ensures.sealed opened.ensures.tags served.ensures.clean _ _ stops)
+          opened.ensures.kept opened.ensures.new opened.ensures.sealed opened.ensures.tags opened.ensures.keyed served.ensures.clean _ _ stops)
       | inr runs ↦ inr (goes_on_with_log (rules_for c.args.options.server) opened.opened served.result.1 (image_at g.R.Start) g.T.Start.db c.args.options.start
-          opened.ensures.kept opened.ensures.new opened.ensures.sealed opened.ensures.tags served.ensures.clean _ _ _ _ runs)
+          opened.ensures.kept opened.ensures.new opened.ensures.sealed opened.ensures.tags opened.ensures.keyed served.ensures.clean _ _ _ _ runs)
     ])

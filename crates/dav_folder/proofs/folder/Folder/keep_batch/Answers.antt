@@ -19,12 +19,12 @@ returns-after-changed-clause-ok g c = λ before lasts.
     let keeps =
     subst (λ keeping. KeepsNow c.in-Ok.changed lasts.image keeping c.keep.new.store c.args.locks.now c.args.now c.args.last) (sym keeping)
     (c.in-Ok.ensures.kept lasts.image lasts.kept) in
-    keeps_one c.args.self.now c.reuse.new.self c.args.store.now c.keep.new.store c.args.locks.now c.args.now c.args.last
+    keeps_one g.C.Claim c.args.self.now c.reuse.new.self c.args.store.now c.keep.new.store c.args.locks.now c.args.now c.args.last
     before lasts g.met.S.Store.settled c.in-Ok.ensures.saved c.in-Ok.changed c.show_sound.ensures c.reuse.new.store keeps c.in-Ok.ensures.unchanged e.memory e.entries number
 
 pub returns-in-Err-clause-err : goal.returns-in-Err-clause-err
 returns-in-Err-clause-err g c = λ before lasts.
-    stops c.args.self.now (record { keeping = c.keep.new.self; batch = c.args.self.now.batch; failure = Some c.in-Err.error; has_swept = c.args.self.now.has_swept; refused = c.args.self.now.refused }) c.args.store.now c.keep.new.store c.args.locks.now c.args.now c.args.last before lasts c.show_sound-in-Err.ensures
+    stops g.C.Claim c.args.self.now (record { keeping = c.keep.new.self; batch = c.args.self.now.batch; failure = Some c.in-Err.error; has_swept = c.args.self.now.has_swept; refused = c.args.self.now.refused }) c.args.store.now c.keep.new.store c.args.locks.now c.args.now c.args.last before lasts c.show_sound-in-Err.ensures
     (c.in-Err.ensures.stopped lasts.image lasts.kept)
 
 pub returns-after-changed-clause-clean : goal.returns-after-changed-clause-clean

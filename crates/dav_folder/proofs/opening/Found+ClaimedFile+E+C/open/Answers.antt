@@ -2,7 +2,7 @@ use Rattle.std.proofs.Common.{subst}
 use Rattle.sqlite.specs.Files.{file_state}
 use Rattle.sqlite.specs.State.{HasCleanDisk}
 use Rattle.dav_rows.specs.Creating.{first}
-use Rattle.dav_folder.proofs.reading.Found.open.Goals as goal
+use Rattle.dav_folder.proofs.opening.Found+ClaimedFile+E+C.open.Goals as goal
 
 pub returns-in-Ok-start-clause-kept : goal.returns-in-Ok-start-clause-kept
 returns-in-Ok-start-clause-kept g c = λ image tables keeps reads clean.
