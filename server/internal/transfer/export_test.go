@@ -205,13 +205,7 @@ func TestAnInterruptedExportGoesOn(t *testing.T) {
 	dir := t.TempDir()
 	runs := 0
 	for ; runs < 100; runs++ {
-		ctx, cancel := context.WithCancel(context.Background())
-		begun := f.count("READ")
-		f.before = func(string) {
-			if f.count("READ") > begun+60 {
-				cancel()
-			}
-		}
+		ctx, cancel := f.cancelAt(60, "READ")
 		err := Export(ctx, Options{Store: f, Dir: dir, Path: "/"})
 		cancel()
 		if err == nil {

@@ -8,6 +8,7 @@ import (
 	"sort"
 	"strings"
 	"sync"
+	"sync/atomic"
 	"testing"
 	"time"
 
@@ -80,6 +81,18 @@ func (f *fake) count(what string) (n int) {
 		}
 	}
 	return n
+}
+
+// cancelAt returns a context that is canceled before the nth frame that begins so is served, counted from now.
+func (f *fake) cancelAt(n int64, what string) (context.Context, context.CancelFunc) {
+	ctx, cancel := context.WithCancel(context.Background())
+	var arrived atomic.Int64
+	f.before = func(frame string) {
+		if strings.HasPrefix(frame, what) && arrived.Add(1) >= n {
+			cancel()
+		}
+	}
+	return ctx, cancel
 }
 
 func (f *fake) Do(ctx context.Context, request frame.Frame) (frame.Reply, error) {

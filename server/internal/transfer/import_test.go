@@ -269,13 +269,7 @@ func TestAnInterruptedImportGoesOn(t *testing.T) {
 	}
 	runs := 0
 	for ; runs < 100; runs++ {
-		ctx, cancel := context.WithCancel(context.Background())
-		begun := f.count("")
-		f.before = func(string) {
-			if f.count("") > begun+300 {
-				cancel()
-			}
-		}
+		ctx, cancel := f.cancelAt(300, "")
 		err := Import(ctx, Options{Store: f, Dir: dir, Path: "/"})
 		cancel()
 		if err == nil {
