@@ -1,5 +1,5 @@
 //! Opens the store of a folder.
-ghost use Rattle.std.specs.Prelude.{◌≡◌, [], true, false, IsTrue, IfOk, IfErr, OnOk};
+ghost use Rattle.std.specs.Prelude.{◌≡◌, ℕ, List, [], true, false, IsTrue, IfOk, IfErr, OnOk};
 ghost use Rattle.sqlite.specs.Files.{image_of};
 ghost use Rattle.sqlite.specs.Held.{state};
 ghost use Rattle.sqlite.specs.State.{HasCleanDisk};
@@ -13,10 +13,11 @@ ghost use Rattle.dav_rows.specs.Contents.{Contents};
 ghost use Rattle.dav_rows.specs.Creating.{first};
 ghost use Rattle.dav_rows.specs.Saving.{IsAt};
 ghost use Rattle.dav_rows.specs.declared.opening.Version.TheVariants.{New};
-ghost use Rattle.dav_rows_files.specs.Starting.{Keeps, IsVacant};
+ghost use Rattle.dav_rows_files.specs.Starting.{Keeps, IsVacant, FailsUnharmed, FailsUnharmedFirst};
 ghost use Rattle.dav_seal.specs.Seals.{IsSealed};
 ghost use Rattle.dav_folder.specs.Claims.{IsKeyed};
 ghost use Rattle.dav_folder.specs.Errors.{IsLate};
+ghost use Rattle.dav_folder.specs.Failing.{LeavesOnly, LeavesAsBefore, IsOnlyRead};
 ghost use Rattle.dav_folder.specs.Folders.{keeping_of, batch_of};
 ghost use Rattle.dav_folder.specs.Lasting.{HasCleanDatabase};
 ghost use Rattle.dav_folder.specs.Reading.{IsReadFrom, ReadsImage, IsEmptyIfHonest};
@@ -24,14 +25,14 @@ ghost use Rattle.dav_folder.specs.Opening.{Opens, OpensImage, AreOnlyRead};
 
 use crate::error::opening_error;
 use crate::reading::read_store;
-use crate::{Confirm, Folder, Found, OpenError};
+use crate::{Confirm, DataLeft, Folder, Found, OpenError, Remains};
 use dav_data::{Claim, ClaimedFile};
 use dav_keep::Keeping;
 use dav_memls::MemLs;
 use dav_rows::{Change, Version};
 use dav_rows_files::{judge, start};
 use dav_tree::{Medium, TreeFs};
-use sqlite::{Alter, Connection, FileStore};
+use sqlite::{Alter, Connection, FileStore, Leftover};
 use sqlite_disk::{Disk, Files};
 use std::alloc::Global;
 
@@ -66,6 +67,8 @@ const MIN_LOG: usize = 32 + 24 + 512;
 /// - `Data`: the data file cannot be read, or it is shorter than the rows say.
 /// - `Database`: the database cannot be read.
 /// - `Memory`: memory runs out.
+///
+/// The data file comes back with the error. Nothing was written to it, so a crash leaves what it left before.
 pub fn read_files<D: Disk, E: Disk + Drop, C: Confirm>(
     alloc: Global,
     files: &mut Files<D>,
@@ -73,7 +76,7 @@ pub fn read_files<D: Disk, E: Disk + Drop, C: Confirm>(
     changes: &[Change],
     limit: Option<Option<u64>>,
     tag_part: Option<u128>,
-) -> Result<Found<ClaimedFile<E, C>>, OpenError>
+) -> Result<Found<ClaimedFile<E, C>>, (OpenError, DataLeft<E, C>)>
     requires log_usable { IsTrue (D.Disk.is_usable files.old.log) }
     requires db_usable { IsTrue (D.Disk.is_usable files.old.db) }
     requires usable { E.Disk.is_usable disk ≡ true }
@@ -90,10 +93,17 @@ pub fn read_files<D: Disk, E: Disk + Drop, C: Confirm>(
     ensures log { IfOk result (λ found. (store_of found.store).log ≡ []) }
     ensures sound { IfOk result (λ _. AreClean D.Disk files.new.log files.new.db → ¬ IsDamaged (image_of D.Disk files.old).log) }
     ensures only { AreOnlyRead D.Disk files.old files.new }
+    ensures only_data { IfOk result (IsOnlyRead (E.Disk.seen disk)) }
+    ensures unharmed { IfErr result (λ e. LeavesAsBefore disk e.1) }
 {
     let mut disk = disk;
-    let loaded = judge(alloc, files, changes)?;
-    expect_empty(loaded.version, files, &mut disk)?;
+    let loaded = match judge(alloc, files, changes) {
+        Ok(loaded) => loaded,
+        Err(error) => return Err((error.into(), DataLeft::Disk(disk))),
+    };
+    if let Err(error) = expect_empty(loaded.version, files, &mut disk) {
+        return Err((error, DataLeft::Disk(disk)));
+    }
     read_store(alloc, loaded.rows, loaded.version, disk, limit, tag_part)
 }
 
@@ -136,13 +146,16 @@ impl<E: Disk + Drop, C: Claim> Found<ClaimedFile<E, C>> {
     ///
     /// - `Database`: the database cannot be read or written.
     /// - `Memory`: memory runs out.
+    ///
+    /// The files come back with the error. Whatever a crash leaves of those of the database then has the tables that they
+    /// had, or might have been left before the start; [`start`] says this more exactly. Nothing was written to the data file.
     pub fn open<D: Disk + Drop>(
         self,
         alloc: Global,
         files: Files<D>,
         seed: u64,
         changes: &[Change],
-    ) -> Result<Opened<FileStore<D>, ClaimedFile<E, C>>, OpenError>
+    ) -> Result<Opened<FileStore<D>, ClaimedFile<E, C>>, (OpenError, Remains<D, E, C>)>
         requires log_usable { IsTrue (D.Disk.is_usable files.log) }
         requires db_usable { IsTrue (D.Disk.is_usable files.db) }
         requires keyed { IsKeyed C.Claim self.key }
@@ -155,15 +168,29 @@ impl<E: Disk + Drop, C: Claim> Found<ClaimedFile<E, C>> {
         ensures last { IfOk result (λ opened. opened.last ≡ self.last) }
         ensures batch { IfOk result (λ opened. batch_of opened.folder ≡ opened.last) }
         ensures key { IfOk result (λ opened. opened.key ≡ self.key) }
-        ensures err { IfErr result IsLate }
+        ensures err { IfErr result (λ e. IsLate e.0) }
+        ensures unharmed { IfErr result (λ e. FailsUnharmed files e.1.database) }
+        ensures unharmed_first { IfErr result (λ e. FailsUnharmedFirst files (first changes.now) e.1.database) }
+        ensures data { IfErr result (λ e. (contents : List ℕ) → IsOnlyRead contents self → LeavesOnly contents e.1.data) }
     {
-        let Ok(upgrade) = self.known.sealing(alloc) else {
-            return Err(OpenError::Memory);
+        let (error, database) = match self.known.sealing(alloc) {
+            Ok(upgrade) => match start(alloc, files, seed, changes, &upgrade) {
+                Ok(conn) => return Ok(self.keep_in(alloc, conn)),
+                Err((error, left)) => (opening_error(error), left),
+            },
+            Err(_) => (OpenError::Memory, Leftover::Files(files)),
         };
-        match start(alloc, files, seed, changes, &upgrade) {
-            Ok(conn) => Ok(self.keep_in(alloc, conn)),
-            Err((error, _)) => Err(opening_error(error)),
-        }
+        let data = self.give_up();
+        Err((error, Remains { database, data }))
+    }
+
+    /// Gives up what was read, and returns the data file. Nothing is written.
+    pub fn give_up(self) -> DataLeft<E, C>
+        ensures { (contents : List ℕ) → IsOnlyRead contents self → LeavesOnly contents result }
+    {
+        let file = self.store.into_medium();
+        file.show_right();
+        DataLeft::File(file)
     }
 
     /// Goes on from what was read, and keeps it in this database.

@@ -16,6 +16,8 @@ use Rattle.dav_pieces.specs.declared.piece.Piece.{Piece}
 use Rattle.sqlite.specs.Recovery as database
 use Rattle.sqlite_disk.specs.declared.Disk as disk
 use Rattle.sqlite_store.specs.declared.store.FileStore.{FileStore}
+use Rattle.dav_folder.specs.declared.failing.Remains.{Remains}
+use Rattle.davd.specs.Failing.{HoldsOnIfOpened}
 use Rattle.davd.specs.Leaving.{GoesOn, GoesOnWithLog, GoesOnAndStops}
 use Rattle.davd.specs.Options.{OptionsValue, options_of}
 use Rattle.davd.specs.declared.folder.StartOptions.{StartOptions}
@@ -82,9 +84,14 @@ pub record ServesFolder {D E L C : Type 0} (d : disk.Ghosts D) (l : disk.Ghosts 
   pub number : LastBatch L l
   pub goes_on : GoesOn left file files said number medium (rules_in options) (start_of options) input input' output output'
 
--- nothing is read or written
-abbrev pub HasNotBegun : {I O : Type 0} → I → I → O → O → Type 0
-HasNotBegun input input' output output' = (input' ≡ input) × (output' ≡ output)
+-- No input is read, and no output written. Whatever a crash leaves of the files of the folder, if they were opened, holds what they held, `left` and
+-- `file`.
+pub record HasNotBegun {D E C I O : Type 0} (d : disk.Ghosts D) (e : disk.Ghosts E) (c : claim.Ghosts C) (left : database.Image) (file : List ℕ)
+    (input input' : I) (output output' : O) : Type 0 where
+  pub unread : input' ≡ input
+  pub unwritten : output' ≡ output
+  pub remains : Option (Remains D E C d e c)
+  pub holds : HoldsOnIfOpened left file remains
 
 -- ---- how the program ends
 

@@ -19,6 +19,7 @@ use crate::serving::{FolderData, FolderOptions, serve_folder};
 use dav_folder::Confirm;
 use dav_guarding::Guarding;
 use dav_memls::MemLs;
+use dav_reserve::Reserved;
 use dav_resource::{FsError, FsResult};
 use dav_rights::Access;
 use dav_server::{Options, Server};
@@ -137,7 +138,8 @@ pub fn run_program<R: Start, T: Start, N: Start, C: Confirm, I: Read, O: Write>(
         → OnOk result (ServesFolder ⟦<FileFrom<R> as Disk>⟧ ⟦<FileFrom<N> as Disk>⟧ ⟦<FolderData<T, C> as Medium>⟧ (image_at R.Start) T.Start.db (image_at N.Start)
         options (I.remaining input.old) (I.remaining input.new) (O.contents output.old) (O.contents output.new)) }
     ensures stopped { (options : OptionsValue) → SayFolder (texts arguments.now) options
-        → OnErr result (HasNotBegun input.old input.new output.old output.new
+        → OnErr result (HasNotBegun ⟦<FileFrom<R> as Disk>⟧ ⟦<Reserved<FileFrom<T>, FileFrom<T>> as Disk>⟧ C.Claim (image_at R.Start) T.Start.db
+        input.old input.new output.old output.new
         ⊎ (StopsInFolder ⟦<FileFrom<R> as Disk>⟧ ⟦<FolderData<T, C> as Medium>⟧ (image_at R.Start) T.Start.db options
         (O.contents output.old) (O.contents output.new)
         ⊎ ServesWithLog ⟦<FileFrom<R> as Disk>⟧ ⟦<FolderData<T, C> as Medium>⟧ (image_at R.Start) T.Start.db options
@@ -172,8 +174,10 @@ pub fn run_program<R: Start, T: Start, N: Start, C: Confirm, I: Read, O: Write>(
                 tag_part,
             };
             let options = FolderOptions { server, start };
-            let served = serve_folder(rt, folder.as_str(), held, options, input, output)?;
-            served.0
+            match serve_folder(rt, folder.as_str(), held, options, input, output) {
+                Ok(ended) => ended.0,
+                Err(unstarted) => Err(unstarted.stopped),
+            }
         }
         None => serve_in_memory(rt.alloc(), quota, tag_part, server, input, output),
     }
