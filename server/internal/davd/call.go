@@ -1,6 +1,7 @@
 package davd
 
 import (
+	"net/http"
 	"sync"
 	"time"
 
@@ -23,6 +24,7 @@ type call struct {
 	adds   bool     // davd may hold more after it
 	frees  bool     // davd may hold less after it
 	sets   bool     // it sets the access rules
+	makes  bool     // it has changed what davd keeps, if its response is 201 or 204
 	place  uint64   // its place among all calls that were queued
 	again  bool     // it was sent before, or is not to be sent again
 	reply  []byte
@@ -44,6 +46,7 @@ func newCall(f frame.Frame) *call {
 		adds:  adds(f),
 		frees: frees(f),
 		sets:  sets(f),
+		makes: makes(f),
 		done:  make(chan struct{}, 1),
 		what:  describe(f),
 	}
@@ -85,6 +88,28 @@ func lasts(f frame.Frame) bool {
 func sets(f frame.Frame) bool {
 	_, ok := f.(frame.SetRights)
 	return ok
+}
+
+// makes reports whether a frame has changed what davd keeps if its response has the status 201 or 204.
+func makes(f frame.Frame) bool {
+	request, ok := f.(*frame.Request)
+	if !ok {
+		return false
+	}
+	switch request.Method {
+	case "PUT", "MKCOL", "DELETE", "COPY", "MOVE":
+		return true
+	}
+	return false
+}
+
+// hasMade reports whether a call has changed what davd keeps, by the reply to it.
+func (c *call) hasMade(reply []byte) bool {
+	if !c.makes {
+		return false
+	}
+	status := frame.StatusOf(reply)
+	return status == http.StatusCreated || status == http.StatusNoContent
 }
 
 // adds reports whether davd may hold more after a frame. Without a body a LOCK refreshes one.

@@ -140,12 +140,16 @@ func Start(ctx context.Context, config Config) (*Engine, error) {
 	if config.Rights != "" {
 		rights = &config.Rights
 	}
-	process, err := open(config.first(), rights, ctx.Done(), now)
+	isNew := config.Folder != "" && hasDatabase(config.Folder) != nil
+	process, err := open(config.first(), 0, rights, ctx.Done(), now)
 	if errors.Is(err, errStopped) {
 		return nil, ctx.Err()
 	}
 	if err != nil {
 		return nil, err
+	}
+	if isNew {
+		config.Log.Printf("the folder %s had no store: a new one was made", config.Folder)
 	}
 	e := &Engine{
 		config: config, process: process, now: now, rights: rights,

@@ -134,6 +134,7 @@ func overFolder(t *testing.T, acts string, p pauses) (Config, fakeFolder, *logge
 	t.Helper()
 	t.Setenv(behavior, "folder: "+acts)
 	folder, said := t.TempDir(), &logged{}
+	fakeFolder(folder).set("meta.db", 0)
 	return Config{Program: os.Args[0], Folder: folder, Log: said.logger(), pauses: p}, fakeFolder(folder), said
 }
 

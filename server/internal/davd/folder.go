@@ -4,7 +4,10 @@ import (
 	"errors"
 	"fmt"
 	"io"
+	"os"
+	"path/filepath"
 	"sort"
+	"syscall"
 	"time"
 
 	"davserve/internal/frame"
@@ -14,14 +17,20 @@ import (
 var errStopped = errors.New("it was stopped")
 
 // open starts davd. Over a folder it waits until davd has named the last batch that it kept, and then limits its memory.
-// It gives davd the access rules, if there are some. It gives up when stop is closed.
-func open(config Config, rights *string, stop <-chan struct{}, now uint64) (*process, error) {
+// It gives davd the access rules, if there are some. It gives up when stop is closed. A folder whose last batch is before
+// the one that was answered is not served.
+func open(config Config, answered uint64, rights *string, stop <-chan struct{}, now uint64) (*process, error) {
+	if err := expectPlainFiles(config.Folder); err != nil {
+		return nil, fmt.Errorf("davd cannot serve the folder %s: %w", config.Folder, err)
+	}
 	p, err := start(config)
 	if err != nil || config.Folder == "" && rights == nil {
 		return p, err
 	}
 	err = p.await(stop, config.pauses.load, func() error { return p.greet(config, rights, now) })
-	if err == nil && config.Folder != "" {
+	if err == nil && p.kept < answered {
+		err = fmt.Errorf("it has lost changes that were answered: its last batch is %d, and %d was answered", p.kept, answered)
+	} else if err == nil && config.Folder != "" {
 		err = p.limitMemory(config)
 	}
 	if err == nil {
@@ -35,6 +44,28 @@ func open(config Config, rights *string, stop <-chan struct{}, now uint64) (*pro
 		return nil, fmt.Errorf("davd cannot serve: %w", err)
 	}
 	return nil, fmt.Errorf("davd cannot serve the folder %s: %w", config.Folder, err)
+}
+
+// fileNames are the names of the files in a folder.
+var fileNames = []string{"meta.db", "meta.db-wal", "data", "data-wal", "last", "last-wal"}
+
+// expectPlainFiles checks that no file of a folder is a link or has a second name. davd would find the file that belongs to
+// it elsewhere than a backup does. Without a folder there are none.
+func expectPlainFiles(folder string) error {
+	if folder == "" {
+		return nil
+	}
+	for _, name := range fileNames {
+		found, err := os.Lstat(filepath.Join(folder, name))
+		if err != nil {
+			continue // It is not there, or davd says why it cannot be opened.
+		}
+		stat, ok := found.Sys().(*syscall.Stat_t)
+		if !found.Mode().IsRegular() || ok && stat.Nlink > 1 {
+			return fmt.Errorf("%s is a link, or a file with a second name: put a copy in its place (%w)", name, ErrNoStore)
+		}
+	}
+	return nil
 }
 
 // greet is what is done before davd is in service: it names the last batch that it kept in its folder, and gets the access

@@ -4,6 +4,8 @@ import (
 	"context"
 	"errors"
 	"math/big"
+	"os"
+	"path/filepath"
 	"reflect"
 	"strconv"
 	"strings"
@@ -98,13 +100,15 @@ func TestNumbersGoOnAfterARestart(t *testing.T) {
 		want uint64 // the number of the third batch
 	}{
 		{"sound", 3},
-		{"sound, forgets a batch", 2}, // It had changed nothing.
+		{"sound, forgets a batch", 2},
 	}
 	for _, test := range tests {
 		t.Run(test.acts, func(t *testing.T) {
 			engine, folder, _ := startOver(t, test.acts, quickOver)
 			doChange(t, engine)
-			doChange(t, engine)
+			if _, err := engine.Do(soon(t), &frame.Request{Method: "PROPPATCH", Path: "/"}); err != nil {
+				t.Fatal(err) // It may have changed nothing.
+			}
 			kill(t, engine)
 			doChange(t, engine)
 			if last := folder.get("last"); last != test.want {
@@ -112,6 +116,40 @@ func TestNumbersGoOnAfterARestart(t *testing.T) {
 			}
 		})
 	}
+}
+
+func TestAFolderThatHasLostWhatWasAnsweredIsNotServed(t *testing.T) {
+	engine, folder, said := startOver(t, "sound, forgets a batch, sound", quickOver)
+	doChange(t, engine)
+	doChange(t, engine)
+	engine.mu.Lock()
+	engine.process.kill()
+	engine.mu.Unlock()
+	awaitLog(t, said, "lost changes that were answered: its last batch is 1, and 2 was answered")
+	folder.set("last", 2)
+	waitUntil(t, func() bool { return engine.process != nil }, engine)
+	doChange(t, engine)
+	if last := folder.get("last"); last != 3 {
+		t.Errorf("the last batch has the number %d, want 3", last)
+	}
+}
+
+func TestAFolderThatIsGoneIsNotMadeAnew(t *testing.T) {
+	engine, folder, said := startOver(t, "sound", quickOver)
+	doChange(t, engine)
+	aside := fakeFolder(string(folder) + "-aside")
+	if err := os.Rename(string(folder), string(aside)); err != nil {
+		t.Fatal(err)
+	}
+	engine.mu.Lock()
+	engine.process.kill()
+	engine.mu.Unlock()
+	awaitLog(t, said, "meta.db: no such file")
+	if err := os.Rename(string(aside), string(folder)); err != nil {
+		t.Fatal(err)
+	}
+	waitUntil(t, func() bool { return engine.process != nil }, engine)
+	doChange(t, engine)
 }
 
 // kill kills davd, and waits until the next one is in service.
@@ -472,4 +510,41 @@ func TestADavdThatCannotKeepIsNotStartedAllTheTime(t *testing.T) {
 	if starts := folder.get("starts"); starts > 5 {
 		t.Errorf("%d davds were started within half a second", starts)
 	}
+}
+
+func TestALinkInTheFolderIsRefused(t *testing.T) {
+	tests := map[string]func(other, name string) error{"a symbolic link": os.Symlink, "a second name": os.Link}
+	for what, link := range tests {
+		for _, name := range fileNames {
+			t.Run(what+" of "+name, func(t *testing.T) {
+				config, folder, _ := overFolder(t, "sound", quickOver)
+				other := filepath.Join(t.TempDir(), "other")
+				if err := os.WriteFile(other, nil, 0o600); err != nil {
+					t.Fatal(err)
+				}
+				at := filepath.Join(string(folder), name)
+				os.Remove(at)
+				if err := link(other, at); err != nil {
+					t.Fatal(err)
+				}
+				_, err := Start(soon(t), config)
+				if !errors.Is(err, ErrNoStore) || !strings.Contains(err.Error(), name+" is a link") {
+					t.Errorf("a start: %v", err)
+				}
+			})
+		}
+	}
+}
+
+func TestANewStoreIsLogged(t *testing.T) {
+	config, folder, said := overFolder(t, "sound", quickOver)
+	if err := os.Remove(filepath.Join(string(folder), "meta.db")); err != nil {
+		t.Fatal(err)
+	}
+	engine, err := Start(soon(t), config)
+	if err != nil {
+		t.Fatal(err)
+	}
+	defer closeSoon(t, engine)
+	awaitLog(t, said, "had no store: a new one was made")
 }

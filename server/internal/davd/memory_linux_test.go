@@ -15,17 +15,17 @@ import (
 // memory for that.
 const (
 	showsLimit  = `ulimit -v >&2`
-	findsFolder = `for folder; do :; done` // in its last argument
-	// greets answers the batch that asks for the number of the last one.
-	greets = `head -c 24 >/dev/null; printf '\0\0\0\0\0\0\0\0\0\0\0\0\0\0\1\231\0\0\0\0\0\0\0\0'`
+	findsFolder = `for folder; do :; done; >>"$folder/meta.db"` // in its last argument
+	// greets answers the batch that asks for the number of the last one, which is 0 unless last says another.
+	greets = `head -c 24 >/dev/null; printf "\0\0\0\0\0\0\0${last:-\0}\0\0\0\0\0\0\1\231\0\0\0\0\0\0\0\0"`
 	waits  = `head -c 1 >/dev/null` // for the first byte of a batch
-	// answers answers batch 1 of one request with the status 204.
-	answers = `printf '\0\0\0\0\0\0\0\1\0\0\0\0\0\0\0\310\0\0\0\0\0\0\0\1'
+	// answers answers a batch of one request with the status 204. It is batch 1 unless next says another.
+	answers = `printf "\0\0\0\0\0\0\0${next:-\1}\0\0\0\0\0\0\0\310\0\0\0\0\0\0\0\1"
 		printf '\0\0\0\0\0\0\0\23\0\0\0\0\0\0\0\0\314\0\0\0\0\0\0\0\0\0\0'`
 	goesOn = `cat >/dev/null` // to the end of its input
 	grows  = `x=$(head -c 20000000 /dev/zero | tr '\0' x)`
 	// growsOnce grows the first time only.
-	growsOnce = `if ! [ -e "$folder/again" ]; then >"$folder/again"; ` + grows + `; fi`
+	growsOnce = `if ! [ -e "$folder/again" ]; then >"$folder/again"; ` + grows + `; else last='\1' next='\2'; fi`
 	// endsOnce ends the first time, and grows after that.
 	endsOnce = `if [ -e "$folder/again" ]; then sleep 0.3; ` + grows + `; else >"$folder/again"; ` + greets + `; ` + waits + `; exit 3; fi`
 )

@@ -40,6 +40,7 @@ type process struct {
 	renewed bool          // it gets no more batches and ends, so that the next one needs less memory
 	kept    uint64        // the number of the last batch that it had kept in its folder when it was started
 	number  uint64        // of the last batch
+	made    uint64        // the number of the last batch of which an answer says that it has changed the folder
 	pending int           // how many batches were sent whose replies were not all read
 	sent    chan *batch   // the batches whose replies were not begun to be read
 	reading *batch        // the batch whose replies are read, or could not be read whole
@@ -173,6 +174,9 @@ func (p *process) read(b *batch) error {
 			return err
 		}
 		b.answered++
+		if c.hasMade(reply) {
+			p.made = b.number
+		}
 		if c.replied != nil {
 			c.replied(reply)
 		}

@@ -2,7 +2,10 @@ package davd
 
 import (
 	"errors"
+	"fmt"
 	"io"
+	"os"
+	"path/filepath"
 	"strings"
 	"time"
 )
@@ -51,9 +54,11 @@ func (p pauses) longer(last time.Duration) time.Duration {
 func (e *Engine) supervise(p *process) {
 	defer close(e.ended)
 	pause := time.Duration(0)
+	var answered uint64 // the last batch over the folder that was kept for sure
 	for p != nil {
 		began := time.Now()
 		err := e.read(p)
+		answered = latestKept(answered, p)
 		if !e.isClosing() {
 			p.kill()
 		}
@@ -65,8 +70,20 @@ func (e *Engine) supervise(p *process) {
 		}
 		e.report(p, err, end, lost)
 		pause = e.config.pauses.after(time.Since(began), pause)
-		p = e.restart(&pause)
+		p = e.restart(&pause, answered)
 	}
+}
+
+// latestKept returns the number of the last batch that was kept in the folder for sure, if it was this one before davd
+// was started.
+func latestKept(before uint64, p *process) uint64 {
+	latest := before
+	for _, number := range []uint64{p.kept, p.made} {
+		if number > latest {
+			latest = number
+		}
+	}
+	return latest
 }
 
 // read finishes the calls of each batch, until davd ends or writes what it may not.
@@ -171,13 +188,13 @@ func (e *Engine) reportCalls(format string, calls []string) {
 }
 
 // restart starts davd after the pause, and again after longer pauses as long as that fails. It returns nil if the
-// engine is closed.
-func (e *Engine) restart(pause *time.Duration) *process {
+// engine is closed. Over a folder the batch with the number answered was kept.
+func (e *Engine) restart(pause *time.Duration, answered uint64) *process {
 	for {
 		if !e.sleep(*pause) {
 			return nil
 		}
-		p, err := e.openNext()
+		p, err := e.openNext(answered)
 		switch {
 		case err == nil:
 			return e.attach(p)
@@ -191,10 +208,22 @@ func (e *Engine) restart(pause *time.Duration) *process {
 
 // openNext starts the next davd. Over a folder it counts as loading meanwhile. The access rules do not change until it is
 // in service: only the reply of a davd changes them, and there is none.
-func (e *Engine) openNext() (*process, error) {
-	e.setLoading(e.config.Folder != "")
+func (e *Engine) openNext(answered uint64) (*process, error) {
+	if e.config.Folder == "" {
+		return open(e.config, 0, e.nextRights(), e.closed, e.later())
+	}
+	e.setLoading(true)
 	defer e.setLoading(false)
-	return open(e.config, e.nextRights(), e.closed, e.later())
+	if err := hasDatabase(e.config.Folder); err != nil {
+		return nil, fmt.Errorf("davd cannot serve the folder %s: %w", e.config.Folder, err)
+	}
+	return open(e.config, answered, e.nextRights(), e.closed, e.later())
+}
+
+// hasDatabase checks that a folder that was served has its database. Otherwise davd would make a new store there.
+func hasDatabase(folder string) error {
+	_, err := os.Stat(filepath.Join(folder, "meta.db"))
+	return err
 }
 
 func (e *Engine) setLoading(loading bool) {

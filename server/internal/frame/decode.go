@@ -55,6 +55,15 @@ func Decode(b []byte) (Reply, error) {
 	return reply, nil
 }
 
+// StatusOf returns the status of a Response, and 0 for another reply. It reads no more of it.
+func StatusOf(b []byte) int {
+	if len(b) == 0 || b[0] != replyResponse {
+		return 0
+	}
+	r := reader{b: b, at: 1}
+	return r.status()
+}
+
 // A reader reads values from the front of a reply. After its first failure it has no more bytes, and every method
 // returns a zero value.
 type reader struct {
