@@ -44,6 +44,6 @@ module _ {F : Type 0} (seen : F → Store) (reads : F → Reads) (contents : Con
     pub cause : error ≢ Memory
     pub refused : ReadsBytes (reads after) (seen before) key start count (Err error) (seen after)
 
-  -- an error with which reads the file ends
+  -- an error with which a read of the file ends
   abbrev pub IsFailure : FsError → Type 0
   IsFailure error = (error ≡ Memory) ⊎ WasRefused

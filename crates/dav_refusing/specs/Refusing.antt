@@ -1,10 +1,11 @@
 -- What each call does in a store that refuses by plan or by number: this project's own choice.
 use Rattle.std.specs.Prelude.{◌≡◌, ◌≢◌, ℕ, true, List, [], ◌∷◌, ◌++◌, map, filter_map, Option, Some, None, Result, Ok, Err, Vec, ◌⊎◌}
 use Rattle.std.specs.declared.alloc.Global.{Global}
+use Rattle.dav_key.specs.Key.{Key}
 use Rattle.dav_resource.specs.PathText.{PathValue}
 use Rattle.dav_resource.specs.declared.meta.DirEntry.{DirEntry}
 use Rattle.dav_resource.specs.declared.record.Op.{Op}
-use Rattle.dav_resource.specs.declared.record.Op.TheVariants.{ReadDir}
+use Rattle.dav_resource.specs.declared.record.Op.TheVariants.{ReadBytes, ReadDir}
 use Rattle.dav_resource.specs.declared.record.Outcome.{Outcome}
 use Rattle.dav_resource.specs.declared.record.Outcome.TheVariants.{Granted, Refused}
 use Rattle.dav_resource.specs.declared.record.Record.{Record}
@@ -13,6 +14,7 @@ use Rattle.dav_resource.specs.declared.error.FsError.TheVariants.{Memory}
 use Rattle.dav_store.specs.Logged.{logged_of}
 use Rattle.dav_store.specs.Store.{Store}
 use Rattle.dav_store.specs.BodyCalls.{stored_bytes}
+use Rattle.dav_store.specs.Calls.{Reads, ReadsBytes}
 use Rattle.dav_store.specs.Members.{Lists, ReadsDir, unseen_record}
 use Rattle.dav_store.specs.Logged.{record_with, record_on}
 use Rattle.dav_wrapping.specs.Wrapping.{Leave, seen_with}
@@ -95,6 +97,17 @@ module _ {F : Type 0} where
   -- a call of the wrapped store goes by the plan; if memory runs out, nothing changes that contracts see
   abbrev pub Follows : {A : Type 0} → (F → Store) → Op → List PathValue → (Store → Result A FsError → Store → Type 0) → Refusing F → Result A FsError → Refusing F → Type 0
   Follows see op paths Behind = FollowsPlan (IsSeenKept see) op paths (Passes see op paths Behind)
+
+  -- ---- read_bytes
+
+  -- the bytes are those of the wrapped store, or it says what it says of an error
+  abbrev pub ReadsBehind : (F → Reads) → (F → Store) → Key → ℕ → ℕ → Refusing F → Result (Vec ℕ Global) FsError → Refusing F → Type 0
+  ReadsBehind reads see key place count old answer new = ReadsBytes (reads (inner_of new)) (seen_behind see old) key place count answer (seen_behind see new)
+
+  -- a read of bytes goes by the plan
+  abbrev pub FollowsRead : (F → Reads) → (F → Store) → PathValue → ℕ → ℕ → Refusing F → Result (Vec ℕ Global) FsError → Refusing F → Type 0
+  FollowsRead reads see path place count old answer new =
+      Follows see ReadBytes (path ∷ []) (λ s. ReadsBytes (reads (inner_of new)) s path.key place count) old answer new
 
   -- ---- read_dir
 

@@ -2,7 +2,7 @@
 ghost use Rattle.std.specs.Prelude.{◌≡◌, ◌≢◌, refl, ◌⊎◌, ◌<◌, ◌≤◌, ◌+◌, ◌-◌, ◌^◌, [], ◌∷◌, ◌++◌, All, false, map, length, vec_len, vec_capacity, IfOk, IfErr, OnOk, OnErr, MatchResult, Some, None};
 ghost use Rattle.std.specs.Borrow.{sem};
 ghost use Rattle.dav_store.specs.Logged.{logged_of};
-ghost use Rattle.dav_store.specs.Calls.{IsOwn, LooksUp, MakesDirectory, Opens, ReadsBytes, Seeks, Writes, Flushes, LooksUpFile, place_of};
+ghost use Rattle.dav_store.specs.Calls.{IsOwn, LooksUp, MakesDirectory, Opens, Seeks, Writes, Flushes, LooksUpFile, place_of};
 ghost use Rattle.dav_store.specs.Members.{ReadsDir, RemovesFile, RemovesDir};
 ghost use Rattle.dav_store.specs.BodyCalls.{StartsBody, AddsToBody, with_body};
 ghost use Rattle.dav_store.specs.Transfers.{Copies, Renames};
@@ -179,7 +179,7 @@ impl<F> Refusing<F> {
 }
 
 impl<C, F: GuardedFileSystem<C>> GuardedFileSystem<C> for Refusing<F> {
-    ghost use Rattle.dav_refusing.specs.Refusing.{seen_behind, inner_of, body_behind, pending_of, records_of, Follows, FollowsReading};
+    ghost use Rattle.dav_refusing.specs.Refusing.{seen_behind, inner_of, body_behind, pending_of, records_of, Follows, FollowsReading, FollowsRead, ReadsBehind};
 
     ghost seen = { seen_behind F.seen };
 
@@ -296,8 +296,8 @@ impl<C, F: GuardedFileSystem<C>> GuardedFileSystem<C> for Refusing<F> {
         count: usize,
         credentials: &C,
     ) -> FsResult<Vec<u8>>
-        ensures seen { ReadsBytes (F.reads (inner_of self.new)) (seen_behind F.seen self.old) path.now.key place count result (seen_behind F.seen self.new) }
-        ensures plan { Follows F.seen Op.ReadBytes (path.now ∷ []) (λ s. ReadsBytes (F.reads (inner_of self.new)) s path.now.key place count) self.old result self.new }
+        ensures seen { ReadsBehind F.reads F.seen path.now.key place count self.old result self.new }
+        ensures plan { FollowsRead F.reads F.seen path.now place count self.old result self.new }
     {
         let paths = one_path(path)?;
         let mut call = self.begin(Op::ReadBytes, paths)?;
