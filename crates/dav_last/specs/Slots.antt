@@ -14,14 +14,17 @@ unfoldable pub said_by : ℕ → List ℕ → Last
 said_by key [] = Nothing
 said_by key (byte ∷ rest) = number_or_unreadable (named key (byte ∷ rest))
 
--- the greater number; without one, nothing only if there is nothing in both
+-- The greater number. Without one, there is nothing unless both have bytes: the first number of all is written to one slot and then to the other, so beside an
+-- empty slot no number can be lost.
 abbrev pub later : Last → Last → Last
 later (Number m) (Number n) = Number (max m n)
 later (Number m) Nothing = Number m
 later (Number m) Unreadable = Number m
-later Nothing other = other
+later Nothing (Number n) = Number n
+later Nothing Nothing = Nothing
+later Nothing Unreadable = Nothing
 later Unreadable (Number n) = Number n
-later Unreadable Nothing = Unreadable
+later Unreadable Nothing = Nothing
 later Unreadable Unreadable = Unreadable
 
 -- what two files say together

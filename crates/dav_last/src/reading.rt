@@ -12,9 +12,10 @@ use std::io;
 /// What one slot or both name.
 #[derive(Clone, Copy, Debug)]
 pub enum Last {
-    /// There is no byte.
+    /// There is no byte. Of both slots: one of them has none, and the other names no number.
     Nothing,
-    /// There are bytes, and they name no number under this key: they are damaged, or belong to another folder.
+    /// There are bytes, and they name no number under this key: they are damaged, or belong to another folder. Of both
+    /// slots: so it is of each.
     Unreadable,
     /// The greatest number that is named.
     Number(u64),
@@ -28,9 +29,9 @@ impl Last {
         match (self, other) {
             (Last::Number(m), Last::Number(n)) => Last::Number(m.max(n)),
             (Last::Number(_), _) => self,
-            (Last::Nothing, _) => other,
-            (Last::Unreadable, Last::Number(_)) => other,
-            (Last::Unreadable, _) => self,
+            (_, Last::Number(_)) => other,
+            (Last::Unreadable, Last::Unreadable) => self,
+            _ => Last::Nothing,
         }
     }
 
