@@ -90,7 +90,7 @@ def moved(starter: Starter):
     expect("the directory above", dict((row[0], row[2]) for row in before)[changed[0][1][1]], "f")
 
 
-DAMAGED = "davd: meta.db or meta.db-wal is damaged, so nothing was changed: restore the folder from a backup\n"
+DAMAGED = "davd: meta.db or meta.db-wal is damaged, so nothing was changed: restore all files of the folder from one backup\n"
 FOREIGN = ("davd: meta.db is not a database of this version of davd, so nothing was changed: "
            "serve it by the later version that made it, or choose another folder\n")
 

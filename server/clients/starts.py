@@ -9,6 +9,7 @@ import subprocess
 import tarfile
 import time
 
+import backup_client
 from harness import Group, Starter
 from kept import ASKED, check, count_rows, start
 from server import PROCESSES, Server, expect
@@ -19,18 +20,18 @@ GROUPS = [GROUP]
 SIZES = (("/a", 5), ("/b", 70_000), ("/d/c", 300_000))
 """The paths and the sizes of the files in a folder."""
 
-RESTORE = "so nothing was changed: restore meta.db, meta.db-wal and data from one backup\n"
+RESTORE = "so nothing was changed: restore all files of the folder from one backup\n"
 NO_DATABASE = f"davd: meta.db has no store, and the folder has bytes of one, {RESTORE}"
 NO_DATA = f"davd: data is missing, {RESTORE}"
 SHORT_DATA = f"davd: data is shorter than meta.db says, {RESTORE}"
-DAMAGED = "davd: meta.db or meta.db-wal is damaged, so nothing was changed: restore the folder from a backup\n"
+DAMAGED = "davd: meta.db or meta.db-wal is damaged, so nothing was changed: restore all files of the folder from one backup\n"
 FOREIGN = ("davd: meta.db is not a database of this version of davd, so nothing was changed: "
            "serve it by the later version that made it, or choose another folder\n")
 UNFINISHED = "davd: a backup to this folder did not end, so nothing was changed: make a new one in another folder\n"
 OLDER = ("davd: meta.db and meta.db-wal have lost the last batches, so nothing was changed: "
-         "restore the folder from a backup, or serve what is left with -accept-loss\n")
-NO_NUMBER = ("davd: last and last-wal are damaged or of another folder, so nothing was changed: "
-             "restore the folder from a backup, or serve it with -accept-loss\n")
+         "restore all files of the folder from one backup, or serve what is left with -accept-loss\n")
+NO_NUMBER = ("davd: one of last and last-wal is missing, damaged or of another folder, so nothing was changed: "
+             "restore all files of the folder from one backup, or serve it with -accept-loss\n")
 
 
 def sums(folder: pathlib.Path) -> dict[str, str]:
@@ -322,17 +323,45 @@ def other_number(starter: Starter):
     whole(starter, other)
 
 
-@GROUP.check("a folder of which one of the two files of the number is missing or damaged is whole")
+@GROUP.check("a folder of which one of the two files of the number is damaged is whole")
 def half_number(starter: Starter):
     folder = filled(starter)
     for name in ("last", "last-wal"):
-        for change in (without(name), emptied(name), cut(name, 5), garbled(name)):
+        for change in (emptied(name), cut(name, 5), garbled(name)):
             copy = copy_of(starter, folder)
             change(copy)
             whole(starter, copy)
     copy = copy_of(starter, folder)
     without("last", "last-wal")(copy)
     whole(starter, copy)
+
+
+@GROUP.check("a folder of which one of the two files of the number is missing is refused, and is served with -accept-loss")
+def number_without_its_other(starter: Starter):
+    folder = filled(starter)
+    for name in ("last", "last-wal"):
+        copy = copy_of(starter, folder)
+        without(name)(copy)
+        refused(starter, f"without {name}", copy, NO_NUMBER)
+    shutil.rmtree(folder)
+    copy.rename(folder)
+    start(starter, "-accept-loss").stop()
+    whole(starter, folder)
+
+
+@GROUP.check("a backup without its files of -wal is refused")
+def without_logs(starter: Starter):
+    server = start(starter)
+    server.ask("PUT", "/early", b"early", status=201)
+    server.stop()
+    server = start(starter)
+    for number in range(6):
+        server.ask("PUT", f"/late-{number}", b"late", status=201)
+    backup = starter.folder / "backup"
+    backup_client.succeed(starter, backup)
+    server.stop()
+    without("meta.db-wal", "last-wal")(backup)
+    refused(starter, "the backup", backup, NO_NUMBER)
 
 
 @GROUP.check("a backup that did not end is refused, whichever of its files have their names")

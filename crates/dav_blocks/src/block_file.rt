@@ -262,6 +262,7 @@ impl<D: Disk> BlockFile<D> {
         ensures survives { (c : List ℕ) → may_leave self.now c → (at n : ℕ) → is_safe self.now at n ≡ true → bytes_at c at n ≡ bytes_at (data_of self.now) at n }
         ensures within { (c : List ℕ) → may_leave self.now c → result ≤ length c }
         ensures small { result < 2 ^ 63 }
+        ensures settled { is_settled self.now ≡ true → (c : List ℕ) → may_leave self.now c → c ≡ data_of self.now }
     {
         self.synced
     }

@@ -64,8 +64,8 @@ module _ (key : ℕ) (file : List ℕ) where
         len = len;
         place = 0;
         within = omega (number, arith);
-        is_right = same-right ∙ cut;
-        is_found = same-found ∙ is.cut;
+        right_is = same-right ∙ cut;
+        found_is = same-found ∙ is.cut;
         differ = λ equal. clash (sym same-found ∙ equal ∙ same-right);
       })
 
@@ -94,8 +94,8 @@ module _ (key : ℕ) (file : List ℕ) where
         len = has.len;
         place = has.place;
         within = let n = length-append part rest in let within = has.within in omega (n, within, arith);
-        is_right = right ∙ has.is_right;
-        is_found = found ∙ has.is_found;
+        right_is = right ∙ has.right_is;
+        found_is = found ∙ has.found_is;
         differ = λ equal. has.differ (sym found ∙ equal ∙ right);
       }
 
@@ -114,8 +114,8 @@ module _ (key : ℕ) (file : List ℕ) where
         len = has.len;
         place = length part + has.place;
         within = let n = length-append part rest in let within = has.within in omega (n, within, arith);
-        is_right = right ∙ has.is_right;
-        is_found = found ∙ has.is_found;
+        right_is = right ∙ has.right_is;
+        found_is = found ∙ has.found_is;
         differ = λ equal. has.differ (sym found ∙ equal ∙ right);
       }
 
@@ -144,8 +144,8 @@ module _ {D : Type 0} {g : Ghosts D} (it : DataFile D g) (body : List Piece) (pl
     len = has.len;
     place = has.place;
     within = has.within;
-    is_right = has.is_right;
-    is_found = has.is_found;
+    right_is = has.right_is;
+    found_is = has.found_is;
     differ = has.differ;
   })
 

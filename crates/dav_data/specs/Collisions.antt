@@ -26,8 +26,8 @@ pub record HasCollision (key : ℕ) (file : List ℕ) (body : List Piece) (right
   pub len : ℕ
   pub place : ℕ
   pub within : place + len ≤ length found
-  pub is_right : bytes_from place len right ≡ bytes_from from len (bytes_at file block.at block.size)
-  pub is_found : bytes_from place len found ≡ bytes_from from len bytes
+  pub right_is : bytes_from place len right ≡ bytes_from from len (bytes_at file block.at block.size)
+  pub found_is : bytes_from place len found ≡ bytes_from from len bytes
   pub differ : bytes_from place len found ≢ bytes_from place len right
 
 -- what was found is right, or differs by a collision

@@ -1,5 +1,5 @@
 -- What contracts see of a `DataFile`: this project's own choice.
-use Rattle.std.specs.Prelude.{◌≡◌, ◌⊎◌, ◌≤◌, ◌<◌, ℕ, ◌+◌, ◌*◌, ◌^◌, Bool, true, false, ◌&&◌, ◌||◌, ◌==◌, ltb, nat_lt, nat_le, List, [], ◌∷◌, ◌++◌, length, take, slice_index_or, Option, IfSome, Err}
+use Rattle.std.specs.Prelude.{◌≡◌, ◌⊎◌, ◌≤◌, ◌<◌, ℕ, ◌+◌, ◌*◌, ◌^◌, Bool, true, false, ◌&&◌, ◌||◌, ◌==◌, ltb, nat_lt, nat_le, List, [], ◌∷◌, ◌++◌, length, take, slice_index_or, Option, Some, None, if◌then◌else◌, IfSome, Err}
 use Rattle.sqlite_disk.specs.declared.Disk.{Ghosts}
 use Rattle.sqlite_disk.specs.Disk.{MoreFaults}
 use Rattle.sqlite_disk.specs.Digest.{digest}
@@ -67,6 +67,10 @@ module _ {D : Type 0} {g : Ghosts D} where
   -- no sync has failed, the disk has counted no failure, and no wrong answer of it has been taken as true
   abbrev pub is_faultless : DataFile D g → Bool
   is_faultless it = is_usable it && (is_honest it && (g.faults (disk_of it) == 0))
+
+  -- the contents that a crash leaves, if it leaves no others
+  abbrev pub settled : DataFile D g → Option (List ℕ)
+  settled it = if blocks.is_settled it.file then Some (data_of it) else None
 
   -- the contents that a crash at this moment may leave
   abbrev pub may_leave : DataFile D g → List ℕ → Type 0

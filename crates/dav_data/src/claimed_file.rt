@@ -1,5 +1,5 @@
 //! A data file of which something is supposed.
-ghost use Rattle.std.specs.Prelude.{◌≡◌, ◌≤◌, ◌<◌, ◌^◌, ℕ, List, length, true, IfOk, IfErr};
+ghost use Rattle.std.specs.Prelude.{◌≡◌, ◌≤◌, ◌<◌, ◌^◌, ℕ, List, length, true, Some, IfOk, IfErr};
 ghost use Rattle.dav_pieces.specs.declared.piece.Piece.{Piece};
 
 use crate::claim::Claim;
@@ -19,7 +19,7 @@ pub struct ClaimedFile<D: Disk, C: Claim> {
 
 impl<D: Disk, C: Claim> ClaimedFile<D, C> {
     ghost use Rattle.dav_blocks.specs.Settling.{HasNotSettled, IsUnharmed};
-    ghost use Rattle.dav_data.specs.Data.{is_below, is_honest, is_usable, key_of, may_leave, OpensBytes, LeavesBytes, LeavesEnds};
+    ghost use Rattle.dav_data.specs.Data.{is_below, is_honest, is_usable, settled, key_of, may_leave, OpensBytes, LeavesBytes, LeavesEnds};
     ghost use Rattle.dav_data.specs.Claimed.{file_of, contents_of, is_safe, AreRight, OpensRight, LeavesRight};
 
     /// Opens the data file of which all bytes up to a place are in use, as [`DataFile::open`] does. If the claim holds, the
@@ -43,6 +43,7 @@ impl<D: Disk, C: Claim> ClaimedFile<D, C> {
         ensures same { IfOk result (λ it. is_honest (file_of it) ≡ true → contents_of it ≡ D.Disk.seen disk) }
         ensures key { IfOk result (λ it. key_of (file_of it) ≡ key) }
         ensures usable { IfOk result (λ it. is_usable (file_of it) ≡ true) }
+        ensures settled { IfOk result (λ it. settled (file_of it) ≡ Some (contents_of it)) }
         ensures err { IfErr result (λ e. HasNotSettled D.Disk disk end e.1 e.0) }
         ensures unharmed { IfErr result (λ e. IsUnharmed D.Disk disk e.1) }
     {
@@ -63,6 +64,7 @@ impl<D: Disk, C: Claim> ClaimedFile<D, C> {
     /// Says what a crash leaves, and that the blocks of each body have their digests, if the claim holds: those of a held
     /// body now, and those of a safe body after a crash at this moment.
     pub fn show_right(&self)
+        ensures settled { (contents c : List ℕ) → settled (file_of self.now) ≡ Some contents → may_leave (file_of self.now) c → c ≡ contents }
         ensures key { C.Claim.holds ≡ true → key_of (file_of self.now) ≡ C.Claim.key }
         ensures held { C.Claim.holds ≡ true → AreRight self.now }
         ensures left { C.Claim.holds ≡ true → (c : List ℕ) → may_leave (file_of self.now) c → LeavesRight self.now c }

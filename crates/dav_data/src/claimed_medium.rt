@@ -16,7 +16,7 @@ impl<D: Disk + Drop, C: Claim> Medium for ClaimedFile<D, C> {
     ghost use Rattle.dav_tree.specs.Bodies.{KeepsBodies, FailsFor};
     ghost use Rattle.dav_data.specs.Errors.{is_own_error};
     ghost use Rattle.dav_resource.specs.declared.error.FsError.TheVariants.{Memory};
-    ghost use Rattle.dav_data.specs.Data.{is_honest, is_faultless, FailsToWrite, IsReadChecked, IsUnread};
+    ghost use Rattle.dav_data.specs.Data.{is_honest, is_faultless, settled, FailsToWrite, IsReadChecked, IsUnread};
     ghost use Rattle.dav_data.specs.Owning.{own_refused};
     ghost use Rattle.dav_data.specs.Readings.{AreRead, FailsWithFault};
     ghost use Rattle.dav_data.specs.Claimed.{file_of, bytes_in, is_kept, is_safe, is_spared};
@@ -39,6 +39,8 @@ impl<D: Disk + Drop, C: Claim> Medium for ClaimedFile<D, C> {
     ghost is_honest = { λ it. is_honest (file_of it) };
 
     ghost is_faultless = { λ it. is_faultless (file_of it) };
+
+    ghost settled = { λ it. settled (file_of it) };
 
     ghost reading = { AreRead C.Claim };
 

@@ -1,5 +1,5 @@
 //! The data file, of which bodies are lists of pieces.
-ghost use Rattle.std.specs.Prelude.{◌≡◌, ◌≤◌, ◌<◌, ◌^◌, ℕ, List, All, length, true, is_ok, IfOk, IfErr, OnOk, OnErr};
+ghost use Rattle.std.specs.Prelude.{◌≡◌, ◌≤◌, ◌<◌, ◌^◌, ℕ, List, All, length, true, is_ok, Some, IfOk, IfErr, OnOk, OnErr};
 ghost use Rattle.dav_pieces.specs.declared.piece.Piece.{Piece};
 ghost use Rattle.dav_space.specs.declared.range.TheConstants.{LIMIT};
 ghost use Rattle.dav_blocks.specs.Blocks as blocks;
@@ -43,7 +43,7 @@ impl<D: Disk> DataFile<D> {
     ghost use Rattle.dav_blocks.specs.Settling.{HasNotSettled, IsUnharmed};
     ghost use Rattle.dav_tree.specs.Bodies.{KeepsBodies};
     ghost use Rattle.dav_data.specs.Errors.{is_own_error};
-    ghost use Rattle.dav_data.specs.Data.{disk_of, data_of, is_below, nothing_at, is_honest, is_usable, may_leave, key_of, swept_bytes, body_bytes, is_held, is_synced};
+    ghost use Rattle.dav_data.specs.Data.{disk_of, data_of, is_below, nothing_at, is_honest, is_usable, settled, may_leave, key_of, swept_bytes, body_bytes, is_held, is_synced};
     ghost use Rattle.dav_data.specs.Data.{HasFailed, KeepsSweep, IsIdle, OpensBytes, OpensDigests, LeavesBytes, LeavesDigests, LeavesEnds};
 
     /// Opens the data file of which all bytes up to a place are in use. What is behind them stays there until the first
@@ -65,6 +65,7 @@ impl<D: Disk> DataFile<D> {
         ensures swept { IfOk result (λ it. swept_bytes it ≡ 0) }
         ensures idle { IfOk result IsIdle }
         ensures usable { IfOk result (λ it. is_usable it ≡ true) }
+        ensures settled { IfOk result (λ it. settled it ≡ Some (data_of it)) }
         ensures err { IfErr result (λ e. HasNotSettled D.Disk disk end e.1 e.0) }
         ensures unharmed { IfErr result (λ e. IsUnharmed D.Disk disk e.1) }
     {
@@ -116,8 +117,10 @@ impl<D: Disk> DataFile<D> {
         }
     }
 
-    /// Says what a crash leaves: a file in which each safe body ends, with its bytes and the digests of its blocks.
+    /// Says what a crash leaves: a file in which each safe body ends, with its bytes and the digests of its blocks, and
+    /// only what there is, if that is settled.
     pub fn show_synced(&self)
+        ensures settled { (contents c : List ℕ) → settled self.now ≡ Some contents → may_leave self.now c → c ≡ contents }
         ensures bytes { (c : List ℕ) → may_leave self.now c → LeavesBytes self.now c }
         ensures digests { (c : List ℕ) → may_leave self.now c → LeavesDigests self.now c }
         ensures ends { (c : List ℕ) → may_leave self.now c → LeavesEnds self.now c }

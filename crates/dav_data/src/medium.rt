@@ -21,7 +21,7 @@ impl<D: Disk + Drop> Medium for DataFile<D> {
     ghost use Rattle.dav_tree.specs.Bodies.{KeepsBodies, KeepsMarked, IsCopy, FailsFor};
     ghost use Rattle.dav_data.specs.Errors.{is_own_error};
     ghost use Rattle.dav_data.specs.Readings.{are_honest};
-    ghost use Rattle.dav_data.specs.Data.{body_bytes, is_held, is_synced, has_digests, is_marked, is_honest, is_faultless, is_usable, HasFailed, KeepsSweep, KeepsPlaces, IsBegun, GivesUpRest, FailsToWrite, FailsToJoin, IsReadChecked, IsReadOrCollides, IsUnread, Keeps};
+    ghost use Rattle.dav_data.specs.Data.{body_bytes, is_held, is_synced, has_digests, is_marked, is_honest, is_faultless, settled, is_usable, HasFailed, KeepsSweep, KeepsPlaces, IsBegun, GivesUpRest, FailsToWrite, FailsToJoin, IsReadChecked, IsReadOrCollides, IsUnread, Keeps};
     ghost use Rattle.dav_data.specs.Owning.{synced_held, held_small, own_refused};
 
     type Body = Body;
@@ -41,6 +41,8 @@ impl<D: Disk + Drop> Medium for DataFile<D> {
     ghost is_honest = { is_honest };
 
     ghost is_faultless = { is_faultless };
+
+    ghost settled = { settled };
 
     ghost reading = { are_honest };
 

@@ -3,6 +3,7 @@ pub mod Folders
 pub mod Lasting
 pub mod Files
 pub mod Errors
+pub mod Failing
 pub mod Reading
 pub mod Opening
 pub mod Closing

@@ -1,9 +1,9 @@
 -- What is read of a folder.
-use Rattle.std.specs.Prelude.{◌≡◌, ◌≤◌, ℕ, ◌+◌, true, List, [], length, map, Option}
+use Rattle.std.specs.Prelude.{◌≡◌, ◌≤◌, ℕ, ◌+◌, true, List, [], length, map, Option, Result, IfOk}
 use Rattle.dav_cells.specs.Locks.{kept_lock}
-use Rattle.dav_keep.specs.Images.{Image, IsSound}
+use Rattle.dav_keep.specs.Images.{Image, IsSound, StandForImage}
 use Rattle.dav_keep.specs.Keeping.{Knows}
-use Rattle.dav_keep.specs.Loading.{IsWholeImage}
+use Rattle.dav_keep.specs.Loading.{IsWholeImage, AreRowsOfImage}
 use Rattle.dav_memls.specs.MemLs.{list_of}
 use Rattle.dav_pieces.specs.Pieces.{bytes_of}
 use Rattle.dav_pieces.specs.declared.piece.Piece.{Piece}
@@ -44,6 +44,15 @@ module _ {M : Type 0} {g : Ghosts M (List Piece)} where
     pub read : IsReadFrom image tables found
     pub bytes : HasReadBytes file image whole found
     pub limit_is : (memory_of found.store).limit ≡ limit
+
+  -- rows that are those of an image are read as that image, with the bytes in these contents of the data file
+  abbrev pub ReadsBytesOf : {X : Type 0} → Rows → List ℕ → Result (Found M (List Piece) g) X → Type 0
+  ReadsBytesOf rows file result = (image : Image) (tables : Contents) (are : AreRowsOfImage rows image tables) → IfOk result (HasReadBytes file image are.whole)
+
+  -- if these tables stand for this image, and what is asked beside that holds, it is read with the bytes in these contents of the data file
+  abbrev pub ReadsAs : {X : Type 0} → List ℕ → Option (Option ℕ) → Type 0 → Image → Contents → Result (Found M (List Piece) g) X → Type 0
+  ReadsAs file limit Asked image tables result =
+      StandForImage tables image → (whole : IsWholeImage image) → IfOk result (λ found. Asked → ReadsImage file limit image whole tables found)
 
   -- if the data file is honest, it had no byte
   abbrev pub IsEmptyIfHonest : Found M (List Piece) g → List ℕ → Type 0

@@ -1,5 +1,5 @@
 //! The files of a folder, given up at the end of a run.
-ghost use Rattle.std.specs.Prelude.{◌≡◌, true};
+ghost use Rattle.std.specs.Prelude.{◌≡◌, true, IsTrue};
 ghost use Rattle.sqlite_store.specs.FileStore.{view};
 ghost use Rattle.sqlite_trees.specs.View.{IsClean};
 ghost use Rattle.dav_folder.specs.Closing.{LeavesAlone, LeavesOneOf, LeavesWhole};
@@ -34,12 +34,13 @@ pub fn give_up<D: Disk + Drop, E: Disk + Drop, C: Claim>(
 
 /// Copies the log of the database into its file, and gives up the folder and the store that it keeps. Returns whether the
 /// log was copied. If it was, the database file is whole without it. If it was not, as when the disk is full, the log is
-/// needed.
+/// needed. Then what was kept is left all the same, but for the case that [`close`] names.
 pub fn close_folder<D: Disk + Drop, E: Disk + Drop, C: Claim>(
     folder: Folder<FileStore<D>>,
     store: TreeFs<ClaimedFile<E, C>>,
 ) -> (bool, FolderFiles<D, E, C>)
     ensures whole { result.0 ≡ true → LeavesWhole folder store result.1 }
+    ensures alone { IsTrue (view result.1.0).is_numbered → LeavesAlone folder store result.1 }
     ensures clean { IsClean (view result.1.0) → HasCleanDatabase folder }
 {
     let (copied, files) = close(folder.into_connection());

@@ -4,6 +4,7 @@
 mod closing;
 mod confirm;
 mod error;
+mod failing;
 mod folder;
 mod laws;
 mod numbered;
@@ -13,6 +14,7 @@ mod reading;
 pub use closing::{FolderFiles, close_folder, give_up};
 pub use confirm::Confirm;
 pub use error::OpenError;
+pub use failing::{DataLeft, Remains};
 pub use folder::Folder;
 pub use laws::show_utf8;
 pub use numbered::Numbered;

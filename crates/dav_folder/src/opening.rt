@@ -1,37 +1,37 @@
 //! Opens the store of a folder.
-ghost use Rattle.std.specs.Prelude.{◌≡◌, [], true, false, IsTrue, IfOk, IfErr, OnOk};
+ghost use Rattle.std.specs.Prelude.{◌≡◌, ℕ, List, [], true, false, IsTrue, IfOk, IfErr, OnOk};
 ghost use Rattle.sqlite.specs.Files.{image_of};
 ghost use Rattle.sqlite.specs.Held.{state};
 ghost use Rattle.sqlite.specs.State.{HasCleanDisk};
 ghost use Rattle.sqlite_wal.specs.Reads.{AreClean, OnlyReads};
 ghost use Rattle.dav_log.specs.Damage.{IsDamaged};
 ghost use Rattle.dav_tree.specs.TreeFs.{memory_of, store_of};
-ghost use Rattle.dav_keep.specs.Images.{Image, StandForImage};
+ghost use Rattle.dav_keep.specs.Images.{Image};
 ghost use Rattle.dav_keep.specs.Keeping.{connection_of};
-ghost use Rattle.dav_keep.specs.Loading.{IsWholeImage};
 ghost use Rattle.dav_rows.specs.Contents.{Contents};
 ghost use Rattle.dav_rows.specs.Creating.{first};
 ghost use Rattle.dav_rows.specs.Saving.{IsAt};
 ghost use Rattle.dav_rows.specs.declared.opening.Version.TheVariants.{New};
-ghost use Rattle.dav_rows_files.specs.Starting.{Keeps, IsVacant};
+ghost use Rattle.dav_rows_files.specs.Starting.{Keeps, IsVacant, FailsUnharmed, FailsUnharmedFirst};
 ghost use Rattle.dav_seal.specs.Seals.{IsSealed};
 ghost use Rattle.dav_folder.specs.Claims.{IsKeyed};
 ghost use Rattle.dav_folder.specs.Errors.{IsLate};
+ghost use Rattle.dav_folder.specs.Failing.{LeavesOnly, LeavesAsBefore, IsOnlyRead};
 ghost use Rattle.dav_folder.specs.Folders.{keeping_of, batch_of};
 ghost use Rattle.dav_folder.specs.Lasting.{HasCleanDatabase};
-ghost use Rattle.dav_folder.specs.Reading.{IsReadFrom, ReadsImage, IsEmptyIfHonest};
+ghost use Rattle.dav_folder.specs.Reading.{IsReadFrom, ReadsAs, IsEmptyIfHonest};
 ghost use Rattle.dav_folder.specs.Opening.{Opens, OpensImage, AreOnlyRead};
 
 use crate::error::opening_error;
 use crate::reading::read_store;
-use crate::{Confirm, Folder, Found, OpenError};
+use crate::{Confirm, DataLeft, Folder, Found, OpenError, Remains};
 use dav_data::{Claim, ClaimedFile};
 use dav_keep::Keeping;
 use dav_memls::MemLs;
 use dav_rows::{Change, Version};
 use dav_rows_files::{judge, start};
 use dav_tree::{Medium, TreeFs};
-use sqlite::{Alter, Connection, FileStore};
+use sqlite::{Alter, Connection, FileStore, Leftover};
 use sqlite_disk::{Disk, Files};
 use std::alloc::Global;
 
@@ -52,9 +52,6 @@ pub struct Opened<S: Alter, M: Medium> {
     pub key: u64,
 }
 
-/// A log that is shorter has no page.
-const MIN_LOG: usize = 32 + 24 + 512;
-
 /// Reads the store of a folder, over the files of its database and over its data file. It changes none of them. If there
 /// is nothing, it returns a new store, whose tables these changes make of none. `limit` is the store's quota. The rows have
 /// the seal that was kept with them, unless they are of version 1, which has none.
@@ -62,10 +59,12 @@ const MIN_LOG: usize = 32 + 24 + 512;
 /// - `Damaged`: the database is damaged, or its rows are not those of a store that was kept, or have another seal, or are
 ///   others than those that are claimed.
 /// - `Foreign`: the database has other tables.
-/// - `NoDatabase`: the database has no table, but the data file has bytes, or the log has pages.
+/// - `NoDatabase`: the database has no table, but the data file has bytes.
 /// - `Data`: the data file cannot be read, or it is shorter than the rows say.
 /// - `Database`: the database cannot be read.
 /// - `Memory`: memory runs out.
+///
+/// The data file comes back with the error. Nothing was written to it, so a crash leaves what it left before.
 pub fn read_files<D: Disk, E: Disk + Drop, C: Confirm>(
     alloc: Global,
     files: &mut Files<D>,
@@ -73,14 +72,14 @@ pub fn read_files<D: Disk, E: Disk + Drop, C: Confirm>(
     changes: &[Change],
     limit: Option<Option<u64>>,
     tag_part: Option<u128>,
-) -> Result<Found<ClaimedFile<E, C>>, OpenError>
+) -> Result<Found<ClaimedFile<E, C>>, (OpenError, DataLeft<E, C>)>
     requires log_usable { IsTrue (D.Disk.is_usable files.old.log) }
     requires db_usable { IsTrue (D.Disk.is_usable files.old.db) }
     requires usable { E.Disk.is_usable disk ≡ true }
-    ensures kept { (image : Image) (tables : Contents) → Keeps (image_of D.Disk files.old) tables → StandForImage tables image → (whole : IsWholeImage image)
-        → IfOk result (λ found. AreClean D.Disk files.new.log files.new.db → ReadsImage (E.Disk.seen disk) limit image whole tables found) }
-    ensures new { (image : Image) → IsVacant (image_of D.Disk files.old) → StandForImage (first changes.now) image → (whole : IsWholeImage image)
-        → IfOk result (λ found. AreClean D.Disk files.new.log files.new.db → ReadsImage (E.Disk.seen disk) limit image whole (first changes.now) found) }
+    ensures kept { (image : Image) (tables : Contents) → Keeps (image_of D.Disk files.old) tables
+        → ReadsAs (E.Disk.seen disk) limit (AreClean D.Disk files.new.log files.new.db) image tables result }
+    ensures new { (image : Image) → IsVacant (image_of D.Disk files.old)
+        → ReadsAs (E.Disk.seen disk) limit (AreClean D.Disk files.new.log files.new.db) image (first changes.now) result }
     ensures empty { IsVacant (image_of D.Disk files.old)
         → IfOk result (λ found. AreClean D.Disk files.new.log files.new.db → IsEmptyIfHonest found (E.Disk.seen disk)) }
     ensures sealed { (tables : Contents) → Keeps (image_of D.Disk files.old) tables
@@ -90,41 +89,30 @@ pub fn read_files<D: Disk, E: Disk + Drop, C: Confirm>(
     ensures log { IfOk result (λ found. (store_of found.store).log ≡ []) }
     ensures sound { IfOk result (λ _. AreClean D.Disk files.new.log files.new.db → ¬ IsDamaged (image_of D.Disk files.old).log) }
     ensures only { AreOnlyRead D.Disk files.old files.new }
+    ensures only_data { IfOk result (IsOnlyRead (E.Disk.seen disk)) }
+    ensures unharmed { IfErr result (λ e. LeavesAsBefore disk e.1) }
 {
     let mut disk = disk;
-    let loaded = judge(alloc, files, changes)?;
-    expect_empty(loaded.version, files, &mut disk)?;
+    let loaded = match judge(alloc, files, changes) {
+        Ok(loaded) => loaded,
+        Err(error) => return Err((error.into(), DataLeft::Disk(disk))),
+    };
+    if let Err(error) = expect_empty(loaded.version, &mut disk) {
+        return Err((error, DataLeft::Disk(disk)));
+    }
     read_store(alloc, loaded.rows, loaded.version, disk, limit, tag_part)
 }
 
-/// Checks that there is no byte of a store beside the files of a database of this version, if that is new. It only reads the
-/// files.
+/// Checks that a data file has no byte if the database beside it, of this version, is new. It only reads the file.
 ///
-/// - `NoDatabase`: the store is new, and the data file has bytes, or the log has pages.
+/// - `NoDatabase`: the database is new, and the data file has bytes.
 /// - `Data`: the data file cannot be read.
-/// - `Database`: the log cannot be read.
-fn expect_empty<D: Disk, E: Disk>(
-    version: Version,
-    files: &mut Files<D>,
-    file: &mut E,
-) -> Result<(), OpenError>
-    requires log_usable { IsTrue (D.Disk.is_usable files.old.log) }
-    requires db_usable { IsTrue (D.Disk.is_usable files.old.db) }
-    requires usable { E.Disk.is_usable file.old ≡ true }
-    ensures log { OnlyReads D.Disk files.old.log files.new.log }
-    ensures db { OnlyReads D.Disk files.old.db files.new.db }
+fn expect_empty<E: Disk>(version: Version, file: &mut E) -> Result<(), OpenError>
+    requires { E.Disk.is_usable file.old ≡ true }
     ensures file { OnlyReads E.Disk file.old file.new }
     ensures empty { OnOk result (version ≡ New → E.Disk.is_clean file.new ≡ true → E.Disk.seen file.old ≡ []) }
 {
-    if version != Version::New {
-        return Ok(());
-    }
-    let in_log = match files.log.len() {
-        Ok(len) => len,
-        Err(error) => return Err(OpenError::Database(error)),
-    };
-    let in_file = file.len()?;
-    if in_log >= MIN_LOG || in_file > 0 {
+    if version == Version::New && file.len()? > 0 {
         return Err(OpenError::NoDatabase);
     }
     Ok(())
@@ -136,13 +124,17 @@ impl<E: Disk + Drop, C: Claim> Found<ClaimedFile<E, C>> {
     ///
     /// - `Database`: the database cannot be read or written.
     /// - `Memory`: memory runs out.
+    ///
+    /// The files come back with the error. What a crash leaves of a database that kept a store keeps it still, and what it
+    /// leaves of one without tables has none, or the new ones; [`start`] says this more exactly, also of version 1. The
+    /// contents of the data file stayed the same.
     pub fn open<D: Disk + Drop>(
         self,
         alloc: Global,
         files: Files<D>,
         seed: u64,
         changes: &[Change],
-    ) -> Result<Opened<FileStore<D>, ClaimedFile<E, C>>, OpenError>
+    ) -> Result<Opened<FileStore<D>, ClaimedFile<E, C>>, (OpenError, Remains<D, E, C>)>
         requires log_usable { IsTrue (D.Disk.is_usable files.log) }
         requires db_usable { IsTrue (D.Disk.is_usable files.db) }
         requires keyed { IsKeyed C.Claim self.key }
@@ -155,15 +147,35 @@ impl<E: Disk + Drop, C: Claim> Found<ClaimedFile<E, C>> {
         ensures last { IfOk result (λ opened. opened.last ≡ self.last) }
         ensures batch { IfOk result (λ opened. batch_of opened.folder ≡ opened.last) }
         ensures key { IfOk result (λ opened. opened.key ≡ self.key) }
-        ensures err { IfErr result IsLate }
+        ensures err { IfErr result (λ e. IsLate e.0) }
+        ensures unharmed { IfErr result (λ e. FailsUnharmed files e.1.database) }
+        ensures unharmed_first { IfErr result (λ e. FailsUnharmedFirst files (first changes.now) e.1.database) }
+        ensures unwritten { IfErr result (λ e. (contents : List ℕ) → IsOnlyRead contents self → LeavesOnly contents e.1.data_file) }
     {
-        let Ok(upgrade) = self.known.sealing(alloc) else {
-            return Err(OpenError::Memory);
+        let (error, database) = match self.known.sealing(alloc) {
+            Ok(upgrade) => match start(alloc, files, seed, changes, &upgrade) {
+                Ok(conn) => return Ok(self.keep_in(alloc, conn)),
+                Err((error, left)) => (opening_error(error), left),
+            },
+            Err(_) => (OpenError::Memory, Leftover::Files(files)),
         };
-        match start(alloc, files, seed, changes, &upgrade) {
-            Ok(conn) => Ok(self.keep_in(alloc, conn)),
-            Err((error, _)) => Err(opening_error(error)),
-        }
+        let data_file = self.give_up();
+        Err((
+            error,
+            Remains {
+                database,
+                data_file,
+            },
+        ))
+    }
+
+    /// Gives up what was read, and returns the data file. Nothing is written.
+    pub fn give_up(self) -> DataLeft<E, C>
+        ensures { (contents : List ℕ) → IsOnlyRead contents self → LeavesOnly contents result }
+    {
+        let file = self.store.into_medium();
+        file.show_right();
+        DataLeft::File(file)
     }
 
     /// Goes on from what was read, and keeps it in this database.

@@ -6,10 +6,11 @@ ghost use Rattle.dav_rows.specs.Contents.{Contents};
 ghost use Rattle.dav_rows.specs.declared.opening.Version.TheVariants.{Older};
 ghost use Rattle.dav_tree.specs.TreeFs.{memory_of, store_of, honest_of};
 ghost use Rattle.dav_folder.specs.Claims.{IsKeyed};
-ghost use Rattle.dav_folder.specs.Reading.{row_count, IsReadFrom, HasReadBytes};
+ghost use Rattle.dav_folder.specs.Reading.{row_count, IsReadFrom, ReadsBytesOf};
+ghost use Rattle.dav_folder.specs.Failing.{LeavesAsBefore, IsOnlyRead};
 ghost use Rattle.dav_folder.specs.Opening.{HasFiles, IsMemoryOrDisk};
 
-use crate::{Confirm, OpenError};
+use crate::{Confirm, DataLeft, OpenError};
 use dav_data::ClaimedFile;
 use dav_keep::{Known, load};
 use dav_memls::MemLs;
@@ -46,6 +47,8 @@ pub struct Found<M: Medium> {
 /// - `Data`: the data file cannot be read, or it is shorter than the rows say.
 /// - `Memory`: memory runs out.
 ///
+/// The data file comes back with the error. Nothing was written to it, so a crash leaves what it left before.
+///
 /// On the rows of a store whose files the data file has, as claimed, it fails only if memory runs out, or if the disk fails.
 /// If the claim holds, the blocks of the store's files have their digests from then on, under the key of the rows.
 pub fn read_store<D: Disk + Drop, C: Confirm>(
@@ -55,10 +58,10 @@ pub fn read_store<D: Disk + Drop, C: Confirm>(
     disk: D,
     limit: Option<Option<u64>>,
     tag_part: Option<u128>,
-) -> Result<Found<ClaimedFile<D, C>>, OpenError>
+) -> Result<Found<ClaimedFile<D, C>>, (OpenError, DataLeft<D, C>)>
     requires { D.Disk.is_usable disk ≡ true }
     ensures found { (image : Image) (tables : Contents) → AreRowsOfImage rows image tables → IfOk result (IsReadFrom image tables) }
-    ensures bytes { (image : Image) (tables : Contents) (are : AreRowsOfImage rows image tables) → IfOk result (HasReadBytes (D.Disk.seen disk) image are.whole) }
+    ensures bytes { ReadsBytesOf rows (D.Disk.seen disk) result }
     ensures limit { (image : Image) (tables : Contents) → AreRowsOfImage rows image tables → IfOk result (λ found. (memory_of found.store).limit ≡ limit) }
     ensures keyed { IfOk result (λ found. IsKeyed C.Claim found.key) }
     ensures tags { IfOk result (λ found. (memory_of found.store).tag_part ≡ tag_part) }
@@ -67,19 +70,29 @@ pub fn read_store<D: Disk + Drop, C: Confirm>(
     ensures log { IfOk result (λ found. (store_of found.store).log ≡ []) }
     ensures honest { IfOk result (λ found. honest_of found.store ≡ true → D.Disk.is_clean disk ≡ true) }
     ensures err { (image : Image) (tables : Contents) (are : AreRowsOfImage rows image tables) → HasFiles C.Claim (D.Disk.seen disk) image are.whole
-        → IfErr result (IsMemoryOrDisk D.Disk disk) }
+        → IfErr result (λ e. IsMemoryOrDisk D.Disk disk e.0) }
+    ensures only { IfOk result (IsOnlyRead (D.Disk.seen disk)) }
+    ensures unharmed { IfErr result (λ e. LeavesAsBefore disk e.1) }
 {
     let count = count_rows(&rows);
-    let (known, loaded) = load(alloc, rows, version)?;
+    let (known, loaded) = match load(alloc, rows, version) {
+        Ok(parts) => parts,
+        Err(error) => return Err((error.into(), DataLeft::Disk(disk))),
+    };
     let numbers = loaded.numbers;
     if !C::confirms(&disk, numbers.key, loaded.end, &loaded.values) {
-        return Err(OpenError::Damaged);
+        return Err((OpenError::Damaged, DataLeft::Disk(disk)));
     }
     let medium = match ClaimedFile::open(alloc, disk, numbers.key, loaded.end) {
         Ok(medium) => medium,
-        Err((error, _disk)) => return Err(OpenError::Data(error)),
+        Err((error, disk)) => return Err((OpenError::Data(error), DataLeft::Disk(disk))),
     };
-    let mut store = TreeFs::load(alloc, medium, loaded.values, numbers.counter, limit)?;
+    medium.show_right();
+    let stored = TreeFs::load(alloc, medium, loaded.values, numbers.counter, limit);
+    let mut store = match stored {
+        Ok(store) => store,
+        Err((error, medium)) => return Err((error.into(), DataLeft::File(medium))),
+    };
     store.set_tag_part(tag_part);
     store.show_sound();
     Ok(Found {

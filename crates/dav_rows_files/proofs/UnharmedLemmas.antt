@@ -16,7 +16,6 @@ use Rattle.sqlite.specs.Start.{FindsIn}
 use Rattle.sqlite.specs.State.{Opens}
 use Rattle.sqlite.specs.Tree.{Trees}
 use Rattle.dav_rows.specs.Contents.{Contents, Holds}
-use Rattle.dav_rows.specs.declared.opening.StartError.{StartError}
 use Rattle.dav_rows_files.specs.Starting.{FailsUnharmed, FailsUnharmedFirst, FailsUnharmedOlder, IsUnused, Keeps, KeepsOlder}
 use Rattle.dav_rows_files.proofs.LeaveLemmas.{holds_some, open_empty, open_holds}
 
@@ -29,15 +28,15 @@ older_in old new m keeps held = record { db = keeps.db; database = held; sound =
 
 -- ---- an open that failed
 
-module _ {D : Type 0} {g : Ghosts D} (files : Files D) (rest : Leftover D g) (e : StartError) (leaves : IsCleanLeft rest → LeavesFiles files rest) where
-  pub open_unharmed : FailsUnharmed files (e, rest)
+module _ {D : Type 0} {g : Ghosts D} (files : Files D) (rest : Leftover D g) (leaves : IsCleanLeft rest → LeavesFiles files rest) where
+  pub open_unharmed : FailsUnharmed files rest
   open_unharmed m keeps clean image may = elim (open_holds files rest keeps.db keeps.database (leaves clean) image may) [
     | inl old ↦ inl old
     | inr (inl held) ↦ inr (inl (∥∥₁_map held (kept_in (image_of g files) image m keeps)))
     | inr (inr exempt) ↦ inr (inr exempt)
   ]
 
-  pub open_unharmed_first : (first : Contents) → FailsUnharmedFirst files first (e, rest)
+  pub open_unharmed_first : (first : Contents) → FailsUnharmedFirst files first rest
   open_unharmed_first first (inl new) clean image may = elim (open_empty files rest new.0 new.1 (leaves clean) image may) [
     | inl old ↦ inl old
     | inr (inl unused) ↦ inr (inl (∥∥₁_map unused (λ u. let r : IsUnused image ⊎ Keeps image first = inl u in r)))
@@ -49,7 +48,7 @@ module _ {D : Type 0} {g : Ghosts D} (files : Files D) (rest : Leftover D g) (e 
     | inr (inr exempt) ↦ inr (inr exempt)
   ]
 
-  pub open_unharmed_older : (f : Contents → Contents) → FailsUnharmedOlder files f (e, rest)
+  pub open_unharmed_older : (f : Contents → Contents) → FailsUnharmedOlder files f rest
   open_unharmed_older f m keeps clean image may = elim (open_holds files rest keeps.db keeps.database (leaves clean) image may) [
     | inl old ↦ inl old
     | inr (inl held) ↦ inr (inl (∥∥₁_map held (λ h. let r : KeepsOlder image m ⊎ Keeps image (f m) = inl (older_in (image_of g files) image m keeps h) in r)))

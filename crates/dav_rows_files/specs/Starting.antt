@@ -112,22 +112,22 @@ module _ {D : Type 0} {g : Ghosts D} where
   IsExempt image (left.Store it) = (store.view it).is_numbered ≡ false
 
   -- If the disks did what their calls promise, whatever a crash leaves it might have left before the start, or `P` holds of it.
-  abbrev pub LeavesOldOr : Files D → (Image → Type 0) → StartError × Leftover D g → Type 0
-  LeavesOldOr files P e =
-      IsCleanLeft e.1 → (image : Image) → MayLeave e.1 image → outcomes g files.log files.db image ⊎ (∥ P image ∥₁ ⊎ IsExempt (image_of g files) e.1)
+  abbrev pub LeavesOldOr : Files D → (Image → Type 0) → Leftover D g → Type 0
+  LeavesOldOr files P rest =
+      IsCleanLeft rest → (image : Image) → MayLeave rest image → outcomes g files.log files.db image ⊎ (∥ P image ∥₁ ⊎ IsExempt (image_of g files) rest)
 
   -- Files that keep the tables of a store keep the same maps.
-  abbrev pub FailsUnharmed : Files D → StartError × Leftover D g → Type 0
-  FailsUnharmed files e = (m : Contents) → Keeps (image_of g files) m → LeavesOldOr files (λ image. Keeps image m) e
+  abbrev pub FailsUnharmed : Files D → Leftover D g → Type 0
+  FailsUnharmed files rest = (m : Contents) → Keeps (image_of g files) m → LeavesOldOr files (λ image. Keeps image m) rest
 
   -- Files with no table have none, or have new tables with these maps.
-  abbrev pub FailsUnharmedFirst : Files D → Contents → StartError × Leftover D g → Type 0
-  FailsUnharmedFirst files first e = IsUnused (image_of g files) → LeavesOldOr files (λ image. IsUnused image ⊎ Keeps image first) e
+  abbrev pub FailsUnharmedFirst : Files D → Contents → Leftover D g → Type 0
+  FailsUnharmedFirst files first rest = IsUnused (image_of g files) → LeavesOldOr files (λ image. IsUnused image ⊎ Keeps image first) rest
 
   -- Files with the tables of version 1 keep these, or what `f` makes of their maps.
-  abbrev pub FailsUnharmedOlder : Files D → (Contents → Contents) → StartError × Leftover D g → Type 0
-  FailsUnharmedOlder files f e =
-      (m : Contents) → KeepsOlder (image_of g files) m → LeavesOldOr files (λ image. KeepsOlder image m ⊎ Keeps image (f m)) e
+  abbrev pub FailsUnharmedOlder : Files D → (Contents → Contents) → Leftover D g → Type 0
+  FailsUnharmedOlder files f rest =
+      (m : Contents) → KeepsOlder (image_of g files) m → LeavesOldOr files (λ image. KeepsOlder image m ⊎ Keeps image (f m)) rest
 
 -- ---- what the files keep after a run
 

@@ -43,9 +43,9 @@ pub fn start<D: Disk + Drop>(
     ensures err { IfErr result (FailsToStart (image_of D.Disk files)) }
     ensures err_first { IfErr result (FailsToStartFirst (image_of D.Disk files) changes.now) }
     ensures err_older { IfErr result (FailsToStartOlder (image_of D.Disk files) upgrade.now) }
-    ensures unharmed { IfErr result (FailsUnharmed files) }
-    ensures unharmed_first { IfErr result (FailsUnharmedFirst files (first changes.now)) }
-    ensures unharmed_older { IfErr result (FailsUnharmedOlder files (after upgrade.now)) }
+    ensures unharmed { IfErr result (λ e. FailsUnharmed files e.1) }
+    ensures unharmed_first { IfErr result (λ e. FailsUnharmedFirst files (first changes.now) e.1) }
+    ensures unharmed_older { IfErr result (λ e. FailsUnharmedOlder files (after upgrade.now) e.1) }
 {
     let mut conn = match Connection::open_files(alloc, files, Options::new(seed)) {
         Ok(conn) => conn,

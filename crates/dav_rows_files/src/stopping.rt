@@ -1,5 +1,5 @@
 //! Gives up the files, and says what a crash leaves there.
-ghost use Rattle.std.specs.Prelude.{◌≡◌, true, false, OnOk};
+ghost use Rattle.std.specs.Prelude.{◌≡◌, true, false, IsTrue, OnOk};
 ghost use Rattle.sqlite.specs.Files.{file_state};
 ghost use Rattle.sqlite.specs.State.{HasCleanDisk};
 ghost use Rattle.sqlite_store.specs.FileStore.{view};
@@ -22,10 +22,13 @@ pub fn into_files<D: Disk + Drop>(conn: Connection<FileStore<D>>) -> FileStore<D
 
 /// Copies the log into the database file, and gives up the connection. Returns whether the log was copied. If it was, the
 /// database file is whole without it, whatever a crash leaves. If it was not, as when the disk is full, the log is needed.
+/// Either way a crash leaves a database that it might have left before, unless the store stopped in a state in which it does
+/// not number its tables: SQLite's clauses do not exclude that.
 pub fn close<D: Disk + Drop>(conn: Connection<FileStore<D>>) -> (bool, FileStore<D>)
     ensures clean { IsClean (view result.1) → HasCleanDisk (file_state conn) }
     ensures whole { result.0 ≡ true → LeavesWhole (file_state conn) result.1 }
     ensures no_other { LeavesNoOther (file_state conn) result.1 }
+    ensures left { IsTrue (view result.1).is_numbered → LeavesDatabases (file_state conn) result.1 }
 {
     let mut store = conn.into_store();
     store.rollback();

@@ -35,9 +35,9 @@ module _ {B : Type 0} (bytes : B → List ℕ) (tree now : Tree (Entry B)) (is :
     below = λ number _. no_body number;
   }
 
-  pub is-loaded : (code : Coded B) (honest faultless : Bool) (before : Option (Tree (Entry B))) → before ≡ Some tree
-      → IsLoaded code bytes tree (kept_by bytes (rest_of code bytes honest faultless now None) now bodies 0 (past_code code bytes before))
-  is-loaded code honest faultless before saved = record {
+  pub is-loaded : (code : Coded B) (honest faultless : Bool) (settled : Option (List ℕ)) (before : Option (Tree (Entry B))) → before ≡ Some tree
+      → IsLoaded code bytes tree (kept_by bytes (rest_of code bytes honest faultless settled now None) now bodies 0 (past_code code bytes before))
+  is-loaded code honest faultless settled before saved = record {
     resources = ap (resources_by bytes) is;
     held = λ i. record { bodies = λ n. (get-bodies bytes bodies n ∙ ap (option_map bytes) (no_body n)) i; next = 0; before = ap (past_code code bytes) saved i };
     entries = ap (entries_code code) is;

@@ -63,7 +63,7 @@ module _ {M B : Type 0} (bytes : M → B → List ℕ) (holds safe : M → B →
     bodies_are = same-bodies (bytes m0) (bytes m1) (holds m0) (holds m1) before.held before.same bodies inv.stored
 
     marked_is : kept_by (bytes m1) rest tree bodies next past ≡ kept
-    marked_is = (λ i. record { resources = resources_are i; numbers = tree.numbers; bodies = bodies_are i; next = next; honest = rest.honest; faultless = rest.faultless; tree = rest.tree; before = past; older = rest.older }) ∙ is
+    marked_is = (λ i. record { resources = resources_are i; numbers = tree.numbers; bodies = bodies_are i; next = next; honest = rest.honest; faultless = rest.faultless; settled = rest.settled; tree = rest.tree; before = past; older = rest.older }) ∙ is
 
     marked_kept : AreKept (bytes m1) (marked m1) tree used bodies next
     marked_kept = record { held = files; counted = inv.counted ∙ ap used_by (sym resources_are); stored = stored; below = inv.below }

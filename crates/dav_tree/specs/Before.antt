@@ -62,8 +62,9 @@ module _ {B : Type 0} where
   past_code body bytes None = gnil
   past_code body bytes (Some tree) = saved_code (entries_code body tree) (resources_by bytes tree)
 
-  abbrev pub rest_of : Coded B → (B → List ℕ) → Bool → Bool → Tree (Entry B) → Option (Tree (Entry B)) → Rest
-  rest_of body bytes honest faultless tree older = record { honest = honest; faultless = faultless; tree = entries_code body tree; older = past_code body bytes older }
+  abbrev pub rest_of : Coded B → (B → List ℕ) → Bool → Bool → Option (List ℕ) → Tree (Entry B) → Option (Tree (Entry B)) → Rest
+  rest_of body bytes honest faultless settled tree older =
+      record { honest = honest; faultless = faultless; settled = settled; tree = entries_code body tree; older = past_code body bytes older }
 
   -- what is saved of a tree of entries is safe, and has these bytes
   pub record IsSafe (bytes : B → List ℕ) (safe : B → Bool) (tree : Tree (Entry B)) (resources : Resources) : Type 0 where

@@ -14,9 +14,10 @@ use Rattle.dav_tree.specs.Memory.{Stored, Resources, Held, none_held, fresh, is_
 use Rattle.dav_tree.specs.Entry.{stored_by, is_held}
 use Rattle.dav_tree.specs.declared.entry.Entry.{Entry}
 
--- the resources, the numbers under which they are found, the bodies held for requests to come, the number of the next one, whether the medium has
--- returned what was written to it, and whether it is faultless, the tree of entries (`entries_code`), and that tree when it was last asked what has
--- changed, with its resources (`past_code`), and when it was asked before that, unless the medium was swept since
+-- the resources, the numbers under which they are found, the bodies held for requests to come, and the number of the next one; of the medium whether it
+-- has returned what was written to it, whether it is faultless, and what a crash leaves of it, if it leaves nothing else (`settled`); the tree of entries
+-- (`entries_code`), and that tree when it was last asked what has changed, with its resources (`past_code`), and when it was asked before that, unless
+-- the medium was swept since
 pub record Kept : Type 0 where
   pub resources : Resources
   pub numbers : FinMap key_cmp ℕ
@@ -24,15 +25,17 @@ pub record Kept : Type 0 where
   pub next : ℕ
   pub honest : Bool
   pub faultless : Bool
+  pub settled : Option (List ℕ)
   pub tree : Gv
   pub before : Gv
   pub older : Gv
 
--- what no call of the store says anything of: whether the medium has returned what was written to it, and whether it is faultless, the tree of
--- entries, and an older tree that may still be saved elsewhere
+-- what the calls on resources and bodies do not specify: what is said of the medium, the tree of entries, and an older tree that may still be saved
+-- elsewhere
 pub record Rest : Type 0 where
   pub honest : Bool
   pub faultless : Bool
+  pub settled : Option (List ℕ)
   pub tree : Gv
   pub older : Gv
 
@@ -56,6 +59,7 @@ kept_by bytes rest tree bodies next before =
       next = next;
       honest = rest.honest;
       faultless = rest.faultless;
+      settled = rest.settled;
       tree = rest.tree;
       before = before;
       older = rest.older;

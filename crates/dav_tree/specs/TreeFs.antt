@@ -68,6 +68,10 @@ module _ {M B : Type 0} {g : Ghosts M B} where
   abbrev pub faultless_of : TreeFs M B g → Bool
   faultless_of store = store.entries.faultless
 
+  -- the bytes that a crash leaves of all that its medium holds, if it leaves no others
+  abbrev pub settled_of : TreeFs M B g → Option (List ℕ)
+  settled_of store = store.entries.settled
+
   -- what its medium says of a read, right after that
   abbrev pub reads_of : TreeFs M B g → Reads
   reads_of store = record { reading = g.reading (honest_of store); may_fail = g.may_fail (faultless_of store) }

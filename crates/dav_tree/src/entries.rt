@@ -62,7 +62,7 @@ impl<M: Medium> Model for Entries<M> {
     ghost use Rattle.dav_tree.specs.Kept.{kept_by, AreKept, AreSaved};
     ghost use Rattle.dav_tree.specs.Before.{rest_of, past_code};
 
-    ghost view = { λ e. kept_by (M.bytes e.medium) (rest_of M.body_code (M.bytes e.medium) (M.is_honest e.medium) (M.is_faultless e.medium) (tree_of e.tree) (option_map (λ s. s.value) e.older)) (tree_of e.tree) e.bodies e.next (past_code M.body_code (M.bytes e.medium) (before_of e.tree)) };
+    ghost view = { λ e. kept_by (M.bytes e.medium) (rest_of M.body_code (M.bytes e.medium) (M.is_honest e.medium) (M.is_faultless e.medium) (M.settled e.medium) (tree_of e.tree) (option_map (λ s. s.value) e.older)) (tree_of e.tree) e.bodies e.next (past_code M.body_code (M.bytes e.medium) (before_of e.tree)) };
 
     ghost invariant = { λ e. AreKept (M.bytes e.medium) (M.holds e.medium) (tree_of e.tree) e.used e.bodies e.next × AreSaved (M.safe e.medium) (before_of e.tree) × AreSaved (M.safe e.medium) (option_map (λ s. s.value) e.older) };
 }
@@ -270,6 +270,8 @@ impl<M: Medium> Entries<M> {
     /// Returns the medium. What was saved when it was last asked what has changed is safe there, and so is what
     /// was saved before.
     pub fn into_medium(self) -> M
+        ensures honest { M.is_honest result ≡ self.honest }
+        ensures settled { M.settled result ≡ self.settled }
         ensures last { HasSaved M.body_code (M.bytes result) (M.safe result) self.before }
         ensures older { HasSaved M.body_code (M.bytes result) (M.safe result) self.older }
     {

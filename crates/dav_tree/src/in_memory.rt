@@ -1,5 +1,5 @@
 //! A medium in memory.
-ghost use Rattle.std.specs.Prelude.{◌≡◌, ◌≤◌, ◌<◌, ◌+◌, ◌-◌, ◌^◌, ◌++◌, true, false, length, take, drop, replicate, List, IfOk, OnOk, OnErr};
+ghost use Rattle.std.specs.Prelude.{◌≡◌, ◌≤◌, ◌<◌, ◌+◌, ◌-◌, ◌^◌, ◌++◌, true, false, length, take, drop, replicate, List, None, IfOk, OnOk, OnErr};
 ghost use Rattle.dav_store.specs.Calls.{are_exact, bytes_from, written_at};
 ghost use Rattle.dav_tree.specs.Bodies.{is_small, small_is, none_own};
 
@@ -59,6 +59,8 @@ impl Medium for InMemory {
     ghost is_honest = { λ _. true };
 
     ghost is_faultless = { λ _. true };
+
+    ghost settled = { λ _. None };
 
     ghost reading = { λ _. are_exact };
 

@@ -1,5 +1,5 @@
 //! What holds the bytes of files.
-ghost use Rattle.std.specs.Prelude.{◌≡◌, ◌⊎◌, ◌<◌, ◌+◌, ◌^◌, Bool, true, List, ℕ, [], length, IfOk, IfErr, OnOk, OnErr};
+ghost use Rattle.std.specs.Prelude.{◌≡◌, ◌⊎◌, ◌<◌, ◌+◌, ◌^◌, Bool, true, List, ℕ, [], length, IfOk, IfErr, OnOk, OnErr, Option};
 ghost use Rattle.std.specs.Coded.{Coded};
 ghost use Rattle.dav_resource.specs.declared.error.FsError.{FsError};
 ghost use Rattle.dav_resource.specs.declared.record.Outcome.TheVariants.{Refused};
@@ -43,6 +43,10 @@ pub trait Medium: Drop {
 
     /// Whether nothing below the medium has failed so far, and each read has returned what was written.
     ghost is_faultless: { Self → Bool };
+
+    /// The bytes that a crash leaves of all that the medium holds, if it leaves no others. The calls below do not specify
+    /// them: only calls of a medium's own may.
+    ghost settled: { Self → Option (List ℕ) };
 
     /// What the medium says of bytes that it has read, if it is honest right after the read, or not.
     ghost reading: { Bool → Reading };

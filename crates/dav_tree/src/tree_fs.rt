@@ -111,7 +111,7 @@ impl TreeFs<InMemory> {
 }
 
 impl<M: Medium> TreeFs<M> {
-    ghost use Rattle.dav_tree.specs.TreeFs.{memory_of, store_of, records_of, before_of, older_of, entries_of};
+    ghost use Rattle.dav_tree.specs.TreeFs.{memory_of, store_of, records_of, before_of, older_of, entries_of, honest_of, settled_of};
     ghost use Rattle.dav_tree.specs.Memory.{first_memory, asked, modified_at};
     ghost use Rattle.dav_tree.specs.Modified.{SetsModified};
     ghost use Rattle.dav_nodes.specs.Rows.{row_in};
@@ -228,6 +228,8 @@ impl<M: Medium> TreeFs<M> {
     /// Returns the medium. What there was at the last call of `take_changes` is safe there. So is what there was at
     /// the call before, unless `sweep` came after.
     pub fn into_medium(self) -> M
+        ensures honest { M.is_honest result ≡ honest_of self }
+        ensures settled { M.settled result ≡ settled_of self }
         ensures last { HasSaved M.body_code (M.bytes result) (M.safe result) (before_of self) }
         ensures older { HasSaved M.body_code (M.bytes result) (M.safe result) (older_of self) }
     {

@@ -1,5 +1,5 @@
 -- What a crash leaves of files that were just opened.
-use Rattle.std.proofs.Common.{◌≡◌, ◌∷◌, ◌∙◌, inl, inr, ℕ, Bool, true, false, if◌then◌else◌, List, [], ap, ap₂, subst}
+use Rattle.std.proofs.Common.{◌≡◌, ◌∷◌, ◌∙◌, inl, inr, ℕ, Bool, true, false, if◌then◌else◌, List, [], ap, ap₂, sym, subst}
 use Rattle.sqlite_disk.specs.Events.{Event, Model, replay, settled}
 use Rattle.sqlite_disk.specs.History.{MayLeave}
 use Rattle.sqlite_disk.specs.Modelled.{start_of}
@@ -9,6 +9,7 @@ use Rattle.sqlite_disk.specs.declared.start.Start.{Ghosts}
 use Rattle.sqlite_std_file.specs.File.{IsFresh}
 use Rattle.sqlite_std_file.specs.declared.host.Host.{Host}
 use Rattle.sqlite.specs.Recovery.{Image}
+use Rattle.davd.proofs.FreshFiles.{fresh_seen}
 
 abbrev image : List ℕ → List ℕ → Image
 image log db = record { log = log; db = db }
@@ -35,3 +36,8 @@ module _ {S : Type 0} {g : calls.Ghosts Host} {start : Ghosts S} where
   fresh_outcomes log db is_log is_db left may =
       let of : Bool → List ℕ = λ is_log. if is_log then start.log else start.db in
       ap₂ image (fresh_only log true is_log left.log may.0 ∙ ap of is_log.0) (fresh_only db false is_db left.db may.1 ∙ ap of is_db.0)
+
+  -- and of one file only what it shows
+  pub fresh_contents : (f : Modelled Host S g start) → IsFresh false f → (c : List ℕ) → LeavesOf start.is_mixing (model_of f) c → c ≡ (model_of f).seen
+  fresh_contents f fresh c may =
+      fresh_only f false fresh c may ∙ ap (λ (is_log : Bool). if is_log then start.log else start.db) fresh.0 ∙ sym (fresh_seen f fresh)

@@ -1,6 +1,6 @@
 -- What is left of a run whose keeper keeps each batch.
 use Rattle.std.proofs.Common.{◌≡◌, ◌∙◌, inl, inr, ℕ, List, [], ◌∷◌, ◌++◌, Option, Some, None, Result, Ok, Err, refl, sym, subst}
-use Rattle.std.specs.Prelude.{IfSome, Bool, true, false, IsOk, IsErr, IfErr, OnOk, OnErr, option_map}
+use Rattle.std.specs.Prelude.{IfSome, IsTrue, Bool, true, false, IsOk, IsErr, IfErr, OnOk, OnErr, option_map}
 use Rattle.std.specs.Result.{IsErrAnd}
 use base.Stored.{Gv}
 use Rattle.dav_data.specs.declared.claim.Claim as claim
@@ -80,11 +80,12 @@ true_if_ok result true ok fails = refl
 true_if_ok (Ok value) false ok fails = absurd (let no = fails refl in cc)
 true_if_ok (Err e) false ok fails = absurd (let no = ok in cc)
 
--- after a sync that ended well the number of the batch that was kept last survives
+-- after a sync that ended well the number that was noted is that of the batch that was kept last, and it survives
 pub synced : {L T E : Type 0} {l : disk.Ghosts L} (old new : LastBatch L l) (batch : ℕ) (result : Result T E) → IsOk result → (is_usable old ≡ true → number_of old ≡ batch)
-    → (is_usable old ≡ false → IsErr result) → number_of new ≡ number_of old → OnOk result (Survives (number_of new) new) → Survives batch new
+    → (is_usable old ≡ false → IsErr result) → number_of new ≡ number_of old → OnOk result (Survives (number_of new) new) → Survives batch new × (number_of new ≡ batch)
 synced old new batch result ok exact fails same survives =
-    subst (λ n. Survives n new) (same ∙ exact (true_if_ok result (is_usable old) ok fails)) (of_ok result ok survives)
+    let is = same ∙ exact (true_if_ok result (is_usable old) ok fails) in
+    (subst (λ n. Survives n new) is (of_ok result ok survives), is)
 
 module _ {M : Type 0} {g : Ghosts M (List Piece)} where
   has_store : (kept : TreeFs M (List Piece) g) (locks : Option MemLs) (now last : ℕ)
@@ -154,12 +155,13 @@ module _ {D E C : Type 0} {d : disk.Ghosts D} {e : disk.Ghosts E} {c : claim.Gho
 
   -- a run whose keeper keeps it leaves it in the files
   module _ (input input' output output' : Option (List ℕ)) where
-    pub runs_and_leaves : (number : LastBatch L l) → LeavesWhole folder kept files → Survives (batch_of folder) number
+    pub runs_and_leaves : (number : LastBatch L l) → LeavesWhole folder kept files → Survives (batch_of folder) number × (number_of number ≡ batch_of folder)
         → ServesOpened l rules opened (folder, kept) input input' output output'
         → RunsAndLeaves g rules (IsOpenedAsKept opened) (state_from (opened_at opened)) files number input input' output output'
-    runs_and_leaves number whole survives serves =
+    runs_and_leaves number whole named serves =
         let leaves : (snapshot : At g) → Lasts c folder (before_of kept) snapshot → LeaveNumbered files number (kept_at snapshot) =
-        λ snapshot lasts. (whole snapshot (alone c folder (before_of kept) snapshot lasts), subst (λ batch. Survives batch number) lasts.number survives) in
+        λ snapshot lasts. let both = subst (λ batch. Survives batch number × (number_of number ≡ batch)) lasts.number named in
+        (whole snapshot (alone c folder (before_of kept) snapshot lasts), both.0, both.1) in
         subst (λ old. RunsAndLeaves g rules (IsOpenedAsKept opened) old files number input input' output output') serves.begins.state
         (record {
           last = serves.last;
@@ -168,10 +170,16 @@ module _ {D E C : Type 0} {d : disk.Ghosts D} {e : disk.Ghosts E} {c : claim.Gho
               (serves.runs.kept (begins_kept serves.keep serves.first serves.begins lasts));
         })
 
-    pub runs_with_log : ServesOpened l rules opened (folder, kept) input input' output output'
-        → RunsWithLog g rules (state_from (opened_at opened)) input input' output output'
-    runs_with_log serves =
-        subst (λ old. RunsWithLog g rules old input input' output output') serves.begins.state (record { last = serves.last; run = serves.runs.run })
+    pub runs_with_log : (IsTrue (view files.0).is_numbered → LeavesAlone folder kept files) → ServesOpened l rules opened (folder, kept) input input' output output'
+        → RunsWithLog g rules (IsOpenedAsKept opened) (state_from (opened_at opened)) files input input' output output'
+    runs_with_log leaves serves =
+        subst (λ old. RunsWithLog g rules (IsOpenedAsKept opened) old files input input' output output') serves.begins.state
+        (record {
+          last = serves.last;
+          run = serves.runs.run;
+          leaves = λ numbered lasts. after serves.keep serves.last serves.ends (Leave files) serves.runs.run.exchanges (state_now serves.first)
+              (λ snapshot here. leaves numbered snapshot (alone c folder (before_of kept) snapshot here)) (serves.runs.kept (begins_kept serves.keep serves.first serves.begins lasts));
+        })
 
   -- so does one that an error stops
   module _ (output output' : Option (List ℕ)) where
@@ -241,9 +249,14 @@ module _ {D E C : Type 0} {d : disk.Ghosts D} {e : disk.Ghosts E} {c : claim.Gho
           goes = record { last = runs.last; run = runs.run; leaves = λ held. runs.leaves (lasts_at_start held) };
         }
 
-    pub goes_on_with_log : (input input' output output' : Option (List ℕ)) → RunsWithLog g rules (state_from (opened_at opened)) input input' output output'
+    pub goes_on_with_log : (input input' output output' : Option (List ℕ)) → RunsWithLog g rules (IsOpenedAsKept opened) (state_from (opened_at opened)) files input input' output output'
         → GoesOnWithLog left file files g rules start input input' output output'
-    goes_on_with_log input input' output output' runs = record { first = opened_at opened; begins = begins_with; goes = runs }
+    goes_on_with_log input input' output output' runs =
+        record {
+          first = opened_at opened;
+          begins = begins_with;
+          goes = record { last = runs.last; run = runs.run; leaves = λ numbered held. runs.leaves numbered (lasts_at_start held) };
+        }
 
     pub goes_on_and_stops : (output output' : Option (List ℕ))
         → StopsAndLeaves g rules (IsOpenedAsKept opened) (state_from (opened_at opened)) files output output' → GoesOnAndStops left file files g rules start output output'

@@ -7,3 +7,4 @@ pub mod Leaves
 pub mod Kept
 pub mod Reading
 pub mod FreshOutcomes
+pub mod Failing

@@ -1,5 +1,5 @@
 -- What a run over a folder leaves of its files, and what the next run there begins with.
-use Rattle.std.specs.Prelude.{◌≡◌, ◌⊎◌, ℕ, true, false, List, [], ◌∷◌, ◌++◌, flat_map, Option, Some}
+use Rattle.std.specs.Prelude.{◌≡◌, ◌⊎◌, ℕ, true, false, IsTrue, List, [], ◌∷◌, ◌++◌, flat_map, Option, Some}
 use Rattle.std.specs.Io.KnownBytes.{Appends}
 use Rattle.std.specs.Option.{option_map}
 use Rattle.dav_data.specs.declared.claim.Claim as claim
@@ -7,7 +7,7 @@ use Rattle.dav_data.specs.declared.claimed_file.ClaimedFile.{ClaimedFile}
 use Rattle.dav_folder.specs.Claims.{IsKeyed}
 use Rattle.dav_folder.specs.Files.{KeptStore, kept_at, Hold, Leave, LeaveWhole, LeaveEither}
 use Rattle.dav_folder.specs.Lasting.{At, IsSameKept}
-use Rattle.dav_last.specs.Batches.{Survives, unsynced_of, synced_of}
+use Rattle.dav_last.specs.Batches.{Survives, number_of, unsynced_of, synced_of}
 use Rattle.dav_last.specs.declared.last_batch.LastBatch.{LastBatch}
 use Rattle.dav_memls.specs.MemLs.{locks_of}
 use Rattle.dav_pieces.specs.declared.piece.Piece.{Piece}
@@ -50,15 +50,11 @@ module _ {E C : Type 0} {e : disk.Ghosts E} {c : claim.Ghosts C} (g : Ghosts (Cl
     pub unchanged : IsSameKept snapshot now
     pub left : IsLeft (kept_at snapshot)
 
-  -- A run to the end of the input, after which the log is not copied into the database file, or the number of the last batch is not on the disk.
-  pub record RunsWithLog (old : ServerState) (input input' output output' : Option (List ℕ)) : Type 0 where
-    pub last : Serving g
-    pub run : RunsAndSaves (store_of {g = g}) reads_of rules old (state_now last) input input' output output'
-
--- whatever a crash leaves of the files holds this store, also without the log of the database; and the files of the number name its batch, or a later one
+-- Whatever a crash leaves of the files holds this store, also without the log of the database. The number that was noted last is that of its batch, and
+-- after a crash the files of the number name it, or a later one.
 abbrev pub LeaveNumbered : {D E L C : Type 0} {d : disk.Ghosts D} {e : disk.Ghosts E} {l : disk.Ghosts L} {c : claim.Ghosts C} → FileStore D d × ClaimedFile E C e c
     → LastBatch L l → KeptStore → Type 0
-LeaveNumbered files number kept = LeaveWhole files kept × Survives kept.batch number
+LeaveNumbered files number kept = LeaveWhole files kept × Survives kept.batch number × (number_of number ≡ kept.batch)
 
 -- `D` is the disk of the database, and `E` that of the data file
 module _ {D E C : Type 0} {d : disk.Ghosts D} {e : disk.Ghosts E} {c : claim.Ghosts C} (g : Ghosts (ClaimedFile E C e c) (List Piece)) (rules : Rules) where
@@ -82,6 +78,14 @@ module _ {D E C : Type 0} {d : disk.Ghosts D} {e : disk.Ghosts E} {c : claim.Gho
       pub last : Serving g
       pub run : RunsAndSaves (store_of {g = g}) reads_of rules old (state_now last) input input' output output'
       pub leaves : If → LeavesAfter g rules run.exchanges old last (LeaveNumbered files number)
+
+    -- A run to the end of the input, after which the log is not copied into the database file, or the number of the last batch is not on the disk. What a
+    -- crash leaves of the files has all that was kept, unless the store of the database stopped in a state in which it does not number its tables: SQLite's
+    -- clauses do not exclude that.
+    pub record RunsWithLog (files : FileStore D d × ClaimedFile E C e c) (input input' output output' : Option (List ℕ)) : Type 0 where
+      pub last : Serving g
+      pub run : RunsAndSaves (store_of {g = g}) reads_of rules old (state_now last) input input' output output'
+      pub leaves : IsTrue (view files.0).is_numbered → If → LeavesAfter g rules run.exchanges old last (Leave files)
 
     -- one more batch is served and kept after these exchanges
     pub record LeavesLast (exchanges : List Exchange) (mid : ServerState) (last : Serving g) (files : FileStore D d × ClaimedFile E C e c) : Type 0 where
@@ -128,7 +132,7 @@ module _ {D E C : Type 0} {d : disk.Ghosts D} {e : disk.Ghosts E} {c : claim.Gho
     pub record GoesOnWithLog (input input' output output' : Option (List ℕ)) : Type 0 where
       pub first : At g
       pub begins : BeginsWith start first
-      pub goes : RunsWithLog g rules (state_from first) input input' output output'
+      pub goes : RunsWithLog g rules HeldAStore (state_from first) files input input' output output'
 
     -- an error stops such a run
     pub record GoesOnAndStops (output output' : Option (List ℕ)) : Type 0 where

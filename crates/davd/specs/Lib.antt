@@ -1,6 +1,7 @@
 pub mod Options
 pub mod Present
 pub mod Folder
+pub mod Failing
 pub mod Leaving
 pub mod Program
 pub mod Joining

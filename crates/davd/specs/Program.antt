@@ -82,7 +82,7 @@ pub record ServesFolder {D E L C : Type 0} (d : disk.Ghosts D) (l : disk.Ghosts 
   pub number : LastBatch L l
   pub goes_on : GoesOn left file files said number medium (rules_in options) (start_of options) input input' output output'
 
--- nothing is read or written
+-- no input is read, and no output written
 abbrev pub HasNotBegun : {I O : Type 0} → I → I → O → O → Type 0
 HasNotBegun input input' output output' = (input' ≡ input) × (output' ≡ output)
 

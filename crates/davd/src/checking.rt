@@ -109,7 +109,11 @@ fn check_files<D: Disk, E: Disk + Drop, L: Disk, O: Write>(
         Err(error) => return Err(Stopped::Disk(error)),
     };
     // Without changes a database that has no table gets no store.
-    let mut found = read_files::<D, ReadOnly<E>, Unclaimed>(alloc, files, disk, &[], None, None)?;
+    let read = read_files::<D, ReadOnly<E>, Unclaimed>(alloc, files, disk, &[], None, None);
+    let mut found = match read {
+        Ok(found) => found,
+        Err((error, _)) => return Err(error.into()),
+    };
     expect_up_to_date(last, found.key, found.last, false)?;
     let checked = check_store(alloc, &mut found.store)?;
     report_checked(output, found.rows, &checked)

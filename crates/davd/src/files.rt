@@ -20,9 +20,6 @@ pub const LAST: &str = "last";
 /// The directory in which a backup has its files until all of them are there.
 const PARTIAL: &str = "partial";
 
-/// A log of fewer bytes has no page: it has a header, that of a frame, and a page of 512 bytes or more.
-const MIN_LOG: u64 = 32 + 24 + 512;
-
 /// Makes a folder, unless there is something of this name, and brings its name to the disk.
 pub fn make_folder(rt: &HostRuntime, folder: &str) -> Result<(), Stopped>
     ensures { IfErr result IsNotUsage }
@@ -45,20 +42,22 @@ fn sync_parent(rt: &HostRuntime, folder: &str) -> Result<(), Stopped>
     }
 }
 
-/// Checks that no file of a store is missing that was there: a database has its data file, and bytes have their database.
-/// Files of a backup that did not end have none.
+/// Checks that no file of a store is missing that was there: a database has its data file, a data file with bytes and a
+/// number have their database, and of the two files of the last number there is none without the other, unless the loss of
+/// batches is accepted. Files of a backup that did not end have no database. A log alone is none of a store that was served:
+/// the number is written before the first batch.
 ///
 /// Errors: `Refused` if one is missing; `Disk`; `Memory`.
-pub fn expect_files(rt: &HostRuntime, folder: &str) -> Result<(), Stopped>
+pub fn expect_files(rt: &HostRuntime, folder: &str, accepts_loss: bool) -> Result<(), Stopped>
     ensures { IfErr result IsNotUsage }
 {
     let database = size_of(rt, folder, DATABASE)?;
-    let log = size_of(rt, folder, "meta.db-wal")?;
     let file = size_of(rt, folder, DATA)?;
     let last = size_of(rt, folder, LAST)?;
     let other = size_of(rt, folder, "last-wal")?;
     let is_partial = size_of(rt, folder, PARTIAL)?.is_some();
-    match missing(database, log, file, (last, other), is_partial) {
+    match missing(database, file, (last, other), is_partial) {
+        Some(Refusal::NoNumber) if accepts_loss => Ok(()),
         Some(refusal) => Err(Stopped::Refused(refusal)),
         None => Ok(()),
     }
@@ -68,22 +67,23 @@ pub fn expect_files(rt: &HostRuntime, folder: &str) -> Result<(), Stopped>
 /// `number` are the two files of the last number, and `is_partial` says whether there is the directory of a backup.
 fn missing(
     database: Option<u64>,
-    log: Option<u64>,
     file: Option<u64>,
     number: (Option<u64>, Option<u64>),
     is_partial: bool,
 ) -> Option<Refusal>
-    ensures { result ≡ missing_of database log file number is_partial }
+    ensures { result ≡ missing_of database file number is_partial }
 {
     let has_database = database.unwrap_or(0) > 0;
     let has_number = number.0.unwrap_or(0) > 0 || number.1.unwrap_or(0) > 0;
-    let has_rest = log.unwrap_or(0) >= MIN_LOG || file.unwrap_or(0) > 0 || has_number;
+    let has_rest = file.unwrap_or(0) > 0 || has_number;
     if has_database && file.is_none() {
         Some(Refusal::NoData)
     } else if !has_database && is_partial {
         Some(Refusal::Unfinished)
     } else if !has_database && has_rest {
         Some(Refusal::NoDatabase)
+    } else if has_number && number.0.is_none() != number.1.is_none() {
+        Some(Refusal::NoNumber)
     } else {
         None
     }
@@ -128,7 +128,7 @@ fn by_disk(ended: io::Result<()>) -> Result<(), Stopped>
 pub fn expect_database(rt: &HostRuntime, folder: &str) -> Result<(), Stopped>
     ensures { IfErr result IsNotUsage }
 {
-    expect_files(rt, folder)?;
+    expect_files(rt, folder, false)?;
     match size_of(rt, folder, DATABASE)? {
         None | Some(0) => Err(Stopped::Disk(ErrorKind::NotFound.into())),
         Some(_) => Ok(()),

@@ -1,35 +1,37 @@
 //! A store in a folder.
-ghost use Rattle.std.specs.Prelude.{◌≡◌, ℕ, true, false, IsTrue, IfOk, IfErr, OnOk};
+ghost use Rattle.std.specs.Prelude.{◌≡◌, ℕ, true, false, Some, IsTrue, IfOk, IfErr, OnOk};
+ghost use Rattle.sqlite_disk.specs.Disk.{Only};
 ghost use Rattle.std.specs.Option.{option_map};
 ghost use Rattle.sqlite.specs.Files.{image_of};
 ghost use Rattle.sqlite.specs.WalFiles.{image_at};
 ghost use Rattle.sqlite_wal.specs.Reads.{AreClean, OnlyReadsBoth};
 ghost use Rattle.sqlite_std_file.specs.File.{IsFresh, file_is_usable};
 ghost use Rattle.dav_folder.specs.Claims.{IsKeyed};
+ghost use Rattle.dav_folder.specs.Failing.{LeavesAsBefore, IsOnlyRead};
 ghost use Rattle.dav_folder.specs.Folders.{batch_of};
 ghost use Rattle.dav_folder.specs.Opening.{AreOnlyRead};
-ghost use Rattle.dav_folder.specs.Reading.{ReadsImage, IsEmptyIfHonest};
-ghost use Rattle.dav_keep.specs.Images.{Image, StandForImage};
-ghost use Rattle.dav_keep.specs.Loading.{IsWholeImage};
+ghost use Rattle.dav_folder.specs.Reading.{ReadsAs, IsEmptyIfHonest};
+ghost use Rattle.dav_keep.specs.Images.{Image};
 ghost use Rattle.dav_last.specs.Batches.{number_of, key_of};
 ghost use Rattle.dav_rows.specs.Contents.{Contents};
 ghost use Rattle.dav_rows.specs.Creating.{first};
 ghost use Rattle.dav_rows_files.specs.Starting.{Keeps, IsVacant};
 ghost use Rattle.dav_seal.specs.Seals.{IsSealed};
 ghost use Rattle.dav_tree.specs.TreeFs.{memory_of};
+ghost use Rattle.davd.specs.Failing.{HoldsFound, HoldsOnIfOpened, HoldsOnLeft, HasOnly};
 ghost use Rattle.davd.specs.Folder.{FindsKept, FindsFirst, FindsHeld, FindsNew, HeldSealed, MakesFirst, IsNotOlder, OpensUpToDate};
 ghost use Rattle.davd.specs.Program.{IsNotUsage};
 
 use crate::files::{Absent, DATA, DATABASE, LAST, empty_reserve, expect_files, make_folder};
 use crate::program::{Refusal, Stopped};
-use dav_data::ClaimedFile;
-use dav_folder::{Confirm, Found, OpenError, Opened, read_files};
+use dav_data::{Claim, ClaimedFile};
+use dav_folder::{Confirm, DataLeft, Found, OpenError, Opened, Remains, give_up, read_files};
 use dav_keep::first_changes;
 use dav_last::{Last, LastBatch, read_last};
 use dav_reserve::{ROOM, Reserved};
 use dav_rows::Change;
 use dav_store_rows::SaveError;
-use sqlite::{FileFrom, FileStore, Start};
+use sqlite::{FileFrom, FileStore, Leftover, Start};
 use sqlite_disk::{Disk, Files};
 use std::alloc::Global;
 use std::io::{self, ErrorKind};
@@ -39,6 +41,45 @@ pub type OpenedFiles<R, T, C> = OpenedOver<FileFrom<R>, FileFrom<T>, C>;
 
 /// A store in a database and a data file, beside which room is kept back on such a disk.
 type OpenedOver<D, E, C> = Opened<FileStore<D>, ClaimedFile<Reserved<E, E>, C>>;
+
+/// What is left of the files of a database and a data file, beside which room is kept back on such a disk.
+type RemainsOver<D, E, C> = Remains<D, Reserved<E, E>, C>;
+
+/// Why a folder is not served.
+#[derive(Drop)]
+pub struct Unstarted<D: Disk, E: Disk, C: Claim> {
+    /// Why the program ends.
+    pub stopped: Stopped,
+    /// What is left of the files of the database and the data file, if they were opened.
+    pub left: Option<Remains<D, E, C>>,
+}
+
+/// The same, if room is kept back beside the data file.
+pub type UnstartedOver<D, E, C> = Unstarted<D, Reserved<E, E>, C>;
+
+/// Not both of the database and the data file were opened.
+impl<D: Disk, E: Disk, C: Claim> From<Stopped> for Unstarted<D, E, C> {
+    ghost use Rattle.std.specs.Prelude.{◌≡◌, None};
+
+    ghost from_gives = { λ stopped e. (e.stopped ≡ stopped) × (e.left ≡ None) };
+
+    fn from(stopped: Stopped) -> Unstarted<D, E, C> {
+        Unstarted {
+            stopped,
+            left: None,
+        }
+    }
+}
+
+impl<D: Disk + Drop, E: Disk + Drop, C: Claim> From<Unstarted<D, E, C>> for Stopped {
+    ghost use Rattle.std.specs.Prelude.{◌≡◌};
+
+    ghost from_gives = { λ unstarted e. e ≡ unstarted.stopped };
+
+    fn from(unstarted: Unstarted<D, E, C>) -> Stopped {
+        unstarted.stopped
+    }
+}
 
 /// What is supposed of the files of a folder: those of the database, the data file, and those of the last number; and what is
 /// claimed of the digests in the data file.
@@ -84,13 +125,18 @@ struct Opening {
 /// only if `accepts_loss`.
 ///
 /// Errors: `Refused` if a file of the store is missing, or the folder is not one of a store, is damaged or has lost
-/// batches; `InUse` if another process has it open; `Disk` if it cannot be read or written; `Memory`.
+/// batches; `InUse` if another process has it open; `Disk` if it cannot be read or written; `Memory`. After an error, if the
+/// disks have done what their calls promise, whatever a crash leaves of the database and the data file holds the store that
+/// they held; `IsExempt` names two exceptions.
 pub fn open_folder<R: Start, T: Start, N: Start, C: Confirm>(
     rt: &HostRuntime,
     folder: &str,
     options: StartOptions,
     held: Held<R, T, N, C>,
-) -> Result<(OpenedFiles<R, T, C>, LastBatch<FileFrom<N>>), Stopped>
+) -> Result<
+    (OpenedFiles<R, T, C>, LastBatch<FileFrom<N>>),
+    UnstartedOver<FileFrom<R>, FileFrom<T>, C>,
+>
     ensures kept { IfOk result (λ found. FindsKept (image_at R.Start) T.Start.db options.quota found.0) }
     ensures new { IfOk result (λ found. FindsFirst (image_at R.Start) T.Start.db options.quota options.key found.0) }
     ensures sealed { IfOk result (λ found. HeldSealed (image_at R.Start) found.0) }
@@ -99,10 +145,11 @@ pub fn open_folder<R: Start, T: Start, N: Start, C: Confirm>(
     ensures last { IfOk result (λ found. number_of found.1 ≡ batch_of found.0.folder) }
     ensures key { IfOk result (λ found. key_of found.1 ≡ found.0.key) }
     ensures up_to_date { IfOk result (λ found. options.accepts_loss ≡ false → OpensUpToDate (image_at N.Start) found.0 found.1) }
-    ensures err { IfErr result IsNotUsage }
+    ensures left { IfErr result (λ e. HoldsOnIfOpened (image_at R.Start) T.Start.db e.left) }
+    ensures err { IfErr result (λ e. IsNotUsage e.stopped) }
 {
     make_folder(rt, folder)?;
-    expect_files(rt, folder)?;
+    expect_files(rt, folder, options.accepts_loss)?;
     let absent = Absent::find(rt, folder)?;
     let (left, file, number, _claim) = held;
     let mut last = open_pair(rt, folder, LAST, number)?;
@@ -115,14 +162,32 @@ pub fn open_folder<R: Start, T: Start, N: Start, C: Confirm>(
     };
     let opened = match open_pairs(rt, folder, how, options.key, (left, file), &mut last) {
         Ok(opened) => opened,
-        Err(stopped) => {
-            absent.remove_last(rt, folder)?;
-            return Err(stopped);
+        Err(mut unstarted) => {
+            if let Err(stopped) = absent.remove_last(rt, folder) {
+                unstarted.stopped = stopped;
+            }
+            return Err(unstarted);
         }
     };
     match LastBatch::begin(last, opened.key, opened.last) {
         Ok(last) => Ok((opened, last)),
-        Err((error, _)) => Err(Stopped::Disk(error)),
+        Err((error, _)) => Err(Unstarted {
+            stopped: Stopped::Disk(error),
+            left: Some(close_opened(opened)),
+        }),
+    }
+}
+
+/// Gives up a store that was opened. Nothing is written.
+fn close_opened<D: Disk + Drop, E: Disk + Drop, C: Claim>(
+    opened: OpenedOver<D, E, C>,
+) -> RemainsOver<D, E, C>
+    ensures { HoldsFound opened result }
+{
+    let (files, data_file) = give_up(opened.folder, opened.store);
+    Remains {
+        database: Leftover::Store(files),
+        data_file: DataLeft::File(data_file),
     }
 }
 
@@ -135,7 +200,7 @@ fn open_pairs<R: Start, T: Start, L: Disk, C: Confirm>(
     key: u64,
     held: (R, T),
     last: &mut Files<L>,
-) -> Result<OpenedFiles<R, T, C>, Stopped>
+) -> Result<OpenedFiles<R, T, C>, UnstartedOver<FileFrom<R>, FileFrom<T>, C>>
     requires other { IsTrue (L.Disk.is_usable last.old.log) }
     requires last { IsTrue (L.Disk.is_usable last.old.db) }
     ensures kept { IfOk result (FindsHeld (image_at R.Start) T.Start.db how.limit) }
@@ -147,20 +212,49 @@ fn open_pairs<R: Start, T: Start, L: Disk, C: Confirm>(
     ensures up_to_date { IfOk result (λ opened. how.accepts_loss ≡ false → AreClean L.Disk last.new.log last.new.db
         → IsNotOlder opened.key opened.last (L.Disk.seen last.old.log) (L.Disk.seen last.old.db)) }
     ensures only { OnlyReadsBoth L.Disk (last.old.log, last.old.db) (last.new.log, last.new.db) }
+    ensures left { IfErr result (λ e. HoldsOnIfOpened (image_at R.Start) T.Start.db e.left) }
+    ensures err { IfErr result (λ e. IsNotUsage e.stopped) }
+{
+    let changes = new_tables(rt.alloc(), key)?;
+    let pairs = open_both(rt, folder, how.absent, held)?;
+    open_over(rt, folder, how, pairs, last, &changes)
+}
+
+/// Returns the changes that make the tables of a new store with this key. Fails only if memory runs out.
+fn new_tables(alloc: Global, key: u64) -> Result<Vec<Change>, Stopped>
+    ensures made { IfOk result (λ changes. MakesFirst key changes.items) }
+    ensures err { IfErr result IsNotUsage }
+{
+    Ok(first_changes(alloc, key)?)
+}
+
+/// Opens the files of the database and the data file, with the one that keeps room back.
+///
+/// Errors: `InUse` if another process has them open; `Refused` if an old journal is beside them; `Disk`; `Memory`.
+fn open_both<R: Start, T: Start>(
+    rt: &HostRuntime,
+    folder: &str,
+    absent: Absent,
+    held: (R, T),
+) -> Result<(Files<FileFrom<R>>, Files<FileFrom<T>>), Stopped>
+    ensures log { IfOk result (λ pairs. IsTrue (file_is_usable R.Start pairs.0.log)) }
+    ensures db { IfOk result (λ pairs. IsTrue (file_is_usable R.Start pairs.0.db)) }
+    ensures reserve { IfOk result (λ pairs. IsTrue (file_is_usable T.Start pairs.1.log)) }
+    ensures data_file { IfOk result (λ pairs. IsTrue (file_is_usable T.Start pairs.1.db)) }
+    ensures fresh { IfOk result (λ pairs. IsFresh true pairs.0.log × IsFresh false pairs.0.db) }
+    ensures fresh_data { IfOk result (λ pairs. IsFresh false pairs.1.db) }
     ensures err { IfErr result IsNotUsage }
 {
     let (left, file) = held;
-    let changes = first_changes(rt.alloc(), key)?;
     // The data file is made first: a database without one is not that of a store that was just made.
     let pair = open_pair(rt, folder, DATA, file)?;
-    let files = match open_pair(rt, folder, DATABASE, left) {
-        Ok(files) => files,
+    match open_pair(rt, folder, DATABASE, left) {
+        Ok(files) => Ok((files, pair)),
         Err(stopped) => {
-            how.absent.remove_reserve(rt, folder)?;
-            return Err(stopped);
+            absent.remove_reserve(rt, folder)?;
+            Err(stopped)
         }
-    };
-    open_over(rt, folder, how, (files, pair), last, &changes)
+    }
 }
 
 /// Opens the store over the files of a database and a data file. The file that comes with it keeps room back.
@@ -173,7 +267,7 @@ fn open_over<D: Disk + Drop, E: Disk + Drop, L: Disk, C: Confirm>(
     pairs: (Files<D>, Files<E>),
     last: &mut Files<L>,
     changes: &[Change],
-) -> Result<OpenedOver<D, E, C>, Stopped>
+) -> Result<OpenedOver<D, E, C>, UnstartedOver<D, E, C>>
     requires log_usable { IsTrue (D.Disk.is_usable pairs.0.log) }
     requires db_usable { IsTrue (D.Disk.is_usable pairs.0.db) }
     requires usable { E.Disk.is_usable pairs.1.db ≡ true }
@@ -189,21 +283,56 @@ fn open_over<D: Disk + Drop, E: Disk + Drop, L: Disk, C: Confirm>(
     ensures up_to_date { IfOk result (λ opened. how.accepts_loss ≡ false → AreClean L.Disk last.new.log last.new.db
         → IsNotOlder opened.key opened.last (L.Disk.seen last.old.log) (L.Disk.seen last.old.db)) }
     ensures only { OnlyReadsBoth L.Disk (last.old.log, last.old.db) (last.new.log, last.new.db) }
-    ensures err { IfErr result IsNotUsage }
+    ensures left { HasOnly D.Disk pairs.0 → Only (E.Disk.seen pairs.1.db) (E.Disk.may_leave pairs.1.db)
+        → IfErr result (λ e. HoldsOnLeft (image_of D.Disk pairs.0) (E.Disk.seen pairs.1.db) e.left) }
+    ensures err { IfErr result (λ e. IsNotUsage e.stopped) }
 {
     let (mut files, pair) = pairs;
     let disk = Reserved::new(pair.db, pair.log, ROOM);
     let found = match read_up_to_date(rt.alloc(), &mut files, disk, last, changes, how) {
         Ok(found) => found,
-        Err(stopped) => {
+        Err((error, data_file)) => {
             // The database is still locked, so nobody serves the files that are removed.
-            how.absent.remove(rt, folder)?;
-            return Err(stopped);
+            let stopped = first_error(how.absent.remove(rt, folder), error);
+            return Err(failed_start(stopped, Leftover::Files(files), data_file));
         }
     };
-    empty_reserve(rt, folder)?;
-    let opened = found.open(rt.alloc(), files, how.seed, changes)?;
-    Ok(opened)
+    if let Err(stopped) = empty_reserve(rt, folder) {
+        return Err(failed_start(stopped, Leftover::Files(files), found.give_up()));
+    }
+    match found.open(rt.alloc(), files, how.seed, changes) {
+        Ok(opened) => Ok(opened),
+        Err((error, left)) => Err(failed_start(error.into(), left.database, left.data_file)),
+    }
+}
+
+/// Returns why a folder is not served, of which this is left.
+fn failed_start<D: Disk, E: Disk, C: Claim>(
+    stopped: Stopped,
+    database: Leftover<D>,
+    data_file: DataLeft<E, C>,
+) -> Unstarted<D, E, C>
+    ensures { result ≡ record { stopped = stopped; left = Some (record { database = database; data_file = data_file }) } }
+{
+    Unstarted {
+        stopped,
+        left: Some(Remains {
+            database,
+            data_file,
+        }),
+    }
+}
+
+/// Returns the error of removing files, if there is one, or else that for which they are removed.
+fn first_error(removed: Result<(), Stopped>, stopped: Stopped) -> Stopped
+    requires removed { IfErr removed IsNotUsage }
+    requires stopped { IsNotUsage stopped }
+    ensures { IsNotUsage result }
+{
+    match removed {
+        Ok(()) => stopped,
+        Err(error) => error,
+    }
 }
 
 /// Reads the store of a folder, and checks that it has lost no batch. It only reads the files.
@@ -216,16 +345,16 @@ fn read_up_to_date<D: Disk, E: Disk + Drop, L: Disk, C: Confirm>(
     last: &mut Files<L>,
     changes: &[Change],
     how: Opening,
-) -> Result<Found<ClaimedFile<E, C>>, Stopped>
+) -> Result<Found<ClaimedFile<E, C>>, (Stopped, DataLeft<E, C>)>
     requires log_usable { IsTrue (D.Disk.is_usable files.old.log) }
     requires db_usable { IsTrue (D.Disk.is_usable files.old.db) }
     requires usable { E.Disk.is_usable disk ≡ true }
     requires other { IsTrue (L.Disk.is_usable last.old.log) }
     requires last { IsTrue (L.Disk.is_usable last.old.db) }
-    ensures kept { (image : Image) (tables : Contents) → Keeps (image_of D.Disk files.old) tables → StandForImage tables image → (whole : IsWholeImage image)
-        → IfOk result (λ found. AreClean D.Disk files.new.log files.new.db → ReadsImage (E.Disk.seen disk) how.limit image whole tables found) }
-    ensures new { (image : Image) → IsVacant (image_of D.Disk files.old) → StandForImage (first changes.now) image → (whole : IsWholeImage image)
-        → IfOk result (λ found. AreClean D.Disk files.new.log files.new.db → ReadsImage (E.Disk.seen disk) how.limit image whole (first changes.now) found) }
+    ensures kept { (image : Image) (tables : Contents) → Keeps (image_of D.Disk files.old) tables
+        → ReadsAs (E.Disk.seen disk) how.limit (AreClean D.Disk files.new.log files.new.db) image tables result }
+    ensures new { (image : Image) → IsVacant (image_of D.Disk files.old)
+        → ReadsAs (E.Disk.seen disk) how.limit (AreClean D.Disk files.new.log files.new.db) image (first changes.now) result }
     ensures empty { IsVacant (image_of D.Disk files.old)
         → IfOk result (λ found. AreClean D.Disk files.new.log files.new.db → IsEmptyIfHonest found (E.Disk.seen disk)) }
     ensures sealed { (tables : Contents) → Keeps (image_of D.Disk files.old) tables
@@ -236,11 +365,18 @@ fn read_up_to_date<D: Disk, E: Disk + Drop, L: Disk, C: Confirm>(
     ensures up_to_date { IfOk result (λ found. how.accepts_loss ≡ false → AreClean L.Disk last.new.log last.new.db
         → IsNotOlder found.key found.last (L.Disk.seen last.old.log) (L.Disk.seen last.old.db)) }
     ensures only_last { OnlyReadsBoth L.Disk (last.old.log, last.old.db) (last.new.log, last.new.db) }
-    ensures err { IfErr result IsNotUsage }
+    ensures only_data { IfOk result (IsOnlyRead (E.Disk.seen disk)) }
+    ensures unharmed { IfErr result (λ e. LeavesAsBefore disk e.1) }
+    ensures err { IfErr result (λ e. IsNotUsage e.0) }
 {
-    let found = read_files(alloc, files, disk, changes, how.limit, how.tag_part)?;
-    expect_up_to_date(last, found.key, found.last, how.accepts_loss)?;
-    Ok(found)
+    let found = match read_files(alloc, files, disk, changes, how.limit, how.tag_part) {
+        Ok(found) => found,
+        Err((error, data_file)) => return Err((error.into(), data_file)),
+    };
+    match expect_up_to_date(last, found.key, found.last, how.accepts_loss) {
+        Ok(()) => Ok(found),
+        Err(stopped) => Err((stopped, found.give_up())),
+    }
 }
 
 /// Checks that a store with this key, whose last batch has this number, has lost no batch. It only reads the files of the

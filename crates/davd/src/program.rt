@@ -70,7 +70,7 @@ pub enum Refusal {
     ShortData,
     /// The database is of an earlier batch than the number that was kept beside it.
     Older,
-    /// The number of the last batch cannot be read, or is that of another folder.
+    /// The number of the last batch cannot be read, is that of another folder, or one of its two files is missing.
     NoNumber,
     /// There are files of a backup that did not end.
     Unfinished,
@@ -280,21 +280,21 @@ fn line_of(stopped: &Stopped) -> &'static str {
 fn refusal_of(refusal: Refusal) -> &'static str {
     match refusal {
         Refusal::Damaged =>
-            "davd: meta.db or meta.db-wal is damaged, so nothing was changed: restore the folder from a backup",
+            "davd: meta.db or meta.db-wal is damaged, so nothing was changed: restore all files of the folder from one backup",
         Refusal::Foreign =>
             "davd: meta.db is not a database of this version of davd, so nothing was changed: serve it by the later version that made it, or choose another folder",
         Refusal::NoDatabase =>
-            "davd: meta.db has no store, and the folder has bytes of one, so nothing was changed: restore meta.db, meta.db-wal and data from one backup",
+            "davd: meta.db has no store, and the folder has bytes of one, so nothing was changed: restore all files of the folder from one backup",
         Refusal::NoData =>
-            "davd: data is missing, so nothing was changed: restore meta.db, meta.db-wal and data from one backup",
+            "davd: data is missing, so nothing was changed: restore all files of the folder from one backup",
         Refusal::ShortData =>
-            "davd: data is shorter than meta.db says, so nothing was changed: restore meta.db, meta.db-wal and data from one backup",
+            "davd: data is shorter than meta.db says, so nothing was changed: restore all files of the folder from one backup",
         Refusal::Older =>
-            "davd: meta.db and meta.db-wal have lost the last batches, so nothing was changed: restore the folder from a backup, or serve what is left with -accept-loss",
+            "davd: meta.db and meta.db-wal have lost the last batches, so nothing was changed: restore all files of the folder from one backup, or serve what is left with -accept-loss",
         Refusal::Unfinished =>
             "davd: a backup to this folder did not end, so nothing was changed: make a new one in another folder",
         Refusal::NoNumber =>
-            "davd: last and last-wal are damaged or of another folder, so nothing was changed: restore the folder from a backup, or serve it with -accept-loss",
+            "davd: one of last and last-wal is missing, damaged or of another folder, so nothing was changed: restore all files of the folder from one backup, or serve it with -accept-loss",
     }
 }
 

@@ -8,11 +8,12 @@ ghost use Rattle.dav_folder.specs.Folders.{batch_of};
 ghost use Rattle.dav_folder.specs.Lasting.{HasCleanDatabase};
 ghost use Rattle.dav_folder.specs.Opening.{opened_at};
 ghost use Rattle.dav_last.specs.Batches.{number_of, is_usable};
+ghost use Rattle.davd.specs.Failing.{HoldsOnIfOpened};
 ghost use Rattle.davd.specs.Folder.{IsOpenedAsKept, ServesOpened, StopsOpened, rules_for, state_from};
 ghost use Rattle.davd.specs.Leaving.{RunsAndLeaves, RunsWithLog, StopsAndLeaves, GoesOn, GoesOnWithLog, GoesOnAndStops};
 ghost use Rattle.davd.specs.Program.{IsNotUsage};
 
-use crate::folder::{Held, StartOptions, open_folder};
+use crate::folder::{Held, StartOptions, UnstartedOver, open_folder};
 use crate::program::Stopped;
 use dav_data::{Claim, ClaimedFile};
 use dav_folder::{Confirm, Folder, FolderFiles, Numbered, Opened, close_folder, give_up};
@@ -62,7 +63,8 @@ type EndedOver<D, E, L, C> = (Result<(), Stopped>, FolderFiles<D, E, C>, LastBat
 /// of what is kept; the database is whole without its log, and the files of the number name that number or a later one.
 /// After an error it leaves this of the batches that were answered, or what was in the server at last.
 ///
-/// Errors at the start are those of `open_folder`, and later ones those of `serve_to_the_end`.
+/// Errors at the start are those of `open_folder`, with what it says of what they leave, and later ones those of
+/// `serve_to_the_end`.
 pub fn serve_folder<R: Start, T: Start, N: Start, C: Confirm, I: Read, O: Write>(
     rt: &HostRuntime,
     folder: &str,
@@ -70,7 +72,7 @@ pub fn serve_folder<R: Start, T: Start, N: Start, C: Confirm, I: Read, O: Write>
     options: FolderOptions,
     input: &mut I,
     output: &mut O,
-) -> Result<Ended<R, T, N, C>, Stopped>
+) -> Result<Ended<R, T, N, C>, UnstartedOver<FileFrom<R>, FileFrom<T>, C>>
     ensures served { IfOk result (λ ended. OnOk ended.0 (GoesOn (image_at R.Start) T.Start.db ended.1 (image_at N.Start) ended.2
         ⟦<FolderData<T, C> as Medium>⟧ (rules_for options.server) options.start (I.remaining input.old) (I.remaining input.new) (O.contents output.old) (O.contents output.new))) }
     ensures stopped { IfOk result (λ ended. OnErr ended.0 (GoesOnAndStops (image_at R.Start) T.Start.db ended.1 ⟦<FolderData<T, C> as Medium>⟧
@@ -80,7 +82,8 @@ pub fn serve_folder<R: Start, T: Start, N: Start, C: Confirm, I: Read, O: Write>
     ensures end { IfOk result (λ ended. OnOk ended.0 (IsAtEnd (I.remaining input.new))) }
     ensures unread { OnErr result (input.new ≡ input.old) }
     ensures unwritten { OnErr result (output.new ≡ output.old) }
-    ensures err { IfErr result IsNotUsage }
+    ensures left { IfErr result (λ e. HoldsOnIfOpened (image_at R.Start) T.Start.db e.left) }
+    ensures err { IfErr result (λ e. IsNotUsage e.stopped) }
     ensures later { IfOk result (λ ended. IfErr ended.0 IsNotUsage) }
 {
     let FolderOptions { server, start } = options;
@@ -114,7 +117,7 @@ pub fn serve_to_the_end<
         (state_from (opened_at opened)) result.1 result.2 (I.remaining input.old) (I.remaining input.new) (O.contents output.old) (O.contents output.new)) }
     ensures stopped { OnErr result.0 (StopsAndLeaves ⟦<ClaimedFile<E, C> as Medium>⟧ (rules_for options) (IsOpenedAsKept opened)
         (state_from (opened_at opened)) result.1 (O.contents output.old) (O.contents output.new)
-        ⊎ RunsWithLog ⟦<ClaimedFile<E, C> as Medium>⟧ (rules_for options) (state_from (opened_at opened))
+        ⊎ RunsWithLog ⟦<ClaimedFile<E, C> as Medium>⟧ (rules_for options) (IsOpenedAsKept opened) (state_from (opened_at opened)) result.1
         (I.remaining input.old) (I.remaining input.new) (O.contents output.old) (O.contents output.new)) }
     ensures clean { IsClean (view result.1.0) → HasCleanDatabase opened.folder }
     ensures end { OnOk result.0 (IsAtEnd (I.remaining input.new)) }

@@ -1,5 +1,5 @@
 //! Entries with the resources of a tree that was loaded.
-ghost use Rattle.std.specs.Prelude.{◌≡◌, ◌<◌, ◌*◌, ◌≤◌, ◌^◌, true, All, length, IfOk};
+ghost use Rattle.std.specs.Prelude.{◌≡◌, ◌<◌, ◌*◌, ◌≤◌, ◌^◌, true, All, length, IfOk, IfErr};
 ghost use Rattle.std.specs.List.{sum_by};
 ghost use Rattle.dav_nodes.specs.Listing.{HasFlatKeys};
 ghost use Rattle.dav_tree.specs.Entry.{node_by, is_held};
@@ -17,18 +17,18 @@ use std::collections::BTreeMap;
 
 impl<M: Medium> Entries<M> {
     /// Creates entries with the resources of a tree, whose bodies are safe on the medium, and without bodies for
-    /// requests to come. What there is counts as saved. Fails only if memory runs out.
-    pub fn load(
-        alloc: Global,
-        medium: M,
-        nodes: Nodes<Entry<M::Body>>,
-    ) -> Result<Entries<M>, AllocError>
+    /// requests to come. What there is counts as saved. Fails only if memory runs out, and then gives the medium back.
+    pub fn load(alloc: Global, medium: M, nodes: Nodes<Entry<M::Body>>) -> Result<Entries<M>, M>
         requires safe { AreHeld (M.safe medium) nodes }
         requires keys { HasFlatKeys nodes.values }
         ensures loaded { IfOk result (IsLoaded M.body_code (M.bytes medium) nodes) }
         ensures honest { IfOk result (λ entries. entries.honest ≡ M.is_honest medium) }
+        ensures settled { IfOk result (λ entries. entries.settled ≡ M.settled medium) }
+        ensures err { IfErr result (λ back. back ≡ medium) }
     {
-        let used = used_in(alloc, &medium, &nodes)?;
+        let Ok(used) = used_in(alloc, &medium, &nodes) else {
+            return Err(medium);
+        };
         Ok(Entries {
             alloc,
             tree: NotedNodes::saved(alloc, nodes),

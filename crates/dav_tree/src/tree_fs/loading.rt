@@ -7,7 +7,7 @@ ghost use Rattle.dav_tree.specs.Entry.{is_held};
 ghost use Rattle.dav_tree.specs.Kept.{resources_by};
 ghost use Rattle.dav_tree.specs.Loading.{loaded_memory};
 ghost use Rattle.dav_tree.specs.Memory.{IsSound};
-ghost use Rattle.dav_tree.specs.TreeFs.{memory_of, store_of, records_of, entries_of, older_of, honest_of};
+ghost use Rattle.dav_tree.specs.TreeFs.{memory_of, store_of, records_of, entries_of, older_of, honest_of, settled_of};
 ghost use Rattle.dav_tree.specs.declared.entry.Entry.{Entry};
 ghost use base.Stored.{gnil};
 
@@ -29,13 +29,15 @@ impl<M: Medium> TreeFs<M> {
     /// - `NotATree`: these are not the rows of a store. The root and each parent must be a directory, each name must
     ///   be valid in a path, and each property's element must have the property's name.
     /// - `Memory`: memory runs out.
+    ///
+    /// The medium comes back with the error, as it was.
     pub fn load(
         alloc: Global,
         medium: M,
         rows: Vec<NumberedValue<Entry<M::Body>>>,
         version: u64,
         limit: Option<Option<u64>>,
-    ) -> Result<TreeFs<M>, RowsError>
+    ) -> Result<TreeFs<M>, (RowsError, M)>
         requires { All (λ row. is_held (M.safe medium) row.value.content ≡ true) rows.items }
         ensures memory { (tree : Tree (Entry M.Body)) → AreRowsOf rows.items tree → IfOk result (λ store. memory_of store ≡ loaded_memory M.body_code (M.bytes medium) tree version limit) }
         ensures entries { (tree : Tree (Entry M.Body)) → AreRowsOf rows.items tree → IfOk result (λ store. entries_of store ≡ entries_code M.body_code tree) }
@@ -44,14 +46,24 @@ impl<M: Medium> TreeFs<M> {
         ensures log { IfOk result (λ store. (store_of store).log ≡ []) }
         ensures records { IfOk result (λ store. records_of store ≡ []) }
         ensures honest { IfOk result (λ store. honest_of store ≡ M.is_honest medium) }
-        ensures err { (tree : Tree (Entry M.Body)) → AreRowsOf rows.items tree → IsSound (resources_by (M.bytes medium) tree) → IfErr result (λ e. e ≡ RowsError.Memory) }
+        ensures settled { IfOk result (λ store. settled_of store ≡ M.settled medium) }
+        ensures err { (tree : Tree (Entry M.Body)) → AreRowsOf rows.items tree → IsSound (resources_by (M.bytes medium) tree) → IfErr result (λ e. e.0 ≡ RowsError.Memory) }
+        ensures back { IfErr result (λ e. e.1 ≡ medium) }
     {
-        let nodes = Nodes::from_rows(alloc, rows, || Entry::new(alloc, Content::Directory, 0, 0))?;
+        let root = || Entry::new(alloc, Content::Directory, 0, 0);
+        let nodes = match Nodes::from_rows(alloc, rows, root) {
+            Ok(nodes) => nodes,
+            Err(error) => return Err((error, medium)),
+        };
         if !are_sound(&nodes) {
-            return Err(RowsError::NotATree);
+            return Err((RowsError::NotATree, medium));
         }
+        let entries = match Entries::load(alloc, medium, nodes) {
+            Ok(entries) => entries,
+            Err(medium) => return Err((RowsError::Memory, medium)),
+        };
         Ok(TreeFs {
-            entries: Entries::load(alloc, medium, nodes)?,
+            entries,
             version,
             moment: 0,
             limit,

@@ -1,6 +1,6 @@
 use Rattle.std.proofs.Common.{◌≡◌, ◌∙◌, ℕ, List, Option, true, false, refl, sym, ap, subst, inl, inr, arith}
-use Rattle.dav_data.specs.Claimed.{bytes_in}
-use Rattle.dav_data.specs.Data.{is_below}
+use Rattle.dav_data.specs.Claimed.{bytes_in, file_of}
+use Rattle.dav_data.specs.Data.{is_below, is_honest, may_leave}
 use Rattle.dav_data.specs.Digests.{are_right}
 use Rattle.dav_keep.specs.declared.numbers.Numbers.{Numbers}
 use Rattle.dav_pieces.specs.Pieces.{bytes_of}
@@ -25,15 +25,15 @@ with_part part memory = record memory { tag_part = part }
 
 pub returns-clause-limit : goal.returns-clause-limit
 returns-clause-limit g c = λ image tables are.
-    let values = (c.in_ok-known.ensures.loaded image tables are).values in
-    ap (λ (m : Memory). m.limit) (c.set_tag_part.ensures.memory ∙ ap (with_part c.args.tag_part) (c.in_ok-store.ensures.memory image.tree values))
+    let values = (c.in-Ok.ensures.loaded image tables are).values in
+    ap (λ (m : Memory). m.limit) (c.set_tag_part.ensures.memory ∙ ap (with_part c.args.tag_part) (c.in-Ok-stored.ensures.memory image.tree values))
 
 pub returns-clause-found : goal.returns-clause-found
 returns-clause-found g c = λ image tables are.
-    let loaded = c.in_ok-known.ensures.loaded image tables are in
-    let store = c.in_ok-store.ensures in
+    let loaded = c.in-Ok.ensures.loaded image tables are in
+    let store = c.in-Ok-stored.ensures in
     record {
-      knows = c.in_ok-known.ensures.known image tables are;
+      knows = c.in-Ok.ensures.known image tables are;
       sound = are.whole.sound;
       entries = ap (λ (k : Kept). k.tree) c.set_tag_part.ensures.entries ∙ store.entries image.tree loaded.values;
       resources = c.show_sound.ensures;
@@ -47,47 +47,53 @@ returns-clause-found g c = λ image tables are.
 
 pub returns-clause-bytes : goal.returns-clause-bytes
 returns-clause-bytes g c = λ image tables are within.
-    let loaded = c.in_ok-known.loaded in
-    let values = (c.in_ok-known.ensures.loaded image tables are).values in
-    let store = c.in_ok-store.ensures in
+    let loaded = c.in-Ok.parts.1 in
+    let values = (c.in-Ok.ensures.loaded image tables are).values in
+    let store = c.in-Ok-stored.ensures in
     let below = values_below c.args.rows image tables are loaded.values.items values in
-    let most = c.in_ok-known.ensures.end.least are.whole.end below in
-    let same = c.in-Ok.ensures.bytes (omega (arith, most, within)) in
+    let most = c.in-Ok.ensures.end.least are.whole.end below in
+    let same = c.in-Ok-open.ensures.bytes (omega (arith, most, within)) in
     ap (λ (m : Memory). m.resources) (c.set_tag_part.ensures.memory ∙ ap (with_part c.args.tag_part) (store.memory image.tree values))
-    ∙ same-resources (bytes_of (g.D.Disk.seen c.args.disk)) (bytes_in c.in-Ok.medium) (is_below loaded.end) (is_below loaded.end) (λ body below. below)
-    same image.tree (tree_below loaded.values.items image.tree loaded.end values c.in_ok-known.ensures.end.reached)
+    ∙ same-resources (bytes_of (g.D.Disk.seen c.args.disk)) (bytes_in c.in-Ok-open.medium) (is_below loaded.end) (is_below loaded.end) (λ body below. below)
+    same image.tree (tree_below loaded.values.items image.tree loaded.end values c.in-Ok.ensures.end.reached)
 
-pub returns-in-Err-clause-err : goal.returns-in-Err-clause-err
-returns-in-Err-clause-err g c = λ image tables are has.
-    let values = c.in_ok-known.loaded.values.items in
-    let below = values_below c.args.rows image tables are values (c.in_ok-known.ensures.loaded image tables are).values in
-    let most = c.in_ok-known.ensures.end.least are.whole.end below in
-    let cause = c.in-Err.error in
-    inr (cause, refl, disk_failed g.D.Disk c.args.disk c.in-Err._disk c.in_ok-known.loaded.end cause c.in-Err.ensures.err (omega (arith, most, has.within)))
+pub returns-in-Err-open-clause-err : goal.returns-in-Err-open-clause-err
+returns-in-Err-open-clause-err g c = λ image tables are has.
+    let values = c.in-Ok.parts.1.values.items in
+    let below = values_below c.args.rows image tables are values (c.in-Ok.ensures.loaded image tables are).values in
+    let most = c.in-Ok.ensures.end.least are.whole.end below in
+    let cause = c.in-Err-open.error in
+    inr (cause, refl, disk_failed g.D.Disk c.args.disk c.in-Err-open.disk c.in-Ok.parts.1.end cause c.in-Err-open.ensures.err (omega (arith, most, has.within)))
 
-pub returns-in_err-store-clause-err : goal.returns-in_err-store-clause-err
-returns-in_err-store-clause-err g c = λ image tables are has.
-    let listed = (c.in_ok-known.ensures.loaded image tables are).values in
-    let sound = other_bytes image.tree (bytes_of (g.D.Disk.seen c.args.disk)) (bytes_in c.in-Ok.medium) has.sound in
-    let cause = c.in_err-store.field-0.0 in
-    err_by (λ e. cause ≡ causes.Memory → e ≡ errors.Memory) (IsMemoryOrDisk g.D.Disk c.args.disk) c.from_residual-in_err-store.result
-    c.from_residual-in_err-store.ensures.1 (λ e given. inl (given (c.in_err-store.ensures.err image.tree listed sound)))
+pub returns-in-Err-stored-clause-err : goal.returns-in-Err-stored-clause-err
+returns-in-Err-stored-clause-err g c = λ image tables are has.
+    let listed = (c.in-Ok.ensures.loaded image tables are).values in
+    let sound = other_bytes image.tree (bytes_of (g.D.Disk.seen c.args.disk)) (bytes_in c.in-Ok-open.medium) has.sound in
+    inl (c.into-in-Err-stored.ensures (c.in-Err-stored.ensures.err image.tree listed sound))
 
-pub load-requires-2 : goal.load-requires-2
-load-requires-2 g c =
-    let loaded = c.in_ok-known.loaded in
+pub load-stored-requires : goal.load-stored-requires
+load-stored-requires g c =
+    let loaded = c.in-Ok.parts.1 in
     let seen = g.D.Disk.seen c.args.disk in
-    rows_safe c.in-Ok.medium loaded.end loaded.numbers.key seen c.in-Ok.ensures.held loaded.values.items c.in_ok-known.ensures.end.reached
+    rows_safe c.in-Ok-open.medium loaded.end loaded.numbers.key seen c.in-Ok-open.ensures.held loaded.values.items c.in-Ok.ensures.end.reached
     (λ up. subst (λ (rows : List (NumberedValue Resource)). MeetsClaim g.C.Claim.key seen loaded.numbers.key loaded.end rows) c.deref.ensures.value
     (c.confirms.ensures.sure c.if-not-confirms.false up))
 
+pub returns-in-Err-stored-clause-unharmed : goal.returns-in-Err-stored-clause-unharmed
+returns-in-Err-stored-clause-unharmed g c = λ only honest file may.
+    let back = c.in-Err-stored.ensures.back in
+    let opened = c.in-Ok-open.ensures in
+    let here = subst (λ medium. may_leave (file_of medium) file) back may in
+    let true_here = subst (λ medium. is_honest (file_of medium) ≡ true) back honest in
+    c.show_right.ensures.settled _ file opened.settled here ∙ opened.same true_here
+
 pub returns-then-not-confirms-clause-err : goal.returns-then-not-confirms-clause-err
 returns-then-not-confirms-clause-err g c = λ image tables are has.
-    let loaded = c.in_ok-known.loaded in
+    let loaded = c.in-Ok.parts.1 in
     let seen = g.D.Disk.seen c.args.disk in
-    let is = c.in_ok-known.ensures.loaded image tables are in
+    let is = c.in-Ok.ensures.loaded image tables are in
     let below = values_below c.args.rows image tables are loaded.values.items is.values in
-    let most = c.in_ok-known.ensures.end.least are.whole.end below in
+    let most = c.in-Ok.ensures.end.least are.whole.end below in
     let yes = c.confirms.ensures.all (λ up.
     subst (λ (rows : List (NumberedValue Resource)). MeetsClaim g.C.Claim.key seen loaded.numbers.key loaded.end rows) (sym c.deref.ensures.value)
     (record {

@@ -7,7 +7,6 @@ use Rattle.sqlite.specs.Tree.{Trees}
 use Rattle.dav_rows.specs.Changes.{after}
 use Rattle.dav_rows.specs.Contents.{Holds}
 use Rattle.dav_rows.specs.Creating.{first}
-use Rattle.dav_rows.specs.declared.opening.StartError.TheVariants.{Sqlite}
 use Rattle.dav_rows_files.proofs.StartLemmas.{at_start, blank_start, older_start, unused_start, found_in, open_failed, open_failed_first, open_failed_older, load_stopped, first_stopped, next_only}
 use Rattle.dav_rows_files.proofs.UnharmedLemmas.{open_unharmed, open_unharmed_first, open_unharmed_older, as_found, none_found, unused_or, older_or}
 use Rattle.dav_rows_files.proofs.starting.start.Goals as goal
@@ -79,13 +78,13 @@ returns-in-Err-bring_up_to_date-clause-err_older g c = λ clean m keeps.
     first_stopped conn new c.into_store.result c.args.upgrade.now c.in-Err-bring_up_to_date.error c.in-Ok.ensures.fresh.unlimited quiet.counts (c.in-Err-bring_up_to_date.ensures.err_older late m was)
 
 pub returns-in-Err-clause-unharmed : goal.returns-in-Err-clause-unharmed
-returns-in-Err-clause-unharmed g c = open_unharmed c.args.files c.in-Err.left (Sqlite c.in-Err.error) c.in-Err.ensures.unharmed
+returns-in-Err-clause-unharmed g c = open_unharmed c.args.files c.in-Err.left c.in-Err.ensures.unharmed
 
 pub returns-in-Err-clause-unharmed_first : goal.returns-in-Err-clause-unharmed_first
-returns-in-Err-clause-unharmed_first g c = open_unharmed_first c.args.files c.in-Err.left (Sqlite c.in-Err.error) c.in-Err.ensures.unharmed (first c.args.changes.now)
+returns-in-Err-clause-unharmed_first g c = open_unharmed_first c.args.files c.in-Err.left c.in-Err.ensures.unharmed (first c.args.changes.now)
 
 pub returns-in-Err-clause-unharmed_older : goal.returns-in-Err-clause-unharmed_older
-returns-in-Err-clause-unharmed_older g c = open_unharmed_older c.args.files c.in-Err.left (Sqlite c.in-Err.error) c.in-Err.ensures.unharmed (after c.args.upgrade.now)
+returns-in-Err-clause-unharmed_older g c = open_unharmed_older c.args.files c.in-Err.left c.in-Err.ensures.unharmed (after c.args.upgrade.now)
 
 pub returns-in-Err-bring_up_to_date-clause-unharmed : goal.returns-in-Err-bring_up_to_date-clause-unharmed
 returns-in-Err-bring_up_to_date-clause-unharmed g c m keeps clean left may =

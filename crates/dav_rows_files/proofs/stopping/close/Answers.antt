@@ -8,7 +8,7 @@ use Rattle.sqlite_wal.proofs.StateLemmas.{open_from}
 use Rattle.sqlite_trees.proofs.Doubt.{clean_of as sure}
 use Rattle.sqlite.specs.Files.{HoldsDatabase, file_state}
 use Rattle.sqlite.specs.Held.{AreDatabases}
-use Rattle.sqlite.proofs.Theorems.{copied}
+use Rattle.sqlite.proofs.Theorems.{copied, opens_again}
 use Rattle.dav_rows_files.proofs.stopping.close.Goals as goal
 
 pub returns-clause-clean : goal.returns-clause-clean
@@ -43,3 +43,12 @@ returns-clause-whole g c done = λ clean left may.
     ∥∥₁_elim held.both squash₁ (λ both. ∥∥₁_map held.alone (λ alone.
     let r : (db : Trees) × HoldsDatabase left db × HoldsDatabase (record left { log = [] }) db × (file_state c.args.conn).may_leave db =
     (db, both, alone, returns-clause-no_other g c clean db (stays_at last stays on)) in r))
+
+pub returns-clause-left : goal.returns-clause-left
+returns-clause-left g c = λ numbered clean left may.
+    let last = c.checkpoint.new.self in
+    let q = c.checkpoint.ensures.quiet in
+    let early : IsClean (view c.into_store-store.result) = omega (arith, c.rollback.ensures.quiet.clean, q.clean, clean) in
+    let sound : AreDatabases (recovers last) = λ db found. c.into_store-store.ensures.sound early db (c.rollback.ensures.quiet.outcomes db (q.outcomes db found)) in
+    ∥∥₁_map (opens_again last numbered sound left may) (λ found.
+    let r : (db : Trees) × HoldsDatabase left db × (file_state c.args.conn).may_leave db = (found.0, found.2, returns-clause-no_other g c clean found.0 found.1) in r)

@@ -9,17 +9,17 @@ pub returns-clause-whole : goal.returns-clause-whole
 returns-clause-whole g c = on_ok c.report_checked.result c.report_checked.ensures.none (λ none. record {
   disk = inner_of c.in-Ok.disk;
   shown = contents_of c.in-Ok.disk;
-  found = c.in_ok-found.found;
+  found = c.in-Ok-read.found;
   same = c.in-Ok.ensures.same;
-  rows = λ image tables keeps stand whole clean. c.in_ok-found.ensures.kept image tables keeps stand whole clean;
-  sealed = λ tables keeps clean. c.in_ok-found.ensures.sealed tables keeps clean;
+  rows = λ image tables keeps stand whole clean. c.in-Ok-read.ensures.kept image tables keeps stand whole clean;
+  sealed = λ tables keeps clean. c.in-Ok-read.ensures.sealed tables keeps clean;
   read = λ key is. all_read c.in_ok-checked.checked none (c.in_ok-checked.ensures.read key is);
   up_to_date = c.in_ok-expect_up_to_date.ensures.up_to_date refl;
 })
 
 pub returns-in_err-expect_up_to_date-clause-err : goal.returns-in_err-expect_up_to_date-clause-err
 returns-in_err-expect_up_to_date-clause-err g c =
-    passed_on c.from_residual-in_err-expect_up_to_date.result c.in_err-expect_up_to_date.field-0.0 IsNotUsage c.from_residual-in_err-expect_up_to_date.ensures.1
+    passed_on c.from_residual.result c.in_err-expect_up_to_date.field-0.0 IsNotUsage c.from_residual.ensures.1
     c.in_err-expect_up_to_date.ensures.err
 
 pub returns-in_err-checked-clause-err : goal.returns-in_err-checked-clause-err

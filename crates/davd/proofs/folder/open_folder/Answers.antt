@@ -1,5 +1,6 @@
 use Rattle.std.proofs.Common.{subst}
 use Rattle.sqlite.specs.Recovery.{Image}
+use Rattle.sqlite.specs.WalFiles.{image_at}
 use Rattle.davd.proofs.FreshFiles.{fresh_image}
 use Rattle.davd.specs.Folder.{FindsHeld, FindsNew, IsNotOlder}
 use Rattle.davd.proofs.folder.open_folder.Goals as goal
@@ -16,3 +17,6 @@ returns-in-Ok-begin-clause-up_to_date g c = λ strict clean.
     let held = fresh_image was.log was.db fresh.0 fresh.1 in
     subst (λ (image : Image). IsNotOlder c.in-Ok.opened.key c.in-Ok.opened.last image.log image.db) held
     (c.in-Ok.ensures.up_to_date strict (c.in-Ok-begin.ensures.clean clean))
+
+pub returns-clause-left : goal.returns-clause-left
+returns-clause-left g c = c.close_opened.ensures (image_at g.R.Start) g.T.Start.db _ c.in-Ok.ensures.kept

@@ -1,38 +1,63 @@
-use Rattle.std.proofs.Common.{◌≡◌, sym, ap, subst}
+use Rattle.std.proofs.Common.{◌≡◌, refl, sym, ap, subst}
 use Rattle.dav_seal.specs.Seals.{IsSealed}
 use Rattle.sqlite.specs.Files.{image_of}
 use Rattle.sqlite_wal.specs.Reads.{AreClean}
 use Rattle.davd.proofs.Finding.{finds_held, finds_new}
 use Rattle.davd.specs.Folder.{FindsHeld, FindsNew}
-use Rattle.davd.proofs.Leaves.{passed_on}
-use Rattle.davd.specs.Program.{IsNotUsage}
+use Rattle.sqlite_disk.specs.Disk.{Only}
+use Rattle.dav_folder.specs.Failing.{LeavesOnly, IsOnlyRead}
+use Rattle.davd.proofs.Failing.{holds_on, only_read}
+use Rattle.davd.specs.Failing.{HoldsOnLeft}
 use Rattle.davd.proofs.folder.open_over.Goals as goal
 
-pub returns-clause-kept : goal.returns-clause-kept
-returns-clause-kept g c =
+pub returns-in-Ok-open-clause-kept : goal.returns-in-Ok-open-clause-kept
+returns-in-Ok-open-clause-kept g c =
     let old = c.args.pairs.0 in let now = c.read_up_to_date.new.files in
-    let read = c.in-Ok.ensures in let opens = c.in_ok-opened.ensures in
+    let read = c.in-Ok.ensures in let opens = c.in-Ok-open.ensures in
     let only = c.read_up_to_date.ensures.only in
     let same : image_of g.D.Disk now ≡ image_of g.D.Disk old = λ i. record { log = only.0.seen i; db = only.1.seen i } in
-    subst (λ file. FindsHeld (image_of g.D.Disk old) file c.args.how.limit c.in_ok-opened.opened) (ap g.E.Disk.seen c.new-disk.ensures.inner)
-    (finds_held c.args.how.limit _ (image_of g.D.Disk old) (image_of g.D.Disk now) same (AreClean g.D.Disk now.log now.db) c.in-Ok.found c.in_ok-opened.opened
+    subst (λ file. FindsHeld (image_of g.D.Disk old) file c.args.how.limit c.in-Ok-open.opened) (ap g.E.Disk.seen c.new-disk.ensures.inner)
+    (finds_held c.args.how.limit _ (image_of g.D.Disk old) (image_of g.D.Disk now) same (AreClean g.D.Disk now.log now.db) c.in-Ok.found c.in-Ok-open.opened
     opens.store opens.clean read.kept opens.kept)
 
-pub returns-clause-new : goal.returns-clause-new
-returns-clause-new g c = λ key first.
+pub returns-in-Ok-open-clause-new : goal.returns-in-Ok-open-clause-new
+returns-in-Ok-open-clause-new g c = λ key first.
     let old = c.args.pairs.0 in let now = c.read_up_to_date.new.files in
-    let read = c.in-Ok.ensures in let opens = c.in_ok-opened.ensures in
+    let read = c.in-Ok.ensures in let opens = c.in-Ok-open.ensures in
     let only = c.read_up_to_date.ensures.only in
     let same : image_of g.D.Disk now ≡ image_of g.D.Disk old = λ i. record { log = only.0.seen i; db = only.1.seen i } in
-    subst (λ file. FindsNew (image_of g.D.Disk old) file c.args.how.limit key c.in_ok-opened.opened) (ap g.E.Disk.seen c.new-disk.ensures.inner)
-    (finds_new c.args.how.limit _ (image_of g.D.Disk old) (image_of g.D.Disk now) same (AreClean g.D.Disk now.log now.db) c.in-Ok.found c.in_ok-opened.opened
+    subst (λ file. FindsNew (image_of g.D.Disk old) file c.args.how.limit key c.in-Ok-open.opened) (ap g.E.Disk.seen c.new-disk.ensures.inner)
+    (finds_new c.args.how.limit _ (image_of g.D.Disk old) (image_of g.D.Disk now) same (AreClean g.D.Disk now.log now.db) c.in-Ok.found c.in-Ok-open.opened
     opens.store opens.clean key c.args.changes.now first read.new opens.new read.empty opens.key)
 
-pub returns-clause-sealed : goal.returns-clause-sealed
-returns-clause-sealed g c = λ tables keeps clean.
-    let opens = c.in_ok-opened.ensures in
+pub returns-in-Ok-open-clause-sealed : goal.returns-in-Ok-open-clause-sealed
+returns-in-Ok-open-clause-sealed g c = λ tables keeps clean.
+    let opens = c.in-Ok-open.ensures in
     subst (λ key. IsSealed key tables) (sym opens.key) (c.in-Ok.ensures.sealed tables keeps (opens.clean clean))
 
-pub returns-in_err-empty_reserve-clause-err : goal.returns-in_err-empty_reserve-clause-err
-returns-in_err-empty_reserve-clause-err g c =
-    passed_on c.from_residual-in_err-empty_reserve.result c.in_err-empty_reserve.field-0.0 IsNotUsage c.from_residual-in_err-empty_reserve.ensures.1 c.in_err-empty_reserve.ensures
+-- nothing was written while the store was read
+pub returns-in-Err-clause-left : goal.returns-in-Err-clause-left
+returns-in-Err-clause-left g c = λ has only.
+    let old = c.args.pairs.0 in let db = c.args.pairs.1.db in let seen = g.E.Disk.seen in
+    let leaves = subst (λ db. Only (seen db) (g.E.Disk.may_leave db) → LeavesOnly (seen db) c.in-Err.data_file) c.new-disk.ensures.inner c.in-Err.ensures.unharmed in
+    subst (λ e. HoldsOnLeft (image_of g.D.Disk old) (seen db) e.left) (sym c.failed_start.ensures)
+    (_, refl, only_read old c.read_up_to_date.new.files c.read_up_to_date.ensures.only has (seen db) c.in-Err.data_file (leaves only))
+
+-- nor while the reserve was emptied
+pub returns-in-Err-empty_reserve-clause-left : goal.returns-in-Err-empty_reserve-clause-left
+returns-in-Err-empty_reserve-clause-left g c = λ has only.
+    let old = c.args.pairs.0 in let db = c.args.pairs.1.db in let seen = g.E.Disk.seen in
+    let read = subst (λ db. IsOnlyRead (seen db) c.in-Ok.found) c.new-disk.ensures.inner c.in-Ok.ensures.only_data in
+    subst (λ e. HoldsOnLeft (image_of g.D.Disk old) (seen db) e.left) (sym c.failed_start-in-Err-empty_reserve.ensures)
+    (_, refl, only_read old c.read_up_to_date.new.files c.read_up_to_date.ensures.only has (seen db) c.give_up.result (c.give_up.ensures (seen db) read))
+
+pub returns-in-Err-open-clause-left : goal.returns-in-Err-open-clause-left
+returns-in-Err-open-clause-left g c = λ has only.
+    let old = c.args.pairs.0 in let db = c.args.pairs.1.db in let seen = g.E.Disk.seen in
+    let read = subst (λ db. IsOnlyRead (seen db) c.in-Ok.found) c.new-disk.ensures.inner c.in-Ok.ensures.only_data in
+    subst (λ e. HoldsOnLeft (image_of g.D.Disk old) (seen db) e.left) (sym c.failed_start-in-Err-open.ensures) (
+      _,
+      refl,
+      holds_on old c.read_up_to_date.new.files c.read_up_to_date.ensures.only has (seen db) c.in-Err-open.left.database c.in-Err-open.left.data_file c.in-Err-open.ensures.unharmed
+          (c.in-Err-open.ensures.unwritten (seen db) read),
+    )

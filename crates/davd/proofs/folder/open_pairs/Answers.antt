@@ -1,11 +1,15 @@
-use Rattle.std.proofs.Common.{◌≡◌, ℕ, List, refl, sym, subst}
-use Rattle.std.specs.Prelude.{IfOk}
+use Rattle.std.proofs.Common.{◌≡◌, ℕ, List, refl, sym, subst, ◌∙◌}
+use Rattle.std.specs.Prelude.{IfOk, IfErr}
 use Rattle.dav_keep.specs.Images.{StandForImage}
 use Rattle.dav_keep.specs.Loading.{first_image}
 use Rattle.dav_rows.specs.Creating.{first}
 use Rattle.dav_rows.specs.declared.change.Change.{Change}
 use Rattle.davd.proofs.Finding.{held_as, new_as}
 use Rattle.davd.proofs.FreshFiles.{fresh_seen, fresh_image}
+use Rattle.davd.proofs.FreshOutcomes.{fresh_contents, fresh_outcomes}
+use Rattle.davd.proofs.Failing.{moved}
+use Rattle.sqlite.specs.WalFiles.{image_at}
+use Rattle.sqlite.specs.Recovery.{Image}
 use Rattle.davd.specs.Folder.{HeldSealed}
 use Rattle.davd.proofs.folder.open_pairs.Goals as goal
 
@@ -14,17 +18,26 @@ stands {key} read changes same stand = subst (λ these. StandForImage (first the
 
 pub returns-clause-kept : goal.returns-clause-kept
 returns-clause-kept g c =
-    let files = c.in-Ok.files in let fresh = c.in-Ok.ensures.fresh in
-    held_as c.open_over.result _ _ _ _ _ _ (fresh_image files.log files.db fresh.0 fresh.1) (fresh_seen c.in_ok-pair.pair.db c.in_ok-pair.ensures.fresh.1) refl
+    let pairs = c.in_ok-pairs.pairs in let fresh = c.in_ok-pairs.ensures in
+    held_as c.open_over.result _ _ _ _ _ _ (fresh_image pairs.0.log pairs.0.db fresh.fresh.0 fresh.fresh.1) (fresh_seen pairs.1.db fresh.fresh_data) refl
     c.open_over.ensures.kept
 
 pub returns-clause-new : goal.returns-clause-new
 returns-clause-new g c =
-    let files = c.in-Ok.files in let fresh = c.in-Ok.ensures.fresh in
-    new_as c.open_over.result _ _ _ _ _ _ (fresh_image files.log files.db fresh.0 fresh.1) (fresh_seen c.in_ok-pair.pair.db c.in_ok-pair.ensures.fresh.1) refl c.args.key
-    (c.open_over.ensures.new c.args.key (stands _ _ c.deref.ensures.value c.in_ok-changes.ensures))
+    let pairs = c.in_ok-pairs.pairs in let fresh = c.in_ok-pairs.ensures in
+    new_as c.open_over.result _ _ _ _ _ _ (fresh_image pairs.0.log pairs.0.db fresh.fresh.0 fresh.fresh.1) (fresh_seen pairs.1.db fresh.fresh_data) refl c.args.key
+    (c.open_over.ensures.new c.args.key (stands _ _ c.deref.ensures.value c.in_ok-changes.ensures.made))
 
 pub returns-clause-sealed : goal.returns-clause-sealed
 returns-clause-sealed g c =
-    let files = c.in-Ok.files in let fresh = c.in-Ok.ensures.fresh in
-    subst (λ image. IfOk c.open_over.result (HeldSealed image)) (fresh_image files.log files.db fresh.0 fresh.1) c.open_over.ensures.sealed
+    let pairs = c.in_ok-pairs.pairs in let fresh = c.in_ok-pairs.ensures in
+    subst (λ image. IfOk c.open_over.result (HeldSealed image)) (fresh_image pairs.0.log pairs.0.db fresh.fresh.0 fresh.fresh.1) c.open_over.ensures.sealed
+
+pub returns-clause-left : goal.returns-clause-left
+returns-clause-left g c =
+    let pairs = c.in_ok-pairs.pairs in let fresh = c.in_ok-pairs.ensures in
+    let held = fresh_image pairs.0.log pairs.0.db fresh.fresh.0 fresh.fresh.1 in
+    let left = c.open_over.ensures.left
+    (λ image may. fresh_outcomes pairs.0.log pairs.0.db fresh.fresh.0 fresh.fresh.1 image may ∙ sym held)
+    (fresh_contents pairs.1.db fresh.fresh_data) in
+    moved (image_at g.R.Start) g.T.Start.db c.open_over.result (λ e. e.left) held (fresh_seen pairs.1.db fresh.fresh_data) left

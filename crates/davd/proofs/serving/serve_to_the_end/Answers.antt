@@ -18,7 +18,7 @@ returns-in-Ok-clause-stopped g c =
     let kept = c.serve_opened-ended.result.1 in
     let serves = is_ok c.serve_opened-ended.result.0 c.in-Ok.field-0 c.in-Ok.is c.serve_opened-ended.ensures.served in
     err_anyway c.ended_by-ended.result
-    (inr (runs_with_log (rules_for c.args.options) c.args.opened kept.0 kept.1 c.close_folder-copied.result.1 _ _ _ _ serves))
+    (inr (runs_with_log (rules_for c.args.options) c.args.opened kept.0 kept.1 c.close_folder-copied.result.1 _ _ _ _ c.close_folder-copied.ensures.alone serves))
 
 pub returns-in-Ok-clause-clean : goal.returns-in-Ok-clause-clean
 returns-in-Ok-clause-clean g c = λ clean. c.serve_opened-ended.ensures.clean (c.close_folder-copied.ensures.clean clean)

@@ -14,7 +14,7 @@ pub invariant_of-result : goal.invariant_of-result
 invariant_of-result g c =
     let m = g.M.Medium in
     let held = files-more (m.safe c.args.medium) (m.holds c.args.medium) (g.met.M.Medium.safe_held c.args.medium) c.args.nodes c.requires.safe in (
-      loaded-kept (m.bytes c.args.medium) c.args.nodes (tree_of c.saved.result) c.saved.ensures.tree c.new.result c.new.ensures.empty (m.holds c.args.medium) c.in_ok-used.used c.in_ok-used.ensures held,
+      loaded-kept (m.bytes c.args.medium) c.args.nodes (tree_of c.saved.result) c.saved.ensures.tree c.new.result c.new.ensures.empty (m.holds c.args.medium) c.in-Ok.used c.in-Ok.ensures held,
       saved-all (m.safe c.args.medium) (before_of c.saved.result) c.args.nodes c.saved.ensures.before c.requires.safe,
       saved-none (m.safe c.args.medium) None refl,
     )
@@ -22,4 +22,4 @@ invariant_of-result g c =
 pub returns-clause-loaded : goal.returns-clause-loaded
 returns-clause-loaded g c =
     let m = g.M.Medium in
-    is-loaded (m.bytes c.args.medium) c.args.nodes (tree_of c.saved.result) c.saved.ensures.tree c.new.result c.new.ensures.empty m.body_code (m.is_honest c.args.medium) (m.is_faultless c.args.medium) (before_of c.saved.result) c.saved.ensures.before
+    is-loaded (m.bytes c.args.medium) c.args.nodes (tree_of c.saved.result) c.saved.ensures.tree c.new.result c.new.ensures.empty m.body_code (m.is_honest c.args.medium) (m.is_faultless c.args.medium) (m.settled c.args.medium) (before_of c.saved.result) c.saved.ensures.before

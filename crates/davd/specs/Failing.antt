@@ -1,0 +1,48 @@
+-- What a start that fails leaves of a folder.
+use Rattle.std.specs.Prelude.{◌≡◌, ◌⊎◌, true, List, ℕ, Option, Some, IfSome}
+use Rattle.dav_data.specs.declared.claim.Claim as claim
+use Rattle.dav_data.specs.declared.claimed_file.ClaimedFile.{ClaimedFile}
+use Rattle.dav_folder.specs.Failing.{is_clean_data, may_leave_data}
+use Rattle.dav_folder.specs.Files.{KeptStore, Hold}
+use Rattle.dav_folder.specs.declared.failing.Remains.{Remains}
+use Rattle.dav_folder.specs.declared.opening.Opened.{Opened}
+use Rattle.dav_pieces.specs.declared.piece.Piece.{Piece}
+use Rattle.dav_rows_files.specs.Starting.{MayLeave, IsExempt}
+use Rattle.sqlite.specs.Files.{IsCleanLeft, image_of}
+use Rattle.sqlite.specs.Recovery as database
+use Rattle.sqlite_disk.specs.declared.Disk as disk
+use Rattle.sqlite_disk.specs.declared.Files.{Files}
+use Rattle.sqlite_store.specs.declared.store.FileStore.{FileStore}
+use Rattle.sqlite_trees.specs.declared.store.Store as store
+use Rattle.dav_tree.specs.declared.medium.Medium.{Ghosts}
+use Rattle.davd.specs.Folder.{FindsHeld}
+use Rattle.sqlite_wal.specs.Files.{outcomes}
+
+-- a crash leaves only what the files show
+abbrev pub HasOnly : {D : Type 0} → disk.Ghosts D → Files D → Type 0
+HasOnly g files = (image : database.Image) → outcomes g files.log files.db image → image ≡ image_of g files
+
+-- `left` and `file` are what the files of the database and the data file held
+module _ {D E C : Type 0} {d : disk.Ghosts D} {e : disk.Ghosts E} {c : claim.Ghosts C} (left : database.Image) (file : List ℕ) where
+  -- If the disks did what their calls promise, whatever a crash leaves holds this store, but for two cases that SQLite's clauses do not exclude.
+  abbrev pub StillHolds : KeptStore → Remains D E C d e c → Type 0
+  StillHolds kept remains =
+      IsCleanLeft remains.database → is_clean_data remains.data_file ≡ true → (now : database.Image) (contents : List ℕ) → MayLeave remains.database now
+      → may_leave_data remains.data_file contents → ∥ Hold c now contents kept ∥₁ ⊎ IsExempt left remains.database
+
+  -- so it is of each store that they held
+  abbrev pub HoldsOn : Remains D E C d e c → Type 0
+  HoldsOn remains = (kept : KeptStore) → Hold c left file kept → StillHolds kept remains
+
+  -- there are files, and so it is of them
+  abbrev pub HoldsOnLeft : Option (Remains D E C d e c) → Type 0
+  HoldsOnLeft remains = (rest : Remains D E C d e c) × (remains ≡ Some rest) × HoldsOn rest
+
+  -- so it is if there are files
+  abbrev pub HoldsOnIfOpened : Option (Remains D E C d e c) → Type 0
+  HoldsOnIfOpened remains = IfSome remains HoldsOn
+
+-- if a start has found the store that the files held, whatever a crash leaves of these holds it
+abbrev pub HoldsFound : {D E C : Type 0} {d : disk.Ghosts D} {e : disk.Ghosts E} {c : claim.Ghosts C} {rows : store.Ghosts (FileStore D d)} {g : Ghosts (ClaimedFile E C e c) (List Piece)}
+    → Opened (FileStore D d) (ClaimedFile E C e c) (List Piece) rows g → Remains D E C d e c → Type 0
+HoldsFound opened remains = (left : database.Image) (file : List ℕ) (limit : Option (Option ℕ)) → FindsHeld left file limit opened → HoldsOn left file remains
