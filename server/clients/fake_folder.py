@@ -51,6 +51,7 @@ class Kept:
 
     def __init__(self, folder: pathlib.Path):
         self.file = folder / "last"
+        (folder / "meta.db").touch()
         self.is_first = not self.file.exists()
         self.number = 0 if self.is_first else int(self.file.read_text())
         self.keep(self.number)
