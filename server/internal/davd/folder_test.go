@@ -548,3 +548,14 @@ func TestANewStoreIsLogged(t *testing.T) {
 	defer closeSoon(t, engine)
 	awaitLog(t, said, "had no store: a new one was made")
 }
+
+func TestALossThatIsAcceptedIsLogged(t *testing.T) {
+	config, _, said := overFolder(t, "sound", quickOver)
+	config.Lossy = true
+	engine, err := Start(soon(t), config)
+	if err != nil {
+		t.Fatal(err)
+	}
+	defer closeSoon(t, engine)
+	awaitLog(t, said, "is served even if its last changes are lost")
+}
