@@ -30,7 +30,7 @@ FOREIGN = ("davd: meta.db is not a database of this version of davd, so nothing 
 UNFINISHED = "davd: a backup to this folder did not end, so nothing was changed: make a new one in another folder\n"
 OLDER = ("davd: meta.db and meta.db-wal have lost the last batches, so nothing was changed: "
          "restore all files of the folder from one backup, or serve what is left with -accept-loss\n")
-NO_NUMBER = ("davd: one of last and last-wal is missing, damaged or of another folder, so nothing was changed: "
+NO_NUMBER = ("davd: last and last-wal are damaged or of another folder, or one of them is missing, so nothing was changed: "
              "restore all files of the folder from one backup, or serve it with -accept-loss\n")
 
 
@@ -277,6 +277,14 @@ def version_1(starter: Starter):
     expect("the rows of the state", rows_of(folder, "SELECT number FROM state ORDER BY number"), [(0,), (1,)])
 
 
+def accepted(starter: Starter, copy: pathlib.Path) -> Server:
+    """A server of a copy, which takes the place of the folder, with -accept-loss."""
+    folder = starter.folder / "kept"
+    shutil.rmtree(folder)
+    copy.rename(folder)
+    return start(starter, "-accept-loss")
+
+
 def older(starter: Starter) -> pathlib.Path:
     """A copy of a folder, whose database is of before a last file was made there."""
     folder = filled(starter)
@@ -293,9 +301,7 @@ def older(starter: Starter) -> pathlib.Path:
 def older_database(starter: Starter):
     folder = older(starter)
     refused(starter, "the folder", folder, OLDER)
-    shutil.rmtree(starter.folder / "kept")
-    folder.rename(starter.folder / "kept")
-    server = start(starter, "-accept-loss")
+    server = accepted(starter, folder)
     server.ask("GET", "/late", status=404)
     server.ask("GET", "/b", status=200)
     server.ask("MKCOL", "/new", status=201)
@@ -317,9 +323,7 @@ def other_number(starter: Starter):
     for name in ("last", "last-wal"):
         shutil.copyfile(other / name, copy / name)
     refused(starter, "with the number of another folder", copy, NO_NUMBER)
-    shutil.rmtree(other)
-    copy.rename(other)
-    start(starter, "-accept-loss").stop()
+    accepted(starter, copy).stop()
     whole(starter, other)
 
 
@@ -343,9 +347,7 @@ def number_without_its_other(starter: Starter):
         copy = copy_of(starter, folder)
         without(name)(copy)
         refused(starter, f"without {name}", copy, NO_NUMBER)
-    shutil.rmtree(folder)
-    copy.rename(folder)
-    start(starter, "-accept-loss").stop()
+    accepted(starter, copy).stop()
     whole(starter, folder)
 
 

@@ -294,7 +294,7 @@ fn refusal_of(refusal: Refusal) -> &'static str {
         Refusal::Unfinished =>
             "davd: a backup to this folder did not end, so nothing was changed: make a new one in another folder",
         Refusal::NoNumber =>
-            "davd: one of last and last-wal is missing, damaged or of another folder, so nothing was changed: restore all files of the folder from one backup, or serve it with -accept-loss",
+            "davd: last and last-wal are damaged or of another folder, or one of them is missing, so nothing was changed: restore all files of the folder from one backup, or serve it with -accept-loss",
     }
 }
 
