@@ -30,7 +30,7 @@ use Rattle.sqlite_value.proofs.OrderLemmas.{value_cmp-Int}
 use Rattle.std.specs.FinMap.{entries, insert, remove, int_cmp-IsAntisymmetric}
 use Rattle.std.specs.Ordering.{is_eq}
 use Rattle.sqlite.specs.Does.{Tally, Does, AtPlace, OnRows}
-use Rattle.sqlite.specs.Rows.{Part, Written, Task, Edited, Puts as PutsOne, Clears, Judged, Tries, TriesEach, mended, rowids_for, count_of, nothing}
+use Rattle.sqlite.specs.Rows.{Part, Written, Task, Edited, Puts as PutsOne, Clears, Judged, Tries, TriesEach, mended, rowids_for, count_of, nothing, joined}
 use Rattle.sqlite_catalog.specs.Listing.{IsSound}
 use Rattle.sqlite.specs.Tree.{Trees, rowid, put_row}
 use Rattle.sqlite.specs.Listing.{understood}
@@ -38,8 +38,8 @@ use Rattle.sqlite.specs.Effect.{Database, IsDatabase}
 use Rattle.sqlite.specs.State.{State, mode_of, Executes}
 use Rattle.sqlite.proofs.Callers.{statement_of, runs_as, one_step}
 use Rattle.dav_rows.specs.Tables.{numbered, rows_schema}
-use Rattle.dav_rows.specs.Stored.{Numbered, stored, shown, AreRows, IsOurs}
-use Rattle.dav_rows.proofs.Suits.{Suits, Puts}
+use Rattle.dav_rows.specs.Stored.{Numbered, stored, AreRows, IsOurs}
+use Rattle.dav_rows.proofs.Suits.{Suits, PutsThese, given_of}
 use Rattle.dav_rows.proofs.RowLemmas.{put_holds, remove_holds, without_many, insert_after_remove}
 
 -- The table of a tree goes from each map to what `f` makes of it, and nothing else changes.
@@ -48,6 +48,11 @@ pub record Alters {V : Type 0} (cells : V → Row) (tree : ℕ) (old new : Datab
   pub sound : IsOurs new.trees
   pub rows : (m : Numbered V) → AreRows cells (old.trees tree) m → AreRows cells (new.trees tree) (f m)
   pub others : (t : ℕ) → t ≢ tree → new.trees t ≡ old.trees t
+
+-- the map with these entries put in, the first of them first
+abbrev pub put_entries : {V : Type 0} → List (ℤ × V) → Numbered V → Numbered V
+put_entries [] m = m
+put_entries (e ∷ es) m = put_entries es (insert m e.0 e.1)
 
 -- a part that gave a value did not stop on the way
 pub went : {B E R : Type 0} {b : B} {Stops : E → Type 0} → ((stop : E) × Stops stop × (Ok b ≡ Err stop)) ⊎ R → R
@@ -169,14 +174,29 @@ module _ {V : Type 0} (cells : V → Row) (name : List ℕ) (tree : ℕ) (column
     judged db None one h = cleared db h.0 one h.1 h.2
     judged db (Some why) one h = absurd (let e = h in cc)
 
-    tried : (db : Trees) (one : Written) → Tries (task_of limit params) Replace [] (stored cells (n, v)) db (Ok one) → PutsIt db one.trees
+    -- what a row that is put leaves
+    pub tried : (db : Trees) (one : Written) → Tries (task_of limit params) Replace [] (stored cells (n, v)) db (Ok one) → PutsIt db one.trees
     tried db one (inl bad) = absurd (let e = bad.1 in cc)
     tried db one (inr ok) = judged db ok.0 one ok.2
 
-  pub puts : (text : List ℕ) → Puts cells tree text → (old new : State) (n : ℤ) (v : V) (count : ℕ) → old.now.schema ≡ rows_schema → Executes text (shown cells (n, v)) old new (Ok count)
-      → Alters cells tree old.now new.now (λ m. insert m n v)
-  puts text p old new n v count has h =
-      let params = shown cells (n, v) in
+  module _ (limit : Option ℕ) (params : Row) where
+    -- what rows that are put one after another leave
+    each_put : (es : List (ℤ × V)) (top : ℤ) (done : Written) (out : Written × ℤ) → TriesEach (task_of limit params) Replace [] (map (stored cells) es) top done (Ok out)
+        → ((t : ℕ) → t ≢ tree → out.0.trees t ≡ done.trees t) × ((m : Numbered V) → AreRows cells (done.trees tree) m → AreRows cells (out.0.trees tree) (put_entries es m))
+    each_put [] top done out h =
+        let same : out.0.trees ≡ done.trees = ap (λ (p : Written × ℤ). p.0.trees) (same_value h) in
+        (λ t apart. ap (λ (d : Trees). d t) same, λ m is. ap (λ (d : Trees). d tree) same ∙ is)
+    each_put (e ∷ es) top done out h =
+        let one = went h in
+        let first = tried limit params e.0 e.1 done.trees one.0
+        (subst (λ row. Tries (task_of limit params) Replace [] row done.trees (Ok one.0)) (row_given e.0 e.1 top (done.trees tree)) one.1) in
+        let more = each_put es _ (joined done one.0) out one.2 in
+        (λ t apart. more.0 t apart ∙ first.0 t apart, λ m is. more.1 (insert m e.0 e.1) (first.1 m is))
+
+  pub puts : (text : List ℕ) (es : List (ℤ × V)) → PutsThese cells tree text es → (old new : State) (count : ℕ) → old.now.schema ≡ rows_schema → Executes text (given_of cells es) old new (Ok count)
+      → Alters cells tree old.now new.now (λ m. put_entries es m)
+  puts text es p old new count has h =
+      let params = given_of cells es in
       let db = old.now.trees in
       let limit = old.step_limit in
       let command = InsertOr tree Replace (Values p.terms p.width) [] in
@@ -190,10 +210,9 @@ module _ {V : Type 0} (cells : V → Row) (name : List ℕ) (tree : ℕ) (column
       let each = went counter.2 in
       let counted = went each.2 in
       let trees : done.0.trees ≡ each.0.0.trees = ap (λ (it : Written). it.trees) (same_value counted.2) ∙ same_value counted.1 in
-      let one = went (subst (λ rows. TriesEach (task_of limit params) Replace [] rows (count_of counter.0) (nothing db) (Ok each.0)) (given.1.1 ∙ p.given n v) each.1) in
-      let joins : each.0.0.trees ≡ one.0.trees = ap (λ (p : Written × ℤ). p.0.trees) (same_value one.2) in
-      let it = tried limit params n v db one.0 (subst (λ row. Tries (task_of limit params) Replace [] row db (Ok one.0)) (row_given n v (count_of counter.0) (db tree)) one.1) in
-      let all : new.now.trees ≡ one.0.trees = ap (λ (d : Database). d.trees) now ∙ trees ∙ joins in
+      let it = each_put limit params es (count_of counter.0) (nothing db) each.0
+      (subst (λ rows. TriesEach (task_of limit params) Replace [] rows (count_of counter.0) (nothing db) (Ok each.0)) (given.1.1 ∙ p.given) each.1) in
+      let all : new.now.trees ≡ each.0.0.trees = ap (λ (d : Database). d.trees) now ∙ trees in
       let schema : new.now.schema ≡ rows_schema = ap (λ (d : Database). d.schema) now in
       record {
         schema = schema;

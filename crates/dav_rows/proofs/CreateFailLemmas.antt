@@ -139,6 +139,10 @@ applied_fails a b c f Long Longer e r same survives still edits fails longer = �
     let was = edits early ready in
     excused_put_after a b c Long Longer e survives.counts survives.limit longer (fails clean was.ready (f m) (was.holds m holds)))
 
+-- the same if a row may be too long for more
+pub longer_fails : {X : Type 0} (a c : State) (Long Longer : Type 0) (e : Error) (r : Result X Error) → IsErrAnd r (λ f. f ≡ e) → FailsToApply {X = X} a c Long (Err e) → (Long → Longer) → FailsToApply a c Longer r
+longer_fails a c Long Longer e r same fails longer = λ clean. passed e r _ same (λ ready m holds. excused_put_after a a c Long Longer e (omega arith) refl longer (fails clean ready m holds))
+
 -- tables were made, and the next one fails
 inside_of : (at : ℕ) (s : State) → IsBuilt at s → IsInside (schema_of at) s
 inside_of at s built = record { is_open = built.is_open; inside = built.inside; schema_is = built.schema }

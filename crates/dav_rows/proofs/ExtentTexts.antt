@@ -20,7 +20,7 @@ terms = col 0 0 ∷ lit Null ∷ col 0 1 ∷ col 0 2 ∷ col 0 3 ∷ []
 
 pub puts : Puts extent_cells 1 put_text
 unfolding understood everything
-puts = record { terms = terms; width = 5; is = refl; plain = (refl, refl); alone = λ n v. (omega arith, refl); typed = λ n v. refl; given = λ n v. refl }
+puts e = record { terms = terms; width = 5; is = refl; plain = (refl, refl); alone = (omega arith, refl); typed = refl; given = refl }
 
 abbrev pub remove_text : List ℕ
 remove_text = codes "DELETE FROM extent WHERE number = ?1"

@@ -1,6 +1,6 @@
 -- What a row that is put, and a number that is removed, make of all maps.
 use Rattle.std.proofs.Common.{◌≡◌, ℕ, ℤ, true, codes, [], ◌∷◌, Ok, Err, Result, OnOk, ◌∙◌}
-use Rattle.std.specs.FinMap.{insert, remove}
+use Rattle.std.specs.FinMap.{remove}
 use Rattle.sqlite.specs.declared.types.Value.TheVariants.{Int}
 use Rattle.sqlite.specs.declared.error.Error.{Error}
 use Rattle.sqlite.specs.State.{State, ExecutesInside, Shows}
@@ -18,7 +18,8 @@ use Rattle.dav_rows.specs.Texts.{removal}
 use Rattle.dav_rows.specs.Contents.{Contents, Holds, resource_cells, ResourceValues, extent_cells, ExtentValues, property_cells, PropertyValues, lock_cells, LockValues, state_cells, StateValues, note_cells, NoteValues}
 use Rattle.dav_rows.specs.Changes.{resource_entry, put_resource, extent_entry, put_extent, property_entry, put_property, lock_entry, put_lock, state_entry, put_state, note_entry, put_note, removed}
 use Rattle.dav_rows.specs.Saving.{IsReady, Edits}
-use Rattle.dav_rows.proofs.ChangeLemmas.{Alters, puts}
+use Rattle.dav_rows.proofs.Suits.{given_of}
+use Rattle.dav_rows.proofs.ChangeLemmas.{Alters, put_entries, puts}
 use Rattle.dav_rows.proofs.RemoveLemmas.{removes}
 use Rattle.dav_rows.proofs.ResourceTexts as resource
 use Rattle.dav_rows.proofs.ExtentTexts as extent
@@ -48,8 +49,9 @@ in_resources old new f it m was = record {
 
 pub put_resource_edits : (old new : State) (row : ResourceRow) (r : Result ℕ Error) → ExecutesInside 0 resource.put_text (shown resource_cells (resource_entry row)) old new r → IsReady old → OnOk r (Edits old new (put_resource row))
 put_resource_edits old new row (Ok count) ran ready =
-    let it = puts resource_cells (codes "resource") 0 resource_columns resource.suits resource.put_text resource.puts old new row.number (resource_entry row).1 count ready.schema ran.0 in
-    edited old new (put_resource row) ran.1 it.schema (in_resources old new (λ m. insert m row.number (resource_entry row).1) it)
+    let es = resource_entry row ∷ [] in
+    let it = puts resource_cells (codes "resource") 0 resource_columns resource.suits resource.put_text es (resource.puts (resource_entry row)) old new count ready.schema ran.0 in
+    edited old new (put_resource row) ran.1 it.schema (in_resources old new (λ m. put_entries es m) it)
 put_resource_edits old new row (Err e) ran ready = tt
 
 in_extents : (old new : State) (f : Numbered ExtentValues → Numbered ExtentValues) → Alters extent_cells 1 old.now new.now f
@@ -66,8 +68,9 @@ in_extents old new f it m was = record {
 
 pub put_extent_edits : (old new : State) (row : ExtentRow) (r : Result ℕ Error) → ExecutesInside 0 extent.put_text (shown extent_cells (extent_entry row)) old new r → IsReady old → OnOk r (Edits old new (put_extent row))
 put_extent_edits old new row (Ok count) ran ready =
-    let it = puts extent_cells (codes "extent") 1 extent_columns extent.suits extent.put_text extent.puts old new row.number (extent_entry row).1 count ready.schema ran.0 in
-    edited old new (put_extent row) ran.1 it.schema (in_extents old new (λ m. insert m row.number (extent_entry row).1) it)
+    let es = extent_entry row ∷ [] in
+    let it = puts extent_cells (codes "extent") 1 extent_columns extent.suits extent.put_text es (extent.puts (extent_entry row)) old new count ready.schema ran.0 in
+    edited old new (put_extent row) ran.1 it.schema (in_extents old new (λ m. put_entries es m) it)
 put_extent_edits old new row (Err e) ran ready = tt
 
 in_properties : (old new : State) (f : Numbered PropertyValues → Numbered PropertyValues) → Alters property_cells 2 old.now new.now f
@@ -84,8 +87,9 @@ in_properties old new f it m was = record {
 
 pub put_property_edits : (old new : State) (row : PropertyRow) (r : Result ℕ Error) → ExecutesInside 0 property.put_text (shown property_cells (property_entry row)) old new r → IsReady old → OnOk r (Edits old new (put_property row))
 put_property_edits old new row (Ok count) ran ready =
-    let it = puts property_cells (codes "property") 2 property_columns property.suits property.put_text property.puts old new row.number (property_entry row).1 count ready.schema ran.0 in
-    edited old new (put_property row) ran.1 it.schema (in_properties old new (λ m. insert m row.number (property_entry row).1) it)
+    let es = property_entry row ∷ [] in
+    let it = puts property_cells (codes "property") 2 property_columns property.suits property.put_text es (property.puts (property_entry row)) old new count ready.schema ran.0 in
+    edited old new (put_property row) ran.1 it.schema (in_properties old new (λ m. put_entries es m) it)
 put_property_edits old new row (Err e) ran ready = tt
 
 in_locks : (old new : State) (f : Numbered LockValues → Numbered LockValues) → Alters lock_cells 3 old.now new.now f
@@ -102,8 +106,9 @@ in_locks old new f it m was = record {
 
 pub put_lock_edits : (old new : State) (row : LockRow) (r : Result ℕ Error) → ExecutesInside 0 lock.put_text (shown lock_cells (lock_entry row)) old new r → IsReady old → OnOk r (Edits old new (put_lock row))
 put_lock_edits old new row (Ok count) ran ready =
-    let it = puts lock_cells (codes "lock") 3 lock_columns lock.suits lock.put_text lock.puts old new row.number (lock_entry row).1 count ready.schema ran.0 in
-    edited old new (put_lock row) ran.1 it.schema (in_locks old new (λ m. insert m row.number (lock_entry row).1) it)
+    let es = lock_entry row ∷ [] in
+    let it = puts lock_cells (codes "lock") 3 lock_columns lock.suits lock.put_text es (lock.puts (lock_entry row)) old new count ready.schema ran.0 in
+    edited old new (put_lock row) ran.1 it.schema (in_locks old new (λ m. put_entries es m) it)
 put_lock_edits old new row (Err e) ran ready = tt
 
 in_states : (old new : State) (f : Numbered StateValues → Numbered StateValues) → Alters state_cells 4 old.now new.now f
@@ -120,9 +125,18 @@ in_states old new f it m was = record {
 
 pub put_state_edits : (old new : State) (row : StateRow) (r : Result ℕ Error) → ExecutesInside 0 state.put_text (shown state_cells (state_entry row)) old new r → IsReady old → OnOk r (Edits old new (put_state row))
 put_state_edits old new row (Ok count) ran ready =
-    let it = puts state_cells (codes "state") 4 state_columns state.suits state.put_text state.puts old new row.number (state_entry row).1 count ready.schema ran.0 in
-    edited old new (put_state row) ran.1 it.schema (in_states old new (λ m. insert m row.number (state_entry row).1) it)
+    let es = state_entry row ∷ [] in
+    let it = puts state_cells (codes "state") 4 state_columns state.suits state.put_text es (state.puts (state_entry row)) old new count ready.schema ran.0 in
+    edited old new (put_state row) ran.1 it.schema (in_states old new (λ m. put_entries es m) it)
 put_state_edits old new row (Err e) ran ready = tt
+
+pub put_states_edits : (old new : State) (a b : StateRow) (r : Result ℕ Error) → ExecutesInside 0 state.put_two_text (given_of state_cells (state_entry a ∷ state_entry b ∷ [])) old new r → IsReady old
+    → OnOk r (Edits old new (λ m. put_state b (put_state a m)))
+put_states_edits old new a b (Ok count) ran ready =
+    let es = state_entry a ∷ state_entry b ∷ [] in
+    let it = puts state_cells (codes "state") 4 state_columns state.suits state.put_two_text es (state.puts_two (state_entry a) (state_entry b)) old new count ready.schema ran.0 in
+    edited old new (λ m. put_state b (put_state a m)) ran.1 it.schema (in_states old new (λ m. put_entries es m) it)
+put_states_edits old new a b (Err e) ran ready = tt
 
 in_notes : (old new : State) (f : Numbered NoteValues → Numbered NoteValues) → Alters note_cells 5 old.now new.now f
     → (m : Contents) → Holds old.now.trees m → Holds new.now.trees (record m { notes = f m.notes })
@@ -138,8 +152,9 @@ in_notes old new f it m was = record {
 
 pub put_note_edits : (old new : State) (row : NoteRow) (r : Result ℕ Error) → ExecutesInside 0 note.put_text (shown note_cells (note_entry row)) old new r → IsReady old → OnOk r (Edits old new (put_note row))
 put_note_edits old new row (Ok count) ran ready =
-    let it = puts note_cells (codes "note") 5 note_columns note.suits note.put_text note.puts old new row.number (note_entry row).1 count ready.schema ran.0 in
-    edited old new (put_note row) ran.1 it.schema (in_notes old new (λ m. insert m row.number (note_entry row).1) it)
+    let es = note_entry row ∷ [] in
+    let it = puts note_cells (codes "note") 5 note_columns note.suits note.put_text es (note.puts (note_entry row)) old new count ready.schema ran.0 in
+    edited old new (put_note row) ran.1 it.schema (in_notes old new (λ m. put_entries es m) it)
 put_note_edits old new row (Err e) ran ready = tt
 
 pub remove_edits : (old new : State) (table : Table) (n : ℤ) (r : Result ℕ Error) → ExecutesInside 0 (removal table) (Int n ∷ []) old new r → IsReady old → OnOk r (Edits old new (removed table n))

@@ -3,7 +3,7 @@ use Rattle.std.proofs.Common.{◌≡◌, ◌⊎◌, inl, inr, ℕ, zero, suc, �
 use Rattle.std.specs.Prelude.{IsSome, nat_lt, option_map}
 use Rattle.std.specs.Ordering.{is_eq}
 use Rattle.std.specs.List.{AllByRecursion, list_any, list_all}
-use Rattle.std.specs.FinMap.{entries}
+use Rattle.std.specs.FinMap.{entries, insert}
 use Rattle.sqlite_trees.specs.declared.error.StoreError.{StoreError}
 use Rattle.sqlite_trees.specs.declared.error.StoreError.TheVariants.{OutOfMemory, Io, Corrupt, Full, Broken, Unstorable}
 use Rattle.sqlite_trees.specs.View.{IsStorableRow}
@@ -50,7 +50,7 @@ use Rattle.sqlite.specs.Program.{overlay}
 use Rattle.sqlite_schema.specs.declared.program.Program.{Program}
 use Rattle.sqlite.specs.Effect.{Database, is_query, RefusesQuery, edit_error}
 use Rattle.sqlite.specs.Does.{Tally, Does, Tested, due, Concludes}
-use Rattle.sqlite.specs.Rows.{Part, Written, Task, Queried, Sourced, Edited, Puts as PutsOne, Clears, Judged, Tries, TriesEach, InsertsOr, Deletes, mended, rowids_for, count_of, nothing}
+use Rattle.sqlite.specs.Rows.{Part, Written, Task, Queried, Sourced, Edited, Puts as PutsOne, Clears, Judged, Tries, TriesEach, InsertsOr, Deletes, mended, rowids_for, count_of, nothing, joined}
 use Rattle.sqlite.specs.Listing.{understood}
 use Rattle.sqlite.specs.State.{State, HasCleanDisk, mode_of, store_error, is_disk_error, HasCause, Fails, IsMisplaced, IsUnchanged, IsStatement, IsNotRun, Escapes, EndsScope, ExecutesIn, ExecutesInside, RunsAlone, shows_rows, is_pragma}
 use Rattle.sqlite.proofs.Callers.{IsPlain, command_of, statement_of}
@@ -70,9 +70,9 @@ use Rattle.dav_rows.proofs.NoteTexts as note
 use Rattle.std.specs.Prelude.{FitsSigned, pos, negsuc}
 use Rattle.std.specs.Int.{w64}
 use Rattle.std.proofs.lemmas.Bool.{lt-ltb}
-use Rattle.dav_rows.proofs.Suits.{IsAlone, Suits, Puts, Removes, remove_query}
+use Rattle.dav_rows.proofs.Suits.{IsAlone, Suits, PutsThese, given_of, Removes, remove_query}
 use Rattle.dav_rows.proofs.RowLemmas.{without_many}
-use Rattle.dav_rows.proofs.ChangeLemmas.{same_number, OnIt, all_ids, stored_among, conflicting, cast_stored, row_given, edits}
+use Rattle.dav_rows.proofs.ChangeLemmas.{same_number, OnIt, all_ids, stored_among, conflicting, cast_stored, row_given, tried, edits}
 use Rattle.dav_rows.proofs.FailLemmas.{is_statement, failed}
 
 -- ---- a statement in a transaction
@@ -173,6 +173,26 @@ pub stopped : {B E R : Type 0} {s : E} (First : E → Type 0) → ((stop : E) ×
 stopped First (inl h) = inl (subst First (sym (same_stop h.2)) h.1)
 stopped First (inr on) = inr on
 
+-- ---- rows that are put one after another
+
+-- the numbers fit in 64 bits
+abbrev pub AreInRange : {V : Type 0} → List (ℤ × V) → Type 0
+AreInRange = AllByRecursion (λ e. fits_i64 e.0 ≡ true)
+
+-- one of these rows is too long
+abbrev pub IsLongAmong : {V : Type 0} → (V → Row) → List (ℤ × V) → Type 0
+IsLongAmong cells [] = ⊥
+IsLongAmong cells (e ∷ []) = IsTooLong cells e
+IsLongAmong cells (e ∷ f ∷ es) = IsTooLong cells e ⊎ IsLongAmong cells (f ∷ es)
+
+at_first : {V : Type 0} (cells : V → Row) (e : ℤ × V) (es : List (ℤ × V)) → IsTooLong cells e → IsLongAmong cells (e ∷ es)
+at_first cells e [] long = long
+at_first cells e (f ∷ es) long = inl long
+
+at_later : {V : Type 0} (cells : V → Row) (e : ℤ × V) (es : List (ℤ × V)) → IsLongAmong cells es → IsLongAmong cells (e ∷ es)
+at_later cells e [] long = absurd long
+at_later cells e (f ∷ es) long = inr long
+
 -- ---- edits of a table of numbered rows
 
 all_pass : (rows : List Row) → AllByRecursion (λ row. true ≡ true) rows
@@ -272,10 +292,6 @@ module _ {V : Type 0} (cells : V → Row) (name : List ℕ) (tree : ℕ) (column
     abbrev StopsLong : Option Error → Type 0
     StopsLong s = (s ≡ None) × ¬ IsStorableRow 0 row
 
-    -- or at the limit on steps
-    abbrev pub StopsPut : Option Error → Type 0
-    StopsPut s = StopsLong s ⊎ ((s ≡ Some (SqliteFailure code.OperationInterrupted)) × IsSome limit)
-
     row_may : (db : Trees) (news : List Row) → news ≡ row ∷ [] → is_taken (db tree) row ≡ false → MayGo db [] news
     row_may db news is free = subst (MayGo db []) (sym is) (record {
       typed = ap (λ b. (b && true) && true) (it.typed v);
@@ -348,40 +364,57 @@ module _ {V : Type 0} (cells : V → Row) (name : List ℕ) (tree : ℕ) (column
     tried_stops params db m is s (inl far) = absurd (clash in_range far.0)
     tried_stops params db m is s (inr on) = judged_stops params db m is on.0 on.1 s on.2
 
-    module _ (text : List ℕ) (p : Puts cells tree text) (db : Trees) (m : Numbered V) (is : AreRows cells (db tree) m) where
-      abbrev params : Row
-      params = shown cells (n, v)
+  module _ (limit : Option ℕ) (params : Row) where
+    abbrev pub putting_into : Task
+    putting_into = record { limit = limit; keys = Enforced; schema = rows_schema; table = table; params = params }
 
-      abbrev at : Database
-      at = record { schema = rows_schema; trees = db }
+    -- rows that are put one after another stop at one that is too long
+    abbrev pub StopsLongAmong : List (ℤ × V) → Option Error → Type 0
+    StopsLongAmong es s = (s ≡ None) × IsLongAmong cells es
 
-      sourced_stops : (s : Option Error) → Sourced limit at (params ++ []) (Values p.terms p.width) (Err s) → StopsPut s
-      sourced_stops None h = absurd h
-      sourced_stops (Some e) (inl bad) = absurd (clash (p.typed n v) bad.1)
-      sourced_stops (Some e) (inr over) = inr (ap Some over.0, over.1)
+    -- or at the limit on steps
+    abbrev pub StopsPut : List (ℤ × V) → Option Error → Type 0
+    StopsPut es s = StopsLongAmong es s ⊎ ((s ≡ Some (SqliteFailure code.OperationInterrupted)) × IsSome limit)
 
-      each_stops : (rows : List Row) (top : ℤ) → rows ≡ row ∷ [] → (s : Option Error) → TriesEach (task params) Replace [] rows top (nothing db) (Err s) → StopsLong s
-      each_stops rows top same s h =
-          let one = subst (λ rows. TriesEach (task params) Replace [] rows top (nothing db) (Err s)) same h in
-          elim (stopped (λ s. Tries (task params) Replace [] (with_rowid (rowids_for table top) (db tree) (cast_row table (mended Replace table row))) db (Err s)) one) [
-            | inl tried ↦ tried_stops params db m is s (subst (λ r. Tries (task params) Replace [] r db (Err s)) (row_given cells name tree columns it n v top (db tree)) tried)
-            | inr on ↦ absurd (not_ok on.2)
-          ]
+    each_stops : (es : List (ℤ × V)) → AreInRange es → (top : ℤ) (done : Written) (m : Numbered V) → AreRows cells (done.trees tree) m → (s : Option Error)
+        → TriesEach putting_into Replace [] (map (stored cells) es) top done (Err s) → StopsLongAmong es s
+    each_stops [] fit top done m is s h = absurd (not_ok h)
+    each_stops (e ∷ es) fit top done m is s h =
+        elim (stopped (λ s. Tries putting_into Replace [] (with_rowid (rowids_for table top) (done.trees tree) (cast_row table (mended Replace table (stored cells e)))) done.trees (Err s)) h) [
+          | inl one ↦ let end = tried_stops limit e.0 e.1 fit.0 params done.trees m is s
+              (subst (λ r. Tries putting_into Replace [] r done.trees (Err s)) (row_given cells name tree columns it e.0 e.1 top (done.trees tree)) one) in (end.0, at_first cells e es end.1)
+          | inr on ↦ let first = tried cells name tree columns it limit params e.0 e.1 done.trees on.0
+              (subst (λ r. Tries putting_into Replace [] r done.trees (Ok on.0)) (row_given cells name tree columns it e.0 e.1 top (done.trees tree)) on.1) in
+              let end = each_stops es fit.1 _ (joined done on.0) (insert m e.0 e.1) (first.1 m is) s on.2 in (end.0, at_later cells e es end.1)
+        ]
 
-      inserts_stop : (s : Option Error) → InsertsOr (task params) Replace [] (Values p.terms p.width) db (Err s) → StopsPut s
-      inserts_stop s h = elim (stopped (λ s. Sourced limit at (params ++ []) (Values p.terms p.width) (Err s)) h) [
-        | inl source ↦ sourced_stops s source
-        | inr on ↦ elim (stopped (λ s. ◌≡◌ {A = Result (Option Row) (Option Error)} (Err s) (Ok None)) on.2) [
-          | inl counter ↦ absurd (not_ok counter)
-          | inr more ↦ elim (stopped (λ s. TriesEach (task params) Replace [] on.0 (count_of more.0) (nothing db) (Err s)) more.2) [
-            | inl each ↦ inl (each_stops on.0 (count_of more.0) (on.1.1 ∙ p.given n v) s each)
-            | inr last ↦ elim (stopped (λ s. ◌≡◌ {A = Result Trees (Option Error)} (Err s) (Ok last.0.0.trees)) last.2) [
-              | inl counts ↦ absurd (not_ok counts)
-              | inr done ↦ absurd (not_ok done.2)
-            ]
+  module _ (limit : Option ℕ) (es : List (ℤ × V)) (fit : AreInRange es) (text : List ℕ) (p : PutsThese cells tree text es) (db : Trees) (m : Numbered V) (is : AreRows cells (db tree) m) where
+    abbrev params : Row
+    params = given_of cells es
+
+    abbrev at : Database
+    at = record { schema = rows_schema; trees = db }
+
+    sourced_stops : (s : Option Error) → Sourced limit at (params ++ []) (Values p.terms p.width) (Err s) → StopsPut limit params es s
+    sourced_stops None h = absurd h
+    sourced_stops (Some e) (inl bad) = absurd (clash p.typed bad.1)
+    sourced_stops (Some e) (inr over) = inr (ap Some over.0, over.1)
+
+    inserts_stop : (s : Option Error) → InsertsOr (putting_into limit params) Replace [] (Values p.terms p.width) db (Err s) → StopsPut limit params es s
+    inserts_stop s h = elim (stopped (λ s. Sourced limit at (params ++ []) (Values p.terms p.width) (Err s)) h) [
+      | inl source ↦ sourced_stops s source
+      | inr on ↦ elim (stopped (λ s. ◌≡◌ {A = Result (Option Row) (Option Error)} (Err s) (Ok None)) on.2) [
+        | inl counter ↦ absurd (not_ok counter)
+        | inr more ↦ elim (stopped (λ s. TriesEach (putting_into limit params) Replace [] on.0 (count_of more.0) (nothing db) (Err s)) more.2) [
+          | inl each ↦ inl (each_stops limit params es fit (count_of more.0) (nothing db) m is s
+              (subst (λ rows. TriesEach (putting_into limit params) Replace [] rows (count_of more.0) (nothing db) (Err s)) (on.1.1 ∙ p.given) each))
+          | inr last ↦ elim (stopped (λ s. ◌≡◌ {A = Result Trees (Option Error)} (Err s) (Ok last.0.0.trees)) last.2) [
+            | inl counts ↦ absurd (not_ok counts)
+            | inr done ↦ absurd (not_ok done.2)
           ]
         ]
       ]
+    ]
 
 tested_goes : (old : State) (db : Trees) (s : Option Error) → Tested (mode_of old) (λ among. Refers among rows_schema db) (Err s) → ⊥
 tested_goes old db s h = h.0 (no_reference (due (mode_of old)) db)
@@ -395,25 +428,25 @@ concluded limit given place old w s h = elim h [
 ]
 
 module _ {V : Type 0} (cells : V → Row) (name : List ℕ) (tree : ℕ) (columns : List Column) (it : Suits cells name tree columns) (old new : State) (has : old.now.schema ≡ rows_schema) (is_open : IsTrue old.is_open) where
-  module _ (n : ℤ) (v : V) (in_range : fits_i64 n ≡ true) (text : List ℕ) (p : Puts cells tree text) (m : Numbered V) (rows : AreRows cells (old.now.trees tree) m) where
+  module _ (es : List (ℤ × V)) (fit : AreInRange es) (text : List ℕ) (p : PutsThese cells tree text es) (m : Numbered V) (rows : AreRows cells (old.now.trees tree) m) where
     abbrev given : Row
-    given = shown cells (n, v)
+    given = given_of cells es
 
     abbrev putting : Command
     putting = InsertOr tree Replace (Values p.terms p.width) []
 
-    put_stops : (sql : List ℕ) (s : Option Error) → Does old.step_limit (mode_of old) given old.now sql None putting (Err s) → StopsPut cells name tree columns it old.step_limit n v in_range s
+    put_stops : (sql : List ℕ) (s : Option Error) → Does old.step_limit (mode_of old) given old.now sql None putting (Err s) → StopsPut cells name tree columns it old.step_limit given es s
     put_stops sql s does =
         let db = old.now.trees in
         let on = subst (λ schema. Does old.step_limit (mode_of old) given (record old.now { schema = schema }) sql None putting (Err s)) has does in
-        elim (stopped (λ s. InsertsOr (task cells name tree columns it old.step_limit n v in_range given) Replace [] (Values p.terms p.width) db (Err s)) (subst (λ place. OnIt old given putting place (Err s)) it.there on)) [
-          | inl writes ↦ inserts_stop cells name tree columns it old.step_limit n v in_range text p db m rows s writes
+        elim (stopped (λ s. InsertsOr (putting_into cells name tree columns it old.step_limit given) Replace [] (Values p.terms p.width) db (Err s)) (subst (λ place. OnIt old given putting place (Err s)) it.there on)) [
+          | inl writes ↦ inserts_stop cells name tree columns it old.step_limit es fit text p db m rows s writes
           | inr done ↦ absurd (concluded old.step_limit given (numbered name tree columns) old done.0 s done.2)
         ]
 
-    -- a row that is put fails for these causes alone
-    pub put_fails : (e : Error) → ExecutesInside 0 text given old new (Err e) → IsExcusedPut old new (¬ IsStorableRow 0 (stored cells (n, v))) e
-    put_fails e ran = elim (stops rows_schema text given p.plain (p.alone n v) old new has putting p.is refl (refl, refl) e ran) [
+    -- rows that are put fail for these causes alone
+    pub put_fails : (e : Error) → ExecutesInside 0 text given old new (Err e) → IsExcusedPut old new (IsLongAmong cells es) e
+    put_fails e ran = elim (stops rows_schema text given p.plain p.alone old new has putting p.is refl (refl, refl) e ran) [
       | inl fails ↦ inl (failed old new e is_open fails)
       | inr (inl does) ↦ elim (put_stops (statement_of text (understood rows_schema text)) (Some e) does) [ inl long ↦ absurd (not_some (sym long.0)) | inr over ↦ inl (inr (inr (same_some over.0, over.1))) ]
       | inr (inr fails) ↦ elim (caused_by old new e _ fails.0 is_open fails.1 fails.2) [
@@ -480,11 +513,11 @@ in_range (negsuc n) h = lt-ltb _ _ h.sfits
 
 module _ {V : Type 0} (cells : V → Row) (name : List ℕ) (tree : ℕ) (columns : List Column) (it : Suits cells name tree columns) (field : Contents → Numbered V)
     (held : (db : Trees) (m : Contents) → Holds db m → AreRows cells (db tree) (field m)) (old new : State) where
-  pub put_excused : (text : List ℕ) → Puts cells tree text → (n : ℤ) (v : V) → fits_i64 n ≡ true → (r : Result ℕ Error)
-      → (HasCleanDisk new → IsTrue old.in_transaction → ExecutesInside 0 text (shown cells (n, v)) old new r) → FailsToApply old new (IsTooLong cells (n, v)) r
-  put_excused text p n v range (Ok count) ran = λ clean. tt
-  put_excused text p n v range (Err e) ran = λ clean ready m holds.
-      put_fails cells name tree columns it old new ready.schema ready.is_open n v range text p (field m) (held old.now.trees m holds) e (ran clean ready.inside)
+  pub put_excused : (text : List ℕ) (es : List (ℤ × V)) → PutsThese cells tree text es → AreInRange es → (r : Result ℕ Error)
+      → (HasCleanDisk new → IsTrue old.in_transaction → ExecutesInside 0 text (given_of cells es) old new r) → FailsToApply old new (IsLongAmong cells es) r
+  put_excused text es p fit (Ok count) ran = λ clean. tt
+  put_excused text es p fit (Err e) ran = λ clean ready m holds.
+      put_fails cells name tree columns it old new ready.schema ready.is_open es fit text p (field m) (held old.now.trees m holds) e (ran clean ready.inside)
 
   pub remove_excused : (text : List ℕ) → Removes tree text → (n : ℤ) (r : Result ℕ Error)
       → (HasCleanDisk new → IsTrue old.in_transaction → ExecutesInside 0 text (Int n ∷ []) old new r) → FailsToApply old new ⊥ r

@@ -7,7 +7,7 @@ use Rattle.sqlite.specs.Listing.{understood}
 use Rattle.dav_rows.specs.Contents.{state_cells}
 use Rattle.dav_rows.specs.Tables.{state_columns}
 use Rattle.dav_rows.proofs.ChangeLemmas.{cast_int}
-use Rattle.dav_rows.proofs.Suits.{Suits, Puts, Removes, Selects}
+use Rattle.dav_rows.proofs.Suits.{Suits, Puts, PutsTwo, Removes, Selects}
 
 pub suits : Suits state_cells (codes "state") 4 state_columns
 suits = record { there = refl; cast = λ v. simp cast_int; filled = λ v. refl; seen = λ db. refl; typed = λ v. refl; present = λ n v. refl; reals = refl }
@@ -20,7 +20,19 @@ terms = col 0 0 ∷ lit Null ∷ col 0 1 ∷ col 0 2 ∷ col 0 3 ∷ col 0 4 ∷
 
 pub puts : Puts state_cells 4 put_text
 unfolding understood everything
-puts = record { terms = terms; width = 6; is = refl; plain = (refl, refl); alone = λ n v. (omega arith, refl); typed = λ n v. refl; given = λ n v. refl }
+puts e = record { terms = terms; width = 6; is = refl; plain = (refl, refl); alone = (omega arith, refl); typed = refl; given = refl }
+
+abbrev pub put_two_text : List ℕ
+put_two_text = codes "INSERT OR REPLACE INTO state (number, counter, time, batch, digest_key) VALUES (?1, ?2, ?3, ?4, ?5), (?6, ?7, ?8, ?9, ?10)"
+
+abbrev two_terms : List Term
+two_terms =
+    col 0 0 ∷ lit Null ∷ col 0 1 ∷ col 0 2 ∷ col 0 3 ∷ col 0 4
+    ∷ col 0 5 ∷ lit Null ∷ col 0 6 ∷ col 0 7 ∷ col 0 8 ∷ col 0 9 ∷ []
+
+pub puts_two : PutsTwo state_cells 4 put_two_text
+unfolding understood everything
+puts_two a b = record { terms = two_terms; width = 6; is = refl; plain = (refl, refl); alone = (omega arith, refl); typed = refl; given = refl }
 
 abbrev pub remove_text : List ℕ
 remove_text = codes "DELETE FROM state WHERE number = ?1"

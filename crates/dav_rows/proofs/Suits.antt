@@ -1,5 +1,5 @@
 -- What the lemmas ask of a table and of its texts. Of each table that is written out, `refl` finds it.
-use Rattle.std.proofs.Common.{◌≡◌, ℕ, ◌≤◌, pos, negsuc, ℤ, ◌/◌, List, [], ◌∷◌, ◌++◌, length, slice_get, Some, None, Ok, Err, Result, true, false}
+use Rattle.std.proofs.Common.{◌≡◌, ℕ, ◌≤◌, pos, negsuc, ℤ, ◌/◌, List, [], ◌∷◌, ◌++◌, map, length, slice_get, Some, None, Ok, Err, Result, true, false}
 use Rattle.sqlite_schema.specs.declared.schema.Column.{Column}
 use Rattle.sqlite_schema.specs.declared.command.Conflict.TheVariants.{Replace}
 use Rattle.sqlite_resolve.specs.declared.compiled.Compiled.{Compiled}
@@ -40,15 +40,29 @@ pub record Suits {V : Type 0} (cells : V → Row) (name : List ℕ) (tree : ℕ)
   pub present : (n : ℤ) (v : V) → are_present (Some 0) 0 (numbered name tree columns).columns (stored cells (n, v)) ≡ true
   pub reals : table_reals (numbered name tree columns) ≡ 0
 
--- the text puts a row, whose number and cells it is given
-pub record Puts {V : Type 0} (cells : V → Row) (tree : ℕ) (text : List ℕ) : Type 0 where
+-- what a statement is given that puts the rows of these entries: their numbers and cells
+abbrev pub given_of : {V : Type 0} → (V → Row) → List (ℤ × V) → Row
+given_of cells [] = []
+given_of cells (e ∷ []) = shown cells e
+given_of cells (e ∷ f ∷ es) = shown cells e ++ given_of cells (f ∷ es)
+
+-- the text puts the rows of these entries
+pub record PutsThese {V : Type 0} (cells : V → Row) (tree : ℕ) (text : List ℕ) (es : List (ℤ × V)) : Type 0 where
   pub terms : List Term
   pub width : ℕ
   pub is : command_of (understood rows_schema text) ≡ InsertOr tree Replace (Values terms width) []
   pub plain : IsPlain (understood rows_schema text)
-  pub alone : (n : ℤ) (v : V) → IsAlone text (length (shown cells (n, v))) (understood rows_schema text)
-  pub typed : (n : ℤ) (v : V) → accepts_terms terms (shown cells (n, v) ++ []) ≡ true
-  pub given : (n : ℤ) (v : V) → value_rows ((Int n ∷ cells v) ++ []) width (length terms / width) terms ≡ stored cells (n, v) ∷ []
+  pub alone : IsAlone text (length (given_of cells es)) (understood rows_schema text)
+  pub typed : accepts_terms terms (given_of cells es ++ []) ≡ true
+  pub given : value_rows (given_of cells es ++ []) width (length terms / width) terms ≡ map (stored cells) es
+
+-- the text puts a row
+abbrev pub Puts : {V : Type 0} → (V → Row) → ℕ → List ℕ → Type 0
+Puts {V} cells tree text = (e : ℤ × V) → PutsThese cells tree text (e ∷ [])
+
+-- the text puts two rows
+abbrev pub PutsTwo : {V : Type 0} → (V → Row) → ℕ → List ℕ → Type 0
+PutsTwo {V} cells tree text = (a b : ℤ × V) → PutsThese cells tree text (a ∷ b ∷ [])
 
 abbrev pub remove_query : ℕ → Query
 remove_query tree = record {

@@ -1,8 +1,9 @@
 //! Saves changes in one transaction.
-ghost use Rattle.std.specs.Prelude.{◌≡◌, ◌≤◌, false, Any, OnOk, OnErr};
+ghost use Rattle.std.specs.Prelude.{◌≡◌, ◌≤◌, ◌++◌, ◌∷◌, [], false, Any, IfSome, OnOk, OnErr};
 ghost use Rattle.sqlite_trees.specs.View.{doubt};
 ghost use Rattle.sqlite.specs.State.{HasCleanDisk, KeepsCommit, Survives};
 ghost use Rattle.sqlite.specs.Held.{state};
+ghost use Rattle.dav_rows.specs.declared.change.Change.TheVariants.{PutState};
 ghost use Rattle.dav_rows.specs.Texts.{removal};
 ghost use Rattle.dav_rows.specs.Changes.{removed, after_one, after};
 ghost use Rattle.dav_rows.specs.Failing.{PutsTooLong, FailsToApply, FailsToSave};
@@ -10,6 +11,7 @@ ghost use Rattle.dav_rows.specs.Saving.{Applies, Moves, Stays, Leaves, LeavesEit
 
 use crate::change::{Change, Table};
 use crate::execute::execute;
+use crate::state::StateRow;
 use crate::{extent, lock, note, property, resource, state};
 use sqlite::{Alter, Connection, Error, Transaction, params};
 
@@ -55,10 +57,7 @@ fn apply<S: Alter>(tx: &mut Transaction<'_, S>, change: &Change) -> Result<usize
     }
 }
 
-pub(crate) fn apply_all<S: Alter>(
-    tx: &mut Transaction<'_, S>,
-    changes: &[Change],
-) -> Result<(), Error>
+fn apply_each<S: Alter>(tx: &mut Transaction<'_, S>, changes: &[Change]) -> Result<(), Error>
     ensures same_reference { tx.new.conn.ghost_name ≡ tx.old.conn.ghost_name }
     ensures rows { Applies (state S.Store tx.old.conn.now) (state S.Store tx.new.conn.now) (after changes.now) result }
     ensures err { FailsToApply (state S.Store tx.old.conn.now) (state S.Store tx.new.conn.now) (Any PutsTooLong changes.now) result }
@@ -69,6 +68,41 @@ pub(crate) fn apply_all<S: Alter>(
         apply(tx, change)?;
     }
     Ok(())
+}
+
+/// Returns the changes before the last two, and those two, if both put a row of the state.
+fn two_last(changes: &[Change]) -> Option<(&[Change], &StateRow, &StateRow)>
+    ensures { IfSome result (λ r. changes.now ≡ r.0.now ++ PutState r.1.now ∷ PutState r.2.now ∷ []) }
+{
+    match changes {
+        [
+            others @ ..,
+            Change::PutState(first),
+            Change::PutState(second),
+        ] => Some((others, first, second)),
+        _ => None,
+    }
+}
+
+/// Applies the changes, the first of them first. Two rows of the state at the end are put at once.
+pub(crate) fn apply_all<S: Alter>(
+    tx: &mut Transaction<'_, S>,
+    changes: &[Change],
+) -> Result<(), Error>
+    ensures same_reference { tx.new.conn.ghost_name ≡ tx.old.conn.ghost_name }
+    ensures rows { Applies (state S.Store tx.old.conn.now) (state S.Store tx.new.conn.now) (after changes.now) result }
+    ensures err { FailsToApply (state S.Store tx.old.conn.now) (state S.Store tx.new.conn.now) (Any PutsTooLong changes.now) result }
+    ensures kept { HasCleanDisk (state S.Store tx.new.conn.now) → KeepsCommit (state S.Store tx.old.conn.now) (state S.Store tx.new.conn.now) }
+    ensures survives { Survives (state S.Store tx.old.conn.now) (state S.Store tx.new.conn.now) (λ _. ⊥) }
+{
+    match two_last(changes) {
+        Some((others, first, second)) => {
+            apply_each(tx, others)?;
+            state::put_two(tx, first, second)?;
+            Ok(())
+        }
+        None => apply_each(tx, changes),
+    }
 }
 
 /// Saves the changes in one transaction. After an `Err` the tables are as they were, or the connection is shut and a crash may find either.

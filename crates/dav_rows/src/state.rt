@@ -1,5 +1,5 @@
 //! The row of what a store has beside its resources.
-ghost use Rattle.std.specs.Prelude.{◌≡◌, ℤ, false, map};
+ghost use Rattle.std.specs.Prelude.{◌≡◌, ◌⊎◌, ℤ, false, map};
 ghost use Rattle.std.specs.FinMap.{entries};
 ghost use Rattle.sqlite.specs.State.{HasCleanDisk, KeepsCommit, Survives};
 ghost use Rattle.sqlite.specs.Held.{state};
@@ -65,6 +65,39 @@ pub(crate) fn put<S: Alter>(tx: &mut Transaction<'_, S>, row: &StateRow) -> Resu
             &row.time,
             &row.batch,
             &row.digest_key
+        ],
+    )
+}
+
+/// Puts two rows, the first of them first. One statement costs about half of what two cost.
+pub(crate) fn put_two<S: Alter>(
+    tx: &mut Transaction<'_, S>,
+    first: &StateRow,
+    second: &StateRow,
+) -> Result<usize, Error>
+    ensures same_reference { tx.new.conn.ghost_name ≡ tx.old.conn.ghost_name }
+    ensures rows { Applies (state S.Store tx.old.conn.now) (state S.Store tx.new.conn.now) (λ m. put_state second.now (put_state first.now m)) result }
+    ensures err { FailsToApply (state S.Store tx.old.conn.now) (state S.Store tx.new.conn.now)
+        (IsTooLong state_cells (state_entry first.now) ⊎ IsTooLong state_cells (state_entry second.now)) result }
+    ensures kept { HasCleanDisk (state S.Store tx.new.conn.now) → KeepsCommit (state S.Store tx.old.conn.now) (state S.Store tx.new.conn.now) }
+    ensures survives { Survives (state S.Store tx.old.conn.now) (state S.Store tx.new.conn.now) (λ _. ⊥) }
+{
+    // The proof needs that they are `i64`, which is known once they are read.
+    let _numbers = (first.number, second.number);
+    execute(
+        tx,
+        "INSERT OR REPLACE INTO state (number, counter, time, batch, digest_key) VALUES (?1, ?2, ?3, ?4, ?5), (?6, ?7, ?8, ?9, ?10)",
+        params![
+            &first.number,
+            &first.counter,
+            &first.time,
+            &first.batch,
+            &first.digest_key,
+            &second.number,
+            &second.counter,
+            &second.time,
+            &second.batch,
+            &second.digest_key
         ],
     )
 }

@@ -3,7 +3,7 @@ use Rattle.sqlite.specs.State.{HasCleanDisk, KeepsCommit, Survives}
 use Rattle.sqlite.specs.Held.{state}
 use Rattle.dav_rows.specs.Changes.{after}
 use Rattle.dav_rows.specs.Saving.{IsReady, Edits}
-use Rattle.dav_rows.proofs.saving.apply_all.Given as goal
+use Rattle.dav_rows.proofs.saving.apply_each.Given as goal
 
 abbrev pub invariant-changes : goal.invariant-changes
 invariant-changes g l = record {
