@@ -45,8 +45,9 @@ type Options struct {
 	// Quota is how many bytes all files may have together. 0: no limit.
 	Quota int64
 	// Memory is how many bytes the address space of davd may have. When they are used up, requests fail with 507. 0: no
-	// limit. Over a folder it applies once the folder is loaded, and davd may have four times as many before. If it has
-	// more after that, each request that may add something fails with 507.
+	// limit; fewer than 16 MiB are refused, because davd may not start with them. Over a folder it applies once the folder
+	// is loaded, and davd may have four times as many before. If it has more after that, each request that may add
+	// something fails with 507.
 	Memory int64
 	// StallTimeout is how long a client may take to send or to receive a part of a body. 0: one minute. It needs
 	// ConnContext in the http.Server.
@@ -60,6 +61,8 @@ const (
 	defaultMaxXML       = 1 << 20
 	defaultMaxLock      = 10 * time.Minute
 	defaultStallTimeout = time.Minute
+
+	leastMemory = 16 << 20 // a davd that cannot load itself is ended by a signal, and cannot say why
 )
 
 // complete returns the options with their defaults, or says which one is wrong.
@@ -81,6 +84,9 @@ func (o Options) complete() (Options, error) {
 		if n < 0 {
 			return o, fmt.Errorf("a limit is negative: %d", n)
 		}
+	}
+	if 0 < o.Memory && o.Memory < leastMemory {
+		return o, fmt.Errorf("davd needs more memory than %d bytes: at least %d", o.Memory, leastMemory)
 	}
 	if o.MaxLock < 0 || o.StallTimeout < 0 {
 		return o, errors.New("a time is negative")

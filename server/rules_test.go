@@ -232,3 +232,14 @@ func TestTheFolderOfDavdLooksLikeNoOption(t *testing.T) {
 		t.Errorf("without a folder it is %q, %v", options.Folder, err)
 	}
 }
+
+func TestTooLittleMemoryIsRefused(t *testing.T) {
+	for _, test := range []struct {
+		memory int64
+		ok     bool
+	}{{-1, false}, {0, true}, {1, false}, {leastMemory - 1, false}, {leastMemory, true}, {1 << 40, true}} {
+		if _, err := (Options{Davd: "davd", Memory: test.memory}).complete(); (err == nil) != test.ok {
+			t.Errorf("%d bytes: %v", test.memory, err)
+		}
+	}
+}
