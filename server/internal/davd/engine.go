@@ -151,7 +151,7 @@ func Start(ctx context.Context, config Config) (*Engine, error) {
 	if isNew {
 		config.Log.Printf("the folder %s had no store: a new one was made", config.Folder)
 	}
-	if config.Lossy {
+	if config.Lossy && config.Folder != "" {
 		config.Log.Printf("the folder %s is served even if its last changes are lost, as -accept-loss says: leave it out at the next start", config.Folder)
 	}
 	e := &Engine{
