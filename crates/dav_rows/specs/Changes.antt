@@ -51,6 +51,10 @@ put_lock r m = record m { locks = insert m.locks r.number (lock_entry r).1 }
 abbrev pub put_state : StateRow → Contents → Contents
 put_state r m = record m { states = insert m.states r.number (state_entry r).1 }
 
+-- the first of them first
+abbrev pub put_two_states : StateRow → StateRow → Contents → Contents
+put_two_states first second m = put_state second (put_state first m)
+
 abbrev pub put_note : NoteRow → Contents → Contents
 put_note r m = record m { notes = insert m.notes r.number (note_entry r).1 }
 
