@@ -33,7 +33,7 @@ func (h *Handler) upload(w http.ResponseWriter, r *http.Request) error {
 	switch {
 	case err == io.EOF && len(first) > 0 && h.keeps() && r.Method == http.MethodPut:
 		// A file is replaced when its new content is stored. If the disk has no room for that, it stays as it was.
-		return h.store(w, r, request, first, body)
+		return h.store(w, r, request, first, nil)
 	case err == io.EOF:
 		request.Body = frame.Bytes(first)
 		return h.finish(w, r, request, int64(len(first)), h.engine.Do)
@@ -89,40 +89,41 @@ func fill(body io.Reader, buffer []byte) (int, error) {
 	return n, nil
 }
 
-// store has davd store a body in pieces, and then sends the request.
+// store has davd store a body in pieces, and sends the request with the last one. If the first piece is all, rest is nil.
 func (h *Handler) store(w http.ResponseWriter, r *http.Request, request *frame.Request, first []byte, rest io.Reader) error {
 	stored, err := h.engine.StartBody(r.Context())
 	if err != nil {
 		return err
 	}
 	defer stored.Drop()
-	length, err := h.sendPieces(r.Context(), stored, first, rest)
+	last, length, err := h.sendPieces(r.Context(), stored, first, rest)
 	if err != nil {
 		return err
 	}
 	return h.finish(w, r, request, length, func(ctx context.Context, _ frame.Frame) (frame.Reply, error) {
-		return stored.Do(ctx, request)
+		return stored.Do(ctx, last, request)
 	})
 }
 
-// sendPieces sends a body to davd, of which the buffer has the first piece, and returns its length.
-func (h *Handler) sendPieces(ctx context.Context, to *davd.Body, buffer []byte, rest io.Reader) (int64, error) {
-	length := int64(0)
+// sendPieces sends the pieces of a body to davd, all but the last one, which it returns with the length of the body. The
+// buffer has the first piece. If that is all, rest is nil.
+func (h *Handler) sendPieces(ctx context.Context, to *davd.Body, buffer []byte, rest io.Reader) (last []byte, length int64, err error) {
 	n, end := len(buffer), error(nil)
+	if rest == nil {
+		end = io.EOF
+	}
 	for {
 		if length += int64(n); length > h.options.MaxBody {
-			return length, statusError(http.StatusRequestEntityTooLarge)
-		}
-		if n > 0 {
-			if err := to.Add(ctx, buffer[:n]); err != nil {
-				return length, err
-			}
+			return nil, length, statusError(http.StatusRequestEntityTooLarge)
 		}
 		if end == io.EOF {
-			return length, nil
+			return buffer[:n], length, nil
+		}
+		if err := to.Add(ctx, buffer[:n]); err != nil {
+			return nil, length, err
 		}
 		if n, end = fill(rest, buffer); end != nil && end != io.EOF {
-			return length, fmt.Errorf("%w: %v", errVanished, end)
+			return nil, length, fmt.Errorf("%w: %v", errVanished, end)
 		}
 	}
 }

@@ -13,49 +13,58 @@ const (
 	batchBytes  = 4 << 20 // a batch of more than one frame has no more bytes
 )
 
-// A call is a frame that was or will be sent, and what came back.
+// A call is a frame that was or will be sent, or several that follow each other in one batch, and what came back.
 type call struct {
-	frame  []byte
-	only   *process // the davd that may get it; nil: any
-	sentTo *process // the davd that got it last
-	number uint64   // of the batch in which that davd got it
-	reads  bool     // it changes nothing, so that it may be sent again
-	lasts  bool     // davd may keep what it does in its folder; otherwise it ends with the davd that gets it
-	adds   bool     // davd may hold more after it
-	frees  bool     // davd may hold less after it
-	sets   bool     // it sets the access rules
-	makes  bool     // it has changed what davd keeps, if its response is 201 or 204
-	place  uint64   // its place among all calls that were queued
-	again  bool     // it was sent before, or is not to be sent again
-	reply  []byte
-	err    error
-	done   chan struct{} // gets one value when reply or err is set
-	what   string        // for the log
+	frames  [][]byte
+	only    *process // the davd that may get it; nil: any
+	sentTo  *process // the davd that got it last
+	number  uint64   // of the batch in which that davd got it
+	reads   bool     // it changes nothing, so that it may be sent again
+	lasts   bool     // davd may keep what it does in its folder; otherwise it ends with the davd that gets it
+	adds    bool     // davd may hold more after it
+	frees   bool     // davd may hold less after it
+	sets    bool     // it sets the access rules
+	makes   bool     // it has changed what davd keeps, if its response is 201 or 204
+	place   uint64   // its place among all calls that were queued
+	again   bool     // it was sent before, or is not to be sent again
+	replies [][]byte // one to each frame
+	err     error
+	done    chan struct{} // gets one value when replies or err is set
+	what    string        // for the log
 
 	operates string // the access rules of the operator whose call it is; empty: it is none of an operator
-	spoiled  error  // why it was not served by these rules; set before reply
+	spoiled  error  // why it was not served by these rules; set before replies
 
 	replied func(reply []byte) // called before who waits gets the reply; nil: nothing
 }
 
 func newCall(f frame.Frame) *call {
 	return &call{
-		frame: frame.Append(nil, f),
-		reads: reads(f),
-		lasts: lasts(f),
-		adds:  adds(f),
-		frees: frees(f),
-		sets:  sets(f),
-		makes: makes(f),
-		done:  make(chan struct{}, 1),
-		what:  describe(f),
+		frames: [][]byte{frame.Append(nil, f)},
+		reads:  reads(f),
+		lasts:  lasts(f),
+		adds:   adds(f),
+		frees:  frees(f),
+		sets:   sets(f),
+		makes:  makes(f),
+		done:   make(chan struct{}, 1),
+		what:   describe(f),
 	}
 }
 
 // finish sets what came back, and wakes who waits for it.
-func (c *call) finish(reply []byte, err error) {
-	c.reply, c.err = reply, err
+func (c *call) finish(replies [][]byte, err error) {
+	c.replies, c.err = replies, err
 	c.done <- struct{}{}
+}
+
+// size returns how many bytes its frames have.
+func (c *call) size() int {
+	size := 0
+	for _, f := range c.frames {
+		size += len(f)
+	}
+	return size
 }
 
 // repeats reports whether the call may be sent to the next davd, when the one that it was sent to has ended.
@@ -103,13 +112,17 @@ func makes(f frame.Frame) bool {
 	return false
 }
 
-// hasMade reports whether a call has changed what davd keeps, by the reply to it.
-func (c *call) hasMade(reply []byte) bool {
+// hasMade reports whether a call has changed what davd keeps, by the replies to it.
+func (c *call) hasMade(replies [][]byte) bool {
 	if !c.makes {
 		return false
 	}
-	status := frame.StatusOf(reply)
-	return status == http.StatusCreated || status == http.StatusNoContent
+	for _, reply := range replies {
+		if status := frame.StatusOf(reply); status == http.StatusCreated || status == http.StatusNoContent {
+			return true
+		}
+	}
+	return false
 }
 
 // adds reports whether davd may hold more after a frame. Without a body a LOCK refreshes one.
@@ -170,6 +183,15 @@ type batch struct {
 	took     time.Duration  // how long davd had it until its replies came, if it was served
 }
 
+// frames returns how many frames the batch has.
+func (b *batch) frames() int {
+	count := 0
+	for _, c := range b.calls {
+		count += len(c.frames)
+	}
+	return count
+}
+
 // changes reports whether a frame of the batch may change what davd keeps in its folder.
 func (b *batch) changes() bool {
 	for _, c := range b.calls {
@@ -188,11 +210,11 @@ func (c *call) isAlone() bool {
 // cut splits the calls of the next batch from the others. The batch has at least one call. One that sets access rules is
 // alone in its batch, and so is one of an operator.
 func cut(calls []*call) (batch, rest []*call) {
-	size := 0
+	size, frames := 0, 0
 	for i, c := range calls {
-		size += len(c.frame)
-		ends := size > batchBytes || c.isAlone() || calls[0].isAlone()
-		if i > 0 && ends || i == batchFrames {
+		size += c.size()
+		frames += len(c.frames)
+		if i > 0 && (size > batchBytes || frames > batchFrames || c.isAlone() || calls[0].isAlone()) {
 			return calls[:i:i], calls[i:]
 		}
 	}

@@ -114,6 +114,7 @@ type Engine struct {
 	idle    chan struct{} // closed when davd, in a pause, has answered what it was sent; nil: nobody waits for that
 	backup  bool          // a backup is under way
 	waiting []*call
+	spares  []*Body // bodies that process holds for the uploads to come
 	queued  uint64  // how many calls were queued
 	now     uint64  // the time of the last batch
 	started uint64  // how many times davd was started again
@@ -208,15 +209,15 @@ func (e *Engine) Do(ctx context.Context, f frame.Frame) (frame.Reply, error) {
 }
 
 func (e *Engine) do(ctx context.Context, c *call) (frame.Reply, error) {
-	b, err := e.exchange(ctx, c)
+	replies, err := e.exchange(ctx, c)
 	if err != nil {
 		return nil, err
 	}
-	return decode(b)
+	return decode(replies[0])
 }
 
-// exchange sends a call as Do does, and returns the bytes of the reply.
-func (e *Engine) exchange(ctx context.Context, c *call) ([]byte, error) {
+// exchange sends a call as Do does, and returns the bytes of the replies, one to each frame.
+func (e *Engine) exchange(ctx context.Context, c *call) ([][]byte, error) {
 	e.submit(c)
 	select {
 	case <-c.done:
@@ -226,7 +227,7 @@ func (e *Engine) exchange(ctx context.Context, c *call) ([]byte, error) {
 		}
 		<-c.done
 	}
-	return c.reply, c.err
+	return c.replies, c.err
 }
 
 // decode decodes a reply. A frame that failed is a *StatusError.

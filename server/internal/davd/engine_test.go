@@ -163,7 +163,7 @@ func TestABodyBelongsToOneProcess(t *testing.T) {
 	if err := body.Add(soon(t), []byte("two")); !errors.Is(err, ErrLost) {
 		t.Errorf("a piece for the next davd: %v", err)
 	}
-	if _, err := body.Do(soon(t), &frame.Request{Method: "PUT", Path: "/a"}); !errors.Is(err, ErrLost) {
+	if _, err := body.Do(soon(t), nil, &frame.Request{Method: "PUT", Path: "/a"}); !errors.Is(err, ErrLost) {
 		t.Errorf("a request for the next davd: %v", err)
 	}
 	body.Drop()
@@ -322,8 +322,16 @@ func TestTimeNeverGoesBack(t *testing.T) {
 }
 
 func TestCut(t *testing.T) {
-	small, large := &call{frame: make([]byte, 10)}, &call{frame: make([]byte, batchBytes)}
-	rules := &call{frame: make([]byte, 10), sets: true}
+	callOf := func(sizes ...int) *call {
+		c := &call{}
+		for _, size := range sizes {
+			c.frames = append(c.frames, make([]byte, size))
+		}
+		return c
+	}
+	small, large, three := callOf(10), callOf(batchBytes), callOf(10, 10, 10)
+	rules := callOf(10)
+	rules.sets = true
 	many := make([]*call, batchFrames+5)
 	for i := range many {
 		many[i] = small
@@ -337,6 +345,9 @@ func TestCut(t *testing.T) {
 		{"a large one alone", []*call{large, small}, 1, 1},
 		{"small ones before a large one", []*call{small, small, large, small}, 2, 2},
 		{"many", many, batchFrames, 5},
+		{"as many and one of three frames", append([]*call{three}, many...), batchFrames - 2, 8},
+		{"one of three frames behind one less", append(append([]*call(nil), many[:batchFrames-1]...), three), batchFrames - 1, 1},
+		{"one of two large frames", []*call{callOf(batchBytes, 10), small}, 1, 1},
 		{"access rules alone", []*call{rules, small}, 1, 1},
 		{"small ones before access rules", []*call{small, small, rules, small}, 2, 2},
 		{"access rules twice", []*call{rules, rules}, 1, 1},

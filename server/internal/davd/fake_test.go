@@ -5,6 +5,7 @@ import (
 	"encoding/binary"
 	"io"
 	"os"
+	"strconv"
 	"strings"
 	"testing"
 	"time"
@@ -55,12 +56,16 @@ func fake(how string) {
 		case how == "half" && len(frames) > 1:
 			writeReplies(number, 200, replies(frames), 1)
 			os.Exit(3)
+		case how == "no memory for a request" && len(frames) > 1:
+			writeReplies(number, 507, nil)
+		case how == "no memory for a piece":
+			writeReplies(number, 200, withoutPieces(frames))
 		case how == "too many":
 			writeReplies(number, 200, append(replies(frames), replies(frames)...))
-		case how == "shows drops":
+		case how == "shows drops", how == "no memory for a request":
 			for _, f := range frames {
 				if f[0] == 3 {
-					os.Stderr.WriteString("a body is dropped\n")
+					os.Stderr.WriteString("a body is dropped, frame " + strconv.Itoa(len(frames)) + " of a batch\n")
 				}
 			}
 			writeReplies(number, 200, replies(frames))
@@ -124,6 +129,20 @@ func replies(frames [][]byte) [][]byte {
 			reply = numbered(7, 404)
 		}
 		all = append(all, reply)
+	}
+	return all
+}
+
+// withoutPieces answers frames as a davd that has no memory for a piece: the request with its body fails.
+func withoutPieces(frames [][]byte) [][]byte {
+	all := replies(frames)
+	for i, f := range frames {
+		if f[0] == 2 {
+			all[i] = numbered(7, 507)
+		}
+		if f[0] == 0 && i > 0 {
+			all[i] = append(numbered(0, 400), make([]byte, 10)...)
+		}
 	}
 	return all
 }

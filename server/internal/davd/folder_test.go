@@ -287,7 +287,7 @@ func TestAnUploadIsLostWithItsDavd(t *testing.T) {
 			if err := body.Add(soon(t), []byte("piece")); !errors.Is(err, test.want) {
 				t.Errorf("the next piece: %v", err)
 			}
-			if _, err := body.Do(soon(t), &frame.Request{Method: "PUT", Path: "/a"}); !errors.Is(err, test.want) {
+			if _, err := body.Do(soon(t), nil, &frame.Request{Method: "PUT", Path: "/a"}); !errors.Is(err, test.want) {
 				t.Errorf("the request: %v", err)
 			}
 			body.Drop()
@@ -307,7 +307,7 @@ func TestARequestThatWasNotSentIsLostWithItsBody(t *testing.T) {
 	defer release()
 	result := make(chan error)
 	go func() {
-		_, err := body.Do(soon(t), &frame.Request{Method: "PUT", Path: "/a"})
+		_, err := body.Do(soon(t), nil, &frame.Request{Method: "PUT", Path: "/a"})
 		result <- err
 	}()
 	waitUntil(t, func() bool { return len(engine.waiting) == 1 }, engine)
@@ -340,7 +340,7 @@ func TestAnUploadThatWasKeptHasNoReply(t *testing.T) {
 	if err := body.Add(soon(t), []byte("piece")); err != nil {
 		t.Fatal(err)
 	}
-	if _, err := body.Do(soon(t), &frame.Request{Method: "PUT", Path: "/a"}); !errors.Is(err, ErrKept) {
+	if _, err := body.Do(soon(t), nil, &frame.Request{Method: "PUT", Path: "/a"}); !errors.Is(err, ErrKept) {
 		t.Errorf("the request: %v", err)
 	}
 }

@@ -34,9 +34,9 @@ func newStats() *stats {
 func (s *stats) sent(b *batch) {
 	size := 0
 	for _, c := range b.calls {
-		size += len(c.frame)
+		size += c.size()
 	}
-	s.frames.Observe(float64(len(b.calls)))
+	s.frames.Observe(float64(b.frames()))
 	s.bytes.Observe(float64(size))
 }
 

@@ -77,11 +77,14 @@ func (o *Operator) IsBusy() bool {
 func (o *Operator) send(ctx context.Context, f frame.Frame) ([]byte, error) {
 	c := newCall(f)
 	c.operates = o.rules
-	b, err := o.engine.exchange(ctx, c)
-	if err == nil && c.spoiled != nil {
-		return nil, c.spoiled
+	replies, err := o.engine.exchange(ctx, c)
+	if err == nil {
+		err = c.spoiled
 	}
-	return b, err
+	if err != nil {
+		return nil, err
+	}
+	return replies[0], nil
 }
 
 // mustWait reports whether the first call that waits can be sent only later. A call of an operator changes access rules, so

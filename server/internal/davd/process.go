@@ -129,16 +129,19 @@ func (p *process) wait() error {
 
 // write writes a batch.
 func (p *process) write(b *batch) error {
-	length := uint64(8)
+	count := b.frames()
+	length := 8 + 8*uint64(count)
 	for _, c := range b.calls {
-		length += 8 + uint64(len(c.frame))
+		length += uint64(c.size())
 	}
 	var head [40]byte
 	header := frame.BatchHeader{Number: b.number, Time: b.now, Length: length}
-	p.writer.Write(binary.BigEndian.AppendUint64(frame.AppendBatchHeader(head[:0], header), uint64(len(b.calls))))
+	p.writer.Write(binary.BigEndian.AppendUint64(frame.AppendBatchHeader(head[:0], header), uint64(count)))
 	for _, c := range b.calls {
-		p.writer.Write(binary.BigEndian.AppendUint64(head[:0], uint64(len(c.frame))))
-		p.writer.Write(c.frame)
+		for _, f := range c.frames {
+			p.writer.Write(binary.BigEndian.AppendUint64(head[:0], uint64(len(f))))
+			p.writer.Write(f)
+		}
 	}
 	return p.writer.Flush() // It returns the first error of all these writes.
 }
@@ -163,27 +166,40 @@ func (p *process) read(b *batch) error {
 		return nil
 	case header.Status != 200:
 		return fmt.Errorf("batch %d has the status %d", b.number, header.Status)
-	case header.Count != uint64(len(b.calls)):
-		return fmt.Errorf("batch %d of %d frames has %d replies", b.number, len(b.calls), header.Count)
+	case header.Count != uint64(b.frames()):
+		return fmt.Errorf("batch %d of %d frames has %d replies", b.number, b.frames(), header.Count)
 	}
 	b.written.Wait() // Whoever gets a reply may use the memory of the frame again.
 	b.took = came.Sub(latest(b.wrote, p.free))
 	for _, c := range b.calls {
-		reply, err := frame.ReadReply(p.reader, replyLimit)
+		replies, err := p.readReplies(len(c.frames))
 		if err != nil {
 			return err
 		}
 		b.answered++
-		if c.hasMade(reply) {
+		if c.hasMade(replies) {
 			p.made = b.number
 		}
 		if c.replied != nil {
-			c.replied(reply)
+			c.replied(replies[0])
 		}
-		c.finish(reply, nil)
+		c.finish(replies, nil)
 	}
 	p.free = time.Now()
 	return nil
+}
+
+// readReplies reads so many replies.
+func (p *process) readReplies(count int) ([][]byte, error) {
+	replies := make([][]byte, count)
+	for i := range replies {
+		reply, err := frame.ReadReply(p.reader, replyLimit)
+		if err != nil {
+			return nil, err
+		}
+		replies[i] = reply
+	}
+	return replies, nil
 }
 
 // latest returns the later one of two times.

@@ -78,7 +78,7 @@ func (p *process) setRights(rules string, now uint64) error {
 		return err
 	}
 	if err = c.err; err == nil {
-		err = failureOf(c.reply)
+		err = failureOf(c.replies[0])
 	}
 	var failed *StatusError
 	if errors.As(err, &failed) {

@@ -113,7 +113,7 @@ func (e *Engine) read(p *process) error {
 func (e *Engine) detach(p *process, end error) []string {
 	e.mu.Lock()
 	defer e.mu.Unlock()
-	e.process, p.lost = nil, lossOf(end)
+	e.process, e.spares, p.lost = nil, nil, lossOf(end)
 	close(p.gone)
 	isKept := e.config.Folder != ""
 	var lost []string

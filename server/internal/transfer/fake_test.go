@@ -263,7 +263,8 @@ func (b *fakeBody) Add(ctx context.Context, piece []byte) error {
 	return nil
 }
 
-func (b *fakeBody) Do(ctx context.Context, r *frame.Request) (frame.Reply, error) {
+func (b *fakeBody) Do(ctx context.Context, last []byte, r *frame.Request) (frame.Reply, error) {
+	b.bytes = append(b.bytes, last...)
 	err := b.fake.begin(r.Method + " " + r.Path)
 	if failed, ok := err.(*davd.StatusError); ok {
 		return frame.Response{Status: failed.Status}, nil

@@ -91,7 +91,7 @@ func (i *importer) put(s *source, path string, body Body, found entry) error {
 		Method: "PUT", Path: path, Token: noToken,
 		Fields: []frame.Field{{Name: "content-length", Value: strconv.FormatInt(found.length, 10)}},
 	}
-	if _, err := i.response(body.Do(i.ctx, request)); err != nil {
+	if _, err := i.response(body.Do(i.ctx, nil, request)); err != nil {
 		return err
 	}
 	if err := i.setModified(path, storedTime(found.modified)); err != nil {

@@ -38,9 +38,9 @@ type Store interface {
 type Body interface {
 	// Add adds a piece at the end of the body.
 	Add(ctx context.Context, piece []byte) error
-	// Do sends a request with this body.
-	Do(ctx context.Context, request *frame.Request) (frame.Reply, error)
-	// Drop removes the body from the store. It does not wait for that.
+	// Do adds a last piece, unless it is empty, sends a request with this body, and drops it.
+	Do(ctx context.Context, last []byte, request *frame.Request) (frame.Reply, error)
+	// Drop removes the body from the store, unless Do has. It does not wait for that.
 	Drop()
 }
 
