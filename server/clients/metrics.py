@@ -59,11 +59,11 @@ def check_histograms(samples: dict[str, float]):
         expect(count, samples.get(count), value)
 
 
-def start(starter: Starter) -> tuple[servers.Server, int]:
+def start(starter: Starter, *flags) -> tuple[servers.Server, int]:
     """A server over a folder, and the port of its metrics."""
     port = servers.free_port()
     servers.PORTS.remove(port)  # So that the server does not take it.
-    return kept.start(starter, "-quota", "1M", "-metrics", f"127.0.0.1:{port}"), port
+    return kept.start(starter, *flags, "-metrics", f"127.0.0.1:{port}"), port
 
 
 def await_samples(port: int, wanted: dict[str, float]) -> dict[str, float]:
@@ -81,7 +81,7 @@ def await_samples(port: int, wanted: dict[str, float]) -> dict[str, float]:
 
 @GROUP.check("what clients do is counted")
 def counted(starter: Starter):
-    server, port = start(starter)
+    server, port = start(starter, "-quota", "1M")
     before = scrape(port)
     server.ask("PUT", "/a", b"x" * 300_000, status=201)
     for _ in range(3):
@@ -121,6 +121,19 @@ def counted(starter: Starter):
         value = samples[name] - before[name] if "_total" in name or "_count" in name else samples[name]
         if not least <= value <= most:
             raise Wrong(f"{name}: expected {least} to {most}, got {value}")
+
+
+@GROUP.check("a small PUT takes one batch of davd")
+def one_batch(starter: Starter):
+    server, port = start(starter)
+    server.ask("PUT", "/a", b"first", status=201)  # With it davd begins the body of the next one.
+    batches = "davserve_batch_frames_count"
+    before = scrape(port)[batches]
+    for number in range(20):
+        server.ask("PUT", "/a", b"%d" % number, status=204)
+    took = scrape(port)[batches] - before
+    if not 20 <= took <= 22:  # One for what is held, which the metrics ask for, and one for a second without changes.
+        raise Wrong(f"expected 20 PUTs to take 20 batches, and at most 2 for others, got {took}")
 
 
 @GROUP.check("no client makes metrics of its own, and they are at their own address only")
