@@ -17,6 +17,7 @@ import (
 	"time"
 
 	"davserve/internal/davd"
+	"davserve/internal/detach"
 	"davserve/internal/frame"
 	"davserve/internal/limit"
 )
@@ -135,9 +136,11 @@ func (e statusError) Error() string {
 	return fmt.Sprintf("%d %s", int(e), http.StatusText(int(e)))
 }
 
-// ServeHTTP implements http.Handler.
+// ServeHTTP implements http.Handler. A request that changes something is served once it has arrived whole, whatever its
+// client does then.
 func (h *Handler) ServeHTTP(w http.ResponseWriter, r *http.Request) {
 	w.Header().Set("X-Content-Type-Options", "nosniff")
+	r = detach.Request(r)
 	if err := h.serve(w, r); err != nil {
 		h.fail(w, r, err)
 	}

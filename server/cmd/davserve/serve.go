@@ -15,6 +15,7 @@ import (
 	"davserve/internal/auth"
 	"davserve/internal/control"
 	"davserve/internal/cors"
+	"davserve/internal/detach"
 	"davserve/internal/limit"
 	"davserve/internal/systemd"
 )
@@ -146,7 +147,7 @@ func (c *config) handler(dav *davserve.Handler, meter *meter, logger *log.Logger
 			return nil, err
 		}
 	}
-	inner = limit.Requests(c.maxRequests, inner)
+	inner = detach.Changes(limit.Requests(c.maxRequests, inner))
 	health := healthHandler(dav)
 	outer := http.HandlerFunc(func(w http.ResponseWriter, r *http.Request) {
 		if r.URL.Path == healthPath {
