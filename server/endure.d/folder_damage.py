@@ -1,11 +1,13 @@
 """The files of a folder are damaged while nobody uses them: tails that are cut off, and bits that are flipped.
 
-A server over such a folder refuses it, or serves what it still has. It never returns other bytes of a file.
+A server over such a folder refuses it, or serves all that was there. Only a file whose own bytes are damaged cannot be
+read then.
 """
 import argparse
 import collections
 import pathlib
 import random
+import time
 import typing
 
 import folder_host
@@ -13,7 +15,6 @@ import folder_look
 import folder_requests
 from connection import Cut, Wrong
 from endure_client import Client
-from endure_model import File
 from folder_host import Place
 from folder_model import Found, Kept, difference, wanted
 from folder_worker import Tags, Worker
@@ -22,31 +23,27 @@ from harness import Run
 # The log of the database begins again after about 400 requests. From then on most pages are in meta.db alone.
 MOST_REQUESTS = 2000
 SHORT, LONG = 2, 200  # how many requests follow
+# After so many seconds without changes the number of the last batch is on the disk, and no lost change goes unnoticed.
+REST = 4
 RESOURCES, BYTES = 150, 16 << 20
-FILES = ("meta.db-wal", "data", "meta.db")
+FILES = ("meta.db-wal", "data", "meta.db", "last", "last-wal")
 BEHIND = 64  # bytes at the end of a file, which are chosen more often
 SHOWN = 5
-NOTED = 20
 
 
 class Original:
-    """A folder that nobody uses, and each state that it had, the last one at the end."""
+    """A folder that nobody uses, and its state."""
 
-    def __init__(self, kept: pathlib.Path, states: list[Kept]):
+    def __init__(self, kept: pathlib.Path, state: Kept):
         self.kept = kept
-        self.states = states
-        self.bodies = {it.data for state in states for it in state.resources.values() if isinstance(it, File)}
-
-    @property
-    def last(self) -> Kept:
-        return self.states[-1]
+        self.state = state
 
     def sizes(self) -> str:
         return ", ".join(f"{it} {(self.kept / it).stat().st_size:,} bytes" for it in FILES)
 
 
 class Making:
-    """One worker, whose states are kept."""
+    """One worker over the folder."""
 
     def __init__(self, place: Place, seed: str):
         self.place, self.folder = place, place.part("damage")
@@ -54,12 +51,10 @@ class Making:
         self.worker = Worker(0, self.host.port, f"{seed}.damage", Tags())
         self.worker.most_resources, self.worker.most_bytes = RESOURCES, BYTES
         self.worker.begin()
-        self.states: list[Kept] = [self.worker.tree]
 
     def request(self):
         if not self.worker.perform(folder_requests.some_request(self.worker)):
             raise Wrong("a request has no answer")
-        self.states.append(self.worker.tree)
 
     def turn(self) -> bytes:
         """The number in the header of the log that counts how often it began again."""
@@ -67,24 +62,27 @@ class Making:
             return log.read(16)[12:]
 
     def original(self, requests: int, name: str) -> Original:
-        """The folder after some more requests and a kill."""
+        """The folder after some more requests, a rest and a kill."""
         for _ in range(requests):
             self.request()
+        time.sleep(REST)
         folder_host.kill_both(self.host, True)
         folder_host.copy(self.folder / "kept", self.folder / name)
         self.host = self.place.start(self.folder)
         self.worker.connect(self.host.port)
-        return Original(self.folder / name, list(self.states))
+        return Original(self.folder / name, self.worker.tree.clone())
 
 
 def originals(place: Place, seed: str) -> dict[str, Original]:
     """A folder soon after the log of its database began again, and one with a long log."""
     making = Making(place, seed)
     first = making.turn()
-    while making.turn() == first:
+    for _ in range(MOST_REQUESTS):
+        if making.turn() != first:
+            break
         making.request()
-        if len(making.states) > MOST_REQUESTS:
-            raise Wrong(f"the log of the database does not begin again within {MOST_REQUESTS} requests")
+    else:
+        raise Wrong(f"the log of the database does not begin again within {MOST_REQUESTS} requests")
     made = {"short": making.original(SHORT, "short"), "long": making.original(LONG, "long")}
     making.host.stop()
     return made
@@ -135,7 +133,6 @@ class Damage:
         self.chance = random.Random(f"{seed}.damage")
         self.folder = place.part("damaged")
         self.results: collections.Counter[str] = collections.Counter()
-        self.notes: list[str] = []  # what differs without being wrong bytes
 
     def copy(self, file: str) -> pathlib.Path:
         folder_host.copy(self.original.kept, self.folder / "kept")
@@ -167,7 +164,7 @@ class Damage:
         try:
             if why := folder_host.refusal(host):
                 return why
-            return Seen(Client(host.port, "", ""), self.original.last.root, self.original.last.files())
+            return Seen(Client(host.port, "", ""), self.original.state.root, self.original.state.files())
         finally:
             host.check_log()
             if host.is_running():
@@ -187,48 +184,17 @@ class Damage:
 
     # ---- what may be seen
 
-    def is_some_state(self, seen: Seen) -> str:
-        """A state after some of the answered requests, without the later ones. Some files may not be readable."""
-        wrong = ""
-        for back, state in enumerate(reversed(self.original.states)):
-            different = difference_of(seen, state)
-            if not different:
-                errors = f", {len(seen.errors)} files not readable" if seen.errors else ""
-                return ("the last state" if back == 0 else "an earlier state") + errors
-            wrong = wrong or different
-        raise Wrong(f"the state is not one after some of the requests. The last one is not it: {wrong}")
-
-    def has_last_bytes(self, seen: Seen) -> str:
-        """Each file has the bytes of the last state, or cannot be read."""
-        if lost := sorted(set(self.original.last.resources) - set(seen.found) - set(seen.errors)):
-            raise Wrong(f"{lost[:SHOWN]} are lost without an error")
-        for path, found in seen.found.items():
-            if not self.is_right(seen, path):
-                raise Wrong(f"{path}: {difference(found, wanted(self.original.last, path))}")
-        return self.summary(seen)
-
-    def has_no_other_bytes(self, seen: Seen) -> str:
-        """No file has bytes that no file ever had. No digest covers names and properties: what differs is noted."""
-        for path, found in seen.found.items():
-            is_renamed = path not in self.original.last or bool(found.data)
-            if not self.is_right(seen, path) and not (is_renamed and found.data in self.original.bodies):
-                raise Wrong(f"{path}: {difference(found, wanted(self.original.last, path))}")
-        return self.summary(seen)
-
-    def is_right(self, seen: Seen, path: str) -> bool:
-        """Whether a file has its last bytes. A response that breaks off has the first of them."""
-        data, must = seen.found[path].data, wanted(self.original.last, path)
-        if data is None:
-            return True
-        return bool(must) and (must.data == data or path in seen.errors and (must.data or b"").startswith(data))
-
-    def summary(self, seen: Seen) -> str:
+    def is_whole(self, seen: Seen) -> str:
+        """All is there as it was, and can be read."""
         if seen.errors:
-            return "serves, and some files are errors"
-        different = difference_of(seen, self.original.last)
-        if different and different not in self.notes:
-            self.notes.append(different)
-        return "serves, and something else than bytes differs" if different else "serves the last state"
+            raise Wrong(f"{len(seen.errors)} files cannot be read: {seen.errors[:SHOWN]}")
+        return self.is_there(seen)
+
+    def is_there(self, seen: Seen) -> str:
+        """All is there as it was, but that some files cannot be read."""
+        if different := difference_of(seen, self.original.state):
+            raise Wrong(different)
+        return f"serves, and {len(seen.errors)} files cannot be read" if seen.errors else "serves all that was there"
 
 
 def difference_of(seen: Seen, state: Kept) -> str | None:
@@ -257,16 +223,16 @@ class Check(typing.NamedTuple):
     judge: typing.Callable[[Damage, Seen], str]
 
 
-LOG, DATA, DATABASE = FILES
-CHECKS = (
-    Check(10, "a cut log leaves an earlier state", LOG, "long", Damage.cut, Damage.is_some_state),
-    Check(10, "a cut data file leaves the bytes of files, or errors", DATA, "long", Damage.cut, Damage.has_last_bytes),
-    Check(10, "a cut database leaves no other bytes", DATABASE, "short", Damage.cut, Damage.has_no_other_bytes),
-    Check(20, "a flipped bit of the log leaves an earlier state", LOG, "long", Damage.flip, Damage.is_some_state),
-    Check(30, "a flipped bit of the data file leaves the bytes of files, or errors", DATA, "long",
-          Damage.flip, Damage.has_last_bytes),
-    Check(30, "a flipped bit of the database leaves no other bytes", DATABASE, "short",
-          Damage.flip, Damage.has_no_other_bytes),
+CHECKS = tuple(
+    Check(trials, f"a {damage.__name__} of {file} is found, or all is there", file, made, damage, judge)
+    for file, made, judge, cuts, flips in (
+        ("meta.db-wal", "long", Damage.is_whole, 10, 20),
+        ("meta.db", "short", Damage.is_whole, 10, 30),
+        ("data", "long", Damage.is_there, 10, 30),
+        ("last", "long", Damage.is_whole, 5, 5),
+        ("last-wal", "long", Damage.is_whole, 5, 5),
+    )
+    for trials, damage in ((cuts, Damage.cut), (flips, Damage.flip))
 )
 
 
@@ -283,8 +249,6 @@ def run(place: Place, options: argparse.Namespace, counts: Run):
         try_check(damage, check, counts)
     for result, count in sorted(damage.results.items()):
         counts.note(f"{count} times {result}")
-    for note in damage.notes[:NOTED]:
-        counts.note(f"what differed: {note}")
 
 
 def try_check(damage: Damage, check: Check, counts: Run):

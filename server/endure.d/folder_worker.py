@@ -23,11 +23,27 @@ COMPARED_FOLDERS = 2
 
 
 class Tags:
-    """All entity tags that any worker has seen."""
+    """All entity tags that any worker has seen. Each has a part that the server draws when it starts."""
 
     def __init__(self):
         self.seen: set[str] = set()
+        self.part: str | None = None  # of this server; none: no tag of it was seen yet
+        self.parts: set[str] = set()
         self.guard = threading.Lock()
+
+    def start_again(self):
+        """The server was started again. What its tags begin with is not known yet."""
+        self.part = None
+
+    def check_part(self, tag: str):
+        """Raises `Wrong` unless a tag has the part of this server, which no earlier one had."""
+        part = tag.strip('"').partition("-")[0]
+        with self.guard:
+            if self.part is None and part not in self.parts:
+                self.parts.add(part)
+                self.part = part
+        if part != self.part:
+            raise Wrong(f"expected entity tags with {self.part or 'a part that was never seen'}, found {tag}")
 
     def add(self, tag: str) -> bool:
         """Whether the tag is new."""
@@ -35,6 +51,11 @@ class Tags:
             is_new = tag not in self.seen
             self.seen.add(tag)
             return is_new
+
+
+def version(tag: str) -> str:
+    """What an entity tag has behind the part that the server draws when it starts."""
+    return tag.strip('"').partition("-")[2]
 
 
 @dataclasses.dataclass
@@ -68,9 +89,10 @@ class Worker:
         self.client.ask("MKCOL", self.tree.root, status=201)
 
     def connect(self, port: int):
-        """From now on the server is on this port."""
+        """The server was started again, on this port."""
         self.client.close()
         self.client.port = port
+        self.tags.start_again()
 
     def bytes(self, size: int) -> bytes:
         """Bytes that no other file has."""
@@ -126,15 +148,20 @@ class Worker:
                 self.learn_tag(request.path, tag)
 
     def learn_tag(self, path: str, tag: str | None):
-        """A file that did not change keeps its entity tag, and another one was never seen before."""
+        """A file that did not change keeps its entity tag, but for the part that the server draws when it starts. Another
+        tag was never seen before."""
         file = self.tree[path]
-        if file.tag is None and tag:
-            if not self.tags.add(tag):
-                raise Wrong(f"{path}: expected an entity tag that was never seen, found {tag}")
-            file.tag = tag
+        if not tag:
+            raise Wrong(f"{path}: expected an entity tag, found none")
+        self.tags.check_part(tag)
+        if file.tag and version(file.tag) != version(tag):
+            raise Wrong(f"{path}: expected the entity tag {file.tag}, found {tag}")
+        is_new = self.tags.add(tag)
+        if not file.tag and not is_new:
+            raise Wrong(f"{path}: expected an entity tag that was never seen, found {tag}")
+        if not file.tag:
             self.counts["new entity tags"] += 1
-        elif file.tag != tag:
-            raise Wrong(f"{path}: expected the entity tag {file.tag or 'of a file'}, found {tag}")
+        file.tag = tag
 
     def read_some(self):
         """Reads a file while others write. A server that is killed meanwhile breaks it off."""
