@@ -99,7 +99,7 @@ func (h *Handler) reserve(ctx context.Context, most int64, exact func() (int64, 
 
 // reserveUpload makes room for a PUT or a PATCH whose body has this length.
 func (h *Handler) reserveUpload(r *http.Request, length int64) (release func(), err error) {
-	begin := updateRange(r.Method, r.Header)
+	begin := places(r.Method, r.Header)
 	most := begin.offset(0) + length
 	return h.reserve(r.Context(), most, func() (int64, error) {
 		old, _, err := h.look(r.Context(), pathOf(r), h.principal(r))
@@ -111,6 +111,18 @@ func (h *Handler) reserveUpload(r *http.Request, length int64) (release func(), 
 	})
 }
 
+// A choice is some places, one of which is where an update begins.
+type choice []place
+
+// offset returns the greatest offset of the places in a file of this length.
+func (c choice) offset(length int64) int64 {
+	most := int64(0)
+	for _, p := range c {
+		most = greater(most, p.offset(length))
+	}
+	return most
+}
+
 // A place is where a partial update begins.
 type place struct {
 	append  bool  // at the end of the file
@@ -118,13 +130,18 @@ type place struct {
 	count   int64 // bytes from the start of the file
 }
 
-// updateRange reads where a PUT or PATCH begins. As the engine, it reads another header field of each, and refuses none
-// that is wrong.
-func updateRange(method string, header http.Header) place {
-	text := header.Get("X-Update-Range")
-	if method == http.MethodPut {
-		text = strings.TrimPrefix(header.Get("Content-Range"), "bytes ")
+// places reads where a PUT or PATCH may begin: at Content-Range, which the engine reads of both, and a PATCH also at
+// X-Update-Range. None that is wrong is refused.
+func places(method string, header http.Header) choice {
+	found := choice{placeOf(strings.TrimPrefix(header.Get("Content-Range"), "bytes "))}
+	if method != http.MethodPut {
+		found = append(found, placeOf(header.Get("X-Update-Range")))
 	}
+	return found
+}
+
+// placeOf reads a place.
+func placeOf(text string) place {
 	text = strings.TrimPrefix(strings.TrimSpace(text), "bytes=")
 	if text == "append" {
 		return place{append: true}
@@ -163,16 +180,29 @@ func (h *Handler) copy(w http.ResponseWriter, r *http.Request) error {
 	if h.quota == nil {
 		return h.withoutBody(w, r)
 	}
-	size, err := h.copied(r)
+	request, err := h.requestWithoutBody(r)
 	if err != nil {
 		return err
+	}
+	response, err := h.copyWithin(r, request)
+	if err != nil {
+		return err
+	}
+	return h.write(w, r, response) // With no room reserved: a client that reads it slowly keeps nobody else from writing.
+}
+
+// copyWithin sends a COPY to davd if the quota has room for it.
+func (h *Handler) copyWithin(r *http.Request, request *frame.Request) (*frame.Response, error) {
+	size, err := h.copied(r)
+	if err != nil {
+		return nil, err
 	}
 	release, err := h.reserve(r.Context(), size, func() (int64, error) { return size, nil })
 	if err != nil {
-		return err
+		return nil, err
 	}
 	defer release()
-	return h.withoutBody(w, r)
+	return h.ask(r.Context(), request)
 }
 
 // copied returns how many bytes a COPY copies. Those of a collection with Depth 0 are none.

@@ -116,7 +116,7 @@ func usedBytes(n int64) func(context.Context) (int64, error) {
 	return func(context.Context) (int64, error) { return n, nil }
 }
 
-func TestUpdateRange(t *testing.T) {
+func TestPlaces(t *testing.T) {
 	tests := []struct {
 		method, name, value string
 		offset              int64 // in a file of 100 bytes
@@ -131,15 +131,19 @@ func TestUpdateRange(t *testing.T) {
 		{"PUT", "Content-Range", "bytes 10-19/100", 10},
 		{"PUT", "Content-Range", "bytes 10-19/*", 10},
 		{"PUT", "X-Update-Range", "bytes=10-19", 0},
-		{"PATCH", "Content-Range", "bytes 10-19/100", 0},
+		{"PATCH", "Content-Range", "bytes 10-19/100", 10},
 	}
 	for _, test := range tests {
 		header := http.Header{}
 		if test.name != "" {
 			header.Set(test.name, test.value)
 		}
-		if got := updateRange(test.method, header).offset(100); got != test.offset {
+		if got := places(test.method, header).offset(100); got != test.offset {
 			t.Errorf("%s: %s begins at %d, want %d", test.name, test.value, got, test.offset)
 		}
+	}
+	both := http.Header{"X-Update-Range": {"bytes=10-19"}, "Content-Range": {"bytes 900-909/*"}}
+	if got := places("PATCH", both).offset(100); got != 900 {
+		t.Errorf("a PATCH with both begins at %d, want 900", got)
 	}
 }

@@ -14,14 +14,19 @@ import (
 
 // withoutBody answers a request that may have no body (RFC 4918, section 8.4).
 func (h *Handler) withoutBody(w http.ResponseWriter, r *http.Request) error {
-	if err := h.checkNoBody(r); err != nil {
-		return err
-	}
-	request, err := h.request(r)
+	request, err := h.requestWithoutBody(r)
 	if err != nil {
 		return err
 	}
 	return h.answer(w, r, request)
+}
+
+// requestWithoutBody returns the request that is sent to davd for one that may have no body.
+func (h *Handler) requestWithoutBody(r *http.Request) (*frame.Request, error) {
+	if err := h.checkNoBody(r); err != nil {
+		return nil, err
+	}
+	return h.request(r)
 }
 
 // checkNoBody refuses a body that is not empty.

@@ -141,14 +141,19 @@ func (h *Handler) finish(w http.ResponseWriter, r *http.Request, request *frame.
 		return statusError(http.StatusBadRequest) // The client of macOS announces the length of a chunked body so.
 	}
 	setLength(request, length)
-	release, err := h.reserveUpload(r, length)
-	if err != nil {
-		return err
-	}
-	defer release()
-	response, err := responseOf(send(r.Context(), request))
+	response, err := h.sendWithin(r, request, length, send)
 	if err != nil {
 		return err
 	}
 	return h.write(w, r, response)
+}
+
+// sendWithin sends the request of an upload if the quota has room for it.
+func (h *Handler) sendWithin(r *http.Request, request *frame.Request, length int64, send sender) (*frame.Response, error) {
+	release, err := h.reserveUpload(r, length)
+	if err != nil {
+		return nil, err
+	}
+	defer release()
+	return responseOf(send(r.Context(), request))
 }

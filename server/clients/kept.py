@@ -21,6 +21,7 @@ GROUP = Group("kept in a folder", is_shared=False)
 GROUPS = [GROUP]
 
 PATCH = b"""<?xml version="1.0"?><propertyupdate xmlns="DAV:"><set><prop><c xmlns="urn:c">red</c></prop></set></propertyupdate>"""
+REMOVED = b"""<?xml version="1.0"?><propertyupdate xmlns="DAV:"><remove><prop><c xmlns="urn:c"/></prop></remove></propertyupdate>"""
 QUOTA = b"""<?xml version="1.0"?><propfind xmlns="DAV:"><prop><quota-used-bytes/><quota-available-bytes/></prop></propfind>"""
 ASKED = b"""<?xml version="1.0"?><propfind xmlns="DAV:"><prop><c xmlns="urn:c"/><lockdiscovery/></prop></propfind>"""
 LOCK = b"""<?xml version="1.0"?><lockinfo xmlns="DAV:"><lockscope><exclusive/></lockscope><locktype><write/></locktype></lockinfo>"""
@@ -307,6 +308,27 @@ def checked_after_kills(starter: Starter):
     (starter.folder / "none").mkdir()
     expect("an empty folder", check(starter, "none", 6), ["davd: the folder cannot be read or written"])
     expect("what is in it", list((starter.folder / "none").iterdir()), [])
+
+
+@GROUP.check("a success that changes nothing is no loss when davd is killed")
+def nothing(starter: Starter):
+    server = start(starter)
+    for path in ("/c/", "/d/"):
+        server.ask("MKCOL", path, status=201)
+    server.ask("PUT", "/e", b"", status=201)
+    copied = {"Destination": server.url("/d/"), "Depth": "0"}
+    for method, path, body, fields in (
+        ("COPY", "/c/", None, copied),
+        ("PUT", "/e", b"", {}),
+        ("PUT", "/e", b"", {"Content-Range": "bytes 0-0/*"}),
+        ("PROPPATCH", "/c/", REMOVED, {}),
+        ("DELETE", "/none", None, {}),
+        ("DELETE", "/", None, {}),
+        ("DELETE", "/", None, {}),
+    ):
+        server.ask(method, path, body, fields)
+        kill(server)
+    server.stop()
 
 
 @GROUP.check("the views show what is in a folder when davd has ended")

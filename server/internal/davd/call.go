@@ -2,6 +2,7 @@ package davd
 
 import (
 	"net/http"
+	"strings"
 	"sync"
 	"time"
 
@@ -24,7 +25,7 @@ type call struct {
 	adds    bool     // davd may hold more after it
 	frees   bool     // davd may hold less after it
 	sets    bool     // it sets the access rules
-	makes   bool     // it has changed what davd keeps, if its response is 201 or 204
+	made    []int    // the statuses of its response that say that it has changed what davd keeps
 	place   uint64   // its place among all calls that were queued
 	again   bool     // it was sent before, or is not to be sent again
 	replies [][]byte // one to each frame
@@ -46,7 +47,7 @@ func newCall(f frame.Frame) *call {
 		adds:   adds(f),
 		frees:  frees(f),
 		sets:   sets(f),
-		makes:  makes(f),
+		made:   madeBy(f),
 		done:   make(chan struct{}, 1),
 		what:   describe(f),
 	}
@@ -99,27 +100,45 @@ func sets(f frame.Frame) bool {
 	return ok
 }
 
-// makes reports whether a frame has changed what davd keeps if its response has the status 201 or 204.
-func makes(f frame.Frame) bool {
+// madeBy returns the statuses that say for sure that a frame has changed what davd keeps. Other responses of success may
+// come for what changes nothing, such as a COPY of an empty collection onto another one, or a DELETE of an empty root.
+func madeBy(f frame.Frame) []int {
 	request, ok := f.(*frame.Request)
 	if !ok {
-		return false
+		return nil
 	}
 	switch request.Method {
-	case "PUT", "MKCOL", "DELETE", "COPY", "MOVE":
-		return true
+	case "PUT":
+		if hasField(request, "content-range") {
+			return []int{http.StatusCreated} // It may be of no bytes.
+		}
+		return []int{http.StatusCreated, http.StatusNoContent}
+	case "MOVE":
+		return []int{http.StatusCreated, http.StatusNoContent}
+	case "MKCOL", "COPY":
+		return []int{http.StatusCreated}
+	}
+	return nil
+}
+
+// hasField reports whether a request has a header field, whose name is in lower case.
+func hasField(request *frame.Request, name string) bool {
+	for _, field := range request.Fields {
+		if strings.EqualFold(field.Name, name) {
+			return true
+		}
 	}
 	return false
 }
 
 // hasMade reports whether a call has changed what davd keeps, by the replies to it.
 func (c *call) hasMade(replies [][]byte) bool {
-	if !c.makes {
-		return false
-	}
 	for _, reply := range replies {
-		if status := frame.StatusOf(reply); status == http.StatusCreated || status == http.StatusNoContent {
-			return true
+		status := frame.StatusOf(reply)
+		for _, made := range c.made {
+			if status == made {
+				return true
+			}
 		}
 	}
 	return false
