@@ -156,10 +156,15 @@ func crumbsOf(path string) (above []crumb, name string) {
 	return above, name
 }
 
-// rowOf returns what the page shows of a member. The link is relative, and begins with ./ because a name may have a
-// colon.
+// linkTo returns the link to a member. It is relative, and begins with ./ because a name may have a colon. What the page
+// would have as a character reference is escaped, since not each program that reads the page knows these.
+func linkTo(name string) string {
+	return "./" + strings.NewReplacer("+", "%2B", "&", "%26").Replace(url.PathEscape(name))
+}
+
+// rowOf returns what the page shows of a member.
 func rowOf(m member) row {
-	r := row{Kind: "file", Name: m.Name(), Link: "./" + url.PathEscape(m.Name())}
+	r := row{Kind: "file", Name: m.Name(), Link: linkTo(m.Name())}
 	if m.IsCollection {
 		r.Kind = "folder"
 		r.Name += "/"

@@ -5,7 +5,9 @@ import (
 	"encoding/base64"
 	"fmt"
 	"html"
+	"html/template"
 	"net/http"
+	"net/url"
 	"regexp"
 	"strings"
 	"testing"
@@ -206,5 +208,17 @@ func TestHeadOfThePageIsThatOfGet(t *testing.T) {
 	}
 	if head.Code != 200 || head.Body.Len() != 0 {
 		t.Errorf("HEAD: status %d with %d bytes", head.Code, head.Body.Len())
+	}
+}
+
+func TestLinksHaveNoCharacterReferences(t *testing.T) {
+	for _, name := range []string{"a+b", "a&b", "a'b", `a"b`, "a<b>", "a&#43;b", "ä b", "a:b"} {
+		link := linkTo(name)
+		if escaped := template.HTMLEscapeString(link); escaped != link || strings.Contains(link, "+") {
+			t.Errorf("the link to %q is %q, which the page has as %q", name, link, escaped)
+		}
+		if back, err := url.PathUnescape(link); err != nil || back != "./"+name {
+			t.Errorf("the link to %q leads to %q: %v", name, back, err)
+		}
 	}
 }

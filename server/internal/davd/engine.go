@@ -142,6 +142,7 @@ func Start(ctx context.Context, config Config) (*Engine, error) {
 		rights = &config.Rights
 	}
 	isNew := config.Folder != "" && hasDatabase(config.Folder) != nil
+	isUnnumbered := config.Folder != "" && !isNew && hasNoNumber(config.Folder)
 	process, err := open(config.first(), 0, rights, ctx.Done(), now)
 	if errors.Is(err, errStopped) {
 		return nil, ctx.Err()
@@ -151,6 +152,10 @@ func Start(ctx context.Context, config Config) (*Engine, error) {
 	}
 	if isNew {
 		config.Log.Printf("the folder %s had no store: a new one was made", config.Folder)
+	}
+	if isUnnumbered {
+		config.Log.Printf("the folder %s had neither last nor last-wal, which show whether changes are lost: if it was restored, "+
+			"see that it got all files of the backup (meta.db, meta.db-wal, data, last, last-wal)", config.Folder)
 	}
 	if config.Lossy && config.Folder != "" {
 		config.Log.Printf("the folder %s is served even if its last changes are lost, as -accept-loss says: leave it out at the next start", config.Folder)

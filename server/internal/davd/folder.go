@@ -4,6 +4,7 @@ import (
 	"errors"
 	"fmt"
 	"io"
+	"io/fs"
 	"os"
 	"path/filepath"
 	"sort"
@@ -48,6 +49,16 @@ func open(config Config, answered uint64, rights *string, stop <-chan struct{}, 
 
 // fileNames are the names of the files in a folder.
 var fileNames = []string{"meta.db", "meta.db-wal", "data", "data-wal", "last", "last-wal"}
+
+// hasNoNumber reports whether a folder has neither of the files with the number of the last change.
+func hasNoNumber(folder string) bool {
+	for _, name := range []string{"last", "last-wal"} {
+		if _, err := os.Lstat(filepath.Join(folder, name)); !errors.Is(err, fs.ErrNotExist) {
+			return false
+		}
+	}
+	return true
+}
 
 // expectPlainFiles checks that no file of a folder is a link or has a second name. davd would find the file that belongs to
 // it elsewhere than a backup does. Without a folder there are none.

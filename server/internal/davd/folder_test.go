@@ -549,6 +549,25 @@ func TestANewStoreIsLogged(t *testing.T) {
 	awaitLog(t, said, "had no store: a new one was made")
 }
 
+func TestAMissingNumberIsLogged(t *testing.T) {
+	const said = "had neither last nor last-wal"
+	for _, name := range []string{"", "last", "last-wal"} {
+		config, folder, log := overFolder(t, "sound", quickOver)
+		os.Remove(filepath.Join(string(folder), "last"))
+		if name != "" {
+			folder.set(name, 0)
+		}
+		engine, err := Start(soon(t), config)
+		if err != nil {
+			t.Fatal(err)
+		}
+		if got := strings.Contains(log.String(), said); got != (name == "") {
+			t.Errorf("with %q the log says that the number is missing: %t:\n%s", name, got, log)
+		}
+		closeSoon(t, engine)
+	}
+}
+
 func TestALossThatIsAcceptedIsLogged(t *testing.T) {
 	config, _, said := overFolder(t, "sound", quickOver)
 	config.Lossy = true
