@@ -76,7 +76,7 @@ func Check(ctx context.Context, socket string, rate int64, pass func(CheckEvent)
 	defer client.CloseIdleConnections()
 	response, err := send(ctx, client, http.MethodPost, filesPath+"?rate="+strconv.FormatInt(rate, 10))
 	if err != nil {
-		return none, fmt.Errorf("no server answers at %s: %w", socket, err)
+		return none, noAnswer(socket, err)
 	}
 	defer response.Body.Close()
 	if response.StatusCode != http.StatusOK {

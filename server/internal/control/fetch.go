@@ -9,6 +9,7 @@ import (
 	"io"
 	"net"
 	"net/http"
+	"net/url"
 	"time"
 
 	"davserve/internal/backup"
@@ -38,7 +39,7 @@ func Fetch(ctx context.Context, socket, folder string) (backup.Sizes, error) {
 	defer client.CloseIdleConnections()
 	response, err := send(ctx, client, http.MethodPost, backupPath)
 	if err != nil {
-		return backup.Sizes{}, fmt.Errorf("no server answers at %s: %w", socket, err)
+		return backup.Sizes{}, noAnswer(socket, err)
 	}
 	defer response.Body.Close()
 	if response.StatusCode != http.StatusOK {
@@ -98,7 +99,7 @@ func ask(ctx context.Context, socket, method, target string) (answer, error) {
 	defer client.CloseIdleConnections()
 	response, err := send(ctx, client, method, target)
 	if err != nil {
-		return answer{}, fmt.Errorf("no server answers at %s: %w", socket, err)
+		return answer{}, noAnswer(socket, err)
 	}
 	defer response.Body.Close()
 	body, err := io.ReadAll(response.Body)
@@ -137,4 +138,13 @@ func (s *stream) Read(p []byte) (int, error) {
 		s.err = err
 	}
 	return n, err
+}
+
+// noAnswer returns why a request at the socket got no answer.
+func noAnswer(socket string, err error) error {
+	var failed *url.Error
+	if errors.As(err, &failed) {
+		err = failed.Err // Without the URL, which nobody typed.
+	}
+	return fmt.Errorf("no server answers at %s, so none serves this folder: %w", socket, err)
 }
