@@ -77,6 +77,56 @@ func TestNoUpdateRangeGoesAroundTheQuota(t *testing.T) {
 	c := startServer(t, Options{Quota: 1000})
 	c.want(507, "PUT", "/f", "hello", "Content-Range: bytes 5000-5004/5005", "X-Update-Range: bytes=0-4")
 	c.want(404, "GET", "/f", "")
+	c.want(201, "PUT", "/f", "hello")
+	c.want(507, "PATCH", "/f", "hello", "Content-Type: application/x-sabredav-partialupdate",
+		"X-Update-Range: bytes=0-4", "Content-Range: bytes 5000-5004/*")
+	if text := c.want(200, "GET", "/f", ""); text != "hello" {
+		t.Errorf("after the PATCH the file is %q", text)
+	}
+}
+
+// A stuckWriter is that of a client that does not read.
+type stuckWriter struct {
+	header     http.Header
+	stuck, end chan struct{}
+}
+
+// Header implements http.ResponseWriter.
+func (w *stuckWriter) Header() http.Header { return w.header }
+
+// WriteHeader implements http.ResponseWriter.
+func (w *stuckWriter) WriteHeader(int) {
+	close(w.stuck)
+	<-w.end
+}
+
+// Write implements http.ResponseWriter.
+func (w *stuckWriter) Write(b []byte) (int, error) { return len(b), nil }
+
+func TestAResponseThatNobodyReadsHoldsNoRoom(t *testing.T) {
+	c := startServer(t, Options{Quota: 1000})
+	c.want(201, "PUT", "/f", strings.Repeat("x", 400))
+	for _, request := range []*http.Request{
+		httptest.NewRequest("COPY", "/f", nil),
+		httptest.NewRequest("PUT", "/g", strings.NewReader("x")),
+	} {
+		request.Header.Set("Destination", "/g")
+		w := &stuckWriter{header: http.Header{}, stuck: make(chan struct{}), end: make(chan struct{})}
+		go c.server.Config.Handler.ServeHTTP(w, request)
+		<-w.stuck
+		served := make(chan struct{})
+		go func() {
+			defer close(served)
+			c.want(507, "PUT", "/h", strings.Repeat("x", 700)) // It writes alone.
+		}()
+		select {
+		case <-served:
+		case <-time.After(10 * time.Second):
+			t.Errorf("a PUT waits for the response to a %s", request.Method)
+		}
+		close(w.end)
+		<-served
+	}
 }
 
 func TestACopyOfAFileWithASlashCounts(t *testing.T) {
