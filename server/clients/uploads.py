@@ -131,12 +131,12 @@ def removed(server):
     with server.connect(window=65536, seconds=20) as connection:
         connection.request("GET", "/changing")
         expected(connection.head(), 200, "GET /changing")
-        connection.exactly(MB)
+        start = connection.exactly(MB)
         server.ask("DELETE", "/changing", status=204)
         try:
             connection.exactly(SIZE - MB)
         except Cut as cut:
-            expect("the versions that came", letters(cut.body), {ord("2")})
+            expect("the versions that came", letters(start + cut.body), {ord("2")})
         else:
             raise Wrong("expected that the response breaks off, got all bytes")
 
