@@ -146,5 +146,5 @@ func noAnswer(socket string, err error) error {
 	if errors.As(err, &failed) {
 		err = failed.Err // Without the URL, which nobody typed.
 	}
-	return fmt.Errorf("no server answers at %s, so none serves this folder: %w", socket, err)
+	return fmt.Errorf("no server answers at %s: %w", socket, err)
 }

@@ -121,7 +121,7 @@ func madeBy(f frame.Frame) []int {
 	return nil
 }
 
-// hasField reports whether a request has a header field, whose name is in lower case.
+// hasField reports whether a request has a header field.
 func hasField(request *frame.Request, name string) bool {
 	for _, field := range request.Fields {
 		if strings.EqualFold(field.Name, name) {
