@@ -7,10 +7,10 @@ use Rattle.sqlite_wal.specs.Format.{part, be32, IsSigned, page_number, commit_si
 use Rattle.sqlite_wal.specs.Recovery.{frame_at, header, frame, Passes, Replays}
 use Rattle.sqlite_wal.specs.PageSize.{IsPageSize}
 
--- The log has room for a frame, and its header is wrong behind a right first byte, which is written last.
+-- The log has room for a frame, and its header is wrong, and its first byte is not 0: that byte is written last, over 0.
 pub record HasWrongHeader (log : List ℕ) : Type 0 where
   pub long : 32 + 24 + 512 ≤ length log
-  pub gate : slice_index log 0 ≡ 0x37
+  pub gate : slice_index log 0 ≢ 0
   pub wrong : ¬ IsSigned (header log)
 
 -- ---- frames

@@ -19,12 +19,12 @@ use std::alloc::Global;
 /// The length of a log with one frame of the smallest page. A shorter one holds nothing.
 const LEAST_LEN: usize = 32 + 24 + 512;
 
-/// Whether a log has a header that no crash leaves: its first byte is right, and the rest is wrong. The engine writes that
-/// byte last. It is false for a log with no room for a frame.
+/// Whether a log has a header that no crash leaves: it is wrong, and its first byte is not 0. The engine writes that byte
+/// last, over 0. It is false for a log with no room for a frame.
 pub fn has_wrong_header(log: &[u8]) -> bool
     ensures { IsTrue result ↔ HasWrongHeader log.now }
 {
-    log.len() >= LEAST_LEN && log[0] == 0x37 && !is_signed(header_of(log))
+    log.len() >= LEAST_LEN && log[0] != 0 && !is_signed(header_of(log))
 }
 
 /// The page size that the header names, if it passes its checksum.
