@@ -1,5 +1,5 @@
 -- What a start that fails leaves of the data file of a folder.
-use Rattle.std.specs.Prelude.{◌≡◌, Bool, true, List, ℕ, Option, Some}
+use Rattle.std.specs.Prelude.{◌≡◌, Bool, true, List, ℕ, Some}
 use Rattle.dav_data.specs.Claimed.{file_of}
 use Rattle.dav_data.specs.Data.{is_honest, may_leave}
 use Rattle.dav_data.specs.declared.claim.Claim as claim

@@ -4,9 +4,11 @@ use base.Stored.{Gv}
 use Rattle.sqlite_disk.specs.declared.Disk as disk
 use Rattle.sqlite_trees.specs.declared.store.Store as store
 use Rattle.dav_data.specs.declared.claim.Claim as claim
+use Rattle.dav_last.specs.Batches.{Names}
 use Rattle.dav_last.specs.declared.last_batch.LastBatch.{LastBatch}
 use Rattle.dav_pieces.specs.declared.piece.Piece.{Piece}
 use Rattle.dav_tree.specs.declared.medium.Medium.{Ghosts}
+use Rattle.dav_folder.specs.Folders.{batch_of}
 use Rattle.dav_folder.specs.Lasting as folders
 use Rattle.dav_folder.specs.Lasting.{At, Lasts, LastsEither, HasCleanDatabase}
 use Rattle.dav_folder.specs.declared.folder.Folder.{Folder}
@@ -26,16 +28,16 @@ module _ {S L : Type 0} {rows : store.Ghosts S} {l : disk.Ghosts L} where
   HasCleanFolder keeper = HasCleanDatabase (folder_of keeper)
 
   module _ {C : Type 0} (c : claim.Ghosts C) {M : Type 0} {g : Ghosts M (List Piece)} where
-    -- its folder keeps the image of a snapshot
+    -- its folder keeps the image of a snapshot, and the files of the number name that of the folder's last batch
     abbrev pub LastsNumbered : Numbered S L rows l → Gv → At g → Type 0
-    LastsNumbered keeper saved snapshot = Lasts c (folder_of keeper) saved snapshot
+    LastsNumbered keeper saved snapshot = Lasts c (folder_of keeper) saved snapshot × Names (batch_of (folder_of keeper)) (last_of keeper)
 
     -- a crash leaves one of two snapshots of its folder
     abbrev pub LastsEitherNumbered : Numbered S L rows l → Gv → At g → At g → Type 0
     LastsEitherNumbered keeper saved one other = LastsEither c (folder_of keeper) saved one other
 
     pub as_first : (keeper : Numbered S L rows l) (saved : Gv) (one other : At g) → LastsNumbered keeper saved one → LastsEitherNumbered keeper saved one other
-    as_first keeper saved one other lasts = folders.as_first c (folder_of keeper) saved one other lasts
+    as_first keeper saved one other lasts = folders.as_first c (folder_of keeper) saved one other lasts.0
 
     pub as_second : (keeper : Numbered S L rows l) (saved : Gv) (one other : At g) → LastsNumbered keeper saved other → LastsEitherNumbered keeper saved one other
-    as_second keeper saved one other lasts = folders.as_second c (folder_of keeper) saved one other lasts
+    as_second keeper saved one other lasts = folders.as_second c (folder_of keeper) saved one other lasts.0

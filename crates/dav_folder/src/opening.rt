@@ -11,8 +11,8 @@ ghost use Rattle.dav_keep.specs.Keeping.{connection_of};
 ghost use Rattle.dav_rows.specs.Contents.{Contents};
 ghost use Rattle.dav_rows.specs.Creating.{first};
 ghost use Rattle.dav_rows.specs.Saving.{IsAt};
-ghost use Rattle.dav_rows.specs.declared.opening.Version.TheVariants.{New};
-ghost use Rattle.dav_rows_files.specs.Starting.{Keeps, IsVacant, FailsUnharmed, FailsUnharmedFirst};
+ghost use Rattle.dav_rows.specs.declared.opening.Version.TheVariants.{New, Older, Current};
+ghost use Rattle.dav_rows_files.specs.Starting.{Keeps, KeepsOlder, IsVacant, FailsUnharmed, FailsUnharmedFirst};
 ghost use Rattle.dav_seal.specs.Seals.{IsSealed};
 ghost use Rattle.dav_folder.specs.Claims.{IsKeyed};
 ghost use Rattle.dav_folder.specs.Errors.{IsLate};
@@ -84,6 +84,10 @@ pub fn read_files<D: Disk, E: Disk + Drop, C: Confirm>(
         → IfOk result (λ found. AreClean D.Disk files.new.log files.new.db → IsEmptyIfHonest found (E.Disk.seen disk)) }
     ensures sealed { (tables : Contents) → Keeps (image_of D.Disk files.old) tables
         → IfOk result (λ found. AreClean D.Disk files.new.log files.new.db → IsSealed found.key tables) }
+    ensures current { (tables : Contents) → Keeps (image_of D.Disk files.old) tables
+        → IfOk result (λ found. AreClean D.Disk files.new.log files.new.db → found.version ≡ Current) }
+    ensures older { (tables : Contents) → KeepsOlder (image_of D.Disk files.old) tables
+        → IfOk result (λ found. AreClean D.Disk files.new.log files.new.db → found.version ≡ Older) }
     ensures keyed { IfOk result (λ found. IsKeyed C.Claim found.key) }
     ensures tags { IfOk result (λ found. (memory_of found.store).tag_part ≡ tag_part) }
     ensures log { IfOk result (λ found. (store_of found.store).log ≡ []) }
@@ -202,6 +206,7 @@ impl<E: Disk + Drop, C: Claim> Found<ClaimedFile<E, C>> {
             last,
             key,
             rows: _,
+            version: _,
         } = self;
         Opened {
             folder: Folder::new(Keeping::new(alloc, conn, known), last),

@@ -36,6 +36,8 @@ pub struct Found<M: Medium> {
     pub key: u64,
     /// How many rows the tables have, with those of the state.
     pub rows: u128,
+    /// The version that the tables had.
+    pub version: Version,
 }
 
 /// Reads the store of a folder from these rows of its database, over its data file. `limit` is the store's quota, and
@@ -67,6 +69,7 @@ pub fn read_store<D: Disk + Drop, C: Confirm>(
     ensures tags { IfOk result (λ found. (memory_of found.store).tag_part ≡ tag_part) }
     ensures sealed { version ≢ Older → IfOk result (λ found. AreSealed found.key rows) }
     ensures rows { IfOk result (λ found. found.rows ≡ row_count rows) }
+    ensures version { IfOk result (λ found. found.version ≡ version) }
     ensures log { IfOk result (λ found. (store_of found.store).log ≡ []) }
     ensures honest { IfOk result (λ found. honest_of found.store ≡ true → D.Disk.is_clean disk ≡ true) }
     ensures err { (image : Image) (tables : Contents) (are : AreRowsOfImage rows image tables) → HasFiles C.Claim (D.Disk.seen disk) image are.whole
@@ -103,6 +106,7 @@ pub fn read_store<D: Disk + Drop, C: Confirm>(
         last: numbers.batch,
         key: numbers.key,
         rows: count,
+        version,
     })
 }
 

@@ -2,7 +2,7 @@
 use Rattle.std.specs.Prelude.{◌≡◌, ◌<◌, ℕ, Bool, List, Result, MatchResult}
 use Rattle.sqlite_disk.specs.declared.Disk.{Ghosts}
 use Rattle.dav_last.specs.Slots.{last_in, NamesAtLeast}
-use Rattle.dav_last.specs.Crashes.{LeavesMixes, LeavesWhole, IsMixingType, faults_in}
+use Rattle.dav_last.specs.Crashes.{LeavesOnly, LeavesMixes, LeavesWhole, IsMixingType, faults_in}
 use Rattle.dav_last.specs.declared.reading.Last.TheVariants.{Number}
 use Rattle.dav_last.specs.declared.last_batch.LastBatch.{LastBatch}
 
@@ -38,6 +38,10 @@ module _ {D : Type 0} {g : Ghosts D} where
   -- the slots name this number or a greater one after a crash, whatever that leaves
   abbrev pub Survives : ℕ → LastBatch D g → Type 0
   Survives number it = (c d : List ℕ) → g.may_leave it.unsynced c → g.may_leave it.synced d → NamesAtLeast it.key number c d
+
+  -- a crash leaves this number in each slot, and nothing else
+  abbrev pub IsInBoth : ℕ → LastBatch D g → Type 0
+  IsInBoth number it = LeavesOnly g it.key number it.unsynced × LeavesOnly g it.key number it.synced
 
   -- A crash leaves the number that was synced last, or a greater one, and 16 bytes of each slot. If the disks mix, each byte is one of the image of a noted number.
   pub record IsCrashSafe (it : LastBatch D g) : Type 0 where

@@ -38,7 +38,7 @@ pub struct LastBatch<D: Disk> {
 }
 
 impl<D: Disk> LastBatch<D> {
-    ghost use Rattle.dav_last.specs.Batches.{unsynced_of, synced_of, number_of, kept_of, key_of, is_usable, faults_of, Names, Survives, IsCrashSafe, KeepsOther};
+    ghost use Rattle.dav_last.specs.Batches.{unsynced_of, synced_of, number_of, kept_of, key_of, is_usable, faults_of, Names, Survives, IsInBoth, IsCrashSafe, KeepsOther};
 
     /// Writes a number to both slots, one after the other, and brings each to the disk.
     ///
@@ -53,8 +53,7 @@ impl<D: Disk> LastBatch<D> {
         requires db { D.Disk.is_usable files.db ≡ true }
         ensures number { IfOk result (λ it. number_of it ≡ number) }
         ensures key { IfOk result (λ it. key_of it ≡ key) }
-        ensures unsynced { IfOk result (λ it. LeavesOnly D.Disk key number (unsynced_of it)) }
-        ensures synced { IfOk result (λ it. LeavesOnly D.Disk key number (synced_of it)) }
+        ensures both { IfOk result (λ it. IsInBoth number it) }
         ensures usable { IfOk result (λ it. is_usable it ≡ true) }
         ensures clean { IfOk result (λ it. AreClean D.Disk (unsynced_of it) (synced_of it) → AreClean D.Disk files.log files.db) }
         ensures kept { IfOk result (λ it. kept_of it ≡ number) }
@@ -110,6 +109,7 @@ impl<D: Disk> LastBatch<D> {
     fn write(&mut self) -> io::Result<()>
         requires { is_usable self.old ≡ true }
         ensures named { OnOk result (self.new.is_named ≡ true) }
+        ensures written { OnOk result (self.old.is_named ≡ false → D.Disk.seen self.new.unsynced ≡ image_of_number self.old.key self.old.number) }
         ensures same { (self.new.synced ≡ self.old.synced) × (self.new.key ≡ self.old.key) × (self.new.number ≡ self.old.number) × (self.new.kept ≡ self.old.kept) }
         ensures faults { CountsFault result (faults_of self.old) (faults_of self.new) }
         ensures usable { is_usable self.new ≡ true }
@@ -151,6 +151,27 @@ impl<D: Disk> LastBatch<D> {
             self.kept = self.number;
         }
         Ok(())
+    }
+
+    /// Brings the number to both slots and to the disk, one slot after the other. Then each slot names it by itself.
+    ///
+    /// It is an error if the disk fails, or an earlier sync has failed. One slot still names the number that was synced last,
+    /// or names this one.
+    pub fn sync_both(&mut self) -> io::Result<()>
+        ensures both { OnOk result (IsInBoth (number_of self.new) self.new) }
+        ensures safe { IsCrashSafe self.new }
+        ensures kept { kept_of self.old ≤ kept_of self.new }
+        ensures number { number_of self.new ≡ number_of self.old }
+        ensures key { key_of self.new ≡ key_of self.old }
+        ensures faults { is_usable self.old ≡ true → CountsFault result (faults_of self.old) (faults_of self.new) }
+        ensures stopped { is_usable self.old ≡ false → IsErr result × (self.new ≡ self.old) }
+        ensures usable { OnOk result (is_usable self.new ≡ true) }
+        ensures clean { AreClean D.Disk (unsynced_of self.new) (synced_of self.new) ↔ AreClean D.Disk (unsynced_of self.old) (synced_of self.old) }
+    {
+        self.sync()?;
+        self.is_named = false;
+        self.write()?;
+        self.unsynced.sync()
     }
 
     /// Returns whether no sync has failed.

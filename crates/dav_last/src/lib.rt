@@ -16,3 +16,4 @@ mod replace;
 
 pub use last_batch::LastBatch;
 pub use reading::{Last, read_last};
+pub use replace::replace_both;

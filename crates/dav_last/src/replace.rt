@@ -11,7 +11,9 @@ use std::io;
 
 /// Writes a number to both slots, one after the other, and brings each to the disk. It begins with the slot that names
 /// less, so that after a crash in between the other one still names what it did.
-pub(crate) fn replace_both<D: Disk>(files: &mut Files<D>, key: u64, number: u64) -> io::Result<()>
+///
+/// It is an error if a disk fails. One of the slots still names the greatest number that was there, or names the new one.
+pub fn replace_both<D: Disk>(files: &mut Files<D>, key: u64, number: u64) -> io::Result<()>
     requires log { D.Disk.is_usable files.old.log ≡ true }
     requires db { D.Disk.is_usable files.old.db ≡ true }
     ensures log { OnOk result (LeavesOnly D.Disk key number files.new.log) }

@@ -15,7 +15,7 @@ use Rattle.dav_folder.specs.Numbered.{LastsNumbered, LastsEitherNumbered}
 use Rattle.dav_folder.specs.Opening.{opened_at}
 use Rattle.dav_folder.specs.declared.folder.Folder.{Folder}
 use Rattle.dav_folder.specs.declared.opening.Opened.{Opened}
-use Rattle.dav_last.specs.Batches.{Survives, number_of, is_usable}
+use Rattle.dav_last.specs.Batches.{IsInBoth, Names, number_of, is_usable}
 use Rattle.dav_last.specs.declared.last_batch.LastBatch.{LastBatch}
 use Rattle.dav_memls.specs.MemLs.{locks_of}
 use Rattle.dav_memls.specs.declared.memory_locks.MemLs.{MemLs}
@@ -33,7 +33,7 @@ use Rattle.sqlite_store.specs.FileStore.{view}
 use Rattle.sqlite_store.specs.declared.store.FileStore.{FileStore}
 use Rattle.sqlite_trees.specs.View.{IsClean}
 use Rattle.sqlite_trees.specs.declared.store.Store as store
-use Rattle.davd.specs.Folder.{Serving, state_now, state_from, IsOpenedAsKept, BeginsOpened, FindsKept, FindsFirst, HeldSealed, OpensUpToDate, Keep, ServesOpened, StopsOpened}
+use Rattle.davd.specs.Folder.{Serving, state_now, state_from, IsOpenedAsKept, BeginsOpened, FindsKept, FindsFirst, HeldSealed, OpensUpToDate, OpensNumbered, Keep, ServesOpened, StopsOpened}
 use Rattle.davd.specs.declared.folder.StartOptions.{StartOptions}
 use Rattle.davd.specs.Leaving.{LeaveNumbered, LeavesAfter, LeavesAfterOrNow, RunsAndLeaves, RunsWithLog, StopsAndLeaves, HeldAStore, BeginsWith, GoesOn, GoesOnWithLog, GoesOnAndStops}
 
@@ -80,12 +80,18 @@ true_if_ok result true ok fails = refl
 true_if_ok (Ok value) false ok fails = absurd (let no = fails refl in cc)
 true_if_ok (Err e) false ok fails = absurd (let no = ok in cc)
 
--- after a sync that ended well the number that was noted is that of the batch that was kept last, and it survives
+-- after a sync that ended well the number that was noted is that of the batch that was kept last, and both files have it
 pub synced : {L T E : Type 0} {l : disk.Ghosts L} (old new : LastBatch L l) (batch : ℕ) (result : Result T E) → IsOk result → (is_usable old ≡ true → number_of old ≡ batch)
-    → (is_usable old ≡ false → IsErr result) → number_of new ≡ number_of old → OnOk result (Survives (number_of new) new) → Survives batch new × (number_of new ≡ batch)
-synced old new batch result ok exact fails same survives =
+    → (is_usable old ≡ false → IsErr result) → number_of new ≡ number_of old → OnOk result (IsInBoth (number_of new) new) → IsInBoth batch new × (number_of new ≡ batch)
+synced old new batch result ok exact fails same both =
     let is = same ∙ exact (true_if_ok result (is_usable old) ok fails) in
-    (subst (λ n. Survives n new) is (of_ok result ok survives), is)
+    (subst (λ n. IsInBoth n new) is (of_ok result ok both), is)
+
+-- a keeper that begins with this folder and this number names the number of the folder's last batch
+pub named_by : {S L : Type 0} {rows : store.Ghosts S} {l : disk.Ghosts L} (folder opened : Folder S rows) (number last : LastBatch L l) → folder ≡ opened → number ≡ last
+    → Names (batch_of opened) last → Names (batch_of folder) number
+named_by {S} {L} {rows} {l} folder opened number last is same named =
+    subst (λ (it : LastBatch L l). Names (batch_of folder) it) (sym same) (subst (λ (f : Folder S rows). Names (batch_of f) last) (sym is) named)
 
 module _ {M : Type 0} {g : Ghosts M (List Piece)} where
   has_store : (kept : TreeFs M (List Piece) g) (locks : Option MemLs) (now last : ℕ)
@@ -111,7 +117,7 @@ module _ {D E C : Type 0} {d : disk.Ghosts D} {e : disk.Ghosts E} {c : claim.Gho
   begins_kept keep first begins lasts = record {
     snapshot = opened_at opened;
     is = begins.snapshot;
-    kept = subst (λ (f : Folder (FileStore D d) rows). Lasts c f (before_of opened.store) (opened_at opened)) (sym keep.begins) lasts;
+    kept = (subst (λ (f : Folder (FileStore D d) rows). Lasts c f (before_of opened.store) (opened_at opened)) (sym keep.begins) lasts, keep.named);
   }
 
   module _ (keep : Keep l opened folder) (last : Serving g) (ends : store_in last ≡ kept) where
@@ -121,7 +127,7 @@ module _ {D E C : Type 0} {d : disk.Ghosts D} {e : disk.Ghosts E} {c : claim.Gho
     after IsLeft exchanges old leaves is_kept =
         let same = snapshot_store last is_kept.since.snapshot is_kept.since.is ∙ ends in
         let here : Lasts c folder (before_of is_kept.since.snapshot.store) is_kept.snapshot =
-        subst (λ (f : Folder (FileStore D d) rows). Lasts c f (before_of is_kept.since.snapshot.store) is_kept.snapshot) keep.ends is_kept.since.kept in
+        subst (λ (f : Folder (FileStore D d) rows). Lasts c f (before_of is_kept.since.snapshot.store) is_kept.snapshot) keep.ends is_kept.since.kept.0 in
         let lasts : Lasts c folder (before_of kept) is_kept.snapshot =
         subst (λ (these : TreeFs (ClaimedFile E C e c) (List Piece) g). Lasts c folder (before_of these) is_kept.snapshot) same here in
         record {
@@ -155,12 +161,12 @@ module _ {D E C : Type 0} {d : disk.Ghosts D} {e : disk.Ghosts E} {c : claim.Gho
 
   -- a run whose keeper keeps it leaves it in the files
   module _ (input input' output output' : Option (List ℕ)) where
-    pub runs_and_leaves : (number : LastBatch L l) → LeavesWhole folder kept files → Survives (batch_of folder) number × (number_of number ≡ batch_of folder)
+    pub runs_and_leaves : (number : LastBatch L l) → LeavesWhole folder kept files → IsInBoth (batch_of folder) number × (number_of number ≡ batch_of folder)
         → ServesOpened l rules opened (folder, kept) input input' output output'
         → RunsAndLeaves g rules (IsOpenedAsKept opened) (state_from (opened_at opened)) files number input input' output output'
     runs_and_leaves number whole named serves =
         let leaves : (snapshot : At g) → Lasts c folder (before_of kept) snapshot → LeaveNumbered files number (kept_at snapshot) =
-        λ snapshot lasts. let both = subst (λ batch. Survives batch number × (number_of number ≡ batch)) lasts.number named in
+        λ snapshot lasts. let both = subst (λ batch. IsInBoth batch number × (number_of number ≡ batch)) lasts.number named in
         (whole snapshot (alone c folder (before_of kept) snapshot lasts), both.0, both.1) in
         subst (λ old. RunsAndLeaves g rules (IsOpenedAsKept opened) old files number input input' output output') serves.begins.state
         (record {
@@ -168,6 +174,7 @@ module _ {D E C : Type 0} {d : disk.Ghosts D} {e : disk.Ghosts E} {c : claim.Gho
           run = serves.runs.run;
           leaves = λ lasts. after serves.keep serves.last serves.ends (LeaveNumbered files number) serves.runs.run.exchanges (state_now serves.first) leaves
               (serves.runs.kept (begins_kept serves.keep serves.first serves.begins lasts));
+          noted = subst (λ batch. IsInBoth batch number) (sym named.1) named.0;
         })
 
     pub runs_with_log : (IsTrue (view files.0).is_numbered → LeavesAlone folder kept files) → ServesOpened l rules opened (folder, kept) input input' output output'
@@ -236,17 +243,18 @@ module _ {D E C : Type 0} {d : disk.Ghosts D} {e : disk.Ghosts E} {c : claim.Gho
 
     -- what was found goes on
     pub goes_on : {L : Type 0} {l : disk.Ghosts L} (said : database.Image) (begun number : LastBatch L l) (input input' output output' : Option (List ℕ))
-        → (start.accepts_loss ≡ false → OpensUpToDate said opened begun)
+        → (start.accepts_loss ≡ false → OpensUpToDate said opened begun) → (start.accepts_loss ≡ false → OpensNumbered left said opened begun)
         → RunsAndLeaves g rules (IsOpenedAsKept opened) (state_from (opened_at opened)) files number input input' output output'
         → GoesOn left file files said number g rules start input input' output output'
     unfolding begins_with
-    goes_on said begun number input input' output output' up_to_date runs =
+    goes_on said begun number input input' output output' up_to_date numbered runs =
         record {
           first = opened_at opened;
           begins = begins_with;
           begun = begun;
           up_to_date = up_to_date;
-          goes = record { last = runs.last; run = runs.run; leaves = λ held. runs.leaves (lasts_at_start held) };
+          numbered = λ strict calm tables clean keeps. numbered strict calm tables keeps (was_clean clean);
+          goes = record { last = runs.last; run = runs.run; leaves = λ held. runs.leaves (lasts_at_start held); noted = runs.noted };
         }
 
     pub goes_on_with_log : (input input' output output' : Option (List ℕ)) → RunsWithLog g rules (IsOpenedAsKept opened) (state_from (opened_at opened)) files input input' output output'

@@ -4,6 +4,7 @@ pub mod Checks
 pub mod Finding
 pub mod FreshFiles
 pub mod Leaves
+pub mod Numbering
 pub mod Kept
 pub mod Reading
 pub mod FreshOutcomes

@@ -16,11 +16,23 @@ use Rattle.sqlite_store.specs.declared.store.FileStore.{FileStore}
 use Rattle.sqlite_trees.specs.declared.store.Store as store
 use Rattle.dav_tree.specs.declared.medium.Medium.{Ghosts}
 use Rattle.davd.specs.Folder.{FindsHeld}
+use Rattle.dav_last.specs.Crashes.{LeavesOnly, StillNames}
 use Rattle.sqlite_wal.specs.Files.{outcomes}
+use Rattle.sqlite_wal.specs.Reads.{OnlyReadsBoth}
 
 -- a crash leaves only what the files show
 abbrev pub HasOnly : {D : Type 0} → disk.Ghosts D → Files D → Type 0
 HasOnly g files = (image : database.Image) → outcomes g files.log files.db image → image ≡ image_of g files
+
+-- a crash leaves this number in each file of the number, and nothing else
+abbrev pub HaveNumber : {L : Type 0} → disk.Ghosts L → ℕ → ℕ → Files L → Type 0
+HaveNumber l key number files = LeavesOnly l key number files.log × LeavesOnly l key number files.db
+
+-- The files of the number were only read. Or, before an upgrade, a number was then written: one of them still names what it did, or that number.
+pub record KeepsNumber {L : Type 0} (l : disk.Ghosts L) (old new : Files L) : Type 0 where
+  pub read : Files L
+  pub reads : OnlyReadsBoth l (old.log, old.db) (read.log, read.db)
+  pub still : (new ≡ read) ⊎ ((key : ℕ) × (number : ℕ) × StillNames l key number (read.log, read.db) (new.log, new.db))
 
 -- `left` and `file` are what the files of the database and the data file held
 module _ {D E C : Type 0} {d : disk.Ghosts D} {e : disk.Ghosts E} {c : claim.Ghosts C} (left : database.Image) (file : List ℕ) where

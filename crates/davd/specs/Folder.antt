@@ -1,5 +1,5 @@
 -- What the program does over a folder: what a start finds there, and what a run leaves.
-use Rattle.std.specs.Prelude.{◌≡◌, ◌≤◌, ⊤, ℕ, true, List, [], string_bytes, Option, Some, None}
+use Rattle.std.specs.Prelude.{◌≡◌, ◌≤◌, ◌<◌, ⊤, ℕ, true, List, [], string_bytes, Option, Some, None}
 use Rattle.std.specs.FinMap.{empty, insert}
 use Rattle.std.specs.Option.{option_map}
 use Rattle.dav_data.specs.declared.claim.Claim as claim
@@ -7,12 +7,14 @@ use Rattle.dav_data.specs.declared.claimed_file.ClaimedFile.{ClaimedFile}
 use Rattle.dav_folder.specs.Files.{KeptStore, kept_at, Hold}
 use Rattle.dav_folder.specs.Lasting.{At, Lasts, IsSameKept, HasCleanDatabase}
 use Rattle.dav_folder.specs.Opening.{opened_at}
-use Rattle.dav_folder.specs.Numbered.{folder_of, LastsNumbered, LastsEitherNumbered}
+use Rattle.dav_folder.specs.Folders.{batch_of}
+use Rattle.dav_folder.specs.Numbered.{folder_of, last_of, LastsNumbered, LastsEitherNumbered}
 use Rattle.dav_folder.specs.declared.numbered.Numbered.{Numbered}
 use Rattle.dav_folder.specs.declared.opening.Opened.{Opened}
+use Rattle.dav_folder.specs.declared.reading.Found.{Found}
 use Rattle.dav_keep.specs.Images.{StandForImage}
 use Rattle.dav_keep.specs.Loading.{first_image}
-use Rattle.dav_last.specs.Batches.{unsynced_of, synced_of}
+use Rattle.dav_last.specs.Batches.{unsynced_of, synced_of, Names}
 use Rattle.dav_last.specs.Slots.{last_in}
 use Rattle.dav_last.specs.declared.last_batch.LastBatch.{LastBatch}
 use Rattle.dav_last.specs.declared.reading.Last.{Last}
@@ -73,6 +75,20 @@ IsUpTo batch (Number number) = number ≤ batch
 abbrev pub IsNotOlder : ℕ → ℕ → List ℕ → List ℕ → Type 0
 IsNotOlder key batch other last = IsUpTo batch (last_in key other last)
 
+-- the files of the last number name one
+abbrev pub IsNumber : Last → Type 0
+IsNumber Nothing = ⊥
+IsNumber Unreadable = ⊥
+IsNumber (Number number) = ⊤
+
+-- the files of the number, which held this, name one under the key of a store, unless its last batch has the number 0
+abbrev pub IsNumbered : ℕ → ℕ → files.Image → Type 0
+IsNumbered key batch said = 0 < batch → IsNumber (last_in key said.log said.db)
+
+-- if the files held the tables of a store of this version, and its last batch has another number than 0, the files of the number name one
+abbrev pub FoundNumbered : {M : Type 0} {g : Ghosts M (List Piece)} → files.Image → files.Image → Found M (List Piece) g → Type 0
+FoundNumbered left said found = (tables : Contents) → Keeps left tables → IsNumbered found.key found.last said
+
 -- a new store: the root, made at time 0, without locks, before batch 1
 abbrev pub first_kept : KeptStore
 first_kept = record { resources = insert empty [] (fresh store_specs.Directory 0 0); counter = 0; locks = []; time = 0; batch = 0 }
@@ -126,6 +142,14 @@ module _ {S E C : Type 0} {e : disk.Ghosts E} {c : claim.Ghosts C} {rows : store
   abbrev pub OpensUpToDate : {L : Type 0} {l : disk.Ghosts L} → files.Image → Opened S (ClaimedFile E C e c) (List Piece) rows g → LastBatch L l → Type 0
   OpensUpToDate {l = l} said opened last = AreClean l (unsynced_of last) (synced_of last) → IsNotOlder opened.key opened.last said.log said.db
 
+  -- the same of what is opened, if the disk of the database is clean
+  abbrev pub HeldNumbered : files.Image → files.Image → Opened S (ClaimedFile E C e c) (List Piece) rows g → Type 0
+  HeldNumbered left said opened = (tables : Contents) → Keeps left tables → HasCleanDatabase opened.folder → IsNumbered opened.key opened.last said
+
+  -- the same, if the disks of the files of the number are clean now
+  abbrev pub OpensNumbered : {L : Type 0} {l : disk.Ghosts L} → files.Image → files.Image → Opened S (ClaimedFile E C e c) (List Piece) rows g → LastBatch L l → Type 0
+  OpensNumbered {l = l} left said opened last = AreClean l (unsynced_of last) (synced_of last) → HeldNumbered left said opened
+
   -- ---- what a run leaves in the keeper
 
   -- the keepers of a run: it begins with the folder that was opened, and ends with this one; `L` is the disk of the last number
@@ -133,6 +157,7 @@ module _ {S E C : Type 0} {e : disk.Ghosts E} {c : claim.Ghosts C} {rows : store
     pub keeper : Numbered S L rows l
     pub keeper' : Numbered S L rows l
     pub begins : folder_of keeper ≡ opened.folder
+    pub named : Names (batch_of (folder_of keeper)) (last_of keeper)
     pub ends : folder_of keeper' ≡ last
 
   -- a run of a server that goes on from what was opened, and what its keeper keeps then

@@ -7,7 +7,7 @@ use Rattle.dav_data.specs.declared.claimed_file.ClaimedFile.{ClaimedFile}
 use Rattle.dav_folder.specs.Claims.{IsKeyed}
 use Rattle.dav_folder.specs.Files.{KeptStore, kept_at, Hold, Leave, LeaveWhole, LeaveEither}
 use Rattle.dav_folder.specs.Lasting.{At, IsSameKept}
-use Rattle.dav_last.specs.Batches.{Survives, number_of, unsynced_of, synced_of}
+use Rattle.dav_last.specs.Batches.{IsInBoth, number_of, unsynced_of, synced_of}
 use Rattle.dav_last.specs.declared.last_batch.LastBatch.{LastBatch}
 use Rattle.dav_memls.specs.MemLs.{locks_of}
 use Rattle.dav_pieces.specs.declared.piece.Piece.{Piece}
@@ -27,7 +27,7 @@ use Rattle.sqlite_store.specs.FileStore.{view}
 use Rattle.sqlite_store.specs.declared.store.FileStore.{FileStore}
 use Rattle.sqlite_trees.specs.View.{IsClean}
 use Rattle.sqlite_wal.specs.Reads.{AreClean}
-use Rattle.davd.specs.Folder.{Serving, state_now, state_from, first_kept, IsNotOlder}
+use Rattle.davd.specs.Folder.{Serving, state_now, state_from, first_kept, IsNotOlder, IsNumbered}
 use Rattle.davd.specs.declared.folder.StartOptions.{StartOptions}
 
 -- `g` says how the data file is a medium; an exchange is a batch with its answer
@@ -51,10 +51,10 @@ module _ {E C : Type 0} {e : disk.Ghosts E} {c : claim.Ghosts C} (g : Ghosts (Cl
     pub left : IsLeft (kept_at snapshot)
 
 -- Whatever a crash leaves of the files holds this store, also without the log of the database. The number that was noted last is that of its batch, and
--- after a crash the files of the number name it, or a later one.
+-- each file of the number has it, and nothing else.
 abbrev pub LeaveNumbered : {D E L C : Type 0} {d : disk.Ghosts D} {e : disk.Ghosts E} {l : disk.Ghosts L} {c : claim.Ghosts C} → FileStore D d × ClaimedFile E C e c
     → LastBatch L l → KeptStore → Type 0
-LeaveNumbered files number kept = LeaveWhole files kept × Survives kept.batch number × (number_of number ≡ kept.batch)
+LeaveNumbered files number kept = LeaveWhole files kept × IsInBoth kept.batch number × (number_of number ≡ kept.batch)
 
 -- `D` is the disk of the database, and `E` that of the data file
 module _ {D E C : Type 0} {d : disk.Ghosts D} {e : disk.Ghosts E} {c : claim.Ghosts C} (g : Ghosts (ClaimedFile E C e c) (List Piece)) (rules : Rules) where
@@ -72,12 +72,14 @@ module _ {D E C : Type 0} {d : disk.Ghosts D} {e : disk.Ghosts E} {c : claim.Gho
   -- ---- runs from this state; `If` is what has to hold at the start for the run to be kept
 
   module _ (If : Type 0) (old : ServerState) where
-    -- a run to the end of the input; whatever a crash leaves of the files then has all that was kept, also without the log, and the number of the last batch
+    -- A run to the end of the input. Whatever a crash leaves of the files then has all that was kept, also without the log, and the number of the last batch.
+    -- Each file of the number has the number that was noted last, and nothing else.
     pub record RunsAndLeaves {L : Type 0} {l : disk.Ghosts L} (files : FileStore D d × ClaimedFile E C e c) (number : LastBatch L l)
         (input input' output output' : Option (List ℕ)) : Type 0 where
       pub last : Serving g
       pub run : RunsAndSaves (store_of {g = g}) reads_of rules old (state_now last) input input' output output'
       pub leaves : If → LeavesAfter g rules run.exchanges old last (LeaveNumbered files number)
+      pub noted : IsInBoth (number_of number) number
 
     -- A run to the end of the input, after which the log is not copied into the database file, or the number of the last batch is not on the disk. What a
     -- crash leaves of the files has all that was kept, unless the store of the database stopped in a state in which it does not number its tables: SQLite's
@@ -144,10 +146,11 @@ module _ {D E C : Type 0} {d : disk.Ghosts D} {e : disk.Ghosts E} {c : claim.Gho
 module _ {D E L C : Type 0} {d : disk.Ghosts D} {e : disk.Ghosts E} {l : disk.Ghosts L} {c : claim.Ghosts C} (left : database.Image) (file : List ℕ) (files : FileStore D d × ClaimedFile E C e c)
     (said : database.Image) (number : LastBatch L l) (g : Ghosts (ClaimedFile E C e c) (List Piece)) (rules : Rules) (start : StartOptions) where
   -- A run goes on from what the files held, and what a crash leaves of them then. Unless a loss is accepted, the last batch that they held is not an
-  -- earlier one than the files of the number said, if their disks were clean when the number was begun.
+  -- earlier one than the files of the number said, and these named a number if a batch was kept, if their disks were clean when the number was begun.
   pub record GoesOn (input input' output output' : Option (List ℕ)) : Type 0 where
     pub first : At g
     pub begins : BeginsWith left file files start first
     pub begun : LastBatch L l
     pub up_to_date : start.accepts_loss ≡ false → AreClean l (unsynced_of begun) (synced_of begun) → IsNotOlder begins.key first.last said.log said.db
+    pub numbered : start.accepts_loss ≡ false → AreClean l (unsynced_of begun) (synced_of begun) → (tables : Contents) → IsClean (view files.0) → Keeps left tables → IsNumbered begins.key first.last said
     pub goes : RunsAndLeaves g rules (HeldAStore left file files) (state_from first) files number input input' output output'

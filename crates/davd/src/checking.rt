@@ -10,7 +10,7 @@ ghost use Rattle.dav_tree.specs.TreeFs.{store_of, reads_of};
 ghost use Rattle.davd.specs.Checking.{IsVerified, ChecksFolder};
 ghost use Rattle.davd.specs.Program.{IsNotUsage};
 
-use crate::files::{Absent, DATA, DATABASE, LAST, expect_database};
+use crate::files::{Absent, DATA, DATABASE, LAST, expect_database, may_be_new};
 use crate::folder::{Held, expect_up_to_date, open_pair};
 use crate::program::Stopped;
 use dav_check::{Checked, check};
@@ -48,18 +48,22 @@ pub fn check_folder<R: Start, T: Start, N: Start, C: Drop, O: Write>(
 {
     expect_database(rt, folder)?;
     let absent = Absent::find(rt, folder)?;
+    let may_be_new = may_be_new(rt, folder)?;
     let (left, file, number, _claim) = held;
     let mut last = open_pair(rt, folder, LAST, number)?;
-    let checked = check_pairs(rt, folder, absent, (left, file), &mut last, output);
+    let held = (left, file);
+    let checked = check_pairs(rt, folder, absent, may_be_new, held, &mut last, output);
     absent.remove_last(rt, folder)?;
     checked
 }
 
-/// The same, over the files that are there. `absent` are those that are missing.
+/// The same, over the files that are there. `absent` are those that are missing, and `may_be_new` says whether the first
+/// start of the folder may not have ended.
 fn check_pairs<R: Start, T: Start, L: Disk, O: Write>(
     rt: &HostRuntime,
     folder: &str,
     absent: Absent,
+    may_be_new: bool,
     held: (R, T),
     last: &mut Files<L>,
     output: &mut O,
@@ -79,7 +83,7 @@ fn check_pairs<R: Start, T: Start, L: Disk, O: Write>(
             return Err(stopped);
         }
     };
-    let checked = check_files(rt.alloc(), &mut files, data.db, last, output);
+    let checked = check_files(rt.alloc(), &mut files, data.db, may_be_new, last, output);
     // The database is still locked, so nobody serves the files that are removed.
     absent.remove(rt, folder)?;
     checked
@@ -90,6 +94,7 @@ fn check_files<D: Disk, E: Disk + Drop, L: Disk, O: Write>(
     alloc: Global,
     files: &mut Files<D>,
     file: E,
+    may_be_new: bool,
     last: &mut Files<L>,
     output: &mut O,
 ) -> Result<(), Stopped>
@@ -114,7 +119,7 @@ fn check_files<D: Disk, E: Disk + Drop, L: Disk, O: Write>(
         Ok(found) => found,
         Err((error, _)) => return Err(error.into()),
     };
-    expect_up_to_date(last, found.key, found.last, false)?;
+    expect_up_to_date(last, &found, may_be_new, false)?;
     let checked = check_store(alloc, &mut found.store)?;
     report_checked(output, found.rows, &checked)
 }

@@ -89,6 +89,17 @@ fn missing(
     }
 }
 
+/// Returns whether a folder may be one of which the first start did not end: its data file has no byte, and a database with
+/// bytes has its log, which a start makes first.
+pub fn may_be_new(rt: &HostRuntime, folder: &str) -> Result<bool, Stopped>
+    ensures { IfErr result IsNotUsage }
+{
+    let has_bytes = size_of(rt, folder, DATA)?.unwrap_or(0) > 0;
+    let has_database = size_of(rt, folder, DATABASE)?.unwrap_or(0) > 0;
+    let has_log = size_of(rt, folder, "meta.db-wal")?.is_some();
+    Ok(!has_bytes && (has_log || !has_database))
+}
+
 /// Returns how many bytes a file of the folder has, if it is there.
 fn size_of(rt: &HostRuntime, folder: &str, name: &str) -> Result<Option<u64>, Stopped>
     ensures { IfErr result IsNotUsage }
@@ -178,10 +189,16 @@ impl Absent {
         Ok(())
     }
 
-    /// The same, of the files of the last number. The caller holds their locks meanwhile.
+    /// The same, of the files of the last number, unless one of them has bytes: it needs the other. The caller holds their
+    /// locks meanwhile.
     pub fn remove_last(self, rt: &HostRuntime, folder: &str) -> Result<(), Stopped>
         ensures { IfErr result IsNotUsage }
     {
+        let number = size_of(rt, folder, LAST)?.unwrap_or(0);
+        let other = size_of(rt, folder, "last-wal")?.unwrap_or(0);
+        if number > 0 || other > 0 {
+            return Ok(());
+        }
         if self.last {
             remove_empty(rt, folder, LAST)?;
         }

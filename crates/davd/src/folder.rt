@@ -1,5 +1,5 @@
 //! A store in a folder.
-ghost use Rattle.std.specs.Prelude.{◌≡◌, ℕ, true, false, Some, IsTrue, IfOk, IfErr, OnOk};
+ghost use Rattle.std.specs.Prelude.{◌≡◌, ◌≢◌, ◌⊎◌, ℕ, true, false, Some, IsTrue, IfOk, IfErr, OnOk};
 ghost use Rattle.sqlite_disk.specs.Disk.{Only};
 ghost use Rattle.std.specs.Option.{option_map};
 ghost use Rattle.sqlite.specs.Files.{image_of};
@@ -12,25 +12,31 @@ ghost use Rattle.dav_folder.specs.Folders.{batch_of};
 ghost use Rattle.dav_folder.specs.Opening.{AreOnlyRead};
 ghost use Rattle.dav_folder.specs.Reading.{ReadsAs, IsEmptyIfHonest};
 ghost use Rattle.dav_keep.specs.Images.{Image};
-ghost use Rattle.dav_last.specs.Batches.{number_of, key_of};
+ghost use Rattle.dav_last.specs.Batches.{number_of, key_of, Names, IsInBoth};
+ghost use Rattle.dav_last.specs.Crashes.{StillNames};
 ghost use Rattle.dav_rows.specs.Contents.{Contents};
 ghost use Rattle.dav_rows.specs.Creating.{first};
+ghost use Rattle.dav_rows.specs.declared.opening.Version.TheVariants.{Older, Current};
 ghost use Rattle.dav_rows_files.specs.Starting.{Keeps, IsVacant};
 ghost use Rattle.dav_seal.specs.Seals.{IsSealed};
 ghost use Rattle.dav_tree.specs.TreeFs.{memory_of};
-ghost use Rattle.davd.specs.Failing.{HoldsFound, HoldsOnIfOpened, HoldsOnLeft, HasOnly};
+ghost use Rattle.davd.specs.Failing.{HoldsFound, HoldsOnIfOpened, HoldsOnLeft, HasOnly, KeepsNumber, HaveNumber};
 ghost use Rattle.davd.specs.Folder.{FindsKept, FindsFirst, FindsHeld, FindsNew, HeldSealed, MakesFirst, IsNotOlder, OpensUpToDate};
+ghost use Rattle.davd.specs.Folder.{IsNumbered, FoundNumbered, HeldNumbered, OpensNumbered};
 ghost use Rattle.davd.specs.Program.{IsNotUsage};
 
-use crate::files::{Absent, DATA, DATABASE, LAST, empty_reserve, expect_files, make_folder};
+use crate::files::{
+    Absent, DATA, DATABASE, LAST, empty_reserve, expect_files, make_folder, may_be_new,
+};
 use crate::program::{Refusal, Stopped};
 use dav_data::{Claim, ClaimedFile};
 use dav_folder::{Confirm, DataLeft, Found, OpenError, Opened, Remains, give_up, read_files};
 use dav_keep::first_changes;
-use dav_last::{Last, LastBatch, read_last};
+use dav_last::{Last, LastBatch, read_last, replace_both};
 use dav_reserve::{ROOM, Reserved};
-use dav_rows::Change;
+use dav_rows::{Change, Version};
 use dav_store_rows::SaveError;
+use dav_tree::Medium;
 use sqlite::{FileFrom, FileStore, Leftover, Start};
 use sqlite_disk::{Disk, Files};
 use std::alloc::Global;
@@ -113,6 +119,8 @@ struct Opening {
     tag_part: Option<u128>,
     /// The files that are missing.
     absent: Absent,
+    /// Whether the first start of the folder may not have ended.
+    may_be_new: bool,
 }
 
 /// Opens the store of a folder. If the folder is not there, or has neither a database nor bytes in its data file, it makes
@@ -122,7 +130,8 @@ struct Opening {
 ///
 /// If they held a store, it is found, and its rows have the seal that was kept with them. If they held no table, a new store
 /// is found. Everything is read and judged before anything is written. A store of an earlier batch than that number is opened
-/// only if `accepts_loss`.
+/// only if `accepts_loss`, and so is one without a number, unless it is of version 1 or no batch was kept. Then each of the
+/// files has the number of the store's last batch.
 ///
 /// Errors: `Refused` if a file of the store is missing, or the folder is not one of a store, is damaged or has lost
 /// batches; `InUse` if another process has it open; `Disk` if it cannot be read or written; `Memory`. After an error, if the
@@ -144,13 +153,17 @@ pub fn open_folder<R: Start, T: Start, N: Start, C: Confirm>(
     ensures tags { IfOk result (λ found. (memory_of found.0.store).tag_part ≡ options.tag_part) }
     ensures last { IfOk result (λ found. number_of found.1 ≡ batch_of found.0.folder) }
     ensures key { IfOk result (λ found. key_of found.1 ≡ found.0.key) }
+    ensures named { IfOk result (λ found. Names (batch_of found.0.folder) found.1) }
+    ensures both { IfOk result (λ found. IsInBoth (batch_of found.0.folder) found.1) }
     ensures up_to_date { IfOk result (λ found. options.accepts_loss ≡ false → OpensUpToDate (image_at N.Start) found.0 found.1) }
+    ensures numbered { IfOk result (λ found. options.accepts_loss ≡ false → OpensNumbered (image_at R.Start) (image_at N.Start) found.0 found.1) }
     ensures left { IfErr result (λ e. HoldsOnIfOpened (image_at R.Start) T.Start.db e.left) }
     ensures err { IfErr result (λ e. IsNotUsage e.stopped) }
 {
     make_folder(rt, folder)?;
     expect_files(rt, folder, options.accepts_loss)?;
     let absent = Absent::find(rt, folder)?;
+    let may_be_new = may_be_new(rt, folder)?;
     let (left, file, number, _claim) = held;
     let mut last = open_pair(rt, folder, LAST, number)?;
     let how = Opening {
@@ -159,6 +172,7 @@ pub fn open_folder<R: Start, T: Start, N: Start, C: Confirm>(
         seed: options.seed,
         tag_part: options.tag_part,
         absent,
+        may_be_new,
     };
     let opened = match open_pairs(rt, folder, how, options.key, (left, file), &mut last) {
         Ok(opened) => opened,
@@ -191,8 +205,8 @@ fn close_opened<D: Disk + Drop, E: Disk + Drop, C: Claim>(
     }
 }
 
-/// The same, over the files that are there. `last` are those of the number of the last batch, which are only read. `key` is
-/// that of a new store.
+/// Opens the store over the files that are there. `last` are those of the number of the last batch, which are only read, unless
+/// the tables are of version 1. `key` is that of a new store.
 fn open_pairs<R: Start, T: Start, L: Disk, C: Confirm>(
     rt: &HostRuntime,
     folder: &str,
@@ -211,7 +225,12 @@ fn open_pairs<R: Start, T: Start, L: Disk, C: Confirm>(
     ensures batch { IfOk result (λ opened. batch_of opened.folder ≡ opened.last) }
     ensures up_to_date { IfOk result (λ opened. how.accepts_loss ≡ false → AreClean L.Disk last.new.log last.new.db
         → IsNotOlder opened.key opened.last (L.Disk.seen last.old.log) (L.Disk.seen last.old.db)) }
-    ensures only { OnlyReadsBoth L.Disk (last.old.log, last.old.db) (last.new.log, last.new.db) }
+    ensures numbered { IfOk result (λ opened. how.accepts_loss ≡ false → AreClean L.Disk last.new.log last.new.db
+        → HeldNumbered (image_at R.Start) (image_of L.Disk last.old) opened) }
+    ensures last_log { IfOk result (λ _. IsTrue (L.Disk.is_usable last.new.log)) }
+    ensures last_db { IfOk result (λ _. IsTrue (L.Disk.is_usable last.new.db)) }
+    ensures last_clean { AreClean L.Disk last.new.log last.new.db → AreClean L.Disk last.old.log last.old.db }
+    ensures last_kept { KeepsNumber L.Disk last.old last.new }
     ensures left { IfErr result (λ e. HoldsOnIfOpened (image_at R.Start) T.Start.db e.left) }
     ensures err { IfErr result (λ e. IsNotUsage e.stopped) }
 {
@@ -282,7 +301,12 @@ fn open_over<D: Disk + Drop, E: Disk + Drop, L: Disk, C: Confirm>(
     ensures batch { IfOk result (λ opened. batch_of opened.folder ≡ opened.last) }
     ensures up_to_date { IfOk result (λ opened. how.accepts_loss ≡ false → AreClean L.Disk last.new.log last.new.db
         → IsNotOlder opened.key opened.last (L.Disk.seen last.old.log) (L.Disk.seen last.old.db)) }
-    ensures only { OnlyReadsBoth L.Disk (last.old.log, last.old.db) (last.new.log, last.new.db) }
+    ensures numbered { IfOk result (λ opened. how.accepts_loss ≡ false → AreClean L.Disk last.new.log last.new.db
+        → HeldNumbered (image_of D.Disk pairs.0) (image_of L.Disk last.old) opened) }
+    ensures last_log { IfOk result (λ _. IsTrue (L.Disk.is_usable last.new.log)) }
+    ensures last_db { IfOk result (λ _. IsTrue (L.Disk.is_usable last.new.db)) }
+    ensures last_clean { AreClean L.Disk last.new.log last.new.db → AreClean L.Disk last.old.log last.old.db }
+    ensures last_kept { KeepsNumber L.Disk last.old last.new }
     ensures left { HasOnly D.Disk pairs.0 → Only (E.Disk.seen pairs.1.db) (E.Disk.may_leave pairs.1.db)
         → IfErr result (λ e. HoldsOnLeft (image_of D.Disk pairs.0) (E.Disk.seen pairs.1.db) e.left) }
     ensures err { IfErr result (λ e. IsNotUsage e.stopped) }
@@ -297,12 +321,58 @@ fn open_over<D: Disk + Drop, E: Disk + Drop, L: Disk, C: Confirm>(
             return Err(failed_start(stopped, Leftover::Files(files), data_file));
         }
     };
-    if let Err(stopped) = empty_reserve(rt, folder) {
+    if let Err(stopped) = make_ready(rt, folder, last, &found) {
         return Err(failed_start(stopped, Leftover::Files(files), found.give_up()));
     }
     match found.open(rt.alloc(), files, how.seed, changes) {
         Ok(opened) => Ok(opened),
         Err((error, left)) => Err(failed_start(error.into(), left.database, left.data_file)),
+    }
+}
+
+/// Makes a folder ready for the store that was found in it: it gives the files the room that is kept back, and writes the
+/// number as [`number_older`] does.
+///
+/// Errors: `Disk`; `Memory`.
+fn make_ready<L: Disk, M: Medium>(
+    rt: &HostRuntime,
+    folder: &str,
+    last: &mut Files<L>,
+    found: &Found<M>,
+) -> Result<(), Stopped>
+    requires other { IsTrue (L.Disk.is_usable last.old.log) }
+    requires last { IsTrue (L.Disk.is_usable last.old.db) }
+    ensures log { OnOk result (IsTrue (L.Disk.is_usable last.new.log)) }
+    ensures db { OnOk result (IsTrue (L.Disk.is_usable last.new.db)) }
+    ensures clean { AreClean L.Disk last.new.log last.new.db → AreClean L.Disk last.old.log last.old.db }
+    ensures kept { (last.new ≡ last.old) ⊎ StillNames L.Disk found.entry.now.key found.entry.now.last (last.old.log, last.old.db) (last.new.log, last.new.db) }
+    ensures older { found.entry.now.version ≡ Older → OnOk result (HaveNumber L.Disk found.entry.now.key found.entry.now.last last.new) }
+    ensures newer { found.entry.now.version ≢ Older → last.new ≡ last.old }
+    ensures err { IfErr result IsNotUsage }
+{
+    empty_reserve(rt, folder)?;
+    number_older(last, found)
+}
+
+/// Writes the number of the last batch of tables of version 1, so that a crash leaves it once they are of the next version.
+/// For other tables it writes nothing. Errors: `Disk`.
+fn number_older<L: Disk, M: Medium>(last: &mut Files<L>, found: &Found<M>) -> Result<(), Stopped>
+    requires other { IsTrue (L.Disk.is_usable last.old.log) }
+    requires last { IsTrue (L.Disk.is_usable last.old.db) }
+    ensures log { OnOk result (IsTrue (L.Disk.is_usable last.new.log)) }
+    ensures db { OnOk result (IsTrue (L.Disk.is_usable last.new.db)) }
+    ensures clean { AreClean L.Disk last.new.log last.new.db → AreClean L.Disk last.old.log last.old.db }
+    ensures kept { (last.new ≡ last.old) ⊎ StillNames L.Disk found.entry.now.key found.entry.now.last (last.old.log, last.old.db) (last.new.log, last.new.db) }
+    ensures older { found.entry.now.version ≡ Older → OnOk result (HaveNumber L.Disk found.entry.now.key found.entry.now.last last.new) }
+    ensures newer { found.entry.now.version ≢ Older → last.new ≡ last.old }
+    ensures err { IfErr result IsNotUsage }
+{
+    if found.version != Version::Older {
+        return Ok(());
+    }
+    match replace_both(last, found.key, found.last) {
+        Ok(()) => Ok(()),
+        Err(error) => Err(Stopped::Disk(error)),
     }
 }
 
@@ -364,6 +434,8 @@ fn read_up_to_date<D: Disk, E: Disk + Drop, L: Disk, C: Confirm>(
     ensures only { AreOnlyRead D.Disk files.old files.new }
     ensures up_to_date { IfOk result (λ found. how.accepts_loss ≡ false → AreClean L.Disk last.new.log last.new.db
         → IsNotOlder found.key found.last (L.Disk.seen last.old.log) (L.Disk.seen last.old.db)) }
+    ensures numbered { IfOk result (λ found. how.accepts_loss ≡ false → AreClean L.Disk last.new.log last.new.db
+        → AreClean D.Disk files.new.log files.new.db → FoundNumbered (image_of D.Disk files.old) (image_of L.Disk last.old) found) }
     ensures only_last { OnlyReadsBoth L.Disk (last.old.log, last.old.db) (last.new.log, last.new.db) }
     ensures only_data { IfOk result (IsOnlyRead (E.Disk.seen disk)) }
     ensures unharmed { IfErr result (λ e. LeavesAsBefore disk e.1) }
@@ -373,36 +445,48 @@ fn read_up_to_date<D: Disk, E: Disk + Drop, L: Disk, C: Confirm>(
         Ok(found) => found,
         Err((error, data_file)) => return Err((error.into(), data_file)),
     };
-    match expect_up_to_date(last, found.key, found.last, how.accepts_loss) {
+    match expect_up_to_date(last, &found, how.may_be_new, how.accepts_loss) {
         Ok(()) => Ok(found),
         Err(stopped) => Err((stopped, found.give_up())),
     }
 }
 
-/// Checks that a store with this key, whose last batch has this number, has lost no batch. It only reads the files of the
-/// number. A store that has none yet is one of an earlier version, or new.
+/// Checks that the store that was found has lost no batch. It only reads the files of the number. `may_be_new` says whether the
+/// first start of the folder may not have ended.
 ///
-/// Errors: `Refused` if the files say a greater number or none, unless `accepts_loss`; `Disk` if they cannot be read.
-pub(crate) fn expect_up_to_date<L: Disk>(
+/// Errors: `Refused` if the files say a greater number than that of the last batch, or none where there has to be one, unless
+/// `accepts_loss`; `Disk` if they cannot be read.
+pub(crate) fn expect_up_to_date<L: Disk, M: Medium>(
     files: &mut Files<L>,
-    key: u64,
-    batch: u64,
+    found: &Found<M>,
+    may_be_new: bool,
     accepts_loss: bool,
 ) -> Result<(), Stopped>
     requires other { IsTrue (L.Disk.is_usable files.old.log) }
     requires last { IsTrue (L.Disk.is_usable files.old.db) }
     ensures only { OnlyReadsBoth L.Disk (files.old.log, files.old.db) (files.new.log, files.new.db) }
     ensures up_to_date { OnOk result (accepts_loss ≡ false → AreClean L.Disk files.new.log files.new.db
-        → IsNotOlder key batch (L.Disk.seen files.old.log) (L.Disk.seen files.old.db)) }
+        → IsNotOlder found.entry.now.key found.entry.now.last (L.Disk.seen files.old.log) (L.Disk.seen files.old.db)) }
+    ensures numbered { OnOk result (accepts_loss ≡ false → AreClean L.Disk files.new.log files.new.db
+        → found.entry.now.version ≡ Current → IsNumbered found.entry.now.key found.entry.now.last (image_of L.Disk files.old)) }
     ensures err { IfErr result IsNotUsage }
 {
-    match read_last(files, key) {
+    match read_last(files, found.key) {
         Ok(_) if accepts_loss => Ok(()),
-        Ok(Last::Number(number)) if number > batch => Err(Stopped::Refused(Refusal::Older)),
-        Ok(Last::Unreadable) => Err(Stopped::Refused(Refusal::NoNumber)),
-        Ok(_) => Ok(()),
+        Ok(Last::Number(number)) if number > found.last => Err(Stopped::Refused(Refusal::Older)),
+        Ok(Last::Number(_)) => Ok(()),
+        Ok(Last::Nothing) if may_lack_number(found, may_be_new) => Ok(()),
+        Ok(_) => Err(Stopped::Refused(Refusal::NoNumber)),
         Err(error) => Err(Stopped::Disk(error)),
     }
+}
+
+/// Returns whether the store that was found may have no number. One of version 1 may have none. A new one gets it when its
+/// tables are there, and before its first batch.
+fn may_lack_number<M: Medium>(found: &Found<M>, may_be_new: bool) -> bool
+    ensures { result ≡ true → found.entry.now.version ≡ Current → found.entry.now.last ≡ 0 }
+{
+    found.version == Version::Older || (found.last == 0 && may_be_new)
 }
 
 /// Opens a file of the folder, and the one that comes with it.

@@ -28,12 +28,14 @@
 //! - 1 if a check has found a damaged file.
 //! - 2 for wrong arguments.
 //! - 3 if a stream fails, if the input ends inside a batch, or if memory runs out at the start.
-//! - 4 if the folder is not one of a store, or is damaged. It is left as it was.
+//! - 4 if the folder is not one of a store, is damaged or has lost batches, or if the number of the last one is missing. It
+//!   is left as it was.
 //! - 5 if another process has the folder open.
 //! - 6 if the folder cannot be read or written at the start, or if there is none to check.
 //! - 7 if a batch cannot be kept because the disk is full, and 8 if it cannot be kept for another reason. The batch is
 //!   not answered.
 //! - 9 at the end of the input, if everything was kept, and the log of the database could not be copied into its file.
+//! - 10 if each batch was kept, and the number of the last one could not be written.
 #![tactic(auto)]
 
 mod checking;

@@ -51,7 +51,7 @@ pub enum Stopped {
     Damaged,
     /// Each batch was kept, and at the end the log could not be copied into the database file.
     WithLog,
-    /// Each batch was kept, and at the end the number of the last one could not be brought to the disk.
+    /// Each batch was kept, and the number of the last one could not be written, or brought to the disk.
     Unnumbered,
 }
 
@@ -70,7 +70,7 @@ pub enum Refusal {
     ShortData,
     /// The database is of an earlier batch than the number that was kept beside it.
     Older,
-    /// The number of the last batch cannot be read, is that of another folder, or one of its two files is missing.
+    /// The number of the last batch is missing, damaged or that of another folder, or one of its two files is missing.
     NoNumber,
     /// There are files of a backup that did not end.
     Unfinished,
@@ -227,7 +227,7 @@ pub fn report<E: Write>(errors: &mut E, ended: Result<(), Stopped>) -> u8
     match ended {
         Ok(()) => 0,
         Err(stopped) => {
-            say(errors, line_of(&stopped));
+            say(errors, &stopped);
             exit_status(&stopped)
         }
     }
@@ -294,7 +294,7 @@ fn refusal_of(refusal: Refusal) -> &'static str {
         Refusal::Unfinished =>
             "davd: a backup to this folder did not end, so nothing was changed: make a new one in another folder",
         Refusal::NoNumber =>
-            "davd: last and last-wal are damaged or of another folder, or one of them is missing, so nothing was changed: restore all files of the folder from one backup, or serve it with -accept-loss",
+            "davd: last or last-wal is missing, or both are damaged or of another folder, so nothing was changed: restore all files of the folder from one backup, or serve it with -accept-loss",
     }
 }
 
@@ -307,7 +307,13 @@ fn cause_of(error: &io::Error) -> &'static str {
     }
 }
 
-/// Writes a line. If that fails, nobody can read why the program ended.
-fn say<E: Write>(errors: &mut E, line: &str) {
-    let _ = writeln!(errors, "{line}");
+/// Writes why the program ends, with what the system says of it. If that fails, nobody can read it.
+fn say<E: Write>(errors: &mut E, stopped: &Stopped) {
+    let line = line_of(stopped);
+    let _ = match stopped {
+        Stopped::Disk(error) if error.raw_os_error().is_some() => {
+            writeln!(errors, "{line}: {error}")
+        }
+        _ => writeln!(errors, "{line}"),
+    };
 }

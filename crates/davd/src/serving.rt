@@ -7,7 +7,7 @@ ghost use Rattle.sqlite_trees.specs.View.{IsClean};
 ghost use Rattle.dav_folder.specs.Folders.{batch_of};
 ghost use Rattle.dav_folder.specs.Lasting.{HasCleanDatabase};
 ghost use Rattle.dav_folder.specs.Opening.{opened_at};
-ghost use Rattle.dav_last.specs.Batches.{number_of, is_usable};
+ghost use Rattle.dav_last.specs.Batches.{number_of, is_usable, Names};
 ghost use Rattle.davd.specs.Failing.{HoldsOnIfOpened};
 ghost use Rattle.davd.specs.Folder.{IsOpenedAsKept, ServesOpened, StopsOpened, rules_for, state_from};
 ghost use Rattle.davd.specs.Leaving.{RunsAndLeaves, RunsWithLog, StopsAndLeaves, GoesOn, GoesOnWithLog, GoesOnAndStops};
@@ -56,11 +56,12 @@ type EndedOver<D, E, L, C> = (Result<(), Stopped>, FolderFiles<D, E, C>, LastBat
 
 /// Opens the store of a folder, or makes a new one, and serves the batches of the input over it, and keeps each before its
 /// answer is written, until the input ends. Then the log of the database is copied into its file, the number of the last
-/// batch is brought to the disk, and the files of the folder are given up. `held` stands for what the files of the folder held.
+/// batch is brought to the disk in both of its files, and the files of the folder are given up. `held` stands for what the
+/// files of the folder held.
 ///
 /// If they held a store, the run goes on from it; if they held no table, from a new one. At its end a crash leaves what was
 /// in the server after some of the batches, with the time and the number of then, and the later ones have changed nothing
-/// of what is kept; the database is whole without its log, and the files of the number name that number or a later one.
+/// of what is kept; the database is whole without its log, and each file of the number has that number.
 /// After an error it leaves this of the batches that were answered, or what was in the server at last.
 ///
 /// Errors at the start are those of `open_folder`, with what it says of what they leave, and later ones those of
@@ -92,8 +93,8 @@ pub fn serve_folder<R: Start, T: Start, N: Start, C: Confirm, I: Read, O: Write>
 }
 
 /// Serves the batches of the input over what was opened, as `serve_opened` does. At the end of the input it copies the log
-/// of the database into its file, and brings the number of the last batch to the disk. Then it gives up the files of the
-/// folder.
+/// of the database into its file, and brings the number of the last batch to the disk in both of its files. Then it gives up
+/// the files of the folder.
 ///
 /// Errors: `WithLog` if the log cannot be copied; `Unnumbered` if the number cannot be brought to the disk; otherwise those
 /// of `serve_opened`, and then nothing more is written.
@@ -112,7 +113,8 @@ pub fn serve_to_the_end<
     input: &mut I,
     output: &mut O,
 ) -> EndedOver<D, E, L, C>
-    requires { number_of last ≡ batch_of opened.folder }
+    requires number { number_of last ≡ batch_of opened.folder }
+    requires named { Names (batch_of opened.folder) last }
     ensures served { OnOk result.0 (RunsAndLeaves ⟦<ClaimedFile<E, C> as Medium>⟧ (rules_for options) (IsOpenedAsKept opened)
         (state_from (opened_at opened)) result.1 result.2 (I.remaining input.old) (I.remaining input.new) (O.contents output.old) (O.contents output.new)) }
     ensures stopped { OnErr result.0 (StopsAndLeaves ⟦<ClaimedFile<E, C> as Medium>⟧ (rules_for options) (IsOpenedAsKept opened)
@@ -129,7 +131,7 @@ pub fn serve_to_the_end<
     match ended {
         Ok(()) => {
             let (copied, files) = close_folder(folder, store);
-            let ended = ended_by(copied, last.sync());
+            let ended = ended_by(copied, last.sync_both());
             (ended, files, last)
         }
         Err(stopped) => (Err(stopped), give_up(folder, store), last),
@@ -162,7 +164,8 @@ type EndedOpen<S, D, L, C> = (
 /// Serves the batches of the input over what was opened, and keeps each before its answer is written, until the input
 /// ends. After each batch that changed something it notes its number.
 ///
-/// Errors: `Full` or `NotKept` if a batch cannot be kept; `Stream` if a stream fails, or if the input ends inside a batch.
+/// Errors: `Full` or `NotKept` if a batch cannot be kept; `Unnumbered` if one is kept and its number cannot be written;
+/// `Stream` if a stream fails, or if the input ends inside a batch.
 pub fn serve_opened<S: Alter + Drop, D: Roomy + Drop, L: Disk + Drop, C: Claim, I: Read, O: Write>(
     alloc: Global,
     opened: Opened<S, ClaimedFile<D, C>>,
@@ -171,7 +174,8 @@ pub fn serve_opened<S: Alter + Drop, D: Roomy + Drop, L: Disk + Drop, C: Claim, 
     input: &mut I,
     output: &mut O,
 ) -> EndedOpen<S, D, L, C>
-    requires { number_of last ≡ batch_of opened.folder }
+    requires number { number_of last ≡ batch_of opened.folder }
+    requires named { Names (batch_of opened.folder) last }
     ensures served { OnOk result.0 (ServesOpened L.Disk (rules_for options) opened result.1
         (I.remaining input.old) (I.remaining input.new) (O.contents output.old) (O.contents output.new)) }
     ensures stopped { OnErr result.0 (StopsOpened L.Disk (rules_for options) opened result.1
@@ -209,6 +213,7 @@ fn stopped_by<S: Alter, L: Disk>(keeper: &Numbered<S, L>, error: io::Error) -> S
     match keeper.failure() {
         Some(failure) if is_full(failure) => Stopped::Full,
         Some(_) => Stopped::NotKept,
+        None if keeper.is_unnumbered() => Stopped::Unnumbered,
         None => Stopped::Stream(error),
     }
 }

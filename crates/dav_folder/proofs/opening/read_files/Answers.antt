@@ -1,3 +1,4 @@
+use Rattle.std.proofs.Common.{◌∙◌}
 use Rattle.dav_keep.specs.Loading.{AreRowsOfImage}
 use Rattle.dav_rows.specs.Creating.{first}
 use Rattle.dav_folder.proofs.FoundImages.{later, ok_anyway, reads_image, reads_empty, also, not_older}
@@ -29,3 +30,13 @@ returns-clause-sealed g c = λ tables keeps. later _ c.read_store.result (λ cle
 pub returns-clause-sound : goal.returns-clause-sound
 returns-clause-sound g c = later _ c.read_store.result (λ clean.
     ok_anyway c.read_store.result (c.in-Ok.ensures.sound clean))
+
+pub returns-clause-current : goal.returns-clause-current
+returns-clause-current g c = λ tables keeps. later _ c.read_store.result (λ clean.
+    let is = (c.in-Ok.ensures.found clean).kept tables keeps in
+    also c.read_store.result c.read_store.ensures.version (λ found version. version ∙ is.1))
+
+pub returns-clause-older : goal.returns-clause-older
+returns-clause-older g c = λ tables keeps. later _ c.read_store.result (λ clean.
+    let is = (c.in-Ok.ensures.found clean).older tables keeps in
+    also c.read_store.result c.read_store.ensures.version (λ found version. version ∙ is))

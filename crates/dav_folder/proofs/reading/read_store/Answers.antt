@@ -10,13 +10,10 @@ use Rattle.dav_tree.specs.Kept.{Kept}
 use Rattle.dav_tree.specs.Memory.{Memory}
 use Rattle.dav_folder.proofs.LoadedBytes.{tree_below, rows_held, rows_safe}
 use Rattle.dav_keep.proofs.LoadedImages.{values_below}
-use Rattle.dav_nodes.specs.declared.nodes.loading.RowsError.TheVariants as causes
-use Rattle.dav_folder.proofs.Starts.{err_by, disk_failed, other_bytes}
+use Rattle.dav_folder.proofs.Starts.{disk_failed, other_bytes}
 use Rattle.dav_nodes.specs.declared.nodes.loading.NumberedValue.{NumberedValue}
 use Rattle.dav_store_rows.specs.Resources.{Kept as Resource}
 use Rattle.dav_folder.specs.Claims.{MeetsClaim}
-use Rattle.dav_folder.specs.Opening.{IsMemoryOrDisk}
-use Rattle.dav_folder.specs.declared.error.OpenError.TheVariants as errors
 use Rattle.dav_folder.proofs.reading.read_store.Goals as goal
 
 -- a store with this part of the entity tags

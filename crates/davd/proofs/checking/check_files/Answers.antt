@@ -15,6 +15,7 @@ returns-clause-whole g c = on_ok c.report_checked.result c.report_checked.ensure
   sealed = λ tables keeps clean. c.in-Ok-read.ensures.sealed tables keeps clean;
   read = λ key is. all_read c.in_ok-checked.checked none (c.in_ok-checked.ensures.read key is);
   up_to_date = c.in_ok-expect_up_to_date.ensures.up_to_date refl;
+  numbered = λ clean calm tables keeps. c.in_ok-expect_up_to_date.ensures.numbered refl calm (c.in-Ok-read.ensures.current tables keeps clean);
 })
 
 pub returns-in_err-expect_up_to_date-clause-err : goal.returns-in_err-expect_up_to_date-clause-err

@@ -1,8 +1,9 @@
-use Rattle.std.proofs.Common.{subst}
+use Rattle.std.proofs.Common.{sym, subst}
+use Rattle.dav_last.specs.Batches.{IsInBoth}
 use Rattle.sqlite.specs.Recovery.{Image}
 use Rattle.sqlite.specs.WalFiles.{image_at}
 use Rattle.davd.proofs.FreshFiles.{fresh_image}
-use Rattle.davd.specs.Folder.{FindsHeld, FindsNew, IsNotOlder}
+use Rattle.davd.specs.Folder.{FindsHeld, FindsNew, IsNotOlder, HeldNumbered}
 use Rattle.davd.proofs.folder.open_folder.Goals as goal
 
 pub returns-in-Ok-begin-clause-kept : goal.returns-in-Ok-begin-clause-kept
@@ -20,3 +21,13 @@ returns-in-Ok-begin-clause-up_to_date g c = λ strict clean.
 
 pub returns-clause-left : goal.returns-clause-left
 returns-clause-left g c = c.close_opened.ensures (image_at g.R.Start) g.T.Start.db _ c.in-Ok.ensures.kept
+
+pub returns-in-Ok-begin-clause-numbered : goal.returns-in-Ok-begin-clause-numbered
+returns-in-Ok-begin-clause-numbered g c = λ strict clean.
+    let was = c.in_ok-last.last in let fresh = c.in_ok-last.ensures.fresh in
+    let held = fresh_image was.log was.db fresh.0 fresh.1 in
+    subst (λ (image : Image). HeldNumbered (image_at g.R.Start) image c.in-Ok.opened) held
+    (c.in-Ok.ensures.numbered strict (c.in-Ok-begin.ensures.clean clean))
+
+pub returns-in-Ok-begin-clause-both : goal.returns-in-Ok-begin-clause-both
+returns-in-Ok-begin-clause-both g c = subst (λ batch. IsInBoth batch c.in-Ok-begin.last) (sym c.in-Ok.ensures.batch) c.in-Ok-begin.ensures.both

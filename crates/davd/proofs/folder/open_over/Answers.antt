@@ -1,12 +1,14 @@
 use Rattle.std.proofs.Common.{◌≡◌, refl, sym, ap, subst}
+use Rattle.dav_folder.proofs.FoundImages.{were_clean}
 use Rattle.dav_seal.specs.Seals.{IsSealed}
 use Rattle.sqlite.specs.Files.{image_of}
 use Rattle.sqlite_wal.specs.Reads.{AreClean}
 use Rattle.davd.proofs.Finding.{finds_held, finds_new}
-use Rattle.davd.specs.Folder.{FindsHeld, FindsNew}
+use Rattle.davd.specs.Folder.{FindsHeld, FindsNew, IsNumbered}
 use Rattle.sqlite_disk.specs.Disk.{Only}
 use Rattle.dav_folder.specs.Failing.{LeavesOnly, IsOnlyRead}
 use Rattle.davd.proofs.Failing.{holds_on, only_read}
+use Rattle.davd.proofs.Numbering.{only_read_number, kept_number}
 use Rattle.davd.specs.Failing.{HoldsOnLeft}
 use Rattle.davd.proofs.folder.open_over.Goals as goal
 
@@ -43,12 +45,12 @@ returns-in-Err-clause-left g c = λ has only.
     subst (λ e. HoldsOnLeft (image_of g.D.Disk old) (seen db) e.left) (sym c.failed_start.ensures)
     (_, refl, only_read old c.read_up_to_date.new.files c.read_up_to_date.ensures.only has (seen db) c.in-Err.data_file (leaves only))
 
--- nor while the reserve was emptied
-pub returns-in-Err-empty_reserve-clause-left : goal.returns-in-Err-empty_reserve-clause-left
-returns-in-Err-empty_reserve-clause-left g c = λ has only.
+-- nor while it was made ready
+pub returns-in-Err-make_ready-clause-left : goal.returns-in-Err-make_ready-clause-left
+returns-in-Err-make_ready-clause-left g c = λ has only.
     let old = c.args.pairs.0 in let db = c.args.pairs.1.db in let seen = g.E.Disk.seen in
     let read = subst (λ db. IsOnlyRead (seen db) c.in-Ok.found) c.new-disk.ensures.inner c.in-Ok.ensures.only_data in
-    subst (λ e. HoldsOnLeft (image_of g.D.Disk old) (seen db) e.left) (sym c.failed_start-in-Err-empty_reserve.ensures)
+    subst (λ e. HoldsOnLeft (image_of g.D.Disk old) (seen db) e.left) (sym c.failed_start-in-Err-make_ready.ensures)
     (_, refl, only_read old c.read_up_to_date.new.files c.read_up_to_date.ensures.only has (seen db) c.give_up.result (c.give_up.ensures (seen db) read))
 
 pub returns-in-Err-open-clause-left : goal.returns-in-Err-open-clause-left
@@ -61,3 +63,35 @@ returns-in-Err-open-clause-left g c = λ has only.
       holds_on old c.read_up_to_date.new.files c.read_up_to_date.ensures.only has (seen db) c.in-Err-open.left.database c.in-Err-open.left.data_file c.in-Err-open.ensures.unharmed
           (c.in-Err-open.ensures.unwritten (seen db) read),
     )
+
+pub returns-in-Err-clause-last_kept : goal.returns-in-Err-clause-last_kept
+returns-in-Err-clause-last_kept g c = only_read_number g.L.Disk c.args.last.now c.read_up_to_date.new.last c.read_up_to_date.ensures.only_last
+
+pub returns-in-Err-make_ready-clause-last_kept : goal.returns-in-Err-make_ready-clause-last_kept
+returns-in-Err-make_ready-clause-last_kept g c =
+    kept_number g.L.Disk c.args.last.now c.read_up_to_date.new.last c.read_up_to_date.ensures.only_last c.make_ready.new.last _ _ c.make_ready.ensures.kept
+
+pub returns-in-Ok-open-clause-last_kept : goal.returns-in-Ok-open-clause-last_kept
+returns-in-Ok-open-clause-last_kept g c =
+    kept_number g.L.Disk c.args.last.now c.read_up_to_date.new.last c.read_up_to_date.ensures.only_last c.make_ready.new.last _ _ c.make_ready.ensures.kept
+
+pub returns-in-Err-open-clause-last_kept : goal.returns-in-Err-open-clause-last_kept
+returns-in-Err-open-clause-last_kept g c =
+    kept_number g.L.Disk c.args.last.now c.read_up_to_date.new.last c.read_up_to_date.ensures.only_last c.make_ready.new.last _ _ c.make_ready.ensures.kept
+
+pub returns-in-Ok-open-clause-numbered : goal.returns-in-Ok-open-clause-numbered
+returns-in-Ok-open-clause-numbered g c = λ strict calm tables keeps clean.
+    let opens = c.in-Ok-open.ensures in
+    subst (λ key. IsNumbered key c.in-Ok-open.opened.last (image_of g.L.Disk c.args.last.now)) (sym opens.key)
+    (subst (λ batch. IsNumbered c.in-Ok.found.key batch (image_of g.L.Disk c.args.last.now)) (sym opens.last)
+    (c.in-Ok.ensures.numbered strict (c.make_ready.ensures.clean calm) (opens.clean clean) tables keeps))
+
+pub returns-in-Ok-open-clause-last_clean : goal.returns-in-Ok-open-clause-last_clean
+returns-in-Ok-open-clause-last_clean g c = λ calm.
+    let only = c.read_up_to_date.ensures.only_last in
+    were_clean _ _ _ _ only.0.clean only.1.clean (c.make_ready.ensures.clean calm)
+
+pub returns-in-Err-open-clause-last_clean : goal.returns-in-Err-open-clause-last_clean
+returns-in-Err-open-clause-last_clean g c = λ calm.
+    let only = c.read_up_to_date.ensures.only_last in
+    were_clean _ _ _ _ only.0.clean only.1.clean (c.make_ready.ensures.clean calm)

@@ -1,5 +1,5 @@
 use Rattle.std.proofs.Common.{◌≡◌, ℕ, List, refl, sym, subst, ◌∙◌}
-use Rattle.std.specs.Prelude.{IfOk, IfErr}
+use Rattle.std.specs.Prelude.{IfOk, IfErr, false}
 use Rattle.dav_keep.specs.Images.{StandForImage}
 use Rattle.dav_keep.specs.Loading.{first_image}
 use Rattle.dav_rows.specs.Creating.{first}
@@ -8,9 +8,12 @@ use Rattle.davd.proofs.Finding.{held_as, new_as}
 use Rattle.davd.proofs.FreshFiles.{fresh_seen, fresh_image}
 use Rattle.davd.proofs.FreshOutcomes.{fresh_contents, fresh_outcomes}
 use Rattle.davd.proofs.Failing.{moved}
+use Rattle.davd.proofs.Numbering.{unread_number}
+use Rattle.sqlite.specs.Files.{image_of}
 use Rattle.sqlite.specs.WalFiles.{image_at}
+use Rattle.sqlite_wal.specs.Reads.{AreClean}
 use Rattle.sqlite.specs.Recovery.{Image}
-use Rattle.davd.specs.Folder.{HeldSealed}
+use Rattle.davd.specs.Folder.{HeldSealed, HeldNumbered}
 use Rattle.davd.proofs.folder.open_pairs.Goals as goal
 
 stands : {key : ℕ} (read changes : List Change) → read ≡ changes → StandForImage (first changes) (first_image key) → StandForImage (first read) (first_image key)
@@ -41,3 +44,16 @@ returns-clause-left g c =
     (λ image may. fresh_outcomes pairs.0.log pairs.0.db fresh.fresh.0 fresh.fresh.1 image may ∙ sym held)
     (fresh_contents pairs.1.db fresh.fresh_data) in
     moved (image_at g.R.Start) g.T.Start.db c.open_over.result (λ e. e.left) held (fresh_seen pairs.1.db fresh.fresh_data) left
+
+-- no file of the number was called
+pub returns-in_err-changes-clause-last_kept : goal.returns-in_err-changes-clause-last_kept
+returns-in_err-changes-clause-last_kept g c = unread_number g.L.Disk c.args.last.now c.requires.other c.requires.last
+
+pub returns-in_err-pairs-clause-last_kept : goal.returns-in_err-pairs-clause-last_kept
+returns-in_err-pairs-clause-last_kept g c = unread_number g.L.Disk c.args.last.now c.requires.other c.requires.last
+
+pub returns-clause-numbered : goal.returns-clause-numbered
+returns-clause-numbered g c =
+    let pairs = c.in_ok-pairs.pairs in let fresh = c.in_ok-pairs.ensures in let last = c.open_over.new.last in
+    subst (λ (image : Image). IfOk c.open_over.result (λ opened. c.args.how.accepts_loss ≡ false → AreClean g.L.Disk last.log last.db
+    → HeldNumbered image (image_of g.L.Disk c.args.last.now) opened)) (fresh_image pairs.0.log pairs.0.db fresh.fresh.0 fresh.fresh.1) c.open_over.ensures.numbered

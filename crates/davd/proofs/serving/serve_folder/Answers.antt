@@ -10,7 +10,7 @@ returns-clause-served g c =
     let opened = c.in_ok-opened in
     on_ok served.result.0 served.ensures.served
     (goes_on (rules_for c.args.options.server) opened.opened served.result.1 (image_at g.R.Start) g.T.Start.db c.args.options.start opened.ensures.kept opened.ensures.new opened.ensures.sealed opened.ensures.tags opened.ensures.keyed
-    served.ensures.clean (image_at g.N.Start) opened.last served.result.2 _ _ _ _ opened.ensures.up_to_date)
+    served.ensures.clean (image_at g.N.Start) opened.last served.result.2 _ _ _ _ opened.ensures.up_to_date opened.ensures.numbered)
 
 pub returns-clause-stopped : goal.returns-clause-stopped
 returns-clause-stopped g c =

@@ -1,3 +1,4 @@
+use Rattle.davd.proofs.Leaves.{named_by}
 use Rattle.davd.proofs.serving.serve_opened.Goals as goal
 use Rattle.davd.proofs.serving.serve_opened.Goals.{in-Ok, in-Err}
 use Rattle.std.proofs.Common.{◌∙◌, sym, ap, inl, inr, refl}
@@ -10,7 +11,7 @@ returns-clause-served g c = elim c.match-ended.branch [
     last = c.serve_kept-ended.new.self;
     begins = record { snapshot = rw c.new-store.ensures.inner at c.resume-server.ensures.snapshot; state = rw c.new-store.ensures.inner at c.resume-server.ensures.state };
     ends = sym (c.into_inner.ensures ∙ ap inner_of (c.store-2-1.given.1 (sym (c.into_store-store.ensures.loan ∙ ap (λ p. p.0) c.serve_kept-ended.ensures.loans ∙ ap (λ p. p.0) c.resume-server.ensures.loans))) ∙ ap inner_of c.into_store-store.ensures.store);
-    keep = record { keeper = c.new-keeper.result; keeper' = c.serve_kept-ended.new.keeper; begins = c.new-keeper.ensures; ends = sym c.into_parts-folder.ensures.folder };
+    keep = record { keeper = c.new-keeper.result; keeper' = c.serve_kept-ended.new.keeper; begins = c.new-keeper.ensures.folder; named = named_by _ _ _ _ c.new-keeper.ensures.folder c.new-keeper.ensures.last c.requires.named; ends = sym c.into_parts-folder.ensures.folder };
     runs = rw c.resume-server.ensures.rules at w.in-Ok.ensures.ran;
   })
   | in-Err w ↦ rw w.ended-is tt
@@ -24,7 +25,7 @@ returns-clause-stopped g c = elim c.match-ended.branch [
     last = c.serve_kept-ended.new.self;
     begins = record { snapshot = rw c.new-store.ensures.inner at c.resume-server.ensures.snapshot; state = rw c.new-store.ensures.inner at c.resume-server.ensures.state };
     ends = sym (c.into_inner.ensures ∙ ap inner_of (c.store-2-1.given.1 (sym (c.into_store-store.ensures.loan ∙ ap (λ p. p.0) c.serve_kept-ended.ensures.loans ∙ ap (λ p. p.0) c.resume-server.ensures.loans))) ∙ ap inner_of c.into_store-store.ensures.store);
-    keep = record { keeper = c.new-keeper.result; keeper' = c.serve_kept-ended.new.keeper; begins = c.new-keeper.ensures; ends = sym c.into_parts-folder.ensures.folder };
+    keep = record { keeper = c.new-keeper.result; keeper' = c.serve_kept-ended.new.keeper; begins = c.new-keeper.ensures.folder; named = named_by _ _ _ _ c.new-keeper.ensures.folder c.new-keeper.ensures.last c.requires.named; ends = sym c.into_parts-folder.ensures.folder };
     stops = rw c.resume-server.ensures.rules at w.in-Err.ensures.stopped;
   })
 ]

@@ -9,9 +9,9 @@ returns-in-Ok-clause-served g c =
     let last = c.serve_opened-ended.result.2 in
     let serves = is_ok c.serve_opened-ended.result.0 c.in-Ok.field-0 c.in-Ok.is c.serve_opened-ended.ensures.served in
     ok_by_both c.ended_by-ended.result c.ended_by-ended.ensures.copied c.ended_by-ended.ensures.synced
-    (λ copied ok. runs_and_leaves (rules_for c.args.options) c.args.opened kept.0 kept.1 c.close_folder-copied.result.1 _ _ _ _ c.sync.new.self
+    (λ copied ok. runs_and_leaves (rules_for c.args.options) c.args.opened kept.0 kept.1 c.close_folder-copied.result.1 _ _ _ _ c.sync_both.new.self
     (c.close_folder-copied.ensures.whole copied)
-    (synced last c.sync.new.self _ c.sync.result ok c.serve_opened-ended.ensures.exact (λ unusable. (c.sync.ensures.stopped unusable).0) c.sync.ensures.number c.sync.ensures.survives) serves)
+    (synced last c.sync_both.new.self _ c.sync_both.result ok c.serve_opened-ended.ensures.exact (λ unusable. (c.sync_both.ensures.stopped unusable).0) c.sync_both.ensures.number c.sync_both.ensures.both) serves)
 
 pub returns-in-Ok-clause-stopped : goal.returns-in-Ok-clause-stopped
 returns-in-Ok-clause-stopped g c =
