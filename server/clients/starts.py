@@ -30,7 +30,7 @@ FOREIGN = ("davd: meta.db is not a database of this version of davd, so nothing 
 UNFINISHED = "davd: a backup to this folder did not end, so nothing was changed: make a new one in another folder\n"
 OLDER = ("davd: meta.db and meta.db-wal have lost the last batches, so nothing was changed: "
          "restore all files of the folder from one backup, or serve what is left with -accept-loss\n")
-NO_NUMBER = ("davd: last and last-wal are damaged or of another folder, or one of them is missing, so nothing was changed: "
+NO_NUMBER = ("davd: last or last-wal is missing, or both are damaged or of another folder, so nothing was changed: "
              "restore all files of the folder from one backup, or serve it with -accept-loss\n")
 
 
@@ -60,9 +60,9 @@ def filled(starter: Starter) -> pathlib.Path:
     return starter.folder / "kept"
 
 
-def copy_of(starter: Starter, folder: pathlib.Path) -> pathlib.Path:
+def copy_of(starter: Starter, folder: pathlib.Path, name: str = "copy") -> pathlib.Path:
     """A new copy of a folder."""
-    copy = starter.folder / "copy"
+    copy = starter.folder / name
     shutil.rmtree(copy, ignore_errors=True)
     shutil.copytree(folder, copy, ignore=shutil.ignore_patterns("control"))
     return copy
@@ -335,9 +335,66 @@ def half_number(starter: Starter):
             copy = copy_of(starter, folder)
             change(copy)
             whole(starter, copy)
-    copy = copy_of(starter, folder)
-    without("last", "last-wal")(copy)
-    whole(starter, copy)
+
+
+@GROUP.check("after a clean end either file of the number shows by itself that the database is an older one")
+def either_number(starter: Starter):
+    folder = older(starter)
+    for name in ("last", "last-wal"):
+        for change in (emptied(name), garbled(name)):
+            copy = copy_of(starter, folder, "half")
+            change(copy)
+            refused(starter, f"with one good file beside {name}", copy, OLDER)
+
+
+@GROUP.check("a folder without its number is refused, and is served with -accept-loss, after which it has one")
+def no_number(starter: Starter):
+    folder = filled(starter)
+    for change in (without("last", "last-wal"), lambda copy: [emptied(name)(copy) for name in ("last", "last-wal")]):
+        copy = copy_of(starter, folder)
+        change(copy)
+        refused(starter, "without a number", copy, NO_NUMBER)
+    accepted(starter, copy).stop()
+    whole(starter, folder)
+
+
+@GROUP.check("a restore of meta.db and data alone, after a kill, is refused, also if no file had a byte")
+def two_files(starter: Starter):
+    start(starter).stop()
+    for path in ("/x", "/y"):
+        server = start(starter)
+        server.ask("MKCOL", path, status=201)
+        server.kill()
+        copy = copy_of(starter, starter.folder / "kept")
+        without("meta.db-wal", "data-wal", "last", "last-wal")(copy)
+        refused(starter, "the two files", copy, NO_NUMBER)
+    start(starter).stop()
+    copy = copy_of(starter, killed(starter))
+    without("meta.db-wal", "data-wal", "last", "last-wal")(copy)
+    refused(starter, "the two files", copy, NO_NUMBER)
+
+
+@GROUP.check("a restore of meta.db and data alone, after a kill of the first run, is refused")
+def two_first_files(starter: Starter):
+    server = start(starter)
+    server.ask("MKCOL", "/d", status=201)
+    server.kill()
+    copy = copy_of(starter, starter.folder / "kept")
+    without("meta.db-wal", "data-wal", "last", "last-wal")(copy)
+    before = sums(copy)
+    expect("the exit status of a start", run(starter, copy).returncode, 4)
+    expect("the exit status of a check", run(starter, "--check", copy).returncode, 4)
+    expect("the folder", sums(copy), before)
+
+
+@GROUP.check("a new folder of which the first start ended before the number was written is served")
+def no_first_number(starter: Starter):
+    start(starter).stop()
+    folder = starter.folder / "kept"
+    for change in (without("last", "last-wal"), lambda copy: [emptied(name)(copy) for name in ("last", "last-wal")]):
+        change(folder)
+        start(starter).stop()
+        expect("the files of the number", [(folder / name).stat().st_size for name in ("last", "last-wal")], [16, 16])
 
 
 @GROUP.check("a folder of which one of the two files of the number is missing is refused, and is served with -accept-loss")

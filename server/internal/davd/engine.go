@@ -154,7 +154,7 @@ func Start(ctx context.Context, config Config) (*Engine, error) {
 		config.Log.Printf("the folder %s had no store: a new one was made", config.Folder)
 	}
 	if isUnnumbered {
-		config.Log.Printf("the folder %s had neither last nor last-wal, which show whether changes are lost: if it was restored, "+
+		config.Log.Printf("the folder %s had neither last nor last-wal, as one of version 1: if it was restored, "+
 			"see that it got all files of the backup (meta.db, meta.db-wal, data, last, last-wal)", config.Folder)
 	}
 	if config.Lossy && config.Folder != "" {

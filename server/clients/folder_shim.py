@@ -6,15 +6,16 @@ import subprocess
 from harness import Skipped
 
 CALLS = ("pwrite", "pread", "fsync", "fdatasync", "ftruncate")
-# FAIL_FOLDER is the folder. FAIL_CALL is the call, FAIL_AT the number of the first that fails, from 1. If there is a
-# FAIL_WHEN, calls count only when that file exists. FAIL_HOW has the number of the error, or `short`: then only a part
-# of the bytes is written or read. FAIL_ALWAYS is 1 if all later ones fail too, also those of the next davd. FAIL_NOTE
+# FAIL_FOLDER is what the paths of the files begin with. FAIL_CALL is the call, FAIL_AT the number of the first that fails,
+# from 1. If there is a FAIL_WHEN, calls count only when that file exists. FAIL_HOW has the number of the error, or `short`:
+# then only a part of the bytes is written or read; or `kill`: then davd is killed before the call. FAIL_ALWAYS is 1 if all later ones fail too, also those of the next davd. FAIL_NOTE
 # is the file to which each failure is added. COUNTS is a file to which the number of each call is added at the end.
 SOURCE = r"""
 #define _GNU_SOURCE
 #include <dlfcn.h>
 #include <errno.h>
 #include <fcntl.h>
+#include <signal.h>
 #include <stdio.h>
 #include <stdlib.h>
 #include <string.h>
@@ -53,7 +54,8 @@ static int fails(int call, int fd) {
     if (when && access(when, F_OK)) return 0;
     if (has_failed ? !is_always : ++seen < first) return 0;
     has_failed = 1;
-    int out = open(note, O_WRONLY | O_CREAT | O_APPEND, 0600);
+    if (!strcmp(how, "kill")) kill(getpid(), SIGKILL);
+    int out = !note ? -1 : open(note, O_WRONLY | O_CREAT | O_APPEND, 0600);
     if (out >= 0) {
         char line[4200];
         int size = snprintf(line, sizeof line, "%s of %s\n", failing, strrchr(path, '/') + 1);
