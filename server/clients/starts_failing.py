@@ -63,6 +63,8 @@ def each_call(starter: Starter, make, how):
                 break
             failed += 1
             expect(f"the next start after {call} {number}", serve_nothing(starter, folder), 0)
+        else:
+            raise Wrong(f"a start has {MOST_CALLS} calls of {call} or more")
     expect("whether calls failed", failed > 20, True)
 
 
@@ -73,7 +75,7 @@ for what, make in FOLDERS:
         GROUP.add(f"{what} is served after a start of which any call {way}", each_call, make, how)
 
 
-@GROUP.check("a folder of version 1 has all its files after a start that was killed at any call")
+@GROUP.check("a folder of version 1 has all its files after a start that was killed at one of its syncs")
 def upgraded(starter: Starter):
     folder, shim = starter.folder / "kept", folder_shim.compile_shim(starter.folder)
     for number in range(1, 20, 3):
