@@ -115,6 +115,7 @@ func TestEachRuleHasItsStatus(t *testing.T) {
 		{"MKCOL with a body", "MKCOL", "/e/", "x", nil, 415},
 		{"DELETE with a body", "DELETE", "/none", "x", nil, 415},
 		{"PUT to a path with a slash", "PUT", "/new/", "x", nil, 405},
+		{"PUT with a digest that is none", "PUT", "/d/f", "abc", []string{"Content-MD5: abc"}, 400},
 		{"PUT without a parent", "PUT", "/no/f", "x", nil, 409},
 		{"long body", "PUT", "/long", strings.Repeat("x", 1001), nil, 413},
 		{"far offset", "PATCH", "/d/f", "x", []string{"Content-Type: application/x-sabredav-partialupdate", "X-Update-Range: bytes=1001-"}, 413},

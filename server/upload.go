@@ -9,6 +9,7 @@ import (
 	"strings"
 
 	"davserve/internal/davd"
+	"davserve/internal/digest"
 	"davserve/internal/frame"
 )
 
@@ -24,23 +25,32 @@ func (h *Handler) upload(w http.ResponseWriter, r *http.Request) error {
 	if r.ContentLength > h.options.MaxBody || h.beginsTooFar(r) {
 		return statusError(http.StatusRequestEntityTooLarge)
 	}
+	content, err := digest.Announced(r.Header, isPartial(r))
+	if err != nil {
+		return statusError(http.StatusBadRequest)
+	}
 	request, err := h.request(r)
 	if err != nil {
 		return err
 	}
-	body := h.bodyOf(r)
+	body := content.Reader(h.bodyOf(r))
 	first, err := readFirst(body, r.ContentLength)
 	switch {
 	case err == io.EOF && len(first) > 0 && h.keeps() && r.Method == http.MethodPut:
 		// A file is replaced when its new content is stored. If the disk has no room for that, it stays as it was.
-		return h.store(w, r, request, first, nil)
+		return h.store(w, r, request, content, first, nil)
 	case err == io.EOF:
 		request.Body = frame.Bytes(first)
-		return h.finish(w, r, request, int64(len(first)), h.engine.Do)
+		return h.finish(w, r, request, content, int64(len(first)), h.engine.Do)
 	case err != nil:
 		return fmt.Errorf("%w: %v", errVanished, err)
 	}
-	return h.store(w, r, request, first, body)
+	return h.store(w, r, request, content, first, body)
+}
+
+// isPartial reports whether an upload has only a part of a file.
+func isPartial(r *http.Request) bool {
+	return r.Method == http.MethodPatch || r.Header.Get("Content-Range") != ""
 }
 
 // keeps reports whether davd keeps everything in a folder.
@@ -90,7 +100,7 @@ func fill(body io.Reader, buffer []byte) (int, error) {
 }
 
 // store has davd store a body in pieces, and sends the request with the last one. If the first piece is all, rest is nil.
-func (h *Handler) store(w http.ResponseWriter, r *http.Request, request *frame.Request, first []byte, rest io.Reader) error {
+func (h *Handler) store(w http.ResponseWriter, r *http.Request, request *frame.Request, content *digest.Content, first []byte, rest io.Reader) error {
 	stored, err := h.engine.StartBody(r.Context())
 	if err != nil {
 		return err
@@ -100,7 +110,7 @@ func (h *Handler) store(w http.ResponseWriter, r *http.Request, request *frame.R
 	if err != nil {
 		return err
 	}
-	return h.finish(w, r, request, length, func(ctx context.Context, _ frame.Frame) (frame.Reply, error) {
+	return h.finish(w, r, request, content, length, func(ctx context.Context, _ frame.Frame) (frame.Reply, error) {
 		return stored.Do(ctx, last, request)
 	})
 }
@@ -131,11 +141,14 @@ func (h *Handler) sendPieces(ctx context.Context, to *davd.Body, buffer []byte, 
 // A sender sends the frame of a request.
 type sender func(context.Context, frame.Frame) (frame.Reply, error)
 
-// finish sends the request of an upload whose body is complete, if its length is as the client said and the quota has
-// room for it.
-func (h *Handler) finish(w http.ResponseWriter, r *http.Request, request *frame.Request, length int64, send sender) error {
+// finish sends the request of an upload whose body is complete, if its length and its digests are as the client said and
+// the quota has room for it.
+func (h *Handler) finish(w http.ResponseWriter, r *http.Request, request *frame.Request, content *digest.Content, length int64, send sender) error {
 	if length > h.options.MaxBody {
 		return statusError(http.StatusRequestEntityTooLarge)
+	}
+	if content.Check() != nil {
+		return statusError(http.StatusPreconditionFailed)
 	}
 	if expected := r.Header.Get("X-Expected-Entity-Length"); expected != "" && expected != strconv.FormatInt(length, 10) {
 		return statusError(http.StatusBadRequest) // The client of macOS announces the length of a chunked body so.
