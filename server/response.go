@@ -1,6 +1,8 @@
 package davserve
 
 import (
+	"bytes"
+	"compress/gzip"
 	"context"
 	"fmt"
 	"io"
@@ -91,7 +93,7 @@ func (h *Handler) write(w http.ResponseWriter, r *http.Request, response *frame.
 		h.writeStatus(w, r, response.Status)
 		return nil
 	}
-	writeXML(w, response.Status, response.Root)
+	writeXML(w, r, response.Status, response.Root)
 	return nil
 }
 
@@ -111,9 +113,11 @@ func (h *Handler) writeStatus(w http.ResponseWriter, r *http.Request, status int
 // lengthKnown is how many bytes of a body are kept until its header is written. A longer body has no Content-Length.
 const lengthKnown = 256 << 10
 
-// writeXML writes an XML body.
-func writeXML(w http.ResponseWriter, status int, root *frame.Element) {
-	body := &xmlBody{response: w, status: status}
+// writeXML writes an XML body, compressed if it is long and its client accepts that.
+func writeXML(w http.ResponseWriter, r *http.Request, status int, root *frame.Element) {
+	w.Header().Add("Vary", "Accept-Encoding")
+	body := &xmlBody{response: w, status: status, mayZip: acceptsGzip(r.Header)}
+	defer body.release()
 	if davxml.Write(body, root) == nil {
 		body.end()
 	}
@@ -123,33 +127,62 @@ func writeXML(w http.ResponseWriter, status int, root *frame.Element) {
 type xmlBody struct {
 	response http.ResponseWriter
 	status   int
-	begun    bool // the header is written
-	kept     []byte
+	mayZip   bool
+	kept     []byte    // what was written, until the header is
+	to       io.Writer // what comes after the header, or nil
+	zip      *gzip.Writer
 }
 
 // Write implements io.Writer.
 func (b *xmlBody) Write(p []byte) (int, error) {
-	if !b.begun {
+	if b.to == nil {
 		b.kept = append(b.kept, p...)
 		if len(b.kept) <= lengthKnown {
 			return len(p), nil
 		}
-		b.begun = true
+		b.to = b.response
+		if b.mayZip {
+			b.to = b.zipTo(b.response)
+		}
 		b.response.WriteHeader(b.status)
 		p = b.kept
 	}
-	_, err := b.response.Write(p)
+	_, err := b.to.Write(p)
 	return len(p), err
 }
 
 // end writes what is kept. An error means that the client has left.
 func (b *xmlBody) end() {
-	if b.begun {
+	if b.to != nil {
+		if b.zip != nil {
+			b.zip.Close()
+		}
 		return
+	}
+	if b.mayZip && len(b.kept) >= worthGzip {
+		var zipped bytes.Buffer
+		b.zipTo(&zipped).Write(b.kept)
+		b.zip.Close()
+		b.kept = zipped.Bytes()
 	}
 	b.response.Header().Set("Content-Length", strconv.Itoa(len(b.kept)))
 	b.response.WriteHeader(b.status)
 	b.response.Write(b.kept)
+}
+
+// zipTo has the body compressed, and returns what writes it to w.
+func (b *xmlBody) zipTo(w io.Writer) io.Writer {
+	b.response.Header().Set("Content-Encoding", "gzip")
+	b.zip = newGzip(w)
+	return b.zip
+}
+
+// release gives the writer back that compressed the body.
+func (b *xmlBody) release() {
+	if b.zip != nil {
+		b.zip.Reset(io.Discard) // It keeps no response.
+		gzips.Put(b.zip)
+	}
 }
 
 // allowed returns the methods that are served at the path of a request (RFC 9110, section 10.2.1).

@@ -97,7 +97,7 @@ func (h *Handler) propfind(w http.ResponseWriter, r *http.Request) error {
 	case file != nil:
 		setDepth(request, "0")
 	case isCollection && !h.isSmall(r.Context(), request):
-		return h.answerFiniteDepth(w)
+		return h.answerFiniteDepth(w, r)
 	default:
 		setDepth(request, "infinity")
 		request.Fields = append(request.Fields, frame.Field{Name: "x-litmus", Value: "davserve"})
@@ -132,12 +132,12 @@ func (h *Handler) isSmall(ctx context.Context, request *frame.Request) bool {
 }
 
 // answerFiniteDepth refuses a PROPFIND of Depth infinity (RFC 4918, section 9.1).
-func (h *Handler) answerFiniteDepth(w http.ResponseWriter) error {
+func (h *Handler) answerFiniteDepth(w http.ResponseWriter, r *http.Request) error {
 	root := &frame.Element{
 		Name: "error", Prefix: "D", Namespace: "DAV:",
 		Nodes: []frame.Node{{Element: &frame.Element{Name: "propfind-finite-depth", Prefix: "D", Namespace: "DAV:"}}},
 	}
 	w.Header().Set("Content-Type", "application/xml; charset=utf-8")
-	writeXML(w, http.StatusForbidden, root)
+	writeXML(w, r, http.StatusForbidden, root)
 	return nil
 }
