@@ -1,4 +1,5 @@
 """HTTP/1.1 over a socket, with exactly the bytes that a check sends."""
+import gzip
 import socket
 import ssl
 
@@ -36,6 +37,10 @@ class Answer:
     def members(self, name: str) -> set[str]:
         """The members of a field that is a list."""
         return {it.strip() for it in (self.field(name) or "").split(",") if it.strip()}
+
+    def content(self) -> bytes:
+        """The body, without the encoding that the server chose."""
+        return gzip.decompress(self.body) if self.field("Content-Encoding") == "gzip" else self.body
 
     def is_last(self) -> bool:
         """Whether the server closes the connection after it."""

@@ -36,7 +36,7 @@ def root(answer: Answer, name: str) -> ElementTree.Element:
     if kind.partition(";")[0] not in ("application/xml", "text/xml"):
         raise Wrong(f"expected a body of XML, got Content-Type {kind!r}\n{answer}")
     try:
-        element = ElementTree.fromstring(answer.body)
+        element = ElementTree.fromstring(answer.content())
     except ElementTree.ParseError as error:
         raise Wrong(f"expected XML, got {error}\n{answer}") from None
     if element.tag != name:
