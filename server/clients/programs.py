@@ -29,7 +29,7 @@ def is_there(package: str) -> bool:
 
 
 NEEDED = ("golang-go", "gcc", "golang-golang-x-crypto-dev", "litmus")
-WANTED = ("cadaver", "rclone", "curl", "make")
+WANTED = ("cadaver", "rclone", "lftp", "git", "ffmpeg", "curl", "make")
 
 
 def install(counts: Run):
