@@ -21,13 +21,21 @@ import (
 	"runtime"
 	"runtime/debug"
 	"syscall"
+	"time"
 
+	"davserve/internal/logqueue"
 	"davserve/internal/systemd"
 )
 
 // garbagePercent is how much the heap may grow until the garbage collector runs. What the server keeps is small and what
 // a request allocates is soon garbage, so that the collector would run all the time.
 const garbagePercent = 400
+
+// The log may have so many bytes that nobody has read. At the end the server waits so long for its reader.
+const (
+	logBytes = 1 << 20
+	logEnd   = time.Second
+)
 
 func main() {
 	if os.Getenv("GOGC") == "" {
@@ -66,12 +74,22 @@ func run(ctx context.Context, arguments []string, output, errorOutput io.Writer)
 		fmt.Fprintln(output, versionLine(ownRevision(), runtime.Version()))
 		return 0
 	}
-	logger := log.New(errorOutput, "", logFlags(errorOutput))
+	ignoreSignals()
+	lines := logqueue.New(errorOutput, logBytes)
+	defer lines.Close(logEnd)
+	logger := log.New(lines, "", logFlags(errorOutput))
 	if err := serve(ctx, c, logger); err != nil {
 		logger.Printf("davserve: %v", err)
 		return 1
 	}
 	return 0
+}
+
+// ignoreSignals has a write fail that would end the server: to a log whose reader has ended, and of davd to a file beyond
+// the limit of the process, which davd inherits.
+func ignoreSignals() {
+	signal.Notify(make(chan os.Signal, 1), syscall.SIGPIPE)
+	signal.Ignore(syscall.SIGXFSZ)
 }
 
 // logFlags returns what each line of a log begins with: the time, if nobody else adds it.

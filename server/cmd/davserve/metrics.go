@@ -17,6 +17,7 @@ import (
 	"davserve/internal/accesslog"
 	"davserve/internal/davd"
 	"davserve/internal/limit"
+	"davserve/internal/logqueue"
 	"davserve/internal/metrics"
 )
 
@@ -171,6 +172,9 @@ func (m *meter) write(ctx context.Context, w *bytes.Buffer) error {
 	e.Gauge("davserve_requests_limit", "The option -max-requests.", float64(m.config.maxRequests))
 	e.Counters("davserve_requests_total", "Requests that have ended, by their methods and the statuses of their responses.", m.requests)
 	e.Histograms("davserve_request_duration_seconds", "Time from the header of a request to the end of its response.", m.times)
+	if lines, ok := m.log.Writer().(*logqueue.Queue); ok {
+		e.Counter("davserve_log_dropped_lines_total", "Lines of the log that nobody read in time.", lines.Dropped())
+	}
 	dav := m.dav.Load()
 	if dav == nil {
 		davd.Status{Loading: m.config.options.Folder != ""}.WriteTo(e)
