@@ -28,7 +28,7 @@ func TestAFolderThatIsNotServedEndsTheServer(t *testing.T) {
 		says   string
 	}{
 		{2, "davd rejects its arguments (exit status 2)"},
-		{4, "the folder is no store of davd, or it is damaged (exit status 4)"},
+		{4, "the folder is refused (exit status 4)"},
 		{5, "the folder is in use by another process (exit status 5)"},
 		{6, "the folder cannot be read or written (exit status 6)"},
 	}

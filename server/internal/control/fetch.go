@@ -7,9 +7,11 @@ import (
 	"errors"
 	"fmt"
 	"io"
+	"io/fs"
 	"net"
 	"net/http"
 	"net/url"
+	"syscall"
 	"time"
 
 	"davserve/internal/backup"
@@ -145,6 +147,10 @@ func noAnswer(socket string, err error) error {
 	var failed *url.Error
 	if errors.As(err, &failed) {
 		err = failed.Err // Without the URL, which nobody typed.
+	}
+	if errors.Is(err, fs.ErrNotExist) || errors.Is(err, syscall.ECONNREFUSED) {
+		return fmt.Errorf("no server answers at %s: %w (if it runs, start it again; if it is stopped, davd --check "+
+			"checks the folder, and a copy of the whole folder is a backup)", socket, err)
 	}
 	return fmt.Errorf("no server answers at %s: %w", socket, err)
 }

@@ -39,7 +39,7 @@ var (
 // Errors of a start over a folder.
 var (
 	// ErrNoStore says that the folder has other contents than those of davd, or is damaged. It is left as it is.
-	ErrNoStore = errors.New("the folder is no store of davd, or it is damaged")
+	ErrNoStore = errors.New("the folder is refused")
 	// ErrInUse says that another process uses the folder.
 	ErrInUse = errors.New("the folder is in use by another process")
 	// ErrNoAccess says that the folder cannot be read or written.
@@ -142,6 +142,7 @@ func Start(ctx context.Context, config Config) (*Engine, error) {
 		rights = &config.Rights
 	}
 	isNew := config.Folder != "" && hasDatabase(config.Folder) != nil
+	others := isNew && hasOthers(config.Folder)
 	isUnnumbered := config.Folder != "" && !isNew && hasNoNumber(config.Folder)
 	process, err := open(config.first(), 0, rights, ctx.Done(), now)
 	if errors.Is(err, errStopped) {
@@ -152,6 +153,9 @@ func Start(ctx context.Context, config Config) (*Engine, error) {
 	}
 	if isNew {
 		config.Log.Printf("the folder %s had no store: a new one was made", config.Folder)
+	}
+	if others {
+		config.Log.Printf("the folder %s has other files, which are not served: davserve import copies files into a store", config.Folder)
 	}
 	if isUnnumbered {
 		config.Log.Printf("the folder %s had neither last nor last-wal, as one of version 1: if it was restored, "+

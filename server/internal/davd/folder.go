@@ -35,6 +35,7 @@ func open(config Config, answered uint64, rights *string, stop <-chan struct{}, 
 		err = p.limitMemory(config)
 	}
 	if err == nil {
+		p.files = identify(config.Folder)
 		return p, nil
 	}
 	p.kill()
@@ -58,6 +59,24 @@ func hasNoNumber(folder string) bool {
 		}
 	}
 	return true
+}
+
+// hasOthers reports whether a folder has something that davd did not make.
+func hasOthers(folder string) bool {
+	entries, err := os.ReadDir(folder)
+	if err != nil {
+		return false // It is not there.
+	}
+	own := map[string]bool{"control": true, "lost+found": true}
+	for _, name := range fileNames {
+		own[name] = true
+	}
+	for _, entry := range entries {
+		if !own[entry.Name()] {
+			return true
+		}
+	}
+	return false
 }
 
 // expectPlainFiles checks that no file of a folder is a link or has a second name. davd would find the file that belongs to

@@ -9,6 +9,7 @@ import (
 	"reflect"
 	"strconv"
 	"strings"
+	"syscall"
 	"testing"
 	"time"
 
@@ -547,6 +548,42 @@ func TestANewStoreIsLogged(t *testing.T) {
 	}
 	defer closeSoon(t, engine)
 	awaitLog(t, said, "had no store: a new one was made")
+}
+
+func TestOtherFilesInANewFolderAreLogged(t *testing.T) {
+	const said = "has other files, which are not served"
+	for _, test := range []struct {
+		name string
+		want bool
+	}{{"", false}, {"lost+found", false}, {"control", false}, {"data", false}, {"photo.jpg", true}} {
+		config, folder, log := overFolder(t, "sound", quickOver)
+		os.Remove(filepath.Join(string(folder), "meta.db"))
+		if test.name != "" {
+			folder.set(test.name, 0)
+		}
+		engine, err := Start(soon(t), config)
+		if err != nil {
+			t.Fatal(err)
+		}
+		if got := strings.Contains(log.String(), said); got != test.want {
+			t.Errorf("with %q the log says so: %t, want %t:\n%s", test.name, got, test.want, log)
+		}
+		closeSoon(t, engine)
+	}
+}
+
+func TestOnlyItsUserReadsWhatDavdMakes(t *testing.T) {
+	defer syscall.Umask(syscall.Umask(0o022))
+	for _, memory := range []int64{0, 1 << 30} {
+		engine, _ := startShell(t, memory, greets, goesOn)
+		info, err := os.Stat(filepath.Join(engine.config.Folder, "meta.db"))
+		if err != nil {
+			t.Fatal(err)
+		}
+		if got := info.Mode().Perm(); got != 0o600 {
+			t.Errorf("with -memory %d the mode is %v, want 0600", memory, got)
+		}
+	}
 }
 
 func TestAMissingNumberIsLogged(t *testing.T) {

@@ -29,14 +29,19 @@ func (c Config) limitAtStart() int64 {
 	return limit
 }
 
-// command returns the command that starts a program with the arguments of davd and the limit of its address space.
+// command returns the command that starts a program with the arguments of davd and the limit of its address space. Only
+// its user may read what it makes in a folder.
 func (c Config) command(program string) *exec.Cmd {
 	arguments, limit := c.arguments(), c.limitAtStart()
 	if limit <= 0 {
-		return exec.Command(program, arguments...)
+		return inShell(`umask 077 && exec "$@"`, append([]string{program}, arguments...))
 	}
-	limited := append([]string{"-c", `ulimit -v "$1" && shift && exec "$@"`, "sh", kibibytes(limit), program}, arguments...)
-	return exec.Command("/bin/sh", limited...)
+	return inShell(`umask 077 && ulimit -v "$1" && shift && exec "$@"`, append([]string{kibibytes(limit), program}, arguments...))
+}
+
+// inShell returns the command that executes a script of the shell with these arguments.
+func inShell(script string, arguments []string) *exec.Cmd {
+	return exec.Command("/bin/sh", append([]string{"-c", script, "sh"}, arguments...)...)
 }
 
 // kibibytes returns a number of bytes in KiB, rounded up.

@@ -7,6 +7,7 @@ import (
 	"encoding/binary"
 	"fmt"
 	"io"
+	"io/fs"
 	"log"
 	"math/big"
 	"os/exec"
@@ -31,22 +32,23 @@ type process struct {
 	input   io.WriteCloser
 	writer  *bufio.Writer
 	reader  *bufio.Reader
-	began   time.Time     // when it was started
-	loaded  time.Time     // when it had loaded its folder
-	isFull  bool          // it has more memory than it may, so that nothing is added to its folder
-	removed bool          // it was sent what removes something
-	changed bool          // it was sent what may change its folder, and then nothing that lets it note how far it is
-	resting *time.Timer   // sends that when nothing was sent for a while; nil: nothing was ever to be noted
-	renewed bool          // it gets no more batches and ends, so that the next one needs less memory
-	kept    uint64        // the number of the last batch that it had kept in its folder when it was started
-	number  uint64        // of the last batch
-	made    uint64        // the number of the last batch of which an answer says that it has changed the folder
-	pending int           // how many batches were sent whose replies were not all read
-	sent    chan *batch   // the batches whose replies were not begun to be read
-	reading *batch        // the batch whose replies are read, or could not be read whole
-	free    time.Time     // when the replies to the last batch were read, so that davd could begin the next one
-	gone    chan struct{} // closed when it has ended
-	lost    error         // why a call that it has not done failed; set before gone is closed
+	began   time.Time              // when it was started
+	loaded  time.Time              // when it had loaded its folder
+	isFull  bool                   // it has more memory than it may, so that nothing is added to its folder
+	removed bool                   // it was sent what removes something
+	changed bool                   // it was sent what may change its folder, and then nothing that lets it note how far it is
+	resting *time.Timer            // sends that when nothing was sent for a while; nil: nothing was ever to be noted
+	renewed bool                   // it gets no more batches and ends, so that the next one needs less memory
+	files   map[string]fs.FileInfo // the watched files of its folder when it was started, by their names
+	kept    uint64                 // the number of the last batch that it had kept in its folder when it was started
+	number  uint64                 // of the last batch
+	made    uint64                 // the number of the last batch of which an answer says that it has changed the folder
+	pending int                    // how many batches were sent whose replies were not all read
+	sent    chan *batch            // the batches whose replies were not begun to be read
+	reading *batch                 // the batch whose replies are read, or could not be read whole
+	free    time.Time              // when the replies to the last batch were read, so that davd could begin the next one
+	gone    chan struct{}          // closed when it has ended
+	lost    error                  // why a call that it has not done failed; set before gone is closed
 	guards
 }
 

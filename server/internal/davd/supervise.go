@@ -19,6 +19,7 @@ type pauses struct {
 	patience        time.Duration // how long calls wait for the next davd over a folder
 	full            time.Duration // how long a davd serves at least that is full, until the next one is tried
 	rest            time.Duration // how long nothing changes until davd brings to the disk how far its folder is; 0: never
+	watch           time.Duration // how often the files of the folder are looked at, whether they are still those of davd; 0: never
 }
 
 var defaultPauses = pauses{
@@ -29,6 +30,7 @@ var defaultPauses = pauses{
 	patience: 40 * time.Second, // the greatest pause, and ten seconds to load the folder
 	full:     time.Minute,
 	rest:     1500 * time.Millisecond, // more than a second by a clock of whole seconds
+	watch:    500 * time.Millisecond,
 }
 
 // after returns the pause after a davd that ran for so long and was started after the pause last.
@@ -57,6 +59,7 @@ func (e *Engine) supervise(p *process) {
 	var answered uint64 // the last batch over the folder that was kept for sure
 	for p != nil {
 		began := time.Now()
+		go e.watch(p)
 		err := e.read(p)
 		answered = latestKept(answered, p)
 		if !e.isClosing() {

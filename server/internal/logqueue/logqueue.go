@@ -32,7 +32,7 @@ func New(to io.Writer, most int) *Queue {
 }
 
 // Write implements io.Writer. A line for which there is no room, or that comes after Close, is dropped. The error is always
-// nil, because there is nobody to whom it could be told.
+// nil, because a logger does nothing about one.
 func (q *Queue) Write(line []byte) (int, error) {
 	q.mu.Lock()
 	defer q.mu.Unlock()
