@@ -8,7 +8,7 @@ import (
 	"time"
 )
 
-// watched are the files that tell whether a folder is still the one that davd has open.
+// watched are the files by which a folder that was replaced is noticed.
 var watched = []string{"meta.db", "data"}
 
 // identify returns what the watched files of a folder are, by their names. One that is not there is left out.
