@@ -248,7 +248,7 @@ def foreign(starter: Starter):
     database.close()
     server = start(starter, is_awaited=False)
     expect("the exit status", server.ended(), 1)
-    if "is no store" not in server.log() and "not one of" not in server.log():
+    if "the folder is refused (exit status 4)" not in server.log():
         raise Wrong(f"expected that the folder is refused, got\n{server.log()}")
     database = sqlite3.connect(folder / "meta.db")
     expect("the rows", database.execute("SELECT title FROM note").fetchall(), [("hello",)])
