@@ -94,12 +94,16 @@ module _ {C : Type 0} (c : claim.Ghosts C) {S M : Type 0} {rows : store.Ghosts S
     keeps_one false resources last keeps unchanged memory entries number = keeps_same last keeps (unchanged refl) memory number
 
   -- the call failed
-  pub stops : IsSound (memory_of mid).resources → Stops lasts.image (keeping_of new) first mid locks now batch → LastsEither c new (before_of mid) before (snapshot_at mid locks now batch)
-  stops resources (inl early) = inl (record { image = lasts.image; at = resaved (before_of mid) early.saved; left = early.left })
-  stops resources (inr between) = inr (inr (record {
+  pub stops : batch_of new ≡ batch_of old → batch_of old ≤ batch → IsSound (memory_of mid).resources → Stops lasts.image (keeping_of new) first mid locks now batch → LastsEither c new (before_of mid) before (snapshot_at mid locks now batch)
+  stops same rises resources (inl early) =
+      let is = lasts.number in
+      inl (record { image = lasts.image; at = resaved (before_of mid) early.saved; left = early.left; number = omega (arith, same, is) })
+  stops same rises resources (inr between) = let is = lasts.number in inr (inr (record {
     first = lasts.image;
     second = between.image;
     at_first = resaved _ between.older;
     at_second = record { is = between.is; time = between.dated.time; batch = between.dated.batch_is; keyed = λ holds. between.dated.key ∙ lasts.at.keyed holds; sound = between.sound; resources = resources; saved_is = between.saved };
     left = between.left;
+    number = omega (arith, same, is);
+    rises = omega (arith, rises, is);
   }))

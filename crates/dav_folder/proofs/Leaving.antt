@@ -1,5 +1,5 @@
 -- What a crash leaves of the files of a folder, from what it leaves of its database.
-use Rattle.std.proofs.Common.{◌≡◌, ◌∙◌, ◌⊎◌, ◌<◌, ◌≤◌, ◌^◌, ℕ, Bool, true, inl, inr, List, [], length, refl, ap}
+use Rattle.std.proofs.Common.{◌≡◌, ◌∙◌, ◌⊎◌, ◌<◌, ◌≤◌, ◌^◌, ℕ, Bool, true, arith, inl, inr, List, [], length, refl, ap}
 use Rattle.std.proofs.Math.Logic.{∥∥₁_map}
 use Rattle.std.proofs.lemmas.Bool.{and_parts}
 use base.Stored.{Gv}
@@ -29,7 +29,7 @@ use Rattle.dav_tree.specs.TreeFs.{memory_of}
 use Rattle.dav_tree.specs.declared.entry.Content.TheVariants.{File, Directory}
 use Rattle.dav_tree.specs.declared.entry.Content.{Content}
 use Rattle.dav_tree.specs.declared.medium.Medium.{Ghosts}
-use Rattle.dav_folder.specs.Files.{KeptStore, Hold, HoldWhole, Leave, LeaveEither, LeaveWhole, kept_at}
+use Rattle.dav_folder.specs.Files.{KeptStore, Hold, HoldFrom, HoldWhole, Leave, LeaveEither, LeaveWhole, kept_at}
 use Rattle.dav_folder.specs.Lasting.{At, IsImageAt}
 
 -- ---- the database
@@ -118,24 +118,24 @@ module _ {E C : Type 0} {h : disk.Ghosts E} {c : claim.Ghosts C} (medium : Claim
         ∥∥₁_map (leaves is_clean left may)
         (λ found. holds saved snapshot image file left has at (leaves_file file also) (keeps_image left image found.0 found.1 (left_image (clean is_clean) found.0 found.2)))
 
-    pub leave_either : (earlier saved : Gv) (one other : At g) (first second : Image) → HasSaved g.body_code (bytes_in medium) (is_safe medium) earlier
+    pub leave_either : (earlier saved : Gv) (one other : At g) (first second : Image) (batch : ℕ) → batch ≤ one.last → one.last ≤ other.last → HasSaved g.body_code (bytes_in medium) (is_safe medium) earlier
         → HasSaved g.body_code (bytes_in medium) (is_safe medium) saved → IsImageAt c earlier one first → IsImageAt c saved other second → LeavesEither s first second
-        → LeaveEither (files, medium) (kept_at one) (kept_at other)
-    leave_either earlier saved one other first second has has_too at at_too left_images = λ is_clean left file may also.
+        → LeaveEither (files, medium) batch (kept_at one) (kept_at other)
+    leave_either earlier saved one other first second batch low rises has has_too at at_too left_images = λ is_clean left file may also.
         ∥∥₁_map (leaves is_clean left may) (λ found. either left file (leaves_file file also) found.0 found.1 (left_images (clean is_clean) found.0 found.2))
       where
         either : (left : database.Image) (file : List ℕ) → IsLeft medium end file → (db : Trees) → HoldsDatabase left db → HoldsImage db first ⊎ HoldsImage db second
-            → Hold c left file (kept_at one) ⊎ Hold c left file (kept_at other)
-        either left file is_left db found (inl is) = inl (holds earlier one first file left has at is_left (keeps_image left first db found is))
-        either left file is_left db found (inr is) = inr (holds saved other second file left has_too at_too is_left (keeps_image left second db found is))
+            → HoldFrom c batch left file (kept_at one) ⊎ HoldFrom c batch left file (kept_at other)
+        either left file is_left db found (inl is) = inl (holds earlier one first file left has at is_left (keeps_image left first db found is), low)
+        either left file is_left db found (inr is) = inr (holds saved other second file left has_too at_too is_left (keeps_image left second db found is), omega (arith, low, rises))
 
 -- ---- one of two stores
 
-module _ {D E C : Type 0} {d : disk.Ghosts D} {h : disk.Ghosts E} {c : claim.Ghosts C} (files : FileStore D d) (medium : ClaimedFile E C h c) (one other : KeptStore) where
-  pub leave_first : Leave (files, medium) one → LeaveEither (files, medium) one other
-  leave_first leaves = λ clean left file may also.
-      ∥∥₁_map (leaves clean left file may also) (λ hold. let either : Hold c left file one ⊎ Hold c left file other = inl hold in either)
+module _ {D E C : Type 0} {d : disk.Ghosts D} {h : disk.Ghosts E} {c : claim.Ghosts C} (files : FileStore D d) (medium : ClaimedFile E C h c) (batch : ℕ) (one other : KeptStore) where
+  pub leave_first : batch ≤ one.batch → Leave (files, medium) one → LeaveEither (files, medium) batch one other
+  leave_first low leaves = λ clean left file may also.
+      ∥∥₁_map (leaves clean left file may also) (λ hold. let either : HoldFrom c batch left file one ⊎ HoldFrom c batch left file other = inl (hold, low) in either)
 
-  pub leave_second : Leave (files, medium) other → LeaveEither (files, medium) one other
-  leave_second leaves = λ clean left file may also.
-      ∥∥₁_map (leaves clean left file may also) (λ hold. let either : Hold c left file one ⊎ Hold c left file other = inr hold in either)
+  pub leave_second : batch ≤ other.batch → Leave (files, medium) other → LeaveEither (files, medium) batch one other
+  leave_second low leaves = λ clean left file may also.
+      ∥∥₁_map (leaves clean left file may also) (λ hold. let either : HoldFrom c batch left file one ⊎ HoldFrom c batch left file other = inr (hold, low) in either)

@@ -10,6 +10,7 @@ use Rattle.dav_tree.specs.TreeFs.{before_of}
 use Rattle.dav_tree.specs.declared.medium.Medium.{Ghosts}
 use Rattle.dav_tree.specs.declared.tree_fs.TreeFs.{TreeFs}
 use Rattle.dav_folder.specs.Files.{Leave, LeaveEither, LeaveWhole, kept_at}
+use Rattle.dav_folder.specs.Folders.{batch_of}
 use Rattle.dav_folder.specs.Lasting.{At, LastsAlone, LastsEither}
 use Rattle.dav_folder.specs.declared.folder.Folder.{Folder}
 
@@ -23,7 +24,7 @@ module _ {D E C : Type 0} {d : disk.Ghosts D} {e : disk.Ghosts E} {c : claim.Gho
   abbrev pub LeavesWhole : Folder (FileStore D d) rows → TreeFs (ClaimedFile E C e c) (List Piece) g → FileStore D d × ClaimedFile E C e c → Type 0
   LeavesWhole folder store files = (snapshot : At g) → LastsAlone c folder (before_of store) snapshot → LeaveWhole files (kept_at snapshot)
 
-  -- of two snapshots of which one lasts, a crash leaves one, if the second is that of the store
+  -- of two snapshots of which one lasts, a crash leaves one that is not of an earlier batch than the folder's last one, if the second is that of the store
   abbrev pub LeavesOneOf : Folder (FileStore D d) rows → TreeFs (ClaimedFile E C e c) (List Piece) g → FileStore D d × ClaimedFile E C e c → Type 0
   LeavesOneOf folder store files =
-      (one other : At g) → LastsEither c folder (before_of store) one other → other.store ≡ store → LeaveEither files (kept_at one) (kept_at other)
+      (one other : At g) → LastsEither c folder (before_of store) one other → other.store ≡ store → LeaveEither files (batch_of folder) (kept_at one) (kept_at other)

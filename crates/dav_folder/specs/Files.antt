@@ -68,6 +68,10 @@ module _ {C : Type 0} (c : claim.Ghosts C) where
     pub both : Hold left file kept
     pub alone : Hold (record left { log = [] }) file kept
 
+  -- they hold it, and it is not of an earlier batch than this one
+  abbrev pub HoldFrom : ℕ → database.Image → List ℕ → KeptStore → Type 0
+  HoldFrom batch left file kept = Hold left file kept × (batch ≤ kept.batch)
+
   -- Each text in the tables of a store that was kept is UTF-8.
   abbrev pub HoldsUtf8 : Type 0
   HoldsUtf8 = (left : database.Image) (file : List ℕ) (kept : KeptStore) (hold : Hold left file kept) → HasUtf8 hold.tables
@@ -87,6 +91,6 @@ module _ {D E C : Type 0} {g : disk.Ghosts D} {h : disk.Ghosts E} {c : claim.Gho
   abbrev pub LeaveWhole : KeptStore → Type 0
   LeaveWhole kept = LeaveSuch (λ left file. HoldWhole c left file kept)
 
-  -- whatever a crash leaves holds one of these stores
-  abbrev pub LeaveEither : KeptStore → KeptStore → Type 0
-  LeaveEither one other = LeaveSuch (λ left file. Hold c left file one ⊎ Hold c left file other)
+  -- whatever a crash leaves holds one of these stores, and not one of an earlier batch than this
+  abbrev pub LeaveEither : ℕ → KeptStore → KeptStore → Type 0
+  LeaveEither batch one other = LeaveSuch (λ left file. HoldFrom c batch left file one ⊎ HoldFrom c batch left file other)

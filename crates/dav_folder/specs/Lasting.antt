@@ -1,6 +1,6 @@
 -- What a crash leaves of a store in a folder, and of its locks.
-use Rattle.std.specs.Prelude.{◌≡◌, ◌⊎◌, List, refl}
-use Rattle.std.proofs.Common.{inl, inr}
+use Rattle.std.specs.Prelude.{◌≡◌, ◌≤◌, ◌⊎◌, List, refl}
+use Rattle.std.proofs.Common.{arith, inl, inr}
 use base.Stored.{Gv}
 use Rattle.sqlite.specs.State.{HasCleanDisk}
 use Rattle.sqlite_trees.specs.declared.store.Store as store
@@ -61,25 +61,28 @@ module _ {C : Type 0} (c : claim.Ghosts C) {S M : Type 0} {rows : store.Ghosts S
     pub left : Leaves (database (keeping_of folder)) image
     pub number : batch_of folder ≡ snapshot.last
 
-  -- a crash leaves the image of a snapshot
+  -- a crash leaves the image of a snapshot, which is not of an earlier batch than the folder's last one
   pub record LastsAlone (folder : Folder S rows) (saved : Gv) (snapshot : At g) : Type 0 where
     pub image : Image
     pub at : IsImageAt c saved snapshot image
     pub left : Leaves (database (keeping_of folder)) image
+    pub number : batch_of folder ≤ snapshot.last
 
-  -- a crash leaves the image of the one snapshot, whose tree is still safe, or that of the other
+  -- a crash leaves the image of the one snapshot, whose tree is still safe, or that of the other, which is of a later batch
   pub record LastsBetween (folder : Folder S rows) (saved : Gv) (one other : At g) : Type 0 where
     pub first : Image
     pub second : Image
     pub at_first : IsImageAt c (older_of other.store) one first
     pub at_second : IsImageAt c saved other second
     pub left : LeavesEither (database (keeping_of folder)) first second
+    pub number : batch_of folder ≤ one.last
+    pub rises : one.last ≤ other.last
 
   abbrev pub LastsEither : Folder S rows → Gv → At g → At g → Type 0
   LastsEither folder saved one other = LastsAlone folder saved one ⊎ LastsAlone folder saved other ⊎ LastsBetween folder saved one other
 
-  alone : (folder : Folder S rows) (saved : Gv) (snapshot : At g) → Lasts folder saved snapshot → LastsAlone folder saved snapshot
-  alone folder saved snapshot lasts = record { image = lasts.image; at = lasts.at; left = lasts.left }
+  pub alone : (folder : Folder S rows) (saved : Gv) (snapshot : At g) → Lasts folder saved snapshot → LastsAlone folder saved snapshot
+  alone folder saved snapshot lasts = let is = lasts.number in record { image = lasts.image; at = lasts.at; left = lasts.left; number = omega (arith, is) }
 
   pub as_first : (folder : Folder S rows) (saved : Gv) (one other : At g) → Lasts folder saved one → LastsEither folder saved one other
   as_first folder saved one other lasts = inl (alone folder saved one lasts)

@@ -1,10 +1,11 @@
 -- What contracts see of a keeper that notes how far its folder is.
-use Rattle.std.specs.Prelude.{List}
+use Rattle.std.specs.Prelude.{◌≡◌, List, refl}
+use Rattle.std.proofs.Common.{◌∙◌}
 use base.Stored.{Gv}
 use Rattle.sqlite_disk.specs.declared.Disk as disk
 use Rattle.sqlite_trees.specs.declared.store.Store as store
 use Rattle.dav_data.specs.declared.claim.Claim as claim
-use Rattle.dav_last.specs.Batches.{Names}
+use Rattle.dav_last.specs.Batches.{key_of, Names, HasCleanSlots}
 use Rattle.dav_last.specs.declared.last_batch.LastBatch.{LastBatch}
 use Rattle.dav_pieces.specs.declared.piece.Piece.{Piece}
 use Rattle.dav_tree.specs.declared.medium.Medium.{Ghosts}
@@ -26,6 +27,23 @@ module _ {S L : Type 0} {rows : store.Ghosts S} {l : disk.Ghosts L} where
   -- the disk of the folder's database is clean
   abbrev pub HasCleanFolder : Numbered S L rows l → Type 0
   HasCleanFolder keeper = HasCleanDatabase (folder_of keeper)
+
+  -- the disks of the files of the number are clean
+  abbrev pub HasCleanNumber : Numbered S L rows l → Type 0
+  HasCleanNumber keeper = HasCleanSlots (last_of keeper)
+
+  -- The second keeper comes of the first one by calls. A disk that is clean was clean before, and the number stays under its key.
+  pub record Follows (old new : Numbered S L rows l) : Type 0 where
+    pub folder : HasCleanFolder new → HasCleanFolder old
+    pub number : HasCleanNumber new → HasCleanNumber old
+    pub key : key_of (last_of new) ≡ key_of (last_of old)
+
+  pub follows_same : (keeper : Numbered S L rows l) → Follows keeper keeper
+  follows_same keeper = record { folder = λ clean. clean; number = λ clean. clean; key = refl }
+
+  pub follows_both : (one two three : Numbered S L rows l) → Follows one two → Follows two three → Follows one three
+  follows_both one two three first second =
+      record { folder = λ clean. first.folder (second.folder clean); number = λ clean. first.number (second.number clean); key = second.key ∙ first.key }
 
   module _ {C : Type 0} (c : claim.Ghosts C) {M : Type 0} {g : Ghosts M (List Piece)} where
     -- its folder keeps the image of a snapshot, and the files of the number name that of the folder's last batch

@@ -1,7 +1,7 @@
 //! A keeper of a folder that notes how far it is.
 ghost use Rattle.std.specs.Prelude.{◌≡◌, ◌≤◌, ◌⊎◌, true, OnOk};
 ghost use Rattle.dav_folder.specs.Folders.{batch_of};
-ghost use Rattle.dav_last.specs.Batches.{number_of, is_usable, Names};
+ghost use Rattle.dav_last.specs.Batches.{number_of, key_of, is_usable, Names, HasCleanSlots};
 
 use crate::Folder;
 use dav_data::{Claim, ClaimedFile};
@@ -84,6 +84,8 @@ fn note_batch<L: Disk>(
     requires { number_of last.old ≤ batch }
     ensures kept { number_of last.new ≤ batch }
     ensures exact { is_usable last.new ≡ true → number_of last.new ≡ batch }
+    ensures clean { HasCleanSlots last.new → HasCleanSlots last.old }
+    ensures key { key_of last.new ≡ key_of last.old }
     ensures named { OnOk result (Names batch last.new ⊎ ((number_of last.old ≡ batch) × (last.new ≡ last.old))) }
 {
     if last.number() < batch {
@@ -99,7 +101,7 @@ fn note_batch<L: Disk>(
 impl<D: Roomy + Drop, C: Claim, S: Alter, L: Disk> Keeper<TreeFs<ClaimedFile<D, C>>, MemLs>
     for Numbered<S, L> {
     ghost use Rattle.dav_folder.specs.Lasting.{IsSameKept, same_as};
-    ghost use Rattle.dav_folder.specs.Numbered.{LastsNumbered, LastsEitherNumbered, HasCleanFolder, as_first, as_second};
+    ghost use Rattle.dav_folder.specs.Numbered.{LastsNumbered, LastsEitherNumbered, Follows, follows_same, follows_both, as_first, as_second};
 
     ghost lasts = { LastsNumbered C.Claim };
 
@@ -107,7 +109,11 @@ impl<D: Roomy + Drop, C: Claim, S: Alter, L: Disk> Keeper<TreeFs<ClaimedFile<D, 
 
     ghost same = { IsSameKept };
 
-    ghost is_clean = { HasCleanFolder };
+    ghost follows = { Follows };
+
+    ghost follows_same = { follows_same };
+
+    ghost follows_both = { follows_both };
 
     ghost as_first = { as_first C.Claim };
 

@@ -1,6 +1,8 @@
 -- What contracts see of a `LastBatch`: this project's own choice.
 use Rattle.std.specs.Prelude.{◌≡◌, ◌<◌, ℕ, Bool, List, Result, MatchResult}
 use Rattle.sqlite_disk.specs.declared.Disk.{Ghosts}
+use Rattle.sqlite_wal.specs.Reads.{AreClean}
+use Rattle.dav_last.specs.Images.{image_of_number}
 use Rattle.dav_last.specs.Slots.{last_in, NamesAtLeast}
 use Rattle.dav_last.specs.Crashes.{LeavesOnly, LeavesMixes, LeavesWhole, IsMixingType, faults_in}
 use Rattle.dav_last.specs.declared.reading.Last.TheVariants.{Number}
@@ -34,6 +36,14 @@ module _ {D : Type 0} {g : Ghosts D} where
   -- the slots name this number now, and no greater one
   abbrev pub Names : ℕ → LastBatch D g → Type 0
   Names number it = last_in it.key (g.seen it.unsynced) (g.seen it.synced) ≡ Number number
+
+  -- both disks of the slots are clean
+  abbrev pub HasCleanSlots : LastBatch D g → Type 0
+  HasCleanSlots it = AreClean g it.unsynced it.synced
+
+  -- the unsynced slot names the number now
+  abbrev pub IsWritten : LastBatch D g → Type 0
+  IsWritten it = g.seen it.unsynced ≡ image_of_number it.key it.number
 
   -- the slots name this number or a greater one after a crash, whatever that leaves
   abbrev pub Survives : ℕ → LastBatch D g → Type 0

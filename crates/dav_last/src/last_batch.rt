@@ -27,6 +27,8 @@ pub struct LastBatch<D: Disk> {
     kept: u64,
     /// Whether a slot names the number, so that there is nothing to write.
     is_named: bool,
+    /// Whether each slot names the number by itself, also after a crash.
+    is_in_both: bool,
     ghost usable: { D.Disk.is_usable synced ≡ true },
     ghost fits: { number < 2 ^ 64 },
     ghost below: { kept ≤ number },
@@ -34,11 +36,13 @@ pub struct LastBatch<D: Disk> {
     ghost written: { is_named ≡ true → kept < number → D.Disk.seen unsynced ≡ image_of_number key number },
     ghost named: { is_named ≡ true → last_in key (D.Disk.seen unsynced) (D.Disk.seen synced) ≡ Number number },
     ghost whole: { LeavesWhole D.Disk unsynced },
+    ghost noted: { is_in_both ≡ true → kept ≡ number },
+    ghost both: { is_in_both ≡ true → LeavesOnly D.Disk key number unsynced },
     ghost mixed: { IsMixingType D.Disk → LeavesMixes D.Disk key number unsynced },
 }
 
 impl<D: Disk> LastBatch<D> {
-    ghost use Rattle.dav_last.specs.Batches.{unsynced_of, synced_of, number_of, kept_of, key_of, is_usable, faults_of, Names, Survives, IsInBoth, IsCrashSafe, KeepsOther};
+    ghost use Rattle.dav_last.specs.Batches.{unsynced_of, synced_of, number_of, kept_of, key_of, is_usable, faults_of, Names, Survives, IsInBoth, HasCleanSlots, IsWritten, IsCrashSafe, KeepsOther};
 
     /// Writes a number to both slots, one after the other, and brings each to the disk.
     ///
@@ -55,7 +59,7 @@ impl<D: Disk> LastBatch<D> {
         ensures key { IfOk result (λ it. key_of it ≡ key) }
         ensures both { IfOk result (λ it. IsInBoth number it) }
         ensures usable { IfOk result (λ it. is_usable it ≡ true) }
-        ensures clean { IfOk result (λ it. AreClean D.Disk (unsynced_of it) (synced_of it) → AreClean D.Disk files.log files.db) }
+        ensures clean { IfOk result (λ it. HasCleanSlots it → AreClean D.Disk files.log files.db) }
         ensures kept { IfOk result (λ it. kept_of it ≡ number) }
         ensures named { IfOk result (λ it. Names number it) }
         ensures safe { IfOk result (λ it. IsCrashSafe it) }
@@ -75,6 +79,7 @@ impl<D: Disk> LastBatch<D> {
             number,
             kept: number,
             is_named: true,
+            is_in_both: true,
         })
     }
 
@@ -93,7 +98,7 @@ impl<D: Disk> LastBatch<D> {
         ensures faults { is_usable self.old ≡ true → CountsFault result (faults_of self.old) (faults_of self.new) }
         ensures stopped { is_usable self.old ≡ false → IsErr result × (self.new ≡ self.old) }
         ensures usable { is_usable self.new ≡ is_usable self.old }
-        ensures clean { D.Disk.is_clean (unsynced_of self.new) ≡ D.Disk.is_clean (unsynced_of self.old) }
+        ensures clean { HasCleanSlots self.new ↔ HasCleanSlots self.old }
     {
         if !self.unsynced.may_be_used() {
             return Err(ErrorKind::Other.into());
@@ -101,6 +106,7 @@ impl<D: Disk> LastBatch<D> {
         if number > self.number {
             self.number = number;
             self.is_named = false;
+            self.is_in_both = false;
         }
         self.write()
     }
@@ -109,7 +115,7 @@ impl<D: Disk> LastBatch<D> {
     fn write(&mut self) -> io::Result<()>
         requires { is_usable self.old ≡ true }
         ensures named { OnOk result (self.new.is_named ≡ true) }
-        ensures written { OnOk result (self.old.is_named ≡ false → D.Disk.seen self.new.unsynced ≡ image_of_number self.old.key self.old.number) }
+        ensures written { OnOk result (self.old.is_named ≡ false → IsWritten self.new) }
         ensures same { (self.new.synced ≡ self.old.synced) × (self.new.key ≡ self.old.key) × (self.new.number ≡ self.old.number) × (self.new.kept ≡ self.old.kept) }
         ensures faults { CountsFault result (faults_of self.old) (faults_of self.new) }
         ensures usable { is_usable self.new ≡ true }
@@ -118,6 +124,7 @@ impl<D: Disk> LastBatch<D> {
         if self.is_named {
             return Ok(());
         }
+        self.is_in_both = false;
         self.unsynced.write_at(0, &image_of(self.key, self.number))?;
         self.is_named = true;
         Ok(())
@@ -139,7 +146,7 @@ impl<D: Disk> LastBatch<D> {
         ensures faults { is_usable self.old ≡ true → CountsFault result (faults_of self.old) (faults_of self.new) }
         ensures stopped { is_usable self.old ≡ false → IsErr result × (self.new ≡ self.old) }
         ensures usable { OnOk result (is_usable self.new ≡ true) }
-        ensures clean { AreClean D.Disk (unsynced_of self.new) (synced_of self.new) ↔ AreClean D.Disk (unsynced_of self.old) (synced_of self.old) }
+        ensures clean { HasCleanSlots self.new ↔ HasCleanSlots self.old }
     {
         if !self.unsynced.may_be_used() {
             return Err(ErrorKind::Other.into());
@@ -153,7 +160,8 @@ impl<D: Disk> LastBatch<D> {
         Ok(())
     }
 
-    /// Brings the number to both slots and to the disk, one slot after the other. Then each slot names it by itself.
+    /// Brings the number to both slots and to the disk, one slot after the other, unless it is there. Then each slot names it
+    /// by itself.
     ///
     /// It is an error if the disk fails, or an earlier sync has failed. One slot still names the number that was synced last,
     /// or names this one.
@@ -166,12 +174,17 @@ impl<D: Disk> LastBatch<D> {
         ensures faults { is_usable self.old ≡ true → CountsFault result (faults_of self.old) (faults_of self.new) }
         ensures stopped { is_usable self.old ≡ false → IsErr result × (self.new ≡ self.old) }
         ensures usable { OnOk result (is_usable self.new ≡ true) }
-        ensures clean { AreClean D.Disk (unsynced_of self.new) (synced_of self.new) ↔ AreClean D.Disk (unsynced_of self.old) (synced_of self.old) }
+        ensures clean { HasCleanSlots self.new ↔ HasCleanSlots self.old }
     {
         self.sync()?;
+        if self.is_in_both {
+            return Ok(());
+        }
         self.is_named = false;
         self.write()?;
-        self.unsynced.sync()
+        self.unsynced.sync()?;
+        self.is_in_both = true;
+        Ok(())
     }
 
     /// Returns whether no sync has failed.

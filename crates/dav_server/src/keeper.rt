@@ -18,8 +18,8 @@ pub trait Keeper<F: TimedStore, L: ExpiringLocks> {
     /// The second snapshot has the same as the first of what is kept, except the time and the number.
     ghost same: { Snapshot F L → Snapshot F L → Type 0 };
 
-    /// The place where things are kept has done what its calls promise, all the time until now.
-    ghost is_clean: { Self → Type 0 };
+    /// The second keeper comes of the first one by calls. A keeper says here what they never change, also after an error.
+    ghost follows: { Self → Self → Type 0 };
 
     /// Keeps what has changed since the last call. A server calls it after each batch, before it writes the answer.
     /// `now` is the time of the server, in whole seconds since 1970, and `last` the number of the last batch. While
@@ -37,7 +37,7 @@ pub trait Keeper<F: TimedStore, L: ExpiringLocks> {
         in_backup: bool,
     ) -> io::Result<()>
         ensures seen { OnlySavedDiffers (F.seen store.old) (F.seen store.new) }
-        ensures clean { is_clean self.new → is_clean self.old }
+        ensures follows { follows self.old self.new }
         ensures ok { OnOk result ((before : Snapshot F L) → lasts self.old (saved_of (F.seen store.old)) before
             → KeepsOne lasts same self.new (saved_of (F.seen store.new)) before (snapshot_at store.new locks.now now last)) }
         ensures err { OnErr result ((before : Snapshot F L) → lasts self.old (saved_of (F.seen store.old)) before
@@ -47,6 +47,11 @@ pub trait Keeper<F: TimedStore, L: ExpiringLocks> {
     ghost as_first: { (keeper : Self) (saved : Gv) (one other : Snapshot F L) → lasts keeper saved one → lasts_either keeper saved one other };
 
     ghost as_second: { (keeper : Self) (saved : Gv) (one other : Snapshot F L) → lasts keeper saved other → lasts_either keeper saved one other };
+
+    /// A keeper comes of itself, and of what it came of in several steps.
+    ghost follows_same: { (keeper : Self) → follows keeper keeper };
+
+    ghost follows_both: { (one two three : Self) → follows one two → follows two three → follows one three };
 
     /// A snapshot has the same as itself.
     ghost same_as: { (snapshot : Snapshot F L) → same snapshot snapshot };

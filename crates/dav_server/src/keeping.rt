@@ -36,7 +36,7 @@ impl<'a, F: TimedStore, L: ExpiringLocks> Server<'a, F, L> {
         ensures rules { rules_of self.new ≡ rules_of self.old }
         ensures loans { loans_of self.new ≡ loans_of self.old }
         ensures end { OnOk result (IsAtEnd (R.remaining input.new)) }
-        ensures clean { K.is_clean keeper.new → K.is_clean keeper.old }
+        ensures follows { K.follows keeper.old keeper.new }
         ensures ran { OnOk result (RunsAndKeeps F.seen L.seen K.lasts K.same F.reads (rules_of self.old) keeper.old keeper.new
             self.old self.new (R.remaining input.old) (R.remaining input.new) (W.contents output.old) (W.contents output.new)) }
         ensures stopped { OnErr result (StopsAfterKept F.seen L.seen K.lasts K.lasts_either K.same F.reads (rules_of self.old)
@@ -68,7 +68,7 @@ impl<'a, F: TimedStore, L: ExpiringLocks> Server<'a, F, L> {
     ) -> io::Result<bool>
         ensures rules { rules_of self.new ≡ rules_of self.old }
         ensures loans { loans_of self.new ≡ loans_of self.old }
-        ensures clean { K.is_clean keeper.new → K.is_clean keeper.old }
+        ensures follows { K.follows keeper.old keeper.new }
         ensures served { IfOk result (λ more. more ≡ true → ExchangesAndSaves F.seen F.reads (rules_of self.old)
             (state_of F.seen L.seen self.old) (state_of F.seen L.seen self.new)
             (R.remaining input.old) (R.remaining input.new) (W.contents output.old) (W.contents output.new)) }
@@ -93,7 +93,7 @@ impl<'a, F: TimedStore, L: ExpiringLocks> Server<'a, F, L> {
         ensures rules { rules_of self.new ≡ rules_of self.old }
         ensures loans { loans_of self.new ≡ loans_of self.old }
         ensures saved { IsResaved (state_of F.seen L.seen self.old) (state_of F.seen L.seen self.new) }
-        ensures clean { K.is_clean keeper.new → K.is_clean keeper.old }
+        ensures follows { K.follows keeper.old keeper.new }
         ensures kept { OnOk result ((before : Snapshot F L) → K.lasts keeper.old (saved_of (F.seen (store_in self.old))) before
             → StaysKept F.seen K.lasts K.same keeper.new before self.new) }
         ensures either { OnErr result ((before : Snapshot F L) → K.lasts keeper.old (saved_of (F.seen (store_in self.old))) before
@@ -116,7 +116,7 @@ fn keep_lent<F: TimedStore, L: ExpiringLocks, K: Keeper<F, L>>(
     ensures locks { lent_locks engine.new ≡ lent_locks engine.old }
     ensures loans { loans engine.new ≡ loans engine.old }
     ensures made { made_with engine.new ≡ made_with engine.old }
-    ensures clean { K.is_clean keeper.new → K.is_clean keeper.old }
+    ensures follows { K.follows keeper.old keeper.new }
     ensures there { OnOk result (has_locks engine.old ≡ true) }
     ensures ok { OnOk result ((before : Snapshot F L) (locks : L) → K.lasts keeper.old (saved_of (F.seen (inner_of (lent engine.old)))) before
         → lent_locks engine.old ≡ Some locks

@@ -7,6 +7,7 @@ use Rattle.dav_data.specs.declared.claimed_file.ClaimedFile.{ClaimedFile}
 use Rattle.dav_folder.specs.Closing.{LeavesAlone}
 use Rattle.dav_folder.specs.Failing.{LeavesOnly}
 use Rattle.dav_folder.specs.Files.{KeptStore, Hold, Leave, kept_at}
+use Rattle.dav_folder.specs.Lasting as lasting
 use Rattle.dav_folder.specs.Lasting.{Lasts, LastsAlone, HasCleanDatabase}
 use Rattle.dav_folder.specs.Opening.{AreOnlyRead, opened_at}
 use Rattle.dav_folder.specs.declared.failing.DataLeft.{DataLeft}
@@ -91,7 +92,7 @@ module _ {D E C : Type 0} {d : disk.Ghosts D} {e : disk.Ghosts E} {c : claim.Gho
     (opened : Opened (FileStore D d) (ClaimedFile E C e c) (List Piece) rows g) (files : FileStore D d × ClaimedFile E C e c)
     (alone : LeavesAlone opened.folder opened.store files) (clean : IsClean (view files.0) → HasCleanDatabase opened.folder) where
   lasts_alone : Lasts c opened.folder (before_of opened.store) (opened_at opened) → LastsAlone c opened.folder (before_of opened.store) (opened_at opened)
-  lasts_alone lasts = record { image = lasts.image; at = lasts.at; left = lasts.left }
+  lasts_alone lasts = lasting.alone c opened.folder (before_of opened.store) (opened_at opened) lasts
 
   pub opened_holds : (left : database.Image) (file : List ℕ) (limit : Option (Option ℕ)) → FindsHeld left file limit opened
       → HoldsOn left file (record { database = leftover.Store files.0; data_file = data_left.File files.1 })

@@ -27,13 +27,13 @@ module _ {D E C : Type 0} {d : disk.Ghosts D} {e : disk.Ghosts E} {c : claim.Gho
       subst (λ o. OnOk result (ServesFolder d l medium left file said o input input' output output')) is
       (on_ok result goes (λ goes_on. record { files = files; number = number; goes_on = goes_on }))
 
-  pub stops_in_folder : (Other : Type 0) (input input' output output' : Option (List ℕ))
-      → OnErr result (GoesOnAndStops left file files medium (rules_in read) (start_of read) output output'
-      ⊎ GoesOnWithLog left file files medium (rules_in read) (start_of read) input input' output output')
-      → OnErr result (Other ⊎ (StopsInFolder d medium left file options output output' ⊎ ServesWithLog d medium left file options input input' output output'))
-  stops_in_folder Other input input' output output' stops =
-      subst (λ o. OnErr result (Other ⊎ (StopsInFolder d medium left file o output output' ⊎ ServesWithLog d medium left file o input input' output output'))) is
+  pub stops_in_folder : {L : Type 0} {l : disk.Ghosts L} (said : database.Image) (number : LastBatch L l) (Other : Type 0) (input input' output output' : Option (List ℕ))
+      → OnErr result (GoesOnAndStops left file files said number medium (rules_in read) (start_of read) output output'
+      ⊎ GoesOnWithLog left file files said number medium (rules_in read) (start_of read) input input' output output')
+      → OnErr result (Other ⊎ (StopsInFolder d l medium left file said options output output' ⊎ ServesWithLog d l medium left file said options input input' output output'))
+  stops_in_folder {l = l} said number Other input input' output output' stops =
+      subst (λ o. OnErr result (Other ⊎ (StopsInFolder d l medium left file said o output output' ⊎ ServesWithLog d l medium left file said o input input' output output'))) is
       (on_err result stops (λ either. elim either [
-        | inl goes_on ↦ inr (inl (record { files = files; stops = goes_on }))
-        | inr runs ↦ inr (inr (record { files = files; goes_on = runs }))
+        | inl goes_on ↦ inr (inl (record { files = files; number = number; stops = goes_on }))
+        | inr runs ↦ inr (inr (record { files = files; number = number; goes_on = runs }))
       ]))

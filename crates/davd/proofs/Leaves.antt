@@ -1,21 +1,22 @@
 -- What is left of a run whose keeper keeps each batch.
-use Rattle.std.proofs.Common.{◌≡◌, ◌∙◌, inl, inr, ℕ, List, [], ◌∷◌, ◌++◌, Option, Some, None, Result, Ok, Err, refl, sym, subst}
+use Rattle.std.proofs.Common.{◌≡◌, ◌∙◌, ◌⊎◌, ◌≤◌, arith, inl, inr, ℕ, List, [], ◌∷◌, ◌++◌, Option, Some, None, Result, Ok, Err, refl, sym, subst}
 use Rattle.std.specs.Prelude.{IfSome, IsTrue, Bool, true, false, IsOk, IsErr, IfErr, OnOk, OnErr, option_map}
 use Rattle.std.specs.Result.{IsErrAnd}
+use Rattle.std.proofs.Math.Logic.{∥∥₁_map}
 use base.Stored.{Gv}
 use Rattle.dav_data.specs.declared.claim.Claim as claim
 use Rattle.dav_data.specs.declared.claimed_file.ClaimedFile.{ClaimedFile}
 use Rattle.dav_engine.specs.DavInner.{lent_locks}
 use Rattle.dav_folder.specs.Claims.{IsKeyed}
 use Rattle.dav_folder.specs.Closing.{LeavesAlone, LeavesWhole, LeavesOneOf}
-use Rattle.dav_folder.specs.Files.{KeptStore, Leave, kept_at}
+use Rattle.dav_folder.specs.Files.{KeptStore, HoldFrom, Leave, LeaveEither, kept_at}
 use Rattle.dav_folder.specs.Folders.{batch_of}
-use Rattle.dav_folder.specs.Lasting.{At, Lasts, LastsAlone, LastsEither, IsSameKept, HasCleanDatabase}
+use Rattle.dav_folder.specs.Lasting.{At, Lasts, LastsAlone, LastsEither, IsSameKept, HasCleanDatabase, alone}
 use Rattle.dav_folder.specs.Numbered.{LastsNumbered, LastsEitherNumbered}
 use Rattle.dav_folder.specs.Opening.{opened_at}
 use Rattle.dav_folder.specs.declared.folder.Folder.{Folder}
 use Rattle.dav_folder.specs.declared.opening.Opened.{Opened}
-use Rattle.dav_last.specs.Batches.{IsInBoth, Names, number_of, is_usable}
+use Rattle.dav_last.specs.Batches.{IsInBoth, Names, HasCleanSlots, number_of, key_of, is_usable}
 use Rattle.dav_last.specs.declared.last_batch.LastBatch.{LastBatch}
 use Rattle.dav_memls.specs.MemLs.{locks_of}
 use Rattle.dav_memls.specs.declared.memory_locks.MemLs.{MemLs}
@@ -35,7 +36,7 @@ use Rattle.sqlite_trees.specs.View.{IsClean}
 use Rattle.sqlite_trees.specs.declared.store.Store as store
 use Rattle.davd.specs.Folder.{Serving, state_now, state_from, IsOpenedAsKept, BeginsOpened, FindsKept, FindsFirst, HeldSealed, OpensUpToDate, OpensNumbered, Keep, ServesOpened, StopsOpened}
 use Rattle.davd.specs.declared.folder.StartOptions.{StartOptions}
-use Rattle.davd.specs.Leaving.{LeaveNumbered, LeavesAfter, LeavesAfterOrNow, RunsAndLeaves, RunsWithLog, StopsAndLeaves, HeldAStore, BeginsWith, GoesOn, GoesOnWithLog, GoesOnAndStops}
+use Rattle.davd.specs.Leaving.{LeaveNumbered, LeaveNoted, LeavesAfter, LeavesAfterOrNow, RunsAndLeaves, RunsWithLog, StopsAndLeaves, HeldAStore, BeginsWith, BeginsNumbered, GoesOn, GoesOnWithLog, GoesOnAndStops}
 
 -- what follows on Ok, or on Err
 pub on_ok : {T E A B : Type 0} (result : Result T E) → OnOk result A → (A → B) → OnOk result B
@@ -87,6 +88,10 @@ synced old new batch result ok exact fails same both =
     let is = same ∙ exact (true_if_ok result (is_usable old) ok fails) in
     (subst (λ n. IsInBoth n new) is (of_ok result ok both), is)
 
+-- the same number is not greater either
+pub lower : {m n batch : ℕ} → n ≡ m → m ≤ batch → n ≤ batch
+lower is low = omega (arith, is, low)
+
 -- a keeper that begins with this folder and this number names the number of the folder's last batch
 pub named_by : {S L : Type 0} {rows : store.Ghosts S} {l : disk.Ghosts L} (folder opened : Folder S rows) (number last : LastBatch L l) → folder ≡ opened → number ≡ last
     → Names (batch_of opened) last → Names (batch_of folder) number
@@ -105,9 +110,18 @@ module _ {M : Type 0} {g : Ghosts M (List Piece)} where
       subst (λ these. IfSome these (λ (s : At g). s.store ≡ store_in server)) is
       (has_store (store_in server) (lent_locks server.engine) server.now server.last)
 
-alone : {C : Type 0} (c : claim.Ghosts C) {S M : Type 0} {rows : store.Ghosts S} {g : Ghosts M (List Piece)} (folder : Folder S rows) (saved : Gv) (snapshot : At g) → Lasts c folder saved snapshot
-    → LastsAlone c folder saved snapshot
-alone c folder saved snapshot lasts = record { image = lasts.image; at = lasts.at; left = lasts.left }
+module _ {D E C : Type 0} {d : disk.Ghosts D} {e : disk.Ghosts E} {c : claim.Ghosts C} (files : FileStore D d × ClaimedFile E C e c) where
+  -- one of two stores is left, and neither is of an earlier batch than a lower one
+  or_lower : (low batch : ℕ) (one other : KeptStore) → low ≤ batch → LeaveEither files batch one other → LeaveEither files low one other
+  or_lower low batch one other less leave = λ clean left file may also. ∥∥₁_map (leave clean left file may also) (λ held. elim held [
+    | inl hold ↦ let above = hold.1 in let either : HoldFrom c low left file one ⊎ HoldFrom c low left file other = inl (hold.0, omega (arith, less, above)) in either
+    | inr hold ↦ let above = hold.1 in let either : HoldFrom c low left file one ⊎ HoldFrom c low left file other = inr (hold.0, omega (arith, less, above)) in either
+  ])
+
+  -- a store that the folder keeps is left, with a number that is not greater than that of the folder
+  noted : {S M L : Type 0} {rows : store.Ghosts S} {l : disk.Ghosts L} {g : Ghosts M (List Piece)} (folder : Folder S rows) (saved : Gv) (snapshot : At g) (number : LastBatch L l)
+      → number_of number ≤ batch_of folder → Lasts c folder saved snapshot → (LastsAlone c folder saved snapshot → Leave files (kept_at snapshot)) → LeaveNoted files number (kept_at snapshot)
+  noted folder saved snapshot number low lasts leaves = let is = lasts.number in (leaves (alone c folder saved snapshot lasts), omega (arith, low, is))
 
 module _ {D E C : Type 0} {d : disk.Ghosts D} {e : disk.Ghosts E} {c : claim.Ghosts C} {rows : store.Ghosts (FileStore D d)} {g : Ghosts (ClaimedFile E C e c) (List Piece)} (rules : Rules)
     (opened : Opened (FileStore D d) (ClaimedFile E C e c) (List Piece) rows g) (folder : Folder (FileStore D d) rows) (kept : TreeFs (ClaimedFile E C e c) (List Piece) g)
@@ -141,8 +155,8 @@ module _ {D E C : Type 0} {d : disk.Ghosts D} {e : disk.Ghosts E} {c : claim.Gho
 
     after_or_now : (exchanges : List Exchange) (old mid : ServerState) → LeavesOneOf folder kept files
         → IsKeptOrNow store_of locks_of (LastsNumbered c) (LastsEitherNumbered c) IsSameKept reads_of rules keep.keeper' exchanges old mid last
-        → LeavesAfterOrNow g rules exchanges old mid last files
-    after_or_now exchanges old mid one_of is_kept =
+        → (number : LastBatch L l) → number_of number ≤ batch_of folder → LeavesAfterOrNow g rules exchanges old mid last files number
+    after_or_now exchanges old mid one_of is_kept number low =
         let now = is_kept.either.snapshot in
         let same = snapshot_store last now is_kept.either.is ∙ ends in
         let here : LastsEither c folder (before_of now.store) is_kept.snapshot now =
@@ -155,8 +169,8 @@ module _ {D E C : Type 0} {d : disk.Ghosts D} {e : disk.Ghosts E} {c : claim.Gho
           unchanged = is_kept.unchanged;
           now = now;
           is = is_kept.either.is;
-          left = one_of is_kept.snapshot now
-              (subst (λ (these : TreeFs (ClaimedFile E C e c) (List Piece) g). LastsEither c folder (before_of these) is_kept.snapshot now) same here) same;
+          left = or_lower files (number_of number) (batch_of folder) (kept_at is_kept.snapshot) (kept_at now) low (one_of is_kept.snapshot now
+              (subst (λ (these : TreeFs (ClaimedFile E C e c) (List Piece) g). LastsEither c folder (before_of these) is_kept.snapshot now) same here) same);
         }
 
   -- a run whose keeper keeps it leaves it in the files
@@ -177,23 +191,25 @@ module _ {D E C : Type 0} {d : disk.Ghosts D} {e : disk.Ghosts E} {c : claim.Gho
           noted = subst (λ batch. IsInBoth batch number) (sym named.1) named.0;
         })
 
-    pub runs_with_log : (IsTrue (view files.0).is_numbered → LeavesAlone folder kept files) → ServesOpened l rules opened (folder, kept) input input' output output'
-        → RunsWithLog g rules (IsOpenedAsKept opened) (state_from (opened_at opened)) files input input' output output'
-    runs_with_log leaves serves =
-        subst (λ old. RunsWithLog g rules (IsOpenedAsKept opened) old files input input' output output') serves.begins.state
+    pub runs_with_log : (number : LastBatch L l) → number_of number ≤ batch_of folder → (IsTrue (view files.0).is_numbered → LeavesAlone folder kept files)
+        → ServesOpened l rules opened (folder, kept) input input' output output'
+        → RunsWithLog g rules (IsOpenedAsKept opened) (state_from (opened_at opened)) files number input input' output output'
+    runs_with_log number low leaves serves =
+        subst (λ old. RunsWithLog g rules (IsOpenedAsKept opened) old files number input input' output output') serves.begins.state
         (record {
           last = serves.last;
           run = serves.runs.run;
-          leaves = λ numbered lasts. after serves.keep serves.last serves.ends (Leave files) serves.runs.run.exchanges (state_now serves.first)
-              (λ snapshot here. leaves numbered snapshot (alone c folder (before_of kept) snapshot here)) (serves.runs.kept (begins_kept serves.keep serves.first serves.begins lasts));
+          leaves = λ numbered lasts. after serves.keep serves.last serves.ends (LeaveNoted files number) serves.runs.run.exchanges (state_now serves.first)
+              (λ snapshot here. noted files folder (before_of kept) snapshot number low here (leaves numbered snapshot)) (serves.runs.kept (begins_kept serves.keep serves.first serves.begins lasts));
         })
 
   -- so does one that an error stops
   module _ (output output' : Option (List ℕ)) where
-    pub stops_and_leaves : LeavesAlone folder kept files → LeavesOneOf folder kept files → StopsOpened l rules opened (folder, kept) output output'
-        → StopsAndLeaves g rules (IsOpenedAsKept opened) (state_from (opened_at opened)) files output output'
-    stops_and_leaves leaves one_of serves =
-        subst (λ old. StopsAndLeaves g rules (IsOpenedAsKept opened) old files output output') serves.begins.state
+    pub stops_and_leaves : (number : LastBatch L l) → number_of number ≤ batch_of folder → LeavesAlone folder kept files → LeavesOneOf folder kept files
+        → StopsOpened l rules opened (folder, kept) output output'
+        → StopsAndLeaves g rules (IsOpenedAsKept opened) (state_from (opened_at opened)) files number output output'
+    stops_and_leaves number low leaves one_of serves =
+        subst (λ old. StopsAndLeaves g rules (IsOpenedAsKept opened) old files number output output') serves.begins.state
         (record {
           exchanges = serves.stops.exchanges;
           mid = serves.stops.mid;
@@ -202,14 +218,14 @@ module _ {D E C : Type 0} {d : disk.Ghosts D} {e : disk.Ghosts E} {c : claim.Gho
           last = serves.last;
           stopped = serves.stops.stopped;
           leaves = λ lasts. after_or_now serves.keep serves.last serves.ends serves.stops.exchanges (state_now serves.first) serves.stops.mid one_of
-              (serves.stops.kept (begins_kept serves.keep serves.first serves.begins lasts));
+              (serves.stops.kept (begins_kept serves.keep serves.first serves.begins lasts)) number low;
           in_order = elim serves.stops.in_order [
             | inl written ↦ inl written
             | inr more ↦ inr (record {
               exchange = more.exchange;
               served = more.answered;
-              leaves = λ lasts. after serves.keep serves.last serves.ends (Leave files) (serves.stops.exchanges ++ more.exchange ∷ []) (state_now serves.first)
-                  (λ snapshot here. leaves snapshot (alone c folder (before_of kept) snapshot here)) (more.kept (begins_kept serves.keep serves.first serves.begins lasts));
+              leaves = λ lasts. after serves.keep serves.last serves.ends (LeaveNoted files number) (serves.stops.exchanges ++ more.exchange ∷ []) (state_now serves.first)
+                  (λ snapshot here. noted files folder (before_of kept) snapshot number low here (leaves snapshot)) (more.kept (begins_kept serves.keep serves.first serves.begins lasts));
             })
           ];
         })
@@ -241,48 +257,55 @@ module _ {D E C : Type 0} {d : disk.Ghosts D} {e : disk.Ghosts E} {c : claim.Gho
       claimed = keyed;
     }
 
-    -- what was found goes on
-    pub goes_on : {L : Type 0} {l : disk.Ghosts L} (said : database.Image) (begun number : LastBatch L l) (input input' output output' : Option (List ℕ))
-        → (start.accepts_loss ≡ false → OpensUpToDate said opened begun) → (start.accepts_loss ≡ false → OpensNumbered left said opened begun)
-        → RunsAndLeaves g rules (IsOpenedAsKept opened) (state_from (opened_at opened)) files number input input' output output'
-        → GoesOn left file files said number g rules start input input' output output'
-    unfolding begins_with
-    goes_on said begun number input input' output output' up_to_date numbered runs =
-        record {
-          first = opened_at opened;
-          begins = begins_with;
-          begun = begun;
-          up_to_date = up_to_date;
-          numbered = λ strict calm tables clean keeps. numbered strict calm tables keeps (was_clean clean);
-          goes = record { last = runs.last; run = runs.run; leaves = λ held. runs.leaves (lasts_at_start held); noted = runs.noted };
-        }
+    -- `number` is what is noted at the end, and `said` what the files of the number held
+    module _ {L : Type 0} {l : disk.Ghosts L} (said : database.Image) (begun number : LastBatch L l) (calm : HasCleanSlots number → HasCleanSlots begun)
+        (noted_under : key_of number ≡ opened.key)
+        (up_to_date : start.accepts_loss ≡ false → OpensUpToDate said opened begun) (numbered : start.accepts_loss ≡ false → OpensNumbered left said opened begun) where
+      begins_numbered : BeginsNumbered left file files said number start (opened_at opened)
+      unfolding begins_with
+      begins_numbered = record {
+        begins = begins_with;
+        noted_under = noted_under;
+        up_to_date = λ strict clean. up_to_date strict (calm clean);
+        numbered = λ strict clean tables sound keeps. numbered strict (calm clean) tables keeps (was_clean sound);
+      }
 
-    pub goes_on_with_log : (input input' output output' : Option (List ℕ)) → RunsWithLog g rules (IsOpenedAsKept opened) (state_from (opened_at opened)) files input input' output output'
-        → GoesOnWithLog left file files g rules start input input' output output'
-    goes_on_with_log input input' output output' runs =
-        record {
-          first = opened_at opened;
-          begins = begins_with;
-          goes = record { last = runs.last; run = runs.run; leaves = λ numbered held. runs.leaves numbered (lasts_at_start held) };
-        }
+      -- what was found goes on
+      pub goes_on : (input input' output output' : Option (List ℕ)) → RunsAndLeaves g rules (IsOpenedAsKept opened) (state_from (opened_at opened)) files number input input' output output'
+          → GoesOn left file files said number g rules start input input' output output'
+      goes_on input input' output output' runs =
+          record {
+            first = opened_at opened;
+            begins = begins_numbered;
+            goes = record { last = runs.last; run = runs.run; leaves = λ held. runs.leaves (lasts_at_start held); noted = runs.noted };
+          }
 
-    pub goes_on_and_stops : (output output' : Option (List ℕ))
-        → StopsAndLeaves g rules (IsOpenedAsKept opened) (state_from (opened_at opened)) files output output' → GoesOnAndStops left file files g rules start output output'
-    goes_on_and_stops output output' stops =
-        record {
-          first = opened_at opened;
-          begins = begins_with;
-          stops = record {
-            exchanges = stops.exchanges;
-            mid = stops.mid;
-            answered = stops.answered;
-            law = stops.law;
-            last = stops.last;
-            stopped = stops.stopped;
-            leaves = λ held. stops.leaves (lasts_at_start held);
-            in_order = elim stops.in_order [
-              | inl written ↦ inl written
-              | inr more ↦ inr (record { exchange = more.exchange; served = more.served; leaves = λ held. more.leaves (lasts_at_start held) })
-            ];
-          };
-        }
+      pub goes_on_with_log : (input input' output output' : Option (List ℕ)) → RunsWithLog g rules (IsOpenedAsKept opened) (state_from (opened_at opened)) files number input input' output output'
+          → GoesOnWithLog left file files said number g rules start input input' output output'
+      goes_on_with_log input input' output output' runs =
+          record {
+            first = opened_at opened;
+            begins = begins_numbered;
+            goes = record { last = runs.last; run = runs.run; leaves = λ numbered held. runs.leaves numbered (lasts_at_start held) };
+          }
+
+      pub goes_on_and_stops : (output output' : Option (List ℕ)) → StopsAndLeaves g rules (IsOpenedAsKept opened) (state_from (opened_at opened)) files number output output'
+          → GoesOnAndStops left file files said number g rules start output output'
+      goes_on_and_stops output output' stops =
+          record {
+            first = opened_at opened;
+            begins = begins_numbered;
+            stops = record {
+              exchanges = stops.exchanges;
+              mid = stops.mid;
+              answered = stops.answered;
+              law = stops.law;
+              last = stops.last;
+              stopped = stops.stopped;
+              leaves = λ held. stops.leaves (lasts_at_start held);
+              in_order = elim stops.in_order [
+                | inl written ↦ inl written
+                | inr more ↦ inr (record { exchange = more.exchange; served = more.served; leaves = λ held. more.leaves (lasts_at_start held) })
+              ];
+            };
+          }

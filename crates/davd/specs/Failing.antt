@@ -28,6 +28,10 @@ HasOnly g files = (image : database.Image) → outcomes g files.log files.db ima
 abbrev pub HaveNumber : {L : Type 0} → disk.Ghosts L → ℕ → ℕ → Files L → Type 0
 HaveNumber l key number files = LeavesOnly l key number files.log × LeavesOnly l key number files.db
 
+-- the files of the number stayed as they were, or one of them still names what it did, or this number under this key
+abbrev pub KeepsOrNames : {L : Type 0} → disk.Ghosts L → ℕ → ℕ → Files L → Files L → Type 0
+KeepsOrNames l key number old new = (new ≡ old) ⊎ StillNames l key number (old.log, old.db) (new.log, new.db)
+
 -- The files of the number were only read. Or, before an upgrade, a number was then written: one of them still names what it did, or that number.
 pub record KeepsNumber {L : Type 0} (l : disk.Ghosts L) (old new : Files L) : Type 0 where
   pub read : Files L

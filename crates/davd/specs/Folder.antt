@@ -14,7 +14,7 @@ use Rattle.dav_folder.specs.declared.opening.Opened.{Opened}
 use Rattle.dav_folder.specs.declared.reading.Found.{Found}
 use Rattle.dav_keep.specs.Images.{StandForImage}
 use Rattle.dav_keep.specs.Loading.{first_image}
-use Rattle.dav_last.specs.Batches.{unsynced_of, synced_of, Names}
+use Rattle.dav_last.specs.Batches.{Names, HasCleanSlots}
 use Rattle.dav_last.specs.Slots.{last_in}
 use Rattle.dav_last.specs.declared.last_batch.LastBatch.{LastBatch}
 use Rattle.dav_last.specs.declared.reading.Last.{Last}
@@ -40,7 +40,6 @@ use Rattle.dav_tree.specs.declared.medium.Medium.{Ghosts}
 use Rattle.dav_tree.specs.declared.tree_fs.TreeFs.{TreeFs}
 use Rattle.sqlite.specs.Recovery as files
 use Rattle.sqlite_disk.specs.declared.Disk as disk
-use Rattle.sqlite_wal.specs.Reads.{AreClean}
 use Rattle.sqlite_trees.specs.declared.store.Store as store
 
 -- the rules of a server with these options
@@ -140,7 +139,7 @@ module _ {S E C : Type 0} {e : disk.Ghosts E} {c : claim.Ghosts C} {rows : store
 
   -- what is opened is not older than the files of the number said, which held this, if their disks are clean now
   abbrev pub OpensUpToDate : {L : Type 0} {l : disk.Ghosts L} → files.Image → Opened S (ClaimedFile E C e c) (List Piece) rows g → LastBatch L l → Type 0
-  OpensUpToDate {l = l} said opened last = AreClean l (unsynced_of last) (synced_of last) → IsNotOlder opened.key opened.last said.log said.db
+  OpensUpToDate said opened last = HasCleanSlots last → IsNotOlder opened.key opened.last said.log said.db
 
   -- the same of what is opened, if the disk of the database is clean
   abbrev pub HeldNumbered : files.Image → files.Image → Opened S (ClaimedFile E C e c) (List Piece) rows g → Type 0
@@ -148,7 +147,7 @@ module _ {S E C : Type 0} {e : disk.Ghosts E} {c : claim.Ghosts C} {rows : store
 
   -- the same, if the disks of the files of the number are clean now
   abbrev pub OpensNumbered : {L : Type 0} {l : disk.Ghosts L} → files.Image → files.Image → Opened S (ClaimedFile E C e c) (List Piece) rows g → LastBatch L l → Type 0
-  OpensNumbered {l = l} left said opened last = AreClean l (unsynced_of last) (synced_of last) → HeldNumbered left said opened
+  OpensNumbered left said opened last = HasCleanSlots last → HeldNumbered left said opened
 
   -- ---- what a run leaves in the keeper
 

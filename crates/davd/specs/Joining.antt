@@ -8,6 +8,7 @@ use Rattle.dav_data.specs.declared.claim.Claim as claim
 use Rattle.dav_data.specs.declared.claimed_file.ClaimedFile.{ClaimedFile}
 use Rattle.dav_folder.specs.Files.{KeptStore, kept_at, Hold, Leave, LeaveWhole, LeaveEither}
 use Rattle.dav_folder.specs.Lasting.{At}
+use Rattle.dav_last.specs.Batches.{number_of}
 use Rattle.dav_last.specs.declared.last_batch.LastBatch.{LastBatch}
 use Rattle.dav_pieces.specs.declared.piece.Piece.{Piece}
 use Rattle.dav_server.specs.State.{Rules}
@@ -43,10 +44,10 @@ module _ {D E D' E' C : Type 0} {d : disk.Ghosts D} {e : disk.Ghosts E} {d' : di
   joined kept leave = ∥∥₁_map (leave are_left.clean left file are_left.database are_left.bytes) (at_held kept)
 
   -- the next run begins with one of two stores of which one was left
-  pub joined_either : (one other : KeptStore) → LeaveEither files one other → ∥ BeginsAt one first ⊎ BeginsAt other first ∥₁
-  joined_either one other leave = ∥∥₁_map (leave are_left.clean left file are_left.database are_left.bytes) (λ held. elim held [
-    | inl hold ↦ inl (at_held one hold)
-    | inr hold ↦ inr (at_held other hold)
+  pub joined_either : (batch : ℕ) (one other : KeptStore) → LeaveEither files batch one other → ∥ BeginsAt one first ⊎ BeginsAt other first ∥₁
+  joined_either batch one other leave = ∥∥₁_map (leave are_left.clean left file are_left.database are_left.bytes) (λ held. elim held [
+    | inl hold ↦ inl (at_held one hold.0)
+    | inr hold ↦ inr (at_held other hold.0)
   ])
 
   -- a run to the end of its input, over files that held a store or no table: the next one begins with what was in the server after the first ones of its
@@ -61,7 +62,8 @@ module _ {D E D' E' C : Type 0} {d : disk.Ghosts D} {e : disk.Ghosts E} {d' : di
         leaves_both whole = λ clean_now image contents may also. ∥∥₁_map (whole clean_now image contents may also) (λ both. both.both)
 
   -- after a run that an error stopped, a power cut for one, the next begins with that, or with what was in the server at last
-  module _ (held : database.Image) (bytes : List ℕ) (g : Ghosts (ClaimedFile E C e c) (List Piece)) (rules : Rules) (how : StartOptions) (output output' : Option (List ℕ)) where
-    pub after_a_stop : (run : GoesOnAndStops held bytes files g rules how output output') (had : HeldAStore held bytes files)
+  module _ {L : Type 0} {l : disk.Ghosts L} (held said : database.Image) (bytes : List ℕ) (number : LastBatch L l) (g : Ghosts (ClaimedFile E C e c) (List Piece)) (rules : Rules)
+      (how : StartOptions) (output output' : Option (List ℕ)) where
+    pub after_a_stop : (run : GoesOnAndStops held bytes files said number g rules how output output') (had : HeldAStore held bytes files)
         → let leaves = run.stops.leaves had in ∥ BeginsAt (kept_at leaves.snapshot) first ⊎ BeginsAt (kept_at leaves.now) first ∥₁
-    after_a_stop run had = let leaves = run.stops.leaves had in joined_either (kept_at leaves.snapshot) (kept_at leaves.now) leaves.left
+    after_a_stop run had = let leaves = run.stops.leaves had in joined_either (number_of number) (kept_at leaves.snapshot) (kept_at leaves.now) leaves.left

@@ -62,25 +62,26 @@ SayFolder arguments options = (options_of arguments ≡ Some options) × (option
 abbrev pub start_of : OptionsValue → StartOptions
 start_of options = record { quota = options.quota; accepts_loss = options.accepts_loss; key = options.key; seed = options.seed; tag_part = options.tag_part }
 
--- `left` and `file` are what the files of its database and its data file held
-module _ {D E C : Type 0} (d : disk.Ghosts D) {e : disk.Ghosts E} {c : claim.Ghosts C} (medium : Ghosts (ClaimedFile E C e c) (List Piece)) (left : database.Image) (file : List ℕ)
-    (options : OptionsValue) where
+-- `left` and `file` are what the files of its database and its data file held; `L` is the disk of the number of the last batch, whose files held `said`
+module _ {D E L C : Type 0} (d : disk.Ghosts D) (l : disk.Ghosts L) {e : disk.Ghosts E} {c : claim.Ghosts C} (medium : Ghosts (ClaimedFile E C e c) (List Piece)) (left : database.Image)
+    (file : List ℕ) (said : database.Image) (options : OptionsValue) where
+  -- a run goes on from what they held
+  pub record ServesFolder (input input' output output' : Option (List ℕ)) : Type 0 where
+    pub files : FileStore D d × ClaimedFile E C e c
+    pub number : LastBatch L l
+    pub goes_on : GoesOn left file files said number medium (rules_in options) (start_of options) input input' output output'
+
   -- such a run, after which the log is not copied into the database file, or the number of the last batch is not on the disk
   pub record ServesWithLog (input input' output output' : Option (List ℕ)) : Type 0 where
     pub files : FileStore D d × ClaimedFile E C e c
-    pub goes_on : GoesOnWithLog left file files medium (rules_in options) (start_of options) input input' output output'
+    pub number : LastBatch L l
+    pub goes_on : GoesOnWithLog left file files said number medium (rules_in options) (start_of options) input input' output output'
 
   -- an error stops such a run
   pub record StopsInFolder (output output' : Option (List ℕ)) : Type 0 where
     pub files : FileStore D d × ClaimedFile E C e c
-    pub stops : GoesOnAndStops left file files medium (rules_in options) (start_of options) output output'
-
--- a run goes on from what they held; `L` is the disk of the number of the last batch, whose files held `said`
-pub record ServesFolder {D E L C : Type 0} (d : disk.Ghosts D) (l : disk.Ghosts L) {e : disk.Ghosts E} {c : claim.Ghosts C} (medium : Ghosts (ClaimedFile E C e c) (List Piece))
-    (left : database.Image) (file : List ℕ) (said : database.Image) (options : OptionsValue) (input input' output output' : Option (List ℕ)) : Type 0 where
-  pub files : FileStore D d × ClaimedFile E C e c
-  pub number : LastBatch L l
-  pub goes_on : GoesOn left file files said number medium (rules_in options) (start_of options) input input' output output'
+    pub number : LastBatch L l
+    pub stops : GoesOnAndStops left file files said number medium (rules_in options) (start_of options) output output'
 
 -- no input is read, and no output written
 abbrev pub HasNotBegun : {I O : Type 0} → I → I → O → O → Type 0

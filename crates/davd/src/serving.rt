@@ -1,5 +1,5 @@
 //! Serving over a store in a folder.
-ghost use Rattle.std.specs.Prelude.{◌≡◌, ◌⊎◌, true, IsOk, IfOk, OnOk, OnErr, IfErr};
+ghost use Rattle.std.specs.Prelude.{◌≡◌, ◌≤◌, ◌⊎◌, true, IsOk, IfOk, OnOk, OnErr, IfErr};
 ghost use Rattle.std.specs.Io.KnownBytes.{IsAtEnd};
 ghost use Rattle.sqlite.specs.WalFiles.{image_at};
 ghost use Rattle.sqlite_store.specs.FileStore.{view};
@@ -7,7 +7,7 @@ ghost use Rattle.sqlite_trees.specs.View.{IsClean};
 ghost use Rattle.dav_folder.specs.Folders.{batch_of};
 ghost use Rattle.dav_folder.specs.Lasting.{HasCleanDatabase};
 ghost use Rattle.dav_folder.specs.Opening.{opened_at};
-ghost use Rattle.dav_last.specs.Batches.{number_of, is_usable, Names};
+ghost use Rattle.dav_last.specs.Batches.{number_of, key_of, is_usable, Names, HasCleanSlots};
 ghost use Rattle.davd.specs.Failing.{HoldsOnIfOpened};
 ghost use Rattle.davd.specs.Folder.{IsOpenedAsKept, ServesOpened, StopsOpened, rules_for, state_from};
 ghost use Rattle.davd.specs.Leaving.{RunsAndLeaves, RunsWithLog, StopsAndLeaves, GoesOn, GoesOnWithLog, GoesOnAndStops};
@@ -76,10 +76,10 @@ pub fn serve_folder<R: Start, T: Start, N: Start, C: Confirm, I: Read, O: Write>
 ) -> Result<Ended<R, T, N, C>, UnstartedOver<FileFrom<R>, FileFrom<T>, C>>
     ensures served { IfOk result (λ ended. OnOk ended.0 (GoesOn (image_at R.Start) T.Start.db ended.1 (image_at N.Start) ended.2
         ⟦<FolderData<T, C> as Medium>⟧ (rules_for options.server) options.start (I.remaining input.old) (I.remaining input.new) (O.contents output.old) (O.contents output.new))) }
-    ensures stopped { IfOk result (λ ended. OnErr ended.0 (GoesOnAndStops (image_at R.Start) T.Start.db ended.1 ⟦<FolderData<T, C> as Medium>⟧
-        (rules_for options.server) options.start (O.contents output.old) (O.contents output.new)
-        ⊎ GoesOnWithLog (image_at R.Start) T.Start.db ended.1 ⟦<FolderData<T, C> as Medium>⟧ (rules_for options.server) options.start
-        (I.remaining input.old) (I.remaining input.new) (O.contents output.old) (O.contents output.new))) }
+    ensures stopped { IfOk result (λ ended. OnErr ended.0 (GoesOnAndStops (image_at R.Start) T.Start.db ended.1 (image_at N.Start) ended.2
+        ⟦<FolderData<T, C> as Medium>⟧ (rules_for options.server) options.start (O.contents output.old) (O.contents output.new)
+        ⊎ GoesOnWithLog (image_at R.Start) T.Start.db ended.1 (image_at N.Start) ended.2
+        ⟦<FolderData<T, C> as Medium>⟧ (rules_for options.server) options.start (I.remaining input.old) (I.remaining input.new) (O.contents output.old) (O.contents output.new))) }
     ensures end { IfOk result (λ ended. OnOk ended.0 (IsAtEnd (I.remaining input.new))) }
     ensures unread { OnErr result (input.new ≡ input.old) }
     ensures unwritten { OnErr result (output.new ≡ output.old) }
@@ -118,10 +118,12 @@ pub fn serve_to_the_end<
     ensures served { OnOk result.0 (RunsAndLeaves ⟦<ClaimedFile<E, C> as Medium>⟧ (rules_for options) (IsOpenedAsKept opened)
         (state_from (opened_at opened)) result.1 result.2 (I.remaining input.old) (I.remaining input.new) (O.contents output.old) (O.contents output.new)) }
     ensures stopped { OnErr result.0 (StopsAndLeaves ⟦<ClaimedFile<E, C> as Medium>⟧ (rules_for options) (IsOpenedAsKept opened)
-        (state_from (opened_at opened)) result.1 (O.contents output.old) (O.contents output.new)
-        ⊎ RunsWithLog ⟦<ClaimedFile<E, C> as Medium>⟧ (rules_for options) (IsOpenedAsKept opened) (state_from (opened_at opened)) result.1
+        (state_from (opened_at opened)) result.1 result.2 (O.contents output.old) (O.contents output.new)
+        ⊎ RunsWithLog ⟦<ClaimedFile<E, C> as Medium>⟧ (rules_for options) (IsOpenedAsKept opened) (state_from (opened_at opened)) result.1 result.2
         (I.remaining input.old) (I.remaining input.new) (O.contents output.old) (O.contents output.new)) }
     ensures clean { IsClean (view result.1.0) → HasCleanDatabase opened.folder }
+    ensures calm { HasCleanSlots result.2 → HasCleanSlots last }
+    ensures key { key_of result.2 ≡ key_of last }
     ensures end { OnOk result.0 (IsAtEnd (I.remaining input.new)) }
     ensures err { IfErr result.0 IsNotUsage }
 {
@@ -181,6 +183,9 @@ pub fn serve_opened<S: Alter + Drop, D: Roomy + Drop, L: Disk + Drop, C: Claim, 
     ensures stopped { OnErr result.0 (StopsOpened L.Disk (rules_for options) opened result.1
         (O.contents output.old) (O.contents output.new)) }
     ensures clean { HasCleanDatabase result.1.0 → HasCleanDatabase opened.folder }
+    ensures calm { HasCleanSlots result.2 → HasCleanSlots last }
+    ensures key { key_of result.2 ≡ key_of last }
+    ensures kept { number_of result.2 ≤ batch_of result.1.0 }
     ensures exact { is_usable result.2 ≡ true → number_of result.2 ≡ batch_of result.1.0 }
     ensures end { OnOk result.0 (IsAtEnd (I.remaining input.new)) }
     ensures err { IfErr result.0 IsNotUsage }

@@ -11,7 +11,7 @@ use Rattle.dav_rows_files.specs.Starting.{LeavesDatabases}
 use Rattle.dav_tree.specs.Before.{HasSaved}
 use Rattle.dav_tree.specs.TreeFs.{before_of, older_of}
 use Rattle.dav_folder.specs.Files.{kept_at}
-use Rattle.dav_folder.specs.Folders.{keeping_of}
+use Rattle.dav_folder.specs.Folders.{keeping_of, batch_of}
 use Rattle.dav_folder.proofs.Leaving.{left_by, leave, leave_either, leave_first, leave_second}
 use Rattle.dav_folder.proofs.closing.give_up.Goals as goal
 
@@ -31,14 +31,14 @@ returns-clause-either g c = λ one other lasts same.
     let is = c.into_connection.ensures in
     let medium = c.into_medium-data.result in
     elim lasts [
-      | inl alone ↦ leave_first files medium (kept_at one) (kept_at other) (returns-clause-alone g c one alone)
-      | inr (inl alone) ↦ leave_second files medium (kept_at one) (kept_at other) (returns-clause-alone g c other alone)
+      | inl alone ↦ leave_first files medium (batch_of c.args.folder) (kept_at one) (kept_at other) alone.number (returns-clause-alone g c one alone)
+      | inr (inl alone) ↦ leave_second files medium (batch_of c.args.folder) (kept_at one) (kept_at other) alone.number (returns-clause-alone g c other alone)
       | inr (inr between) ↦
           leave_either medium c.safe_end.result c.safe_end.ensures.below c.safe_end.ensures.small files (file_state (connection_of (keeping_of c.args.folder)))
           (subst (λ conn. IsClean (view files) → HasCleanDisk (file_state conn)) is c.into_files-files.ensures.clean)
           (subst (λ conn. LeavesDatabases (file_state conn) files) is c.into_files-files.ensures.left)
           (left_by c.into_medium-data.result c.safe_end.result c.show_right.ensures.bytes c.safe_end.ensures.left c.show_right.ensures.left)
-          (older_of other.store) (before_of c.args.store) one other between.first between.second
+          (older_of other.store) (before_of c.args.store) one other between.first between.second (batch_of c.args.folder) between.number between.rises
           (subst (λ store. HasSaved (coded_list piece_code) (bytes_in medium) (is_safe medium) (older_of store)) (sym same) c.into_medium-data.ensures.older)
           c.into_medium-data.ensures.last between.at_first between.at_second between.left
     ]

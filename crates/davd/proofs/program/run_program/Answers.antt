@@ -16,4 +16,4 @@ returns-in_ok-served-in-Some-2-clause-stopped g c = λ options say.
     let read = value_of c.in_ok-server.field-0 in
     let served = c.in_ok-served-in-Some-2 in
     stops_in_folder _ (image_at g.R.Start) g.T.Start.db read options (some_same read options (sym c.in_ok-server.ensures.ok ∙ say.0)) served.served.1 served.served.0
-    _ _ _ _ _ served.ensures.stopped
+    (image_at g.N.Start) served.served.2 _ _ _ _ _ served.ensures.stopped

@@ -2,6 +2,7 @@ use Rattle.davd.proofs.Leaves.{named_by}
 use Rattle.davd.proofs.serving.serve_opened.Goals as goal
 use Rattle.davd.proofs.serving.serve_opened.Goals.{in-Ok, in-Err}
 use Rattle.std.proofs.Common.{◌∙◌, sym, ap, inl, inr, refl}
+use Rattle.dav_last.specs.Batches.{key_of}
 use Rattle.dav_guarding.specs.Guarding.{inner_of}
 
 pub returns-clause-served : goal.returns-clause-served
@@ -29,6 +30,20 @@ returns-clause-stopped g c = elim c.match-ended.branch [
     stops = rw c.resume-server.ensures.rules at w.in-Err.ensures.stopped;
   })
 ]
+
+pub returns-clause-clean : goal.returns-clause-clean
+returns-clause-clean g c = λ clean.
+    let was = c.serve_kept-ended.ensures.follows.folder (rw c.into_parts-folder.ensures.folder at clean) in
+    rw c.new-keeper.ensures.folder at was
+
+pub returns-clause-calm : goal.returns-clause-calm
+returns-clause-calm g c = λ clean.
+    let was = c.serve_kept-ended.ensures.follows.number (rw c.into_parts-folder.ensures.last at clean) in
+    rw c.new-keeper.ensures.last at was
+
+pub returns-clause-key : goal.returns-clause-key
+returns-clause-key g c =
+    ap (λ it. key_of it) c.into_parts-folder.ensures.last ∙ c.serve_kept-ended.ensures.follows.key ∙ ap (λ it. key_of it) c.new-keeper.ensures.last
 
 pub returns-clause-err : goal.returns-clause-err
 returns-clause-err g c = elim c.match-ended.branch [ in-Ok w ↦ rw w.ended-is tt | in-Err w ↦ rw w.ended-is w.stopped_by.ensures ]

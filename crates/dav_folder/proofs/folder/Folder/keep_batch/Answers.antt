@@ -1,10 +1,11 @@
-use Rattle.std.proofs.Common.{◌≡◌, ◌∙◌, Some, inl, cond, ap, sym, subst}
+use Rattle.std.proofs.Common.{◌≡◌, ◌∙◌, arith, refl, Some, inl, cond, ap, sym, subst}
 use Rattle.sqlite.specs.State.{HasCleanDisk}
 use Rattle.dav_keep.specs.Keeping.{KeepsNow, database}
 use Rattle.dav_folder.proofs.Keeps.{keeps_one, stops, was_clean}
 use Rattle.dav_folder.proofs.folder.Folder.keep_batch.Goals.{then-changed, else-changed}
 use Rattle.dav_folder.proofs.folder.Folder.keep_batch.Goals as goal
 use Rattle.dav_folder.specs.Folders.{keeping_of, batch_of}
+use Rattle.dav_folder.specs.Lasting.{alone}
 
 pub returns-after-changed-clause-ok : goal.returns-after-changed-clause-ok
 returns-after-changed-clause-ok g c = λ before lasts.
@@ -24,8 +25,8 @@ returns-after-changed-clause-ok g c = λ before lasts.
 
 pub returns-in-Err-clause-err : goal.returns-in-Err-clause-err
 returns-in-Err-clause-err g c = λ before lasts.
-    stops g.C.Claim c.args.self.now (record { keeping = c.keep.new.self; batch = c.args.self.now.batch; failure = Some c.in-Err.error; has_swept = c.args.self.now.has_swept; refused = c.args.self.now.refused }) c.args.store.now c.keep.new.store c.args.locks.now c.args.now c.args.last before lasts c.show_sound-in-Err.ensures
-    (c.in-Err.ensures.stopped lasts.image lasts.kept)
+    stops g.C.Claim c.args.self.now (record { keeping = c.keep.new.self; batch = c.args.self.now.batch; failure = Some c.in-Err.error; has_swept = c.args.self.now.has_swept; refused = c.args.self.now.refused }) c.args.store.now c.keep.new.store c.args.locks.now c.args.now c.args.last before lasts
+    refl (omega (arith, c.if-last-self.false)) c.show_sound-in-Err.ensures (c.in-Err.ensures.stopped lasts.image lasts.kept)
 
 pub returns-after-changed-clause-clean : goal.returns-after-changed-clause-clean
 returns-after-changed-clause-clean g c = λ clean.
@@ -37,4 +38,4 @@ pub returns-in-Err-clause-clean : goal.returns-in-Err-clause-clean
 returns-in-Err-clause-clean g c = λ clean. was_clean c.args.self.now.keeping c.keep.new.self c.keep.ensures.clean clean
 
 pub returns-then-last-self-clause-err : goal.returns-then-last-self-clause-err
-returns-then-last-self-clause-err g c = λ before lasts. inl (record { image = lasts.image; at = lasts.at; left = lasts.left })
+returns-then-last-self-clause-err g c = λ before lasts. inl (alone g.C.Claim c.args.self.now _ before lasts)

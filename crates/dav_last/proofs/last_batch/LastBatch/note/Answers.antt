@@ -19,6 +19,8 @@ invariant_of-self g c =
       written = λ named. absurd (false≢true named);
       named = λ named. absurd (false≢true named);
       whole = it.whole;
+      noted = λ both. absurd (false≢true both);
+      both = λ both. absurd (false≢true both);
       mixed = λ mixes left may. mix-more it.key it.number c.args.number left (omega arith) (it.mixed mixes left may);
     }
 

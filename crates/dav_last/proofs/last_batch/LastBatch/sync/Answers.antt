@@ -1,4 +1,4 @@
-use Rattle.std.proofs.Common.{◌≡◌, ◌∙◌, ap, subst, arith}
+use Rattle.std.proofs.Common.{◌≡◌, ◌∙◌, refl, ap, subst, arith}
 use Rattle.dav_last.specs.Crashes.{LeavesOnly}
 use Rattle.dav_last.proofs.CrashLemmas.{whole-only, mixes-only-more, last_in-both, names-only}
 use Rattle.dav_last.proofs.BatchLemmas.{crash_safe}
@@ -30,6 +30,8 @@ invariant_of-self-then-self g c =
       written = λ named less. absurd (omega arith);
       named = λ named. last_in-both it.key it.kept it.number it.number _ _ (other _ (g.met.D.Disk.seen_may_stay c.swap.new.x)) (only _ (g.met.D.Disk.seen_may_stay c.swap.new.y)) (omega arith) it.fits;
       whole = whole-only it.key it.kept _ other;
+      noted = λ both. refl;
+      both = λ both. let same = it.noted both in absurd (omega arith);
       mixed = λ mixes. mixes-only-more it.key it.kept it.number _ low other;
     }
 

@@ -14,6 +14,8 @@ invariant_of-self g c =
       written = λ named. absurd (false≢true (sym c.if-self.false ∙ named));
       named = λ named. absurd (false≢true (sym c.if-self.false ∙ named));
       whole = whole-written it.key it.number _ _ _ c.image_of.ensures c.write_at.ensures.crash it.whole;
+      noted = λ both. absurd (false≢true both);
+      both = λ both. absurd (false≢true both);
       mixed = λ mixes. mixes-written it.key it.number _ _ _ c.image_of.ensures (c.write_at.ensures.mixed (mixes it.unsynced)) (it.mixed mixes);
     }
 
@@ -29,5 +31,7 @@ invariant_of-self-2 g c =
       written = λ named less. seen;
       named = λ named. let low = it.below in last_in-both it.key it.number it.kept it.number _ _ seen (it.safe _ (g.met.D.Disk.seen_may_stay it.synced)) (omega arith) it.fits;
       whole = whole-written it.key it.number _ _ _ c.image_of.ensures c.write_at.ensures.crash it.whole;
+      noted = λ both. absurd (false≢true both);
+      both = λ both. absurd (false≢true both);
       mixed = λ mixes. mixes-written it.key it.number _ _ _ c.image_of.ensures (c.write_at.ensures.mixed (mixes it.unsynced)) (it.mixed mixes);
     }

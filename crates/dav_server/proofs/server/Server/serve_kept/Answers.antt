@@ -16,7 +16,7 @@ loop-init g c =
     record {
       same = refl;
       loans = refl;
-      clean = λ clean. clean;
+      follows = g.met.K.Keeper.follows_same c.args.keeper.now;
       run = keeps_none g.F.GuardedFileSystem.seen g.L.DavLockSystem.seen g.F.GuardedFileSystem.reads (rules_of c.args.self.now)
           g.K.Keeper.lasts g.K.Keeper.same g.met.K.Keeper.same_as c.args.keeper.now c.args.self.now (g.R.Read.remaining c.args.input.now) (g.W.Write.contents c.args.output.now);
     }
@@ -28,7 +28,7 @@ loop-preserved g c =
     record {
       same = c.in_ok-exchange_kept.ensures.rules ∙ so_far.same;
       loans = c.in_ok-exchange_kept.ensures.loans ∙ so_far.loans;
-      clean = λ clean. so_far.clean (c.in_ok-exchange_kept.ensures.clean clean);
+      follows = g.met.K.Keeper.follows_both c.args.keeper.now c.loop.keeper c.exchange_kept.new.keeper so_far.follows c.in_ok-exchange_kept.ensures.follows;
       run = keeps_more g.F.GuardedFileSystem.seen g.L.DavLockSystem.seen g.F.GuardedFileSystem.reads (rules_of c.args.self.now)
           g.K.Keeper.lasts g.K.Keeper.same g.met.K.Keeper.same_as c.args.keeper.now c.loop.keeper c.exchange_kept.new.keeper c.args.self.now c.loop.self c.exchange_kept.new.self _ _ _ _ _ _
           so_far.run (rw so_far.same at more) c.in_ok-exchange_kept.ensures.kept;
