@@ -9,6 +9,7 @@ from connection import Wrong
 from harness import Group, Starter
 from kept import LOCK, PATCH, check, count_rows, start
 from server import PROCESSES, Server, expect
+from starts import FOREIGN
 
 GROUP = Group("rows in a folder", is_shared=False)
 GROUPS = [GROUP]
@@ -91,8 +92,6 @@ def moved(starter: Starter):
 
 
 DAMAGED = "davd: meta.db or meta.db-wal is damaged, so nothing was changed: restore all files of the folder from one backup\n"
-FOREIGN = ("davd: meta.db is not a database of this version of davd, so nothing was changed: "
-           "serve it by the later version that made it, or choose another folder\n")
 
 STRUCTURE = [
     ("a part of no resource", "UPDATE extent SET resource = 9"),

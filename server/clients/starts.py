@@ -1,9 +1,11 @@
 """Starts and checks of a folder of which a file is missing, empty, cut or damaged: each says what is wrong, and changes nothing."""
 import contextlib
 import hashlib
+import os
 import pathlib
 import random
 import shutil
+import signal
 import sqlite3
 import subprocess
 import tarfile
@@ -21,17 +23,20 @@ SIZES = (("/a", 5), ("/b", 70_000), ("/d/c", 300_000))
 """The paths and the sizes of the files in a folder."""
 
 RESTORE = "so nothing was changed: restore all files of the folder from one backup\n"
-NO_DATABASE = f"davd: meta.db has no store, and the folder has bytes of one, {RESTORE}"
+NO_DATABASE = f"davd: meta.db and meta.db-wal have no store, and the folder has bytes of one, {RESTORE}"
 NO_DATA = f"davd: data is missing, {RESTORE}"
 SHORT_DATA = f"davd: data is shorter than meta.db says, {RESTORE}"
 DAMAGED = "davd: meta.db or meta.db-wal is damaged, so nothing was changed: restore all files of the folder from one backup\n"
-FOREIGN = ("davd: meta.db is not a database of this version of davd, so nothing was changed: "
-           "serve it by the later version that made it, or choose another folder\n")
+FOREIGN = ("davd: meta.db has other tables than this version of davd makes, so nothing was changed: "
+           "remove a table or view that was added, serve it by the later version that made it, or choose another folder\n")
+JOURNAL = ("davd: there is the journal of another program beside a file of the folder, such as meta.db-journal, "
+           "so nothing was changed: restore all files of the folder from one backup, and no other\n")
+NO_STORE = "davd: the folder has no store, so there is nothing to check\n"
 UNFINISHED = "davd: a backup to this folder did not end, so nothing was changed: make a new one in another folder\n"
 OLDER = ("davd: meta.db and meta.db-wal have lost the last batches, so nothing was changed: "
-         "restore all files of the folder from one backup, or serve what is left with -accept-loss\n")
+         "restore all files of the folder from one backup, or copy it and serve what is left with -accept-loss\n")
 NO_NUMBER = ("davd: last or last-wal is missing, or both are damaged or of another folder, so nothing was changed: "
-             "restore all files of the folder from one backup, or serve it with -accept-loss\n")
+             "restore all files of the folder from one backup, or copy it and serve it with -accept-loss\n")
 
 
 def sums(folder: pathlib.Path) -> dict[str, str]:
@@ -374,17 +379,44 @@ def two_files(starter: Starter):
     refused(starter, "the two files", copy, NO_NUMBER)
 
 
-@GROUP.check("a restore of meta.db and data alone, after a kill of the first run, is refused")
-def two_first_files(starter: Starter):
+def killed_first(starter: Starter) -> pathlib.Path:
+    """A copy of a folder whose first run made a directory and was killed: its tables are in the log alone."""
     server = start(starter)
     server.ask("MKCOL", "/d", status=201)
+    server.process.send_signal(signal.SIGSTOP)  # so that davd does not end as it does when davserve ends
+    os.kill(server.davd(), signal.SIGKILL)
     server.kill()
-    copy = copy_of(starter, starter.folder / "kept")
-    without("meta.db-wal", "data-wal", "last", "last-wal")(copy)
-    before = sums(copy)
-    expect("the exit status of a start", run(starter, copy).returncode, 4)
-    expect("the exit status of a check", run(starter, "--check", copy).returncode, 4)
-    expect("the folder", sums(copy), before)
+    return copy_of(starter, starter.folder / "kept")
+
+
+NEW_LOST = [
+    ("meta.db and data alone", [without("meta.db-wal", "data-wal", "last", "last-wal")]),
+    ("an empty log, as a start leaves that breaks off", [without("last", "last-wal"), emptied("meta.db-wal")]),
+    ("an empty log and one emptied number", [emptied("meta.db-wal"), emptied("last")]),
+    ("an empty log and the other number emptied", [emptied("meta.db-wal"), emptied("last-wal")]),
+    ("no log, with its number", [without("meta.db-wal")]),
+    ("the log alone", [without("meta.db", "data", "data-wal", "last", "last-wal")]),
+    ("the log, and the others emptied", [emptied("meta.db"), emptied("last"), emptied("last-wal")]),
+]
+"""What is left of a new folder without bytes in files, whose tables are in the log alone."""
+
+
+@GROUP.check("a new folder without bytes in files, which has lost its log or all but its log, is refused")
+def new_lost(starter: Starter):
+    folder = killed_first(starter)
+    for what, changes in NEW_LOST:
+        copy = copy_of(starter, folder, "lost")
+        for change in changes:
+            change(copy)
+        refused(starter, what, copy, NO_DATABASE)
+        expect(f"{what}: with -accept-loss", run(starter, "-accept-loss", copy).stdout, NO_DATABASE)
+
+
+@GROUP.check("the journal of another program beside meta.db is refused")
+def journal(starter: Starter):
+    copy = copy_of(starter, filled(starter))
+    (copy / "meta.db-journal").write_bytes(b"journal")
+    refused(starter, "with a journal", copy, JOURNAL)
 
 
 @GROUP.check("a new folder of which the first start ended before the number was written is served")
@@ -452,7 +484,8 @@ def good(starter: Starter):
 def none(starter: Starter):
     folder = starter.folder / "none"
     folder.mkdir()
-    expect("the exit status", run(starter, "--check", folder).returncode, 6)
+    ended = run(starter, "--check", folder)
+    expect("the exit status and the line", (ended.returncode, ended.stdout), (4, NO_STORE))
     expect("the folder", sums(folder), {})
 
 

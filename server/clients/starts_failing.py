@@ -13,7 +13,7 @@ from connection import Wrong
 from harness import Group, Starter
 from kept import start
 from server import PROCESSES, expect
-from starts import OLD, REST, SIZES, counted
+from starts import NO_STORE, OLD, REST, SIZES, counted
 
 GROUP = Group("a folder whose calls fail", is_shared=False)
 GROUPS = [GROUP]
@@ -62,10 +62,18 @@ def each_call(starter: Starter, make, how):
             if serve_nothing(starter, folder, LD_PRELOAD=shim, **variables) == 0:
                 break
             failed += 1
+            checked(starter, folder, f"the check after {call} {number}")
             expect(f"the next start after {call} {number}", serve_nothing(starter, folder), 0)
         else:
             raise Wrong(f"a start has {MOST_CALLS} calls of {call} or more")
     expect("whether calls failed", failed > 20, True)
+
+
+def checked(starter: Starter, folder: pathlib.Path, what: str):
+    """A check finds the store whole, or none in a new folder, as the next start does."""
+    ended = PROCESSES.run([starter.programs.davd, "--check", folder], seconds=30)
+    if ended.returncode != 0:
+        expect(what, (ended.returncode, ended.stdout), (4, NO_STORE))
 
 
 FOLDERS = (("a new folder", new), ("a folder of version 1", version_1), ("a folder of version 1 without a number", version_1_without_number))

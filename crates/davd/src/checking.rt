@@ -10,13 +10,15 @@ ghost use Rattle.dav_tree.specs.TreeFs.{store_of, reads_of};
 ghost use Rattle.davd.specs.Checking.{IsVerified, ChecksFolder};
 ghost use Rattle.davd.specs.Program.{IsNotUsage};
 
-use crate::files::{Absent, DATA, DATABASE, LAST, expect_database, may_be_new};
+use crate::files::{Absent, DATA, DATABASE, FirstStart, LAST, expect_database};
 use crate::folder::{Held, expect_up_to_date, open_pair};
-use crate::program::Stopped;
+use crate::program::{Refusal, Stopped};
 use dav_check::{Checked, check};
 use dav_data::{ClaimedFile, Unclaimed};
-use dav_folder::read_files;
+use dav_folder::{Found, read_files};
+use dav_keep::first_changes;
 use dav_resource::FsError;
+use dav_rows::Version;
 use dav_tree::{Medium, TreeFs};
 use disk_readonly::ReadOnly;
 use sqlite::{FileFrom, Start};
@@ -34,7 +36,7 @@ type CheckedFile<E> = ClaimedFile<ReadOnly<E>, Unclaimed>;
 /// read, and a last line with the number of rows, of files, of the bytes in those that can be read, and of those that
 /// cannot. It changes nothing in the folder. `held` stands for what the files held.
 ///
-/// Errors: `Damaged` if a file cannot be read; `Refused` as for `open_folder`; `Disk` if the folder has no database, or
+/// Errors: `Damaged` if a file cannot be read; `Refused` as for `open_folder`, and if there is no store; `Disk` if the folder
 /// cannot be read; `Memory`; `Stream` if the output fails.
 pub fn check_folder<R: Start, T: Start, N: Start, C: Drop, O: Write>(
     rt: &HostRuntime,
@@ -48,22 +50,21 @@ pub fn check_folder<R: Start, T: Start, N: Start, C: Drop, O: Write>(
 {
     expect_database(rt, folder)?;
     let absent = Absent::find(rt, folder)?;
-    let may_be_new = may_be_new(rt, folder)?;
+    let first = FirstStart::find(rt, folder)?;
     let (left, file, number, _claim) = held;
     let mut last = open_pair(rt, folder, LAST, number)?;
     let held = (left, file);
-    let checked = check_pairs(rt, folder, absent, may_be_new, held, &mut last, output);
+    let checked = check_pairs(rt, folder, absent, first, held, &mut last, output);
     absent.remove_last(rt, folder)?;
     checked
 }
 
-/// The same, over the files that are there. `absent` are those that are missing, and `may_be_new` says whether the first
-/// start of the folder may not have ended.
+/// The same, over the files that are there. `absent` are those that are missing, and `first` says what else may be.
 fn check_pairs<R: Start, T: Start, L: Disk, O: Write>(
     rt: &HostRuntime,
     folder: &str,
     absent: Absent,
-    may_be_new: bool,
+    first: FirstStart,
     held: (R, T),
     last: &mut Files<L>,
     output: &mut O,
@@ -83,7 +84,7 @@ fn check_pairs<R: Start, T: Start, L: Disk, O: Write>(
             return Err(stopped);
         }
     };
-    let checked = check_files(rt.alloc(), &mut files, data.db, may_be_new, last, output);
+    let checked = check_files(rt.alloc(), &mut files, data.db, first, last, output);
     // The database is still locked, so nobody serves the files that are removed.
     absent.remove(rt, folder)?;
     checked
@@ -94,7 +95,7 @@ fn check_files<D: Disk, E: Disk + Drop, L: Disk, O: Write>(
     alloc: Global,
     files: &mut Files<D>,
     file: E,
-    may_be_new: bool,
+    first: FirstStart,
     last: &mut Files<L>,
     output: &mut O,
 ) -> Result<(), Stopped>
@@ -113,15 +114,26 @@ fn check_files<D: Disk, E: Disk + Drop, L: Disk, O: Write>(
         Ok(disk) => disk,
         Err(error) => return Err(Stopped::Disk(error)),
     };
-    // Without changes a database that has no table gets no store.
-    let read = read_files::<D, ReadOnly<E>, Unclaimed>(alloc, files, disk, &[], None, None);
+    let changes = first_changes(alloc, 0)?;
+    let read = read_files::<D, ReadOnly<E>, Unclaimed>(alloc, files, disk, &changes, None, None);
     let mut found = match read {
         Ok(found) => found,
         Err((error, _)) => return Err(error.into()),
     };
-    expect_up_to_date(last, &found, may_be_new, false)?;
+    expect_up_to_date(last, &found, first, false)?;
+    expect_store(&found)?;
     let checked = check_store(alloc, &mut found.store)?;
     report_checked(output, found.rows, &checked)
+}
+
+/// Checks that the store that was read is not a new one. Errors: `Refused`.
+fn expect_store<M: Medium>(found: &Found<M>) -> Result<(), Stopped>
+    ensures err { IfErr result IsNotUsage }
+{
+    if found.version == Version::New {
+        return Err(Stopped::Refused(Refusal::NoStore));
+    }
+    Ok(())
 }
 
 /// Reads every byte of every file of a store. Errors: `Memory`; `Damaged` if a directory cannot be listed.

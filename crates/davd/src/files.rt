@@ -1,6 +1,6 @@
 //! The files of a folder: which there are, before any is opened.
 ghost use Rattle.std.specs.Prelude.{◌≡◌, IfErr};
-ghost use Rattle.davd.specs.Present.{missing_of};
+ghost use Rattle.davd.specs.Present.{missing_of, may_be_first, may_lack_tables};
 ghost use Rattle.davd.specs.Program.{IsNotUsage};
 
 use crate::program::{Refusal, Stopped};
@@ -17,8 +17,15 @@ pub const DATA: &str = "data";
 /// The number of the last batch of a store. The file that comes with it has the number a second time.
 pub const LAST: &str = "last";
 
+/// The log of the database.
+const LOG: &str = "meta.db-wal";
+
 /// The directory in which a backup has its files until all of them are there.
 const PARTIAL: &str = "partial";
+
+/// How many bytes the log has that has no batch. A first start brings them to the disk before the database has a byte, and
+/// it has more of them only if the database has bytes.
+const LOG_HEADER: u64 = 41;
 
 /// Makes a folder, unless there is something of this name, and brings its name to the disk.
 pub fn make_folder(rt: &HostRuntime, folder: &str) -> Result<(), Stopped>
@@ -44,8 +51,8 @@ fn sync_parent(rt: &HostRuntime, folder: &str) -> Result<(), Stopped>
 
 /// Checks that no file of a store is missing that was there: a database has its data file, a data file with bytes and a
 /// number have their database, and of the two files of the last number there is none without the other, unless the loss of
-/// batches is accepted. Files of a backup that did not end have no database. A log alone is none of a store that was served:
-/// the number is written before the first batch.
+/// batches is accepted. Files of a backup that did not end have no database. A log with more than its header has its database,
+/// too.
 ///
 /// Errors: `Refused` if one is missing; `Disk`; `Memory`.
 pub fn expect_files(rt: &HostRuntime, folder: &str, accepts_loss: bool) -> Result<(), Stopped>
@@ -55,8 +62,9 @@ pub fn expect_files(rt: &HostRuntime, folder: &str, accepts_loss: bool) -> Resul
     let file = size_of(rt, folder, DATA)?;
     let last = size_of(rt, folder, LAST)?;
     let other = size_of(rt, folder, "last-wal")?;
+    let log = size_of(rt, folder, LOG)?;
     let is_partial = size_of(rt, folder, PARTIAL)?.is_some();
-    match missing(database, file, (last, other), is_partial) {
+    match missing((database, log), file, (last, other), is_partial) {
         Some(Refusal::NoNumber) if accepts_loss => Ok(()),
         Some(refusal) => Err(Stopped::Refused(refusal)),
         None => Ok(()),
@@ -64,18 +72,19 @@ pub fn expect_files(rt: &HostRuntime, folder: &str, accepts_loss: bool) -> Resul
 }
 
 /// Returns what is missing beside files with so many bytes, if something is. A file that is not there has no size.
-/// `number` are the two files of the last number, and `is_partial` says whether there is the directory of a backup.
+/// `database` is the database and its log, `number` are the two files of the last number, and `is_partial` says whether there
+/// is the directory of a backup.
 fn missing(
-    database: Option<u64>,
+    database: (Option<u64>, Option<u64>),
     file: Option<u64>,
     number: (Option<u64>, Option<u64>),
     is_partial: bool,
 ) -> Option<Refusal>
     ensures { result ≡ missing_of database file number is_partial }
 {
-    let has_database = database.unwrap_or(0) > 0;
+    let has_database = database.0.unwrap_or(0) > 0;
     let has_number = number.0.unwrap_or(0) > 0 || number.1.unwrap_or(0) > 0;
-    let has_rest = file.unwrap_or(0) > 0 || has_number;
+    let has_rest = file.unwrap_or(0) > 0 || has_number || database.1.unwrap_or(0) > LOG_HEADER;
     if has_database && file.is_none() {
         Some(Refusal::NoData)
     } else if !has_database && is_partial {
@@ -89,15 +98,47 @@ fn missing(
     }
 }
 
-/// Returns whether a folder may be one of which the first start did not end: its data file has no byte, and a database with
-/// bytes has its log, which a start makes first.
-pub fn may_be_new(rt: &HostRuntime, folder: &str) -> Result<bool, Stopped>
-    ensures { IfErr result IsNotUsage }
-{
-    let has_bytes = size_of(rt, folder, DATA)?.unwrap_or(0) > 0;
-    let has_database = size_of(rt, folder, DATABASE)?.unwrap_or(0) > 0;
-    let has_log = size_of(rt, folder, "meta.db-wal")?.is_some();
-    Ok(!has_bytes && (has_log || !has_database))
+/// What may be missing in a folder whose first start did not end.
+#[derive(Clone, Copy)]
+pub struct FirstStart {
+    /// Whether the tables may be missing. The number is written after them.
+    pub may_lack_tables: bool,
+    /// Whether the number may be missing. The data file has no byte before it.
+    pub may_lack_number: bool,
+}
+
+impl FirstStart {
+    /// Finds what may be missing. Errors: `Disk`; `Memory`.
+    pub fn find(rt: &HostRuntime, folder: &str) -> Result<FirstStart, Stopped>
+        ensures { IfErr result IsNotUsage }
+    {
+        let database = size_of(rt, folder, DATABASE)?;
+        let log = size_of(rt, folder, LOG)?;
+        let file = size_of(rt, folder, DATA)?;
+        let last = size_of(rt, folder, LAST)?;
+        let other = size_of(rt, folder, "last-wal")?;
+        Ok(FirstStart::of((database, log), file, (last, other)))
+    }
+
+    /// Returns what may be missing beside files with so many bytes. A file that is not there has no size. `database` is the
+    /// database and its log, and `number` are the two files of the last number.
+    fn of(
+        database: (Option<u64>, Option<u64>),
+        file: Option<u64>,
+        number: (Option<u64>, Option<u64>),
+    ) -> FirstStart
+        ensures tables { result.may_lack_tables ≡ may_lack_tables database file number }
+        ensures number { result.may_lack_number ≡ may_be_first database file }
+    {
+        let has_database = database.0.unwrap_or(0) > 0;
+        let has_header = database.1.unwrap_or(0) >= LOG_HEADER;
+        let may_be_first = file.unwrap_or(0) == 0 && (has_header || !has_database);
+        let has_number = number.0.unwrap_or(0) > 0 || number.1.unwrap_or(0) > 0;
+        FirstStart {
+            may_lack_tables: may_be_first && !has_number,
+            may_lack_number: may_be_first,
+        }
+    }
 }
 
 /// Returns how many bytes a file of the folder has, if it is there.
@@ -135,13 +176,13 @@ fn by_disk(ended: io::Result<()>) -> Result<(), Stopped>
 
 /// Checks that there is a database with bytes, and that no file of its store is missing.
 ///
-/// Errors: `Refused` if one is missing; `Disk` if there is no database, or the folder cannot be read; `Memory`.
+/// Errors: `Refused` if one is missing, or there is no database; `Disk` if the folder cannot be read; `Memory`.
 pub fn expect_database(rt: &HostRuntime, folder: &str) -> Result<(), Stopped>
     ensures { IfErr result IsNotUsage }
 {
     expect_files(rt, folder, false)?;
     match size_of(rt, folder, DATABASE)? {
-        None | Some(0) => Err(Stopped::Disk(ErrorKind::NotFound.into())),
+        None | Some(0) => Err(Stopped::Refused(Refusal::NoStore)),
         Some(_) => Ok(()),
     }
 }
@@ -161,7 +202,7 @@ impl Absent {
         ensures { IfErr result IsNotUsage }
     {
         Ok(Absent {
-            log: size_of(rt, folder, "meta.db-wal")?.is_none(),
+            log: size_of(rt, folder, LOG)?.is_none(),
             reserve: size_of(rt, folder, "data-wal")?.is_none(),
             last: size_of(rt, folder, LAST)?.is_none(),
             other: size_of(rt, folder, "last-wal")?.is_none(),
@@ -174,7 +215,7 @@ impl Absent {
         ensures { IfErr result IsNotUsage }
     {
         if self.log {
-            remove_empty(rt, folder, "meta.db-wal")?;
+            remove_empty(rt, folder, LOG)?;
         }
         self.remove_reserve(rt, folder)
     }

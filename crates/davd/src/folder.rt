@@ -13,20 +13,19 @@ ghost use Rattle.dav_folder.specs.Opening.{AreOnlyRead};
 ghost use Rattle.dav_folder.specs.Reading.{ReadsAs, IsEmptyIfHonest};
 ghost use Rattle.dav_keep.specs.Images.{Image};
 ghost use Rattle.dav_last.specs.Batches.{number_of, key_of, Names, IsInBoth};
-ghost use Rattle.dav_last.specs.Crashes.{StillNames};
 ghost use Rattle.dav_rows.specs.Contents.{Contents};
 ghost use Rattle.dav_rows.specs.Creating.{first};
-ghost use Rattle.dav_rows.specs.declared.opening.Version.TheVariants.{Older, Current};
+ghost use Rattle.dav_rows.specs.declared.opening.Version.TheVariants.{New, Older, Current};
 ghost use Rattle.dav_rows_files.specs.Starting.{Keeps, IsVacant};
 ghost use Rattle.dav_seal.specs.Seals.{IsSealed};
 ghost use Rattle.dav_tree.specs.TreeFs.{memory_of};
-ghost use Rattle.davd.specs.Failing.{HoldsFound, HoldsOnIfOpened, HoldsOnLeft, HasOnly, KeepsNumber, HaveNumber};
+ghost use Rattle.davd.specs.Failing.{HoldsFound, HoldsOnIfOpened, HoldsOnLeft, HasOnly, KeepsNumber, KeepsOrNames, HaveNumber};
 ghost use Rattle.davd.specs.Folder.{FindsKept, FindsFirst, FindsHeld, FindsNew, HeldSealed, MakesFirst, IsNotOlder, OpensUpToDate};
 ghost use Rattle.davd.specs.Folder.{IsNumbered, FoundNumbered, HeldNumbered, OpensNumbered};
 ghost use Rattle.davd.specs.Program.{IsNotUsage};
 
 use crate::files::{
-    Absent, DATA, DATABASE, LAST, empty_reserve, expect_files, make_folder, may_be_new,
+    Absent, DATA, DATABASE, FirstStart, LAST, empty_reserve, expect_files, make_folder,
 };
 use crate::program::{Refusal, Stopped};
 use dav_data::{Claim, ClaimedFile};
@@ -119,8 +118,8 @@ struct Opening {
     tag_part: Option<u128>,
     /// The files that are missing.
     absent: Absent,
-    /// Whether the first start of the folder may not have ended.
-    may_be_new: bool,
+    /// What may be missing, if the first start of the folder did not end.
+    first: FirstStart,
 }
 
 /// Opens the store of a folder. If the folder is not there, or has neither a database nor bytes in its data file, it makes
@@ -129,7 +128,7 @@ struct Opening {
 /// `held` stands for what the files held.
 ///
 /// If they held a store, it is found, and its rows have the seal that was kept with them. If they held no table, a new store
-/// is found. Everything is read and judged before anything is written. A store of an earlier batch than that number is opened
+/// is found, where no file says that there was one. Everything is read and judged before anything is written. A store of an earlier batch than that number is opened
 /// only if `accepts_loss`, and so is one without a number, unless it is of version 1 or no batch was kept. Then each of the
 /// files has the number of the store's last batch.
 ///
@@ -163,7 +162,7 @@ pub fn open_folder<R: Start, T: Start, N: Start, C: Confirm>(
     make_folder(rt, folder)?;
     expect_files(rt, folder, options.accepts_loss)?;
     let absent = Absent::find(rt, folder)?;
-    let may_be_new = may_be_new(rt, folder)?;
+    let first = FirstStart::find(rt, folder)?;
     let (left, file, number, _claim) = held;
     let mut last = open_pair(rt, folder, LAST, number)?;
     let how = Opening {
@@ -172,7 +171,7 @@ pub fn open_folder<R: Start, T: Start, N: Start, C: Confirm>(
         seed: options.seed,
         tag_part: options.tag_part,
         absent,
-        may_be_new,
+        first,
     };
     let opened = match open_pairs(rt, folder, how, options.key, (left, file), &mut last) {
         Ok(opened) => opened,
@@ -345,7 +344,7 @@ fn make_ready<L: Disk, M: Medium>(
     ensures log { OnOk result (IsTrue (L.Disk.is_usable last.new.log)) }
     ensures db { OnOk result (IsTrue (L.Disk.is_usable last.new.db)) }
     ensures clean { AreClean L.Disk last.new.log last.new.db → AreClean L.Disk last.old.log last.old.db }
-    ensures kept { (last.new ≡ last.old) ⊎ StillNames L.Disk found.entry.now.key found.entry.now.last (last.old.log, last.old.db) (last.new.log, last.new.db) }
+    ensures kept { KeepsOrNames L.Disk found.entry.now.key found.entry.now.last last.old last.new }
     ensures older { found.entry.now.version ≡ Older → OnOk result (HaveNumber L.Disk found.entry.now.key found.entry.now.last last.new) }
     ensures newer { found.entry.now.version ≢ Older → last.new ≡ last.old }
     ensures err { IfErr result IsNotUsage }
@@ -362,7 +361,7 @@ fn number_older<L: Disk, M: Medium>(last: &mut Files<L>, found: &Found<M>) -> Re
     ensures log { OnOk result (IsTrue (L.Disk.is_usable last.new.log)) }
     ensures db { OnOk result (IsTrue (L.Disk.is_usable last.new.db)) }
     ensures clean { AreClean L.Disk last.new.log last.new.db → AreClean L.Disk last.old.log last.old.db }
-    ensures kept { (last.new ≡ last.old) ⊎ StillNames L.Disk found.entry.now.key found.entry.now.last (last.old.log, last.old.db) (last.new.log, last.new.db) }
+    ensures kept { KeepsOrNames L.Disk found.entry.now.key found.entry.now.last last.old last.new }
     ensures older { found.entry.now.version ≡ Older → OnOk result (HaveNumber L.Disk found.entry.now.key found.entry.now.last last.new) }
     ensures newer { found.entry.now.version ≢ Older → last.new ≡ last.old }
     ensures err { IfErr result IsNotUsage }
@@ -445,26 +444,27 @@ fn read_up_to_date<D: Disk, E: Disk + Drop, L: Disk, C: Confirm>(
         Ok(found) => found,
         Err((error, data_file)) => return Err((error.into(), data_file)),
     };
-    match expect_up_to_date(last, &found, how.may_be_new, how.accepts_loss) {
+    match expect_up_to_date(last, &found, how.first, how.accepts_loss) {
         Ok(()) => Ok(found),
         Err(stopped) => Err((stopped, found.give_up())),
     }
 }
 
-/// Checks that the store that was found has lost no batch. It only reads the files of the number. `may_be_new` says whether the
-/// first start of the folder may not have ended.
+/// Checks that the store that was found has lost no batch. It only reads the files of the number. `first` says what may be
+/// missing.
 ///
-/// Errors: `Refused` if the files say a greater number than that of the last batch, or none where there has to be one, unless
-/// `accepts_loss`; `Disk` if they cannot be read.
+/// Errors: `Refused` if it is a new one where there have to be tables; if the files say a greater number than that of the last
+/// batch, or none where there has to be one, unless `accepts_loss`; `Disk` if they cannot be read.
 pub(crate) fn expect_up_to_date<L: Disk, M: Medium>(
     files: &mut Files<L>,
     found: &Found<M>,
-    may_be_new: bool,
+    first: FirstStart,
     accepts_loss: bool,
 ) -> Result<(), Stopped>
     requires other { IsTrue (L.Disk.is_usable files.old.log) }
     requires last { IsTrue (L.Disk.is_usable files.old.db) }
     ensures only { OnlyReadsBoth L.Disk (files.old.log, files.old.db) (files.new.log, files.new.db) }
+    ensures tables { OnOk result (found.entry.now.version ≡ New → first.may_lack_tables ≡ true) }
     ensures up_to_date { OnOk result (accepts_loss ≡ false → AreClean L.Disk files.new.log files.new.db
         → IsNotOlder found.entry.now.key found.entry.now.last (L.Disk.seen files.old.log) (L.Disk.seen files.old.db)) }
     ensures numbered { OnOk result (accepts_loss ≡ false → AreClean L.Disk files.new.log files.new.db
@@ -472,21 +472,29 @@ pub(crate) fn expect_up_to_date<L: Disk, M: Medium>(
     ensures err { IfErr result IsNotUsage }
 {
     match read_last(files, found.key) {
+        Ok(_) if lacks_tables(found, first) => Err(Stopped::Refused(Refusal::NoDatabase)),
         Ok(_) if accepts_loss => Ok(()),
         Ok(Last::Number(number)) if number > found.last => Err(Stopped::Refused(Refusal::Older)),
         Ok(Last::Number(_)) => Ok(()),
-        Ok(Last::Nothing) if may_lack_number(found, may_be_new) => Ok(()),
+        Ok(Last::Nothing) if may_lack_number(found, first) => Ok(()),
         Ok(_) => Err(Stopped::Refused(Refusal::NoNumber)),
         Err(error) => Err(Stopped::Disk(error)),
     }
 }
 
+/// Returns whether the database has no table where there have to be some.
+fn lacks_tables<M: Medium>(found: &Found<M>, first: FirstStart) -> bool
+    ensures { result ≡ false → found.entry.now.version ≡ New → first.may_lack_tables ≡ true }
+{
+    found.version == Version::New && !first.may_lack_tables
+}
+
 /// Returns whether the store that was found may have no number. One of version 1 may have none. A new one gets it when its
 /// tables are there, and before its first batch.
-fn may_lack_number<M: Medium>(found: &Found<M>, may_be_new: bool) -> bool
+fn may_lack_number<M: Medium>(found: &Found<M>, first: FirstStart) -> bool
     ensures { result ≡ true → found.entry.now.version ≡ Current → found.entry.now.last ≡ 0 }
 {
-    found.version == Version::Older || (found.last == 0 && may_be_new)
+    found.version == Version::Older || (found.last == 0 && first.may_lack_number)
 }
 
 /// Opens a file of the folder, and the one that comes with it.
@@ -527,7 +535,7 @@ impl From<sqlite_std_file::OpenError> for Stopped {
             sqlite_std_file::OpenError::Io(error) => Stopped::Disk(error),
             sqlite_std_file::OpenError::OutOfMemory => Stopped::Memory,
             sqlite_std_file::OpenError::Busy => Stopped::InUse,
-            sqlite_std_file::OpenError::HotJournal => Stopped::Refused(Refusal::Foreign),
+            sqlite_std_file::OpenError::HotJournal => Stopped::Refused(Refusal::Journal),
         }
     }
 }

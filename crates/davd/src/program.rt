@@ -74,6 +74,10 @@ pub enum Refusal {
     NoNumber,
     /// There are files of a backup that did not end.
     Unfinished,
+    /// There is the journal of another program beside one of the files.
+    Journal,
+    /// There is no store to check.
+    NoStore,
 }
 
 impl From<io::Error> for Stopped {
@@ -138,10 +142,10 @@ pub fn run_program<R: Start, T: Start, N: Start, C: Confirm, I: Read, O: Write>(
         options (I.remaining input.old) (I.remaining input.new) (O.contents output.old) (O.contents output.new)) }
     ensures stopped { (options : OptionsValue) → SayFolder (texts arguments.now) options
         → OnErr result (HasNotBegun input.old input.new output.old output.new
-        ⊎ (StopsInFolder ⟦<FileFrom<R> as Disk>⟧ ⟦<FolderData<T, C> as Medium>⟧ (image_at R.Start) T.Start.db options
-        (O.contents output.old) (O.contents output.new)
-        ⊎ ServesWithLog ⟦<FileFrom<R> as Disk>⟧ ⟦<FolderData<T, C> as Medium>⟧ (image_at R.Start) T.Start.db options
-        (I.remaining input.old) (I.remaining input.new) (O.contents output.old) (O.contents output.new))) }
+        ⊎ (StopsInFolder ⟦<FileFrom<R> as Disk>⟧ ⟦<FileFrom<N> as Disk>⟧ ⟦<FolderData<T, C> as Medium>⟧ (image_at R.Start) T.Start.db (image_at N.Start)
+        options (O.contents output.old) (O.contents output.new)
+        ⊎ ServesWithLog ⟦<FileFrom<R> as Disk>⟧ ⟦<FileFrom<N> as Disk>⟧ ⟦<FolderData<T, C> as Medium>⟧ (image_at R.Start) T.Start.db (image_at N.Start)
+        options (I.remaining input.old) (I.remaining input.new) (O.contents output.old) (O.contents output.new))) }
     ensures end { OnOk result (DoCheck (texts arguments.now) ⊎ IsAtEnd (I.remaining input.new)) }
     ensures checked { DoCheck (texts arguments.now) → input.new ≡ input.old }
     ensures whole { DoCheck (texts arguments.now) → OnOk result (ChecksFolder ⟦<FileFrom<R> as Disk>⟧ ⟦<FileFrom<T> as Disk>⟧ ⟦<FileFrom<N> as Disk>⟧
@@ -282,19 +286,22 @@ fn refusal_of(refusal: Refusal) -> &'static str {
         Refusal::Damaged =>
             "davd: meta.db or meta.db-wal is damaged, so nothing was changed: restore all files of the folder from one backup",
         Refusal::Foreign =>
-            "davd: meta.db is not a database of this version of davd, so nothing was changed: serve it by the later version that made it, or choose another folder",
+            "davd: meta.db has other tables than this version of davd makes, so nothing was changed: remove a table or view that was added, serve it by the later version that made it, or choose another folder",
         Refusal::NoDatabase =>
-            "davd: meta.db has no store, and the folder has bytes of one, so nothing was changed: restore all files of the folder from one backup",
+            "davd: meta.db and meta.db-wal have no store, and the folder has bytes of one, so nothing was changed: restore all files of the folder from one backup",
         Refusal::NoData =>
             "davd: data is missing, so nothing was changed: restore all files of the folder from one backup",
         Refusal::ShortData =>
             "davd: data is shorter than meta.db says, so nothing was changed: restore all files of the folder from one backup",
         Refusal::Older =>
-            "davd: meta.db and meta.db-wal have lost the last batches, so nothing was changed: restore all files of the folder from one backup, or serve what is left with -accept-loss",
+            "davd: meta.db and meta.db-wal have lost the last batches, so nothing was changed: restore all files of the folder from one backup, or copy it and serve what is left with -accept-loss",
         Refusal::Unfinished =>
             "davd: a backup to this folder did not end, so nothing was changed: make a new one in another folder",
+        Refusal::Journal =>
+            "davd: there is the journal of another program beside a file of the folder, such as meta.db-journal, so nothing was changed: restore all files of the folder from one backup, and no other",
+        Refusal::NoStore => "davd: the folder has no store, so there is nothing to check",
         Refusal::NoNumber =>
-            "davd: last or last-wal is missing, or both are damaged or of another folder, so nothing was changed: restore all files of the folder from one backup, or serve it with -accept-loss",
+            "davd: last or last-wal is missing, or both are damaged or of another folder, so nothing was changed: restore all files of the folder from one backup, or copy it and serve it with -accept-loss",
     }
 }
 

@@ -20,8 +20,12 @@ returns-clause-whole g c = on_ok c.report_checked.result c.report_checked.ensure
 
 pub returns-in_err-expect_up_to_date-clause-err : goal.returns-in_err-expect_up_to_date-clause-err
 returns-in_err-expect_up_to_date-clause-err g c =
-    passed_on c.from_residual.result c.in_err-expect_up_to_date.field-0.0 IsNotUsage c.from_residual.ensures.1
+    passed_on c.from_residual-in_err-expect_up_to_date.result c.in_err-expect_up_to_date.field-0.0 IsNotUsage c.from_residual-in_err-expect_up_to_date.ensures.1
     c.in_err-expect_up_to_date.ensures.err
+
+pub returns-in_err-expect_store-clause-err : goal.returns-in_err-expect_store-clause-err
+returns-in_err-expect_store-clause-err g c =
+    passed_on c.from_residual-in_err-expect_store.result c.in_err-expect_store.field-0.0 IsNotUsage c.from_residual-in_err-expect_store.ensures.1 c.in_err-expect_store.ensures.err
 
 pub returns-in_err-checked-clause-err : goal.returns-in_err-checked-clause-err
 returns-in_err-checked-clause-err g c =
