@@ -95,6 +95,18 @@ def upgraded(starter: Starter):
         server.stop()
 
 
+@GROUP.check("a write beyond the greatest length of a file fails, and does not end davd")
+def too_long(starter: Starter):
+    program = starter.write("davd", f"#!/bin/sh\nulimit -f 2000\nexec '{starter.programs.davd}' \"$@\"\n")
+    program.chmod(0o755)
+    server = start(starter, davd=program)
+    before = server.davd()
+    server.ask("PUT", "/long", b"x" * 3_000_000, status=(500, 507))
+    server.ask("GET", "/", status=200)
+    expect("the process of davd", server.davd(), before)
+    server.stop()
+
+
 def failing(starter: Starter, call: str) -> pathlib.Path:
     """A davd of which this call on the files of the number fails once, when there is a file `when`."""
     shim, folder = folder_shim.compile_shim(starter.folder), starter.folder

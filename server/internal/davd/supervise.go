@@ -19,7 +19,7 @@ type pauses struct {
 	patience        time.Duration // how long calls wait for the next davd over a folder
 	full            time.Duration // how long a davd serves at least that is full, until the next one is tried
 	rest            time.Duration // how long nothing changes until davd brings to the disk how far its folder is; 0: never
-	watch           time.Duration // how often the files of the folder are looked at, whether they are still those of davd; 0: never
+	watch           time.Duration // how often the files of the folder are compared with those that davd has open; 0: never
 }
 
 var defaultPauses = pauses{

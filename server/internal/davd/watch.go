@@ -23,7 +23,7 @@ func identify(folder string) map[string]fs.FileInfo {
 }
 
 // replaced returns the name of a watched file in whose place there is another file, or none, and "" if there is no such
-// one. A file that cannot be looked at may still be there.
+// one. A file of which nothing can be said, because the disk fails, counts as there.
 func (p *process) replaced(folder string) string {
 	for _, name := range watched {
 		opened, ok := p.files[name]
