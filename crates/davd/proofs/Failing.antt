@@ -1,5 +1,5 @@
 -- What a start that fails leaves still holds what the files held.
-use Rattle.std.proofs.Common.{◌≡◌, ◌∙◌, inl, inr, ℕ, Bool, true, List, Option, Some, None, Result, Ok, Err, sym, subst}
+use Rattle.std.proofs.Common.{◌≡◌, inl, inr, ℕ, List, Option, Result, Ok, Err, sym, subst}
 use Rattle.std.proofs.Math.Logic.{∥∥₁_map}
 use Rattle.std.specs.Prelude.{IfErr}
 use Rattle.dav_data.specs.declared.claim.Claim as claim
@@ -12,7 +12,7 @@ use Rattle.dav_folder.specs.Lasting.{Lasts, LastsAlone, HasCleanDatabase}
 use Rattle.dav_folder.specs.Opening.{AreOnlyRead, opened_at}
 use Rattle.dav_folder.specs.declared.failing.DataLeft.{DataLeft}
 use Rattle.dav_folder.specs.declared.failing.Remains.{Remains}
-use Rattle.dav_rows_files.specs.Starting.{Keeps, MayLeave, IsExempt, FailsUnharmed}
+use Rattle.dav_rows_files.specs.Starting.{Keeps, IsExempt, FailsUnharmed}
 use Rattle.sqlite.specs.Files.{image_of}
 use Rattle.sqlite.specs.Recovery as database
 use Rattle.sqlite.specs.declared.file.Leftover.{Leftover}

@@ -1,5 +1,5 @@
 use Rattle.std.proofs.Common.{◌≡◌, ℕ, List, refl, sym, subst, ◌∙◌}
-use Rattle.std.specs.Prelude.{IfOk, IfErr, false}
+use Rattle.std.specs.Prelude.{IfOk, false}
 use Rattle.dav_keep.specs.Images.{StandForImage}
 use Rattle.dav_keep.specs.Loading.{first_image}
 use Rattle.dav_rows.specs.Creating.{first}

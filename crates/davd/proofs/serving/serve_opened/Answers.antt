@@ -1,7 +1,7 @@
 use Rattle.davd.proofs.Leaves.{named_by}
 use Rattle.davd.proofs.serving.serve_opened.Goals as goal
 use Rattle.davd.proofs.serving.serve_opened.Goals.{in-Ok, in-Err}
-use Rattle.std.proofs.Common.{◌∙◌, sym, ap, inl, inr, refl}
+use Rattle.std.proofs.Common.{◌∙◌, sym, ap}
 use Rattle.dav_last.specs.Batches.{key_of}
 use Rattle.dav_guarding.specs.Guarding.{inner_of}
 
