@@ -188,6 +188,7 @@ func (h *Handler) copy(w http.ResponseWriter, r *http.Request) error {
 	if err != nil {
 		return err
 	}
+	h.setModified(r, response)
 	return h.write(w, r, response) // With no room reserved: a client that reads it slowly keeps nobody else from writing.
 }
 

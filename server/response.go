@@ -54,6 +54,7 @@ func (h *Handler) answer(w http.ResponseWriter, r *http.Request, request *frame.
 	if err != nil {
 		return err
 	}
+	h.setModified(r, response)
 	return h.write(w, r, response)
 }
 

@@ -158,6 +158,7 @@ func (h *Handler) finish(w http.ResponseWriter, r *http.Request, request *frame.
 	if err != nil {
 		return err
 	}
+	h.setModified(r, response)
 	return h.write(w, r, response)
 }
 

@@ -23,14 +23,14 @@ WITH_USER = Group("rclone with a user, TLS and a prefix", "-prefix", "/dav", *ac
 GROUPS = [PLAIN, WITH_USER]
 
 
-def rclone(server, *words, status: int | None = 0, source: pathlib.Path | str = "/dev/null") -> str:
+def rclone(server, *words, status: int | None = 0, source: pathlib.Path | str = "/dev/null", vendor="other") -> str:
     """Runs rclone on the server, and returns what it printed. It reads `source` as its standard input."""
     name, password = accounts.ANNA
     environment = {
         **os.environ,
         "RCLONE_CONFIG": "/dev/null",
         "RCLONE_WEBDAV_URL": server.url(f"{server.prefix}/"),
-        "RCLONE_WEBDAV_VENDOR": "other",
+        "RCLONE_WEBDAV_VENDOR": vendor,
         "RCLONE_WEBDAV_USER": name if "-users" in server.flags else "",
         "RCLONE_WEBDAV_PASS": server.notes.get("obscured", ""),
         "RCLONE_NO_CHECK_CERTIFICATE": "true",
