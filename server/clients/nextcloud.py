@@ -15,8 +15,8 @@ MEMORY = Group("rclone with the times of files", needs="rclone")
 FOLDER = Group("rclone with the times of files, over a folder", "-folder", "{folder}", needs="rclone")
 
 
-def run(server, *words) -> str:
-    return rclone.rclone(server, *words, vendor="nextcloud")
+def run(server, *words, **more) -> str:
+    return rclone.rclone(server, *words, vendor="nextcloud", **more)
 
 
 def tree(server):
@@ -61,7 +61,7 @@ def bisync(server):
     run(server, "mkdir", ":webdav:both")
     run(server, "bisync", *both, "--resync")
     (tree(server) / "new here").write_text("here")
-    run(server, "rcat", ":webdav:both/new there")
+    run(server, "rcat", ":webdav:both/new there", source=tree(server) / "a.txt")
     run(server, "bisync", *both)
     names = sorted([*FILES, "new here", "new there"])
     expect("the names there", sorted(times(server, ":webdav:both")), names)
