@@ -7,7 +7,7 @@ use Rattle.dav_keep.specs.Loading.{IsWholeImage}
 use Rattle.dav_pieces.specs.declared.piece.Piece.{Piece}
 use Rattle.dav_rows.specs.Contents.{Contents}
 use Rattle.dav_rows.specs.declared.opening.Version.{Version}
-use Rattle.dav_rows.specs.declared.opening.Version.TheVariants.{Older, Current}
+use Rattle.dav_rows.specs.declared.opening.Version.TheVariants.{New, Older, Current}
 use Rattle.dav_tree.specs.TreeFs.{memory_of, honest_of}
 use Rattle.dav_tree.specs.declared.medium.Medium.{Ghosts}
 use Rattle.dav_folder.specs.Reading.{IsReadFrom, HasReadBytes, ReadsImage, IsEmptyIfHonest}
@@ -44,10 +44,11 @@ module _ {E M : Type 0} {g : Ghosts M (List Piece)} where
       record { read = read; bytes = subst (λ f. HasReadBytes f image whole found) same bytes; limit_is = set }
   reads_image (Err e) seen file limit image whole tables same read bytes set = tt
 
-  pub reads_empty : (result : Result (Found M (List Piece) g) E) (clean : Bool) (file : List ℕ) → IfOk result (λ found. honest_of found.store ≡ true → clean ≡ true)
-      → (clean ≡ true → file ≡ []) → IfOk result (λ found. IsEmptyIfHonest found file)
-  reads_empty (Ok found) clean file honest empty = λ is. empty (honest is)
-  reads_empty (Err e) clean file honest empty = tt
+  pub reads_empty : (result : Result (Found M (List Piece) g) E) (version : Version) (clean : Bool) (file : List ℕ) → IfOk result (λ found. found.version ≡ version)
+      → IfOk result (λ found. honest_of found.store ≡ true → clean ≡ true) → (version ≡ New → clean ≡ true → file ≡ [])
+      → IfOk result (λ found. found.version ≡ New → IsEmptyIfHonest found file)
+  reads_empty (Ok found) version clean file is honest empty = λ new right. empty (sym is ∙ new) (honest right)
+  reads_empty (Err e) version clean file is honest empty = tt
 
 -- disks that are clean after reads were clean before them
 pub were_clean : (old_log old_db new_log new_db : Bool) → (IsTrue new_log → IsTrue old_log) → (IsTrue new_db → IsTrue old_db) → IsTrue (new_log && new_db) → IsTrue (old_log && old_db)

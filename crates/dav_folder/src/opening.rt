@@ -53,8 +53,8 @@ pub struct Opened<S: Alter, M: Medium> {
 }
 
 /// Reads the store of a folder, over the files of its database and over its data file. It changes none of them. If there
-/// is nothing, it returns a new store, whose tables these changes make of none. `limit` is the store's quota. The rows have
-/// the seal that was kept with them, unless they are of version 1, which has none.
+/// is nothing, it returns a new store, whose tables these changes make of none. It returns a new store in no other case.
+/// `limit` is the store's quota. The rows have the seal that was kept with them, unless they are of version 1, which has none.
 ///
 /// - `Damaged`: the database is damaged, or its rows are not those of a store that was kept, or have another seal, or are
 ///   others than those that are claimed.
@@ -80,8 +80,11 @@ pub fn read_files<D: Disk, E: Disk + Drop, C: Confirm>(
         → ReadsAs (E.Disk.seen disk) limit (AreClean D.Disk files.new.log files.new.db) image tables result }
     ensures new { (image : Image) → IsVacant (image_of D.Disk files.old)
         → ReadsAs (E.Disk.seen disk) limit (AreClean D.Disk files.new.log files.new.db) image (first changes.now) result }
-    ensures empty { IsVacant (image_of D.Disk files.old)
-        → IfOk result (λ found. AreClean D.Disk files.new.log files.new.db → IsEmptyIfHonest found (E.Disk.seen disk)) }
+    ensures vacant { IsVacant (image_of D.Disk files.old)
+        → IfOk result (λ found. AreClean D.Disk files.new.log files.new.db → found.version ≡ New) }
+    ensures only_new { IfOk result (λ found. found.version ≡ New
+        → AreClean D.Disk files.new.log files.new.db → IsVacant (image_of D.Disk files.old)) }
+    ensures empty { IfOk result (λ found. found.version ≡ New → IsEmptyIfHonest found (E.Disk.seen disk)) }
     ensures sealed { (tables : Contents) → Keeps (image_of D.Disk files.old) tables
         → IfOk result (λ found. AreClean D.Disk files.new.log files.new.db → IsSealed found.key tables) }
     ensures current { (tables : Contents) → Keeps (image_of D.Disk files.old) tables

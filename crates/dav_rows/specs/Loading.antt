@@ -1,5 +1,5 @@
 -- What is read back.
-use Rattle.std.specs.Prelude.{◌≡◌, ◌↔◌, ◌≤◌, ℕ, ℤ, Bool, not, pos, List, [], map, Vec, Option, option_map, Result, IfOk, IsTrue}
+use Rattle.std.specs.Prelude.{◌≡◌, ◌⊎◌, ◌↔◌, ◌≤◌, ℕ, ℤ, Bool, not, pos, List, [], map, Vec, Option, option_map, Result, IfOk, IsTrue}
 use Rattle.std.specs.Ordering.{int_eq}
 use Rattle.std.specs.FinMap.{entries}
 use Rattle.sqlite_trees.specs.View.{doubt}
@@ -119,6 +119,10 @@ AreNew old new m rows = IsBlank old → IsAt new m × AreAll rows m
 
 -- the tables of the schema have this version
 pub record IsVersion (schema : Schema) (version : Version) : Type 0 where
-  pub new : schema ≡ no_schema → version ≡ New
+  pub new : (version ≡ New) ↔ (schema ≡ no_schema)
   pub older : (version ≡ Older) ↔ (schema ≡ older_schema)
   pub current : (version ≡ Current) ↔ (schema ≡ rows_schema)
+
+-- there is no table, or there are those of version 1 or the current ones, and nothing else
+abbrev pub IsNoneOrOurs : Schema → Type 0
+IsNoneOrOurs schema = (schema ≡ no_schema) ⊎ ((schema ≡ older_schema) ⊎ (schema ≡ rows_schema))

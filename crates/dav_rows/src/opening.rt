@@ -3,19 +3,19 @@ ghost use Rattle.std.specs.Prelude.{◌≡◌, ◌↔◌, ◌≤◌, [], false, 
 ghost use Rattle.sqlite_trees.specs.View.{doubt};
 ghost use Rattle.sqlite.specs.State.{HasCleanDisk};
 ghost use Rattle.sqlite.specs.Held.{state};
-ghost use Rattle.dav_rows.specs.Tables.{rows_schema, older_schema};
+ghost use Rattle.dav_rows.specs.Tables.{rows_schema, older_schema, no_schema};
 ghost use Rattle.dav_rows.specs.Changes.{after};
 ghost use Rattle.dav_rows.specs.Saving.{IsAt, Stays, LeavesNoOther};
 ghost use Rattle.dav_rows.specs.Creating.{first, IsBlank, Makes, LeavesBlankOr};
 ghost use Rattle.dav_rows.specs.Upgrading.{IsOlder, Upgrades, LeavesOlderOr};
-ghost use Rattle.dav_rows.specs.Loading.{IsVersion, Reads, ReadsBlank, AreHeld, AreNew, LeavesAlone, StaysAt};
+ghost use Rattle.dav_rows.specs.Loading.{IsVersion, IsNoneOrOurs, Reads, ReadsBlank, AreHeld, AreNew, LeavesAlone, StaysAt};
 ghost use Rattle.dav_rows.specs.Failing.{IsExcusedStart, IsExcusedFirst, HasUtf8, FailsToCreate, FailsExcused, FailsExcusedBlank};
 ghost use Rattle.dav_rows.specs.declared.opening.StartError.TheVariants.{Foreign, Sqlite};
 
 use crate::change::Change;
 use crate::creating::{add_notes, create};
 use crate::loading::{Rows, read_all, read_older};
-use crate::recognizing::{is_older, is_ours};
+use crate::recognizing::{is_blank, is_older, is_ours};
 use sqlite::{Alter, Connection, Error, Row};
 use std::alloc::Global;
 
@@ -50,7 +50,7 @@ enum Found {
 /// The version of the tables that a database had.
 #[derive(Clone, Copy, PartialEq, Eq, Debug, Drop)]
 pub enum Version {
-    /// There was no table.
+    /// There was no table, index or view.
     New,
     /// All tables but that of the notes were there, which is version 1.
     Older,
@@ -116,7 +116,8 @@ pub fn load_or_create<S: Alter>(
 
 /// Brings a database to the current version of the tables, in one transaction. In an empty database it makes the tables and applies
 /// `changes` to them. To the tables of version 1 it adds that of the notes and applies `upgrade`. The current tables stay as they are.
-/// It fails with `Foreign` if the database has other tables, and with `Sqlite` if SQLite fails, for the causes of `load_or_create`.
+/// It fails with `Foreign` if the database has other tables, and changes nothing then. It fails with `Sqlite` if SQLite fails,
+/// for the causes of `load_or_create`.
 pub fn bring_up_to_date<S: Alter>(
     conn: &mut Connection<S>,
     changes: &[Change],
@@ -132,6 +133,8 @@ pub fn bring_up_to_date<S: Alter>(
     ensures blank_crash { HasCleanDisk (state S.Store conn.new) → LeavesBlankOr (state S.Store conn.old) (state S.Store conn.new) (first changes.now) }
     ensures ours { HasCleanDisk (state S.Store conn.new) → OnOk result (StaysAt (state S.Store conn.old) (state S.Store conn.new)) }
     ensures blank { HasCleanDisk (state S.Store conn.new) → OnOk result (Makes (state S.Store conn.old) (state S.Store conn.new) (first changes.now)) }
+    ensures known { OnOk result (IsNoneOrOurs (state S.Store conn.old).now.schema) }
+    ensures foreign { HasCleanDisk (state S.Store conn.new) → IsErrOf result Foreign → LeavesAlone (state S.Store conn.old) (state S.Store conn.new) }
     ensures clean { doubt (state S.Store conn.old).is_clean ≤ doubt (state S.Store conn.new).is_clean }
     ensures err { HasCleanDisk (state S.Store conn.new) → IfErr result (λ e. (m : _) → IsAt (state S.Store conn.old) m → HasUtf8 m
         → IsExcusedStart (state S.Store conn.old) (state S.Store conn.new) e) }
@@ -170,6 +173,7 @@ fn found_in<S: Alter>(conn: &mut Connection<S>) -> Result<Found, Error>
     ensures older { IfOk result (λ found. (found ≡ Found.Older) ↔ ((state S.Store conn.old).now.schema ≡ older_schema)) }
     ensures unread { (state S.Store conn.old).now.schema ≡ older_schema → (result ≡ Ok Found.Older) × (conn.new ≡ conn.old) }
     ensures blank { ReadsBlank (state S.Store conn.old) (state S.Store conn.new) result (λ found. found ≡ Found.Nothing) }
+    ensures only_blank { IfOk result (λ found. found ≡ Found.Nothing → (state S.Store conn.old).now.schema ≡ no_schema) }
     ensures alone { HasCleanDisk (state S.Store conn.new) → IfOk result (λ found. found ≡ Found.Other
         → LeavesAlone (state S.Store conn.old) (state S.Store conn.new)) }
     ensures err { FailsExcused (state S.Store conn.old) (state S.Store conn.new) result }
@@ -181,8 +185,9 @@ fn found_in<S: Alter>(conn: &mut Connection<S>) -> Result<Found, Error>
     if is_older(conn.schema()) {
         return Ok(Found::Older);
     }
+    let is_blank = is_blank(conn.schema());
     let rows = listing_of(conn)?;
-    if rows.is_empty() {
+    if is_blank && rows.is_empty() {
         Ok(Found::Nothing)
     } else {
         Ok(Found::Other)

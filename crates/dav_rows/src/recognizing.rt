@@ -2,7 +2,7 @@
 ghost use Rattle.std.specs.Prelude.{◌≡◌, ◌↔◌, [], ◌∷◌, true, map, codes, IsTrue};
 ghost use Rattle.sqlite.specs.Collation.TheVariants.{Binary};
 ghost use Rattle.sqlite.specs.declared.types.Value.TheVariants.{Null};
-ghost use Rattle.dav_rows.specs.Tables.{key, filled_by, HasNoRules, numbered, resource_columns, extent_columns, property_columns, lock_columns, state_columns, note_columns, rows_tables, rows_schema, older_tables, older_schema};
+ghost use Rattle.dav_rows.specs.Tables.{key, filled_by, HasNoRules, numbered, resource_columns, extent_columns, property_columns, lock_columns, state_columns, note_columns, rows_tables, rows_schema, older_tables, older_schema, no_schema};
 
 use sqlite_schema::schema::{Column, Kind, Schema, Table};
 use sqlite_value::keys::Collation;
@@ -20,6 +20,13 @@ pub(crate) fn is_older(schema: &Schema) -> bool
     ensures { IsTrue result ↔ (schema.now ≡ older_schema) }
 {
     are_older(schema.tables.as_slice()) && schema.indexes.is_empty() && schema.views.is_empty()
+}
+
+/// Whether the database has no table, index or view.
+pub(crate) fn is_blank(schema: &Schema) -> bool
+    ensures { IsTrue result ↔ (schema.now ≡ no_schema) }
+{
+    schema.tables.is_empty() && schema.indexes.is_empty() && schema.views.is_empty()
 }
 
 fn are_ours(tables: &[Table]) -> bool

@@ -33,11 +33,13 @@ use Rattle.dav_rows.specs.Stored.{IsOurs}
 use Rattle.dav_rows.specs.Contents.{Contents, Holds}
 use Rattle.dav_rows.specs.Saving.{IsAt, Leaves}
 use Rattle.dav_rows.specs.Creating.{IsBlank, IsWhole}
+use Rattle.dav_rows.specs.Loading.{IsNoneOrOurs}
 use Rattle.dav_rows.specs.declared.opening.StartError.{StartError}
 use Rattle.dav_rows.specs.declared.opening.StartError.TheVariants.{Foreign, Sqlite}
 use Rattle.dav_rows.specs.Failing.{IsExcusedStart, IsExcusedFirst}
 use Rattle.dav_rows.specs.declared.change.Change.{Change}
-use Rattle.dav_rows_files.specs.Starting.{Keeps, KeepsOlder, KeepsEither, IsVacant, IsUnused, IsStopped, IsStoppedFirst, FailsToStart, FailsToStartFirst, FailsToStartOlder, NextKeeps}
+use Rattle.dav_rows_files.specs.Starting.{Keeps, KeepsOlder, KeepsEither, IsVacant, HoldsNoneOrOurs, IsUnused, IsStopped, IsStoppedFirst, FailsToStart, FailsToStartFirst, FailsToStartOlder, NextKeeps}
+use Rattle.dav_rows_files.proofs.VacantLemmas.{only_vacant, unlisted}
 
 -- the trees tell the schema
 sole : (schema : Schema) (db : Trees) → IsSound schema db → IsOurs db → schema ≡ rows_schema
@@ -76,6 +78,19 @@ pub older_found : (s : State) (image : Image) → Opens s → IsLive s → Finds
 older_found s image opens live found is =
     let now : IsSound older_schema s.now.trees = subst (λ schema. IsSound schema s.now.trees) is (live opens.is_open).0 in
     (s.committed.trees, found.reads, subst (λ (d : Database). IsSound older_schema d.trees) opens.clean now)
+
+-- an open that reads a schema with no table has found none
+pub vacant_found : (s : State) (image : Image) → Opens s → IsLive s → FindsIn image s → s.now.schema ≡ no_schema → IsVacant image
+vacant_found s image opens live found is =
+    let sound : IsSound no_schema s.now.trees = subst (λ schema. IsSound schema s.now.trees) is (live opens.is_open).0 in
+    only_vacant image s.committed.trees found.reads (sym (ap (λ (d : Database). d.trees catalog_tree) opens.clean) ∙ unlisted s.now.trees sound)
+
+pub known_found : (s : State) (image : Image) → Opens s → IsLive s → FindsIn image s → IsNoneOrOurs s.now.schema → HoldsNoneOrOurs image
+known_found s image opens live found (inl none) = inl (vacant_found s image opens live found none)
+known_found s image opens live found (inr (inl older)) = let it = older_found s image opens live found older in inr (it.0, it.1, inl it.2)
+known_found s image opens live found (inr (inr ours)) =
+    let sound : IsSound rows_schema s.now.trees = subst (λ schema. IsSound schema s.now.trees) ours (live opens.is_open).0 in
+    inr (s.committed.trees, found.reads, inr (subst (λ (d : Database). IsSound rows_schema d.trees) opens.clean sound))
 
 blank_over : (s : State) → Opens s → IsLive s → s.committed.trees catalog_tree ≡ [] → IsBlank s
 blank_over s opens live none =

@@ -19,10 +19,11 @@ use Rattle.dav_rows_files.specs.declared.judging.Unjudged.{Unjudged}
 use Rattle.dav_rows_files.specs.declared.judging.Unjudged.TheVariants.{Copy, Log, Start}
 
 -- The rows are those that the files keep, of the current version; or if the files have no table, those of these maps, which are new.
--- The version is `Older` if the files have the tables of version 1, and only if an open finds these.
+-- The version is `New` if the files have no table, and only then. It is `Older` if they have the tables of version 1, and only if an open finds these.
 pub record IsJudged (image : Image) (new : Contents) (loaded : Loaded) : Type 0 where
   pub kept : (m : Contents) → Keeps image m → AreAll loaded.rows m × (loaded.version ≡ Current)
   pub first : IsVacant image → AreAll loaded.rows new × (loaded.version ≡ New)
+  pub only_new : loaded.version ≡ New → IsVacant image
   pub older : (m : Contents) → KeepsOlder image m → loaded.version ≡ Older
   pub only_older : loaded.version ≡ Older → (db : Trees) × AreFoundIn image db × IsSound older_schema db
 

@@ -23,7 +23,7 @@ use Rattle.dav_rows.specs.declared.opening.StartError.{StartError}
 use Rattle.dav_rows.specs.declared.opening.StartError.TheVariants.{Foreign, Sqlite}
 use Rattle.dav_rows.specs.Contents.{Contents, Holds}
 use Rattle.dav_rows.specs.Saving.{IsAt}
-use Rattle.dav_rows.specs.Tables.{older_schema}
+use Rattle.dav_rows.specs.Tables.{rows_schema, older_schema}
 use Rattle.dav_rows.specs.Upgrading.{HoldsOlder}
 use Rattle.dav_rows.specs.Failing.{IsOutOfMemory, HasUtf8, PutsTooLong}
 use Rattle.dav_rows.specs.declared.change.Change.{Change}
@@ -51,6 +51,10 @@ IsVacant image = (db : Trees) → AreFoundIn image db → db catalog_tree ≡ []
 -- the files are new, or hold a database with no table, index or view
 abbrev pub IsUnused : Image → Type 0
 IsUnused image = (IsNothing image × IsVacant image) ⊎ ((db : Trees) × HoldsDatabase image db × (db catalog_tree ≡ []))
+
+-- an open finds no table, or those of version 1 or the current ones, and nothing else
+abbrev pub HoldsNoneOrOurs : Image → Type 0
+HoldsNoneOrOurs image = IsVacant image ⊎ ((db : Trees) × AreFoundIn image db × (IsSound older_schema db ⊎ IsSound rows_schema db))
 
 -- ---- what a start finds
 

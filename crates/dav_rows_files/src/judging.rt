@@ -39,7 +39,8 @@ impl From<CopyError> for Unjudged {
 
 /// Loads all rows from copies of the files of a database in memory. It only reads the files themselves. The rows stand for
 /// the maps that the files keep, whatever a crash made of them. If the files have no table, they are the rows of new tables
-/// after these changes, and the version is `New`. If they have the tables of version 1, there are no notes.
+/// after these changes, and the version is `New`, which it is in no other case. If they have the tables of version 1, there are
+/// no notes.
 ///
 /// - `Copy`: memory runs out, or a file cannot be read.
 /// - `Log`: the log is damaged.

@@ -5,7 +5,7 @@ ghost use Rattle.sqlite.specs.State.{HasCleanDisk};
 ghost use Rattle.sqlite_wal.specs.Reads.{AreClean};
 ghost use Rattle.dav_rows.specs.Changes.{after};
 ghost use Rattle.dav_rows.specs.Creating.{first};
-ghost use Rattle.dav_rows_files.specs.Starting.{BeginsAt, BeginsFirst, BeginsUpgraded, FailsToStart, FailsToStartFirst, FailsToStartOlder, FailsUnharmed, FailsUnharmedFirst, FailsUnharmedOlder};
+ghost use Rattle.dav_rows_files.specs.Starting.{BeginsAt, BeginsFirst, BeginsUpgraded, HoldsNoneOrOurs, FailsToStart, FailsToStartFirst, FailsToStartOlder, FailsUnharmed, FailsUnharmedFirst, FailsUnharmedOlder};
 
 use dav_rows::{Change, StartError, bring_up_to_date};
 use sqlite::{Connection, FileStore, Leftover};
@@ -14,9 +14,9 @@ use sqlite_pager::Options;
 use std::alloc::Global;
 
 /// Opens the files of a database. If they have no table, it makes the tables and applies `changes` to them, in one
-/// transaction. To the tables of version 1 it adds that of the notes and applies `upgrade`, in one transaction too. Otherwise
-/// it applies no change. Tables of a store stand for the maps that the files keep, whatever a crash made of them. `seed` is a
-/// random number.
+/// transaction. To the tables of version 1 it adds that of the notes and applies `upgrade`, in one transaction too. To the
+/// current tables it applies no change, and it succeeds over no others. Tables of a store stand for the maps that the files
+/// keep, whatever a crash made of them. `seed` is a random number.
 ///
 /// It fails with `Foreign` if the database has other tables, and changes none of them, and with `Sqlite` if SQLite fails.
 /// If the files keep the tables of a store, or none, it fails only if memory runs out, the disk reports a fault, a file has
@@ -39,6 +39,7 @@ pub fn start<D: Disk + Drop>(
     ensures at { IfOk result (λ conn. BeginsAt (image_of D.Disk files) (file_state conn)) }
     ensures new { IfOk result (λ conn. BeginsFirst (image_of D.Disk files) (file_state conn) (first changes.now)) }
     ensures upgraded { IfOk result (λ conn. BeginsUpgraded (image_of D.Disk files) (file_state conn) (after upgrade.now)) }
+    ensures known { IfOk result (λ conn. HasCleanDisk (file_state conn) → HoldsNoneOrOurs (image_of D.Disk files)) }
     ensures idle { IfOk result (λ conn. conn.in_transaction ≡ false) }
     ensures err { IfErr result (FailsToStart (image_of D.Disk files)) }
     ensures err_first { IfErr result (FailsToStartFirst (image_of D.Disk files) changes.now) }

@@ -1,4 +1,4 @@
-use Rattle.std.proofs.Common.{◌∙◌}
+use Rattle.std.proofs.Common.{◌∙◌, sym}
 use Rattle.dav_keep.specs.Loading.{AreRowsOfImage}
 use Rattle.dav_rows.specs.Creating.{first}
 use Rattle.dav_folder.proofs.FoundImages.{later, ok_anyway, reads_image, reads_empty, also, not_older}
@@ -17,10 +17,17 @@ returns-clause-new g c = λ image vacant stand whole. later _ c.read_store.resul
     let read = c.read_store.ensures in
     reads_image c.read_store.result _ _ c.args.limit image whole tables c.expect_empty.ensures.file.seen (read.found image tables are) (read.bytes image tables are) (read.limit image tables are))
 
+pub returns-clause-vacant : goal.returns-clause-vacant
+returns-clause-vacant g c = λ vacant. later _ c.read_store.result (λ clean.
+    let is = (c.in-Ok.ensures.found clean).first vacant in
+    also c.read_store.result c.read_store.ensures.version (λ found version. version ∙ is.1))
+
+pub returns-clause-only_new : goal.returns-clause-only_new
+returns-clause-only_new g c =
+    also c.read_store.result c.read_store.ensures.version (λ found version. λ new clean. (c.in-Ok.ensures.found clean).only_new (sym version ∙ new))
+
 pub returns-clause-empty : goal.returns-clause-empty
-returns-clause-empty g c = λ vacant. later _ c.read_store.result (λ clean.
-    let new = ((c.in-Ok.ensures.found clean).first vacant).1 in
-    reads_empty c.read_store.result _ _ c.read_store.ensures.honest (c.in_default.ensures.empty new))
+returns-clause-empty g c = reads_empty c.read_store.result _ _ _ c.read_store.ensures.version c.read_store.ensures.honest c.in_default.ensures.empty
 
 pub returns-clause-sealed : goal.returns-clause-sealed
 returns-clause-sealed g c = λ tables keeps. later _ c.read_store.result (λ clean.

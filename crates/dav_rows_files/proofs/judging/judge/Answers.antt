@@ -4,7 +4,7 @@ use Rattle.disk_readonly.specs.contracts.copied.CopiedDisk.TheImpl as copied
 use Rattle.sqlite.specs.Files.{file_state, image_of, AreFoundIn}
 use Rattle.sqlite.specs.Recovery.{Image}
 use Rattle.dav_rows_files.specs.Starting.{Keeps, KeepsOlder, IsVacant, IsUnused}
-use Rattle.dav_rows_files.proofs.StartLemmas.{at_start, blank_start, older_start, older_found, unused_start, found_in, open_failed, open_failed_first, load_stopped, first_stopped}
+use Rattle.dav_rows_files.proofs.StartLemmas.{at_start, blank_start, older_start, older_found, vacant_found, unused_start, found_in, open_failed, open_failed_first, load_stopped, first_stopped}
 use Rattle.dav_rows_files.proofs.JudgeLemmas.{always_clean, clean_left, if-err-same, log_fault}
 use Rattle.dav_rows_files.specs.Judging.{IsLogFault}
 use Rattle.dav_rows_files.proofs.judging.judge.Goals as goal
@@ -27,7 +27,8 @@ returns-in-Ok-load_or_create-clause-found g c clean =
           ((loaded.ours late m at).1, loaded.version.current.1 at.schema);
       first = λ vacant.
           let blank = blank_start here there opened.0 opened.1 found (subst IsVacant (sym same) vacant) in
-          ((loaded.blank late blank).1, loaded.version.new blank.schema);
+          ((loaded.blank late blank).1, loaded.version.new.1 blank.schema);
+      only_new = λ is. subst IsVacant same (vacant_found here there opened.0 opened.1 found (loaded.version.new.0 is));
       older = λ m keeps.
           let was = older_start here there m opened.0 opened.1 found (subst (λ image. KeepsOlder image m) (sym same) keeps) in
           loaded.version.older.1 was.schema;

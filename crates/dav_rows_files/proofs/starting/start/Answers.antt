@@ -7,7 +7,7 @@ use Rattle.sqlite.specs.Tree.{Trees}
 use Rattle.dav_rows.specs.Changes.{after}
 use Rattle.dav_rows.specs.Contents.{Holds}
 use Rattle.dav_rows.specs.Creating.{first}
-use Rattle.dav_rows_files.proofs.StartLemmas.{at_start, blank_start, older_start, unused_start, found_in, open_failed, open_failed_first, open_failed_older, load_stopped, first_stopped, next_only}
+use Rattle.dav_rows_files.proofs.StartLemmas.{at_start, blank_start, older_start, known_found, unused_start, found_in, open_failed, open_failed_first, open_failed_older, load_stopped, first_stopped, next_only}
 use Rattle.dav_rows_files.proofs.UnharmedLemmas.{open_unharmed, open_unharmed_first, open_unharmed_older, as_found, none_found, unused_or, older_or}
 use Rattle.dav_rows_files.proofs.starting.start.Goals as goal
 
@@ -31,6 +31,13 @@ returns-in-Ok-bring_up_to_date-clause-upgraded g c clean m keeps =
     let opened = c.in-Ok.ensures.opened early in
     let found = found_in c.args.files c.in-Ok.conn (c.in-Ok.ensures.found early) in
     c.in-Ok-bring_up_to_date.ensures.older clean m (older_start (file_state c.in-Ok.conn) (image_of g.D.Disk c.args.files) m opened.0 opened.1 found keeps)
+
+pub returns-in-Ok-bring_up_to_date-clause-known : goal.returns-in-Ok-bring_up_to_date-clause-known
+returns-in-Ok-bring_up_to_date-clause-known g c clean =
+    let early : HasCleanDisk (file_state c.in-Ok.conn) = omega (arith, c.bring_up_to_date.ensures.clean) in
+    let opened = c.in-Ok.ensures.opened early in
+    let found = found_in c.args.files c.in-Ok.conn (c.in-Ok.ensures.found early) in
+    known_found (file_state c.in-Ok.conn) (image_of g.D.Disk c.args.files) opened.0 opened.1 found c.in-Ok-bring_up_to_date.ensures.known
 
 pub returns-in-Err-clause-err : goal.returns-in-Err-clause-err
 returns-in-Err-clause-err g c = open_failed c.args.files c.in-Err.left c.in-Err.error c.in-Err.ensures.cause
