@@ -18,7 +18,7 @@ use Rattle.dav_seal.specs.Digests.{entry_bytes, entry_digest, numbered_by, diges
 use Rattle.dav_seal.specs.SealRow.{unsealed}
 use Rattle.dav_seal.specs.Sums.{total_of}
 use Rattle.dav_seal.specs.Seals.{seal_of}
-use Rattle.dav_seal.specs.Laws.{texts_of, all_texts, sum_of_texts, IsWhole, HaveSameRows, SealsDetermine, SumsDetermineOne, BytesDetermine}
+use Rattle.dav_seal.specs.Laws.{texts_of, all_texts, sum_of_texts, IsWhole, HaveSameRows, SealsDetermine, SumsDetermineOne, SumsDetermineMissing, BytesDetermine}
 use Rattle.dav_seal.proofs.FrontLemmas.{row_bytes-injective}
 use Rattle.dav_seal.proofs.TotalLemmas.{sum-append}
 
@@ -245,14 +245,34 @@ one_apart f before after a =
     let second = sum_by-cons f a after in
     omega arith
 
+-- the same, with some before it
+one_behind : (f : List ℕ → ℕ) (before mid after : List (List ℕ)) (b : List ℕ) → sum_by f (before ++ (mid ++ b ∷ after)) ≡ (sum_by f before + (sum_by f mid + sum_by f after)) + f b
+one_behind f before mid after b =
+    let first = sum_by-append f before (mid ++ b ∷ after) in
+    let second = one_apart f mid after b in
+    omega arith
+
+one_before : (f : List ℕ → ℕ) (before mid after : List (List ℕ)) (a : List ℕ) → sum_by f (before ++ a ∷ (mid ++ after)) ≡ (sum_by f before + (sum_by f mid + sum_by f after)) + f a
+one_before f before mid after a =
+    let first = one_apart f before (mid ++ after) a in
+    let second = sum_by-append f mid after in
+    omega arith
+
 pub sums_determine_one : SumsDetermineOne
-sums_determine_one key before after a b p q collide =
-    let m : ℕ = 2 ^ 64 in
-    let others = sum_by (digest key) before + sum_by (digest key) after in
-    let sums = collide.same in
+sums_determine_one key before mid after a b p q other sums =
+    let others = sum_by (digest key) before + (sum_by (digest key) mid + sum_by (digest key) after) in
     let sums' : (others + digest key a) % 2 ^ 64 ≡ (others + digest key b) % 2 ^ 64 =
-    sym (ap (λ n. n % 2 ^ 64) (one_apart (digest key) before after a)) ∙ sums ∙ ap (λ n. n % 2 ^ 64) (one_apart (digest key) before after b) in
+    sym (ap (λ n. n % 2 ^ 64) (one_before (digest key) before mid after a)) ∙ sums ∙ ap (λ n. n % 2 ^ 64) (one_behind (digest key) before mid after b) in
     let some : 0 < 2 ^ 64 = omega arith in (
-      λ same. collide.different (ap (λ t. before ++ t ∷ after) same),
+      other,
       sym (summand (2 ^ 64) others (digest key a) some p) ∙ ap (λ n. (n + (2 ^ 64 - others % 2 ^ 64)) % 2 ^ 64) sums' ∙ summand (2 ^ 64) others (digest key b) some q,
     )
+
+pub sums_determine_missing : SumsDetermineMissing
+sums_determine_missing key before after a p sums =
+    let others = sum_by (digest key) before + sum_by (digest key) after in
+    let none : others ≡ others + 0 = omega arith in
+    let sums' : (others + digest key a) % 2 ^ 64 ≡ (others + 0) % 2 ^ 64 =
+    sym (ap (λ n. n % 2 ^ 64) (one_apart (digest key) before after a)) ∙ sums ∙ ap (λ n. n % 2 ^ 64) (sum_by-append (digest key) before after ∙ none) in
+    let some : 0 < 2 ^ 64 = omega arith in
+    sym (summand (2 ^ 64) others (digest key a) some p) ∙ ap (λ n. (n + (2 ^ 64 - others % 2 ^ 64)) % 2 ^ 64) sums' ∙ summand (2 ^ 64) others 0 some some

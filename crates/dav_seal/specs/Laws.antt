@@ -53,10 +53,15 @@ pub record HaveSameRows (m n : Contents) : Type 0 where
 abbrev pub SealsDetermine : Type 0
 SealsDetermine = (key : ℕ) (m n : Contents) → IsWhole m → IsWhole n → seal_of key m ≡ seal_of key n → (HaveSameRows m n → ⊥) → CollideSums key (all_texts m) (all_texts n)
 
--- Lists of texts that differ in one text alone, and have one sum, have two different texts with one digest.
+-- Lists of texts of which one has another text than the other, and maybe at another place, and that have one sum, have two texts with one digest.
 abbrev pub SumsDetermineOne : Type 0
-SumsDetermineOne = (key : ℕ) (before after : List (List ℕ)) (a b : List ℕ) → digest key a < 2 ^ 64 → digest key b < 2 ^ 64
-    → CollideSums key (before ++ a ∷ after) (before ++ b ∷ after) → Collide key a b
+SumsDetermineOne = (key : ℕ) (before mid after : List (List ℕ)) (a b : List ℕ) → digest key a < 2 ^ 64 → digest key b < 2 ^ 64 → a ≢ b
+    → sum_of_texts key (before ++ a ∷ (mid ++ after)) ≡ sum_of_texts key (before ++ (mid ++ b ∷ after)) → Collide key a b
+
+-- A list of texts that lacks one, and has the same sum, lacks one whose digest is 0.
+abbrev pub SumsDetermineMissing : Type 0
+SumsDetermineMissing = (key : ℕ) (before after : List (List ℕ)) (a : List ℕ) → digest key a < 2 ^ 64
+    → sum_of_texts key (before ++ a ∷ after) ≡ sum_of_texts key (before ++ after) → digest key a ≡ 0
 
 -- rows of a table with the same bytes are the same row
 abbrev pub BytesDetermine : {V : Type 0} → Table → (V → Row) → Type 0
