@@ -19,6 +19,7 @@ from server import PROCESSES, Server, expect
 GROUP = Group("a folder with a file missing or damaged", is_shared=False)
 GROUPS = [GROUP]
 
+TABLES = ("resource", "extent", "property", "lock", "state", "note")
 SIZES = (("/a", 5), ("/b", 70_000), ("/d/c", 300_000))
 """The paths and the sizes of the files in a folder."""
 
@@ -35,8 +36,9 @@ NO_STORE = "davd: the folder has no store, so there is nothing to check\n"
 UNFINISHED = "davd: a backup to this folder did not end, so nothing was changed: make a new one in another folder\n"
 OLDER = ("davd: meta.db and meta.db-wal have lost the last batches, so nothing was changed: "
          "restore all files of the folder from one backup, or copy it and serve what is left with -accept-loss\n")
-NO_NUMBER = ("davd: last or last-wal is missing, or both are damaged or of another folder, so nothing was changed: "
-             "restore all files of the folder from one backup, or copy it and serve it with -accept-loss\n")
+ONE_BACKUP = "so nothing was changed: restore all files of the folder from one backup, or copy it and serve it with -accept-loss\n"
+HALF_NUMBER = f"davd: last or last-wal is missing, {ONE_BACKUP}"
+NO_NUMBER = f"davd: last and last-wal are missing, damaged or of another folder, {ONE_BACKUP}"
 
 
 def sums(folder: pathlib.Path) -> dict[str, str]:
@@ -224,11 +226,17 @@ def changed(before: dict[str, bytes], after: dict[str, bytes]) -> list[str]:
     return sorted(name for name in before.keys() | after.keys() if before.get(name) != after.get(name))
 
 
+def all_rows(folder: pathlib.Path) -> list[list[tuple]]:
+    """The rows of each table of a database that is whole without its log."""
+    with contextlib.closing(sqlite3.connect(f"file:{folder}/meta.db?immutable=1", uri=True)) as database:
+        return [database.execute(f"SELECT * FROM {table} ORDER BY number").fetchall() for table in TABLES]
+
+
 def flipped_file(starter: Starter, name: str):
     folder = copy_of(starter, filled(starter))
     line = whole_line(starter)
     before = contents(folder)
-    good = before[name]
+    good, rows = before[name], all_rows(folder)
     bits = range(8 * len(good))
     for bit in random.Random(5).sample(bits, min(FLIPS, len(bits))):
         bad = bytearray(good)
@@ -239,6 +247,7 @@ def flipped_file(starter: Starter, name: str):
         found = checked.returncode == 4 or (checked.returncode == 1 and "damaged: " in checked.stdout)
         if not found:
             expect(f"a check with bit {bit} flipped", (checked.returncode, checked.stdout), (0, line))
+            expect(f"the rows with bit {bit} flipped", all_rows(folder) == rows, True)
         expect("the files that a check changes", changed(before, contents(folder)), [])
 
 
@@ -412,6 +421,17 @@ def new_lost(starter: Starter):
         expect(f"{what}: with -accept-loss", run(starter, "-accept-loss", copy).stdout, NO_DATABASE)
 
 
+@GROUP.check("the database of another program is refused, also beside an empty data file")
+def foreign(starter: Starter):
+    copy = starter.folder / "foreign"
+    copy.mkdir()
+    with contextlib.closing(sqlite3.connect(copy / "meta.db")) as database:
+        database.executescript("CREATE TABLE note (title TEXT); INSERT INTO note VALUES ('hello')")
+    refused(starter, "without a data file", copy, NO_DATA)
+    (copy / "data").touch()
+    refused(starter, "beside an empty data file", copy, FOREIGN)
+
+
 @GROUP.check("the journal of another program beside meta.db is refused")
 def journal(starter: Starter):
     copy = copy_of(starter, filled(starter))
@@ -435,7 +455,7 @@ def number_without_its_other(starter: Starter):
     for name in ("last", "last-wal"):
         copy = copy_of(starter, folder)
         without(name)(copy)
-        refused(starter, f"without {name}", copy, NO_NUMBER)
+        refused(starter, f"without {name}", copy, HALF_NUMBER)
     accepted(starter, copy).stop()
     whole(starter, folder)
 
@@ -452,7 +472,7 @@ def without_logs(starter: Starter):
     backup_client.succeed(starter, backup)
     server.stop()
     without("meta.db-wal", "last-wal")(backup)
-    refused(starter, "the backup", backup, NO_NUMBER)
+    refused(starter, "the backup", backup, HALF_NUMBER)
 
 
 @GROUP.check("a backup that did not end is refused, whichever of its files have their names")

@@ -1,5 +1,5 @@
 -- What a start that fails leaves still holds what the files held.
-use Rattle.std.proofs.Common.{◌≡◌, inl, inr, ℕ, List, Option, Result, Ok, Err, sym, subst}
+use Rattle.std.proofs.Common.{◌≡◌, ◌∙◌, inl, inr, ℕ, true, false, List, Option, Some, None, Result, Ok, Err, sym, ap, subst}
 use Rattle.std.proofs.Math.Logic.{∥∥₁_map}
 use Rattle.std.specs.Prelude.{IfErr}
 use Rattle.dav_data.specs.declared.claim.Claim as claim
@@ -29,8 +29,14 @@ use Rattle.dav_folder.specs.declared.opening.Opened.{Opened}
 use Rattle.dav_pieces.specs.declared.piece.Piece.{Piece}
 use Rattle.dav_tree.specs.TreeFs.{before_of}
 use Rattle.dav_tree.specs.declared.medium.Medium.{Ghosts}
-use Rattle.davd.specs.Failing.{HasOnly, HoldsOn, HoldsOnLeft, HoldsOnIfOpened}
+use Rattle.sqlite_disk.specs.Disk.{Only}
+use Rattle.davd.specs.Failing.{HasOnly, HoldsOn, HoldsOnLeft, HoldsOnIfOpened, AreOnlyJudged, StaysAsHeldLeft, HoldsFoundLeft, IsUntouched}
 use Rattle.davd.specs.Folder.{FindsHeld}
+use Rattle.davd.specs.Program.{is_judged}
+use Rattle.davd.specs.declared.program.Stopped.{Stopped}
+use Rattle.sqlite_wal.specs.Files.{outcomes}
+use Rattle.sqlite_wal.specs.Reads.{OnlyReadsBoth}
+use Rattle.davd.specs.declared.folder.Unserved.{Unserved}
 
 -- what else is known of an error
 pub err_also : {T X : Type 0} {P Q : X → Type 0} (result : Result T X) → IfErr result P → ((e : X) → P e → Q e) → IfErr result Q
@@ -101,3 +107,43 @@ module _ {D E C : Type 0} {d : disk.Ghosts D} {e : disk.Ghosts E} {c : claim.Gho
       let found = finds kept hold (clean is) in
       let leave : Leave files (kept_at (opened_at opened)) = alone (opened_at opened) (lasts_alone found.lasts) in
       inl (subst (λ kept. ∥ Hold c image contents kept ∥₁) found.is (leave is image contents may also))
+
+-- ---- a folder that is refused for what its files hold
+
+-- what is not judged is no reason to refuse it
+pub not_judged : {X : Type 0} (stopped other : Stopped) → stopped ≡ other → is_judged other ≡ false → is_judged stopped ≡ true → X
+not_judged stopped other same early judged = let no : true ≡ false = sym judged ∙ ap is_judged same ∙ early in absurd cc
+
+-- files that were only judged stay as they were held
+pub stays_as_held : {D E F C : Type 0} (e : disk.Ghosts E) {d : disk.Ghosts D} {f : disk.Ghosts F} {c : claim.Ghosts C} (files : Files D) (file : E) (rest : Option (Remains D F C d f c)) → HasOnly d files
+    → Only (e.seen file) (e.may_leave file) → AreOnlyJudged e files file rest → StaysAsHeldLeft (image_of d files) (e.seen file) rest
+stays_as_held e files file rest has only judged = (
+  record { database = leftover.Files judged.database; data_file = judged.data_file },
+  judged.is,
+  record {
+    database = λ image may. has image (judged.only.0.crash image.log may.0, judged.only.1.crash image.db may.1);
+    data_file = λ clean contents may. judged.unharmed only clean contents may;
+  },
+)
+
+-- the same, where the files held what `left` and `file` are
+pub stays_moved : {D E C : Type 0} {d : disk.Ghosts D} {e : disk.Ghosts E} {c : claim.Ghosts C} (remains : Option (Remains D E C d e c)) (now left : database.Image) (shown file : List ℕ) → now ≡ left → shown ≡ file
+    → StaysAsHeldLeft now shown remains → StaysAsHeldLeft left file remains
+stays_moved remains now left shown file is_left is_file stays =
+    subst (λ bytes. StaysAsHeldLeft left bytes remains) is_file (subst (λ (image : database.Image). StaysAsHeldLeft image shown remains) is_left stays)
+
+-- whatever a crash leaves of the files is what they held, if those of the number were only read
+pub untouched : {D E L C : Type 0} {l : disk.Ghosts L} {d : disk.Ghosts D} {e : disk.Ghosts E} {c : claim.Ghosts C} {left said : database.Image} {file : List ℕ} (unserved : Unserved D E L C d e c) (old now : Files L)
+    → ((image : database.Image) → outcomes l old.log old.db image → image ≡ said) → OnlyReadsBoth l (old.log, old.db) (now.log, now.db) → unserved.last ≡ Some now → StaysAsHeldLeft left file unserved.start.left
+    → IsUntouched l left file said unserved
+untouched unserved old now has reads is stays = record {
+  files = stays;
+  number = (now, is, λ image may. has image (reads.0.crash image.log may.0, reads.1.crash image.db may.1));
+}
+
+-- a store that was found and is given up: the files hold on to what they held
+pub found_if_opened : {D E C : Type 0} {d : disk.Ghosts D} {e : disk.Ghosts E} {c : claim.Ghosts C} {rows : store.Ghosts (FileStore D d)} {g : Ghosts (ClaimedFile E C e c) (List Piece)}
+    (opened : Opened (FileStore D d) (ClaimedFile E C e c) (List Piece) rows g) (remains : Option (Remains D E C d e c)) (left : database.Image) (file : List ℕ) (limit : Option (Option ℕ))
+    → FindsHeld left file limit opened → HoldsFoundLeft opened remains → HoldsOnIfOpened left file remains
+found_if_opened opened None left file limit finds found = tt
+found_if_opened opened (Some rest) left file limit finds found = found left file limit finds

@@ -1,5 +1,5 @@
 -- What a check of a folder has seen if it ends without an error.
-use Rattle.std.specs.Prelude.{◌≡◌, ℕ, List, None}
+use Rattle.std.specs.Prelude.{◌≡◌, ◌≢◌, ℕ, List, None}
 use Rattle.dav_check.specs.Checking.{IsFile}
 use Rattle.dav_check.specs.Reading.{IsRead}
 use Rattle.dav_folder.specs.Reading.{ReadsImage}
@@ -9,6 +9,7 @@ use Rattle.dav_keep.specs.Loading.{IsWholeImage}
 use Rattle.dav_key.specs.Key.{Key}
 use Rattle.dav_pieces.specs.declared.piece.Piece.{Piece}
 use Rattle.dav_rows.specs.Contents.{Contents}
+use Rattle.dav_rows.specs.declared.opening.Version.TheVariants.{New}
 use Rattle.dav_rows_files.specs.Starting.{Keeps}
 use Rattle.dav_seal.specs.Seals.{IsSealed}
 use Rattle.dav_tree.specs.TreeFs.{store_of, reads_of}
@@ -28,6 +29,7 @@ module _ {D E L M : Type 0} (d : disks.Ghosts D) (e : disks.Ghosts E) (l : disks
     pub shown : List ℕ
     pub found : Found M (List Piece) g
     pub same : IsClean e disk → shown ≡ file
+    pub store : found.version ≢ New
     pub rows : (image : Image) (tables : Contents) → Keeps left tables → StandForImage tables image → (whole : IsWholeImage image) → AreClean d of.log of.db → ReadsImage shown None image whole tables found
     pub sealed : (tables : Contents) → Keeps left tables → AreClean d of.log of.db → IsSealed found.key tables
     pub read : (key : Key) → IsFile (store_of found.store).contents key → IsRead (store_of {g = g}) (reads_of {g = g}) (store_of found.store).contents key

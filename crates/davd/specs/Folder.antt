@@ -88,6 +88,14 @@ IsNumbered key batch said = 0 < batch → IsNumber (last_in key said.log said.db
 abbrev pub FoundNumbered : {M : Type 0} {g : Ghosts M (List Piece)} → files.Image → files.Image → Found M (List Piece) g → Type 0
 FoundNumbered left said found = (tables : Contents) → Keeps left tables → IsNumbered found.key found.last said
 
+-- the files of the number, which held this, name one under the key of a store
+abbrev pub IsNamed : ℕ → files.Image → Type 0
+IsNamed key said = IsNumber (last_in key said.log said.db)
+
+-- if the files held the tables of a store of this version, the files of the number name one
+abbrev pub FoundNamed : {M : Type 0} {g : Ghosts M (List Piece)} → files.Image → files.Image → Found M (List Piece) g → Type 0
+FoundNamed left said found = (tables : Contents) → Keeps left tables → IsNamed found.key said
+
 -- a new store: the root, made at time 0, without locks, before batch 1
 abbrev pub first_kept : KeptStore
 first_kept = record { resources = insert empty [] (fresh store_specs.Directory 0 0); counter = 0; locks = []; time = 0; batch = 0 }
@@ -145,7 +153,11 @@ module _ {S E C : Type 0} {e : disk.Ghosts E} {c : claim.Ghosts C} {rows : store
   abbrev pub HeldNumbered : files.Image → files.Image → Opened S (ClaimedFile E C e c) (List Piece) rows g → Type 0
   HeldNumbered left said opened = (tables : Contents) → Keeps left tables → HasCleanDatabase opened.folder → IsNumbered opened.key opened.last said
 
-  -- the same, if the disks of the files of the number are clean now
+  -- the files of the number name one, if the disk of the database is clean
+  abbrev pub HeldNamed : files.Image → files.Image → Opened S (ClaimedFile E C e c) (List Piece) rows g → Type 0
+  HeldNamed left said opened = (tables : Contents) → Keeps left tables → HasCleanDatabase opened.folder → IsNamed opened.key said
+
+  -- they name one as `HeldNumbered` says, if the disks of the files of the number are clean now
   abbrev pub OpensNumbered : {L : Type 0} {l : disk.Ghosts L} → files.Image → files.Image → Opened S (ClaimedFile E C e c) (List Piece) rows g → LastBatch L l → Type 0
   OpensNumbered left said opened last = HasCleanSlots last → HeldNumbered left said opened
 

@@ -1,7 +1,7 @@
 -- Which files of a store are missing: this project's own choice.
 use Rattle.std.specs.Prelude.{ℕ, Bool, nat_lt, ◌&&◌, ◌||◌, not, if◌then◌else◌, unwrap_or, is_none, Option, Some, None}
 use Rattle.davd.specs.declared.program.Refusal.{Refusal}
-use Rattle.davd.specs.declared.program.Refusal.TheVariants.{NoData, NoDatabase, NoNumber, Unfinished}
+use Rattle.davd.specs.declared.program.Refusal.TheVariants.{NoData, NoDatabase, HalfNumber, Unfinished}
 
 -- it is there and has a byte
 abbrev pub has_bytes : Option ℕ → Bool
@@ -19,7 +19,7 @@ missing_of database file number is_partial =
     if has_bytes database.0 && is_none file then Some NoData
     else (if not (has_bytes database.0) && is_partial then Some Unfinished
     else (if not (has_bytes database.0) && (has_bytes file || (has_bytes number.0 || has_bytes number.1) || nat_lt 41 (unwrap_or database.1 0)) then Some NoDatabase
-    else (if is_half number then Some NoNumber else None)))
+    else (if is_half number then Some HalfNumber else None)))
 
 -- These may be the files of a first start that did not end: it writes nothing to the data file, and the log has its header before the database has a byte.
 abbrev pub may_be_first : Option ℕ × Option ℕ → Option ℕ → Bool

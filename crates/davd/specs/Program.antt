@@ -1,5 +1,5 @@
 -- What the program does.
-use Rattle.std.specs.Prelude.{◌≡◌, ℕ, true, false, List, [], Option, Some, None, Result, Ok, Err}
+use Rattle.std.specs.Prelude.{◌≡◌, ℕ, Bool, true, false, List, [], Option, Some, None, Result, Ok, Err}
 use Rattle.std.specs.Option.{option_map}
 use Rattle.dav_tree.specs.TreeFs.{memory_of, store_of, reads_of}
 use Rattle.dav_tree.specs.Memory.{first_memory}
@@ -16,9 +16,13 @@ use Rattle.dav_pieces.specs.declared.piece.Piece.{Piece}
 use Rattle.sqlite.specs.Recovery as database
 use Rattle.sqlite_disk.specs.declared.Disk as disk
 use Rattle.sqlite_store.specs.declared.store.FileStore.{FileStore}
+use Rattle.davd.specs.Failing.{IsUntouched}
+use Rattle.davd.specs.declared.folder.Unserved.{Unserved}
 use Rattle.davd.specs.Leaving.{GoesOn, GoesOnWithLog, GoesOnAndStops}
 use Rattle.davd.specs.Options.{OptionsValue, options_of}
 use Rattle.davd.specs.declared.folder.StartOptions.{StartOptions}
+use Rattle.davd.specs.declared.program.Refusal.{Refusal}
+use Rattle.davd.specs.declared.program.Refusal.TheVariants as refusals
 use Rattle.davd.specs.declared.program.Stopped.{Stopped}
 use Rattle.davd.specs.declared.program.Stopped.TheVariants.{Usage, Stream, Memory, Refused, InUse, Disk, Full, NotKept, Damaged, WithLog, Unnumbered}
 
@@ -83,6 +87,10 @@ module _ {D E L C : Type 0} (d : disk.Ghosts D) (l : disk.Ghosts L) {e : disk.Gh
     pub number : LastBatch L l
     pub stops : GoesOnAndStops left file files said number medium (rules_in options) (start_of options) output output'
 
+-- the folder is refused with this error, and whatever a crash leaves of its files is what they held
+abbrev pub RefusesFolder : {D E L C : Type 0} → disk.Ghosts D → disk.Ghosts E → disk.Ghosts L → claim.Ghosts C → database.Image → List ℕ → database.Image → Stopped → Type 0
+RefusesFolder {D} {E} {L} {C} d e l c left file said stopped = (unserved : Unserved D E L C d e c) × (unserved.start.stopped ≡ stopped) × IsUntouched l left file said unserved
+
 -- no input is read, and no output written
 abbrev pub HasNotBegun : {I O : Type 0} → I → I → O → O → Type 0
 HasNotBegun input input' output output' = (input' ≡ input) × (output' ≡ output)
@@ -92,6 +100,21 @@ HasNotBegun input input' output output' = (input' ≡ input) × (output' ≡ out
 -- another reason than wrong arguments
 abbrev pub IsNotUsage : Stopped → Type 0
 IsNotUsage stopped = stopped ≡ Usage → ⊥
+
+-- the folder is refused for what its files hold, and not for which there are or who has them open
+abbrev pub is_by_content : Refusal → Bool
+is_by_content refusals.Damaged = true
+is_by_content refusals.Foreign = true
+is_by_content refusals.NoTables = true
+is_by_content refusals.ShortData = true
+is_by_content refusals.Older = true
+is_by_content refusals.NoNumber = true
+is_by_content _ = false
+
+-- the program ends because it has judged the files of its folder, and refuses it
+abbrev pub is_judged : Stopped → Bool
+is_judged (Refused refusal) = is_by_content refusal
+is_judged _ = false
 
 -- the exit status: 0 at the end of the input, 2 for wrong arguments, 3 if a stream failed or memory ran out; over a folder 4 if it is not one of a store,
 -- 5 if it is in use, 6 if its disk fails, 7 if the disk is full, and 8 if a batch is not kept for another reason; 1 if a check

@@ -1,11 +1,12 @@
 //! A check of a folder.
-ghost use Rattle.std.specs.Prelude.{◌≡◌, ◌⊎◌, [], IsTrue, IfOk, IfErr, OnOk};
+ghost use Rattle.std.specs.Prelude.{◌≡◌, ◌≢◌, ◌⊎◌, [], IsTrue, IfOk, IfErr, OnOk};
 ghost use Rattle.sqlite.specs.Files.{image_of};
 ghost use Rattle.sqlite.specs.WalFiles.{image_at};
 ghost use Rattle.dav_check.specs.Checking.{IsFile, IsNamed};
 ghost use Rattle.dav_check.specs.Reading.{IsRead};
 ghost use Rattle.dav_folder.specs.Opening.{AreOnlyRead};
 ghost use Rattle.dav_key.specs.Key.{Key};
+ghost use Rattle.dav_rows.specs.declared.opening.Version.TheVariants.{New};
 ghost use Rattle.dav_tree.specs.TreeFs.{store_of, reads_of};
 ghost use Rattle.davd.specs.Checking.{IsVerified, ChecksFolder};
 ghost use Rattle.davd.specs.Program.{IsNotUsage};
@@ -128,6 +129,7 @@ fn check_files<D: Disk, E: Disk + Drop, L: Disk, O: Write>(
 
 /// Checks that the store that was read is not a new one. Errors: `Refused`.
 fn expect_store<M: Medium>(found: &Found<M>) -> Result<(), Stopped>
+    ensures ok { OnOk result (found.entry.now.version ≢ New) }
     ensures err { IfErr result IsNotUsage }
 {
     if found.version == Version::New {

@@ -1,7 +1,7 @@
 //! The files of a folder: which there are, before any is opened.
-ghost use Rattle.std.specs.Prelude.{◌≡◌, IfErr};
+ghost use Rattle.std.specs.Prelude.{◌≡◌, false, IfErr, IfSome};
 ghost use Rattle.davd.specs.Present.{missing_of, may_be_first, may_lack_tables};
-ghost use Rattle.davd.specs.Program.{IsNotUsage};
+ghost use Rattle.davd.specs.Program.{IsNotUsage, is_by_content, is_judged};
 
 use crate::program::{Refusal, Stopped};
 use std::fs::{self, OpenOptions};
@@ -29,7 +29,8 @@ const LOG_HEADER: u64 = 41;
 
 /// Makes a folder, unless there is something of this name, and brings its name to the disk.
 pub fn make_folder(rt: &HostRuntime, folder: &str) -> Result<(), Stopped>
-    ensures { IfErr result IsNotUsage }
+    ensures err { IfErr result IsNotUsage }
+    ensures early { IfErr result (λ e. is_judged e ≡ false) }
 {
     match fs::create_dir(rt, folder) {
         Ok(()) => sync_parent(rt, folder),
@@ -40,7 +41,8 @@ pub fn make_folder(rt: &HostRuntime, folder: &str) -> Result<(), Stopped>
 
 /// Brings the name of a folder to the disk.
 fn sync_parent(rt: &HostRuntime, folder: &str) -> Result<(), Stopped>
-    ensures { IfErr result IsNotUsage }
+    ensures err { IfErr result IsNotUsage }
+    ensures early { IfErr result (λ e. is_judged e ≡ false) }
 {
     let parent = format!(in rt.alloc(); "{folder}/..")?;
     match fs::open(rt, parent.as_str()) {
@@ -56,7 +58,8 @@ fn sync_parent(rt: &HostRuntime, folder: &str) -> Result<(), Stopped>
 ///
 /// Errors: `Refused` if one is missing; `Disk`; `Memory`.
 pub fn expect_files(rt: &HostRuntime, folder: &str, accepts_loss: bool) -> Result<(), Stopped>
-    ensures { IfErr result IsNotUsage }
+    ensures err { IfErr result IsNotUsage }
+    ensures early { IfErr result (λ e. is_judged e ≡ false) }
 {
     let database = size_of(rt, folder, DATABASE)?;
     let file = size_of(rt, folder, DATA)?;
@@ -65,7 +68,7 @@ pub fn expect_files(rt: &HostRuntime, folder: &str, accepts_loss: bool) -> Resul
     let log = size_of(rt, folder, LOG)?;
     let is_partial = size_of(rt, folder, PARTIAL)?.is_some();
     match missing((database, log), file, (last, other), is_partial) {
-        Some(Refusal::NoNumber) if accepts_loss => Ok(()),
+        Some(Refusal::HalfNumber) if accepts_loss => Ok(()),
         Some(refusal) => Err(Stopped::Refused(refusal)),
         None => Ok(()),
     }
@@ -80,7 +83,8 @@ fn missing(
     number: (Option<u64>, Option<u64>),
     is_partial: bool,
 ) -> Option<Refusal>
-    ensures { result ≡ missing_of database file number is_partial }
+    ensures missing { result ≡ missing_of database file number is_partial }
+    ensures early { IfSome result (λ refusal. is_by_content refusal ≡ false) }
 {
     let has_database = database.0.unwrap_or(0) > 0;
     let has_number = number.0.unwrap_or(0) > 0 || number.1.unwrap_or(0) > 0;
@@ -92,7 +96,7 @@ fn missing(
     } else if !has_database && has_rest {
         Some(Refusal::NoDatabase)
     } else if has_number && number.0.is_none() != number.1.is_none() {
-        Some(Refusal::NoNumber)
+        Some(Refusal::HalfNumber)
     } else {
         None
     }
@@ -110,7 +114,8 @@ pub struct FirstStart {
 impl FirstStart {
     /// Finds what may be missing. Errors: `Disk`; `Memory`.
     pub fn find(rt: &HostRuntime, folder: &str) -> Result<FirstStart, Stopped>
-        ensures { IfErr result IsNotUsage }
+        ensures err { IfErr result IsNotUsage }
+        ensures early { IfErr result (λ e. is_judged e ≡ false) }
     {
         let database = size_of(rt, folder, DATABASE)?;
         let log = size_of(rt, folder, LOG)?;
@@ -143,7 +148,8 @@ impl FirstStart {
 
 /// Returns how many bytes a file of the folder has, if it is there.
 fn size_of(rt: &HostRuntime, folder: &str, name: &str) -> Result<Option<u64>, Stopped>
-    ensures { IfErr result IsNotUsage }
+    ensures err { IfErr result IsNotUsage }
+    ensures early { IfErr result (λ e. is_judged e ≡ false) }
 {
     let path = format!(in rt.alloc(); "{folder}/{name}")?;
     match fs::metadata(rt, path.as_str()) {
@@ -155,7 +161,8 @@ fn size_of(rt: &HostRuntime, folder: &str, name: &str) -> Result<Option<u64>, St
 
 /// Empties the file that keeps room back, so that a database that is opened next has that room.
 pub fn empty_reserve(rt: &HostRuntime, folder: &str) -> Result<(), Stopped>
-    ensures { IfErr result IsNotUsage }
+    ensures err { IfErr result IsNotUsage }
+    ensures early { IfErr result (λ e. is_judged e ≡ false) }
 {
     let path = format!(in rt.alloc(); "{folder}/data-wal")?;
     match OpenOptions::new().write(true).open(rt, path.as_str()) {
@@ -166,7 +173,8 @@ pub fn empty_reserve(rt: &HostRuntime, folder: &str) -> Result<(), Stopped>
 
 /// Returns an error of the disk as why the program ends.
 fn by_disk(ended: io::Result<()>) -> Result<(), Stopped>
-    ensures { IfErr result IsNotUsage }
+    ensures err { IfErr result IsNotUsage }
+    ensures early { IfErr result (λ e. is_judged e ≡ false) }
 {
     match ended {
         Ok(()) => Ok(()),
@@ -178,7 +186,8 @@ fn by_disk(ended: io::Result<()>) -> Result<(), Stopped>
 ///
 /// Errors: `Refused` if one is missing, or there is no database; `Disk` if the folder cannot be read; `Memory`.
 pub fn expect_database(rt: &HostRuntime, folder: &str) -> Result<(), Stopped>
-    ensures { IfErr result IsNotUsage }
+    ensures err { IfErr result IsNotUsage }
+    ensures early { IfErr result (λ e. is_judged e ≡ false) }
 {
     expect_files(rt, folder, false)?;
     match size_of(rt, folder, DATABASE)? {
@@ -199,7 +208,8 @@ pub struct Absent {
 impl Absent {
     /// Finds which are missing. Errors: `Disk`; `Memory`.
     pub fn find(rt: &HostRuntime, folder: &str) -> Result<Absent, Stopped>
-        ensures { IfErr result IsNotUsage }
+        ensures err { IfErr result IsNotUsage }
+        ensures early { IfErr result (λ e. is_judged e ≡ false) }
     {
         Ok(Absent {
             log: size_of(rt, folder, LOG)?.is_none(),
@@ -212,7 +222,8 @@ impl Absent {
     /// Removes the log and the file that keeps room back, if they were missing and are there now without a byte. The
     /// caller holds the lock of the database meanwhile, so no other process serves them. Errors: `Disk`; `Memory`.
     pub fn remove(self, rt: &HostRuntime, folder: &str) -> Result<(), Stopped>
-        ensures { IfErr result IsNotUsage }
+        ensures err { IfErr result IsNotUsage }
+        ensures early { IfErr result (λ e. is_judged e ≡ false) }
     {
         if self.log {
             remove_empty(rt, folder, LOG)?;
@@ -222,7 +233,8 @@ impl Absent {
 
     /// The same, of the file that keeps room back alone. The caller holds the lock of the data file meanwhile.
     pub fn remove_reserve(self, rt: &HostRuntime, folder: &str) -> Result<(), Stopped>
-        ensures { IfErr result IsNotUsage }
+        ensures err { IfErr result IsNotUsage }
+        ensures early { IfErr result (λ e. is_judged e ≡ false) }
     {
         if self.reserve {
             remove_empty(rt, folder, "data-wal")?;
@@ -233,7 +245,8 @@ impl Absent {
     /// The same, of the files of the last number, unless one of them has bytes: it needs the other. The caller holds their
     /// locks meanwhile.
     pub fn remove_last(self, rt: &HostRuntime, folder: &str) -> Result<(), Stopped>
-        ensures { IfErr result IsNotUsage }
+        ensures err { IfErr result IsNotUsage }
+        ensures early { IfErr result (λ e. is_judged e ≡ false) }
     {
         let number = size_of(rt, folder, LAST)?.unwrap_or(0);
         let other = size_of(rt, folder, "last-wal")?.unwrap_or(0);
@@ -252,7 +265,8 @@ impl Absent {
 
 /// Removes a file that has no byte.
 fn remove_empty(rt: &HostRuntime, folder: &str, name: &str) -> Result<(), Stopped>
-    ensures { IfErr result IsNotUsage }
+    ensures err { IfErr result IsNotUsage }
+    ensures early { IfErr result (λ e. is_judged e ≡ false) }
 {
     if size_of(rt, folder, name)? != Some(0) {
         return Ok(());

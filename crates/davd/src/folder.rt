@@ -9,6 +9,7 @@ ghost use Rattle.sqlite_std_file.specs.File.{IsFresh, file_is_usable};
 ghost use Rattle.dav_folder.specs.Claims.{IsKeyed};
 ghost use Rattle.dav_folder.specs.Failing.{LeavesAsBefore, IsOnlyRead};
 ghost use Rattle.dav_folder.specs.Folders.{batch_of};
+ghost use Rattle.dav_folder.specs.Lasting.{HasCleanDatabase};
 ghost use Rattle.dav_folder.specs.Opening.{AreOnlyRead};
 ghost use Rattle.dav_folder.specs.Reading.{ReadsAs, IsEmptyIfHonest};
 ghost use Rattle.dav_keep.specs.Images.{Image};
@@ -19,10 +20,12 @@ ghost use Rattle.dav_rows.specs.declared.opening.Version.TheVariants.{New, Older
 ghost use Rattle.dav_rows_files.specs.Starting.{Keeps, IsVacant};
 ghost use Rattle.dav_seal.specs.Seals.{IsSealed};
 ghost use Rattle.dav_tree.specs.TreeFs.{memory_of};
-ghost use Rattle.davd.specs.Failing.{HoldsFound, HoldsOnIfOpened, HoldsOnLeft, HasOnly, KeepsNumber, KeepsOrNames, HaveNumber};
+ghost use Rattle.davd.specs.Failing.{HoldsFound, HoldsFoundLeft, HoldsOnIfOpened, HoldsOnLeft, HasOnly, KeepsNumber, KeepsOrNames, HaveNumber};
+ghost use Rattle.davd.specs.Failing.{AreOnlyJudged, StaysAsHeldLeft, IsUntouched};
 ghost use Rattle.davd.specs.Folder.{FindsKept, FindsFirst, FindsHeld, FindsNew, HeldSealed, MakesFirst, IsNotOlder, OpensUpToDate};
-ghost use Rattle.davd.specs.Folder.{IsNumbered, FoundNumbered, HeldNumbered, OpensNumbered};
-ghost use Rattle.davd.specs.Program.{IsNotUsage};
+ghost use Rattle.davd.specs.Folder.{IsNumbered, IsNamed, FoundNumbered, FoundNamed, HeldNumbered, HeldNamed, OpensNumbered};
+ghost use Rattle.davd.specs.Program.{IsNotUsage, is_judged};
+ghost use Rattle.davd.specs.declared.program.Stopped.TheVariants as Stopped;
 
 use crate::files::{
     Absent, DATA, DATABASE, FirstStart, LAST, empty_reserve, expect_files, make_folder,
@@ -76,13 +79,43 @@ impl<D: Disk, E: Disk, C: Claim> From<Stopped> for Unstarted<D, E, C> {
     }
 }
 
-impl<D: Disk + Drop, E: Disk + Drop, C: Claim> From<Unstarted<D, E, C>> for Stopped {
+/// Why a folder is not served, and what is left of all its files.
+#[derive(Drop)]
+pub struct Unserved<D: Disk, E: Disk, L: Disk, C: Claim> {
+    /// Why, with what is left of the files of the database and the data file.
+    pub start: Unstarted<D, E, C>,
+    /// What is left of the files of the number of the last batch, if they were opened.
+    pub last: Option<Files<L>>,
+}
+
+/// The same, if room is kept back beside the data file.
+pub type UnservedOver<D, E, L, C> = Unserved<D, Reserved<E, E>, L, C>;
+
+/// No file was opened, or not both of the number.
+impl<D: Disk, E: Disk, L: Disk, C: Claim> From<Stopped> for Unserved<D, E, L, C> {
+    ghost use Rattle.std.specs.Prelude.{◌≡◌, None};
+
+    ghost from_gives = { λ stopped e. (e.start.stopped ≡ stopped) × (e.start.left ≡ None) × (e.last ≡ None) };
+
+    fn from(stopped: Stopped) -> Unserved<D, E, L, C> {
+        Unserved {
+            start: Unstarted {
+                stopped,
+                left: None,
+            },
+            last: None,
+        }
+    }
+}
+
+impl<D: Disk + Drop, E: Disk + Drop, L: Disk + Drop, C: Claim> From<Unserved<D, E, L, C>>
+    for Stopped {
     ghost use Rattle.std.specs.Prelude.{◌≡◌};
 
-    ghost from_gives = { λ unstarted e. e ≡ unstarted.stopped };
+    ghost from_gives = { λ unserved e. e ≡ unserved.start.stopped };
 
-    fn from(unstarted: Unstarted<D, E, C>) -> Stopped {
-        unstarted.stopped
+    fn from(unserved: Unserved<D, E, L, C>) -> Stopped {
+        unserved.start.stopped
     }
 }
 
@@ -128,14 +161,14 @@ struct Opening {
 /// `held` stands for what the files held.
 ///
 /// If they held a store, it is found, and its rows have the seal that was kept with them. If they held no table, a new store
-/// is found, where no file says that there was one. Everything is read and judged before anything is written. A store of an earlier batch than that number is opened
-/// only if `accepts_loss`, and so is one without a number, unless it is of version 1 or no batch was kept. Then each of the
-/// files has the number of the store's last batch.
+/// is found, where no file says that there was one. Everything is read and judged before anything is written. A store of an
+/// earlier batch than that number is opened only if `accepts_loss`, and so is one without a number, unless it is of version 1
+/// or no batch was kept. Then each of the files has the number of the store's last batch.
 ///
 /// Errors: `Refused` if a file of the store is missing, or the folder is not one of a store, is damaged or has lost
-/// batches; `InUse` if another process has it open; `Disk` if it cannot be read or written; `Memory`. After an error, if the
-/// disks have done what their calls promise, whatever a crash leaves of the database and the data file holds the store that
-/// they held; `IsExempt` names two exceptions.
+/// batches; `InUse` if another process has it open; `Disk` if it cannot be read or written; `Memory`. A folder that is refused
+/// for what its files hold stays as it was. After another error, if the disks have done what their calls promise, whatever a
+/// crash leaves of the database and the data file holds the store that they held; `IsExempt` names two exceptions.
 pub fn open_folder<R: Start, T: Start, N: Start, C: Confirm>(
     rt: &HostRuntime,
     folder: &str,
@@ -143,7 +176,7 @@ pub fn open_folder<R: Start, T: Start, N: Start, C: Confirm>(
     held: Held<R, T, N, C>,
 ) -> Result<
     (OpenedFiles<R, T, C>, LastBatch<FileFrom<N>>),
-    UnstartedOver<FileFrom<R>, FileFrom<T>, C>,
+    UnservedOver<FileFrom<R>, FileFrom<T>, FileFrom<N>, C>,
 >
     ensures kept { IfOk result (λ found. FindsKept (image_at R.Start) T.Start.db options.quota found.0) }
     ensures new { IfOk result (λ found. FindsFirst (image_at R.Start) T.Start.db options.quota options.key found.0) }
@@ -156,8 +189,9 @@ pub fn open_folder<R: Start, T: Start, N: Start, C: Confirm>(
     ensures both { IfOk result (λ found. IsInBoth (batch_of found.0.folder) found.1) }
     ensures up_to_date { IfOk result (λ found. options.accepts_loss ≡ false → OpensUpToDate (image_at N.Start) found.0 found.1) }
     ensures numbered { IfOk result (λ found. options.accepts_loss ≡ false → OpensNumbered (image_at R.Start) (image_at N.Start) found.0 found.1) }
-    ensures left { IfErr result (λ e. HoldsOnIfOpened (image_at R.Start) T.Start.db e.left) }
-    ensures err { IfErr result (λ e. IsNotUsage e.stopped) }
+    ensures left { IfErr result (λ e. HoldsOnIfOpened (image_at R.Start) T.Start.db e.start.left) }
+    ensures refused { IfErr result (λ e. is_judged e.start.stopped ≡ true → IsUntouched ⟦<FileFrom<N> as Disk>⟧ (image_at R.Start) T.Start.db (image_at N.Start) e) }
+    ensures err { IfErr result (λ e. IsNotUsage e.start.stopped) }
 {
     make_folder(rt, folder)?;
     expect_files(rt, folder, options.accepts_loss)?;
@@ -175,19 +209,35 @@ pub fn open_folder<R: Start, T: Start, N: Start, C: Confirm>(
     };
     let opened = match open_pairs(rt, folder, how, options.key, (left, file), &mut last) {
         Ok(opened) => opened,
-        Err(mut unstarted) => {
+        Err(mut start) => {
             if let Err(stopped) = absent.remove_last(rt, folder) {
-                unstarted.stopped = stopped;
+                start.stopped = stopped;
             }
-            return Err(unstarted);
+            let last = Some(last);
+            return Err(Unserved { start, last });
         }
     };
     match LastBatch::begin(last, opened.key, opened.last) {
         Ok(last) => Ok((opened, last)),
-        Err((error, _)) => Err(Unstarted {
+        Err((error, last)) => Err(unnumbered(error, opened, last)),
+    }
+}
+
+/// Returns why a folder is not served whose number could not be written, and gives up the store that was opened.
+fn unnumbered<D: Disk + Drop, E: Disk + Drop, L: Disk, C: Claim>(
+    error: io::Error,
+    opened: OpenedOver<D, E, C>,
+    last: Files<L>,
+) -> UnservedOver<D, E, L, C>
+    ensures left { HoldsFoundLeft opened result.start.left }
+    ensures err { result.start.stopped ≡ Stopped.Disk error }
+{
+    Unserved {
+        start: Unstarted {
             stopped: Stopped::Disk(error),
             left: Some(close_opened(opened)),
-        }),
+        },
+        last: Some(last),
     }
 }
 
@@ -230,7 +280,13 @@ fn open_pairs<R: Start, T: Start, L: Disk, C: Confirm>(
     ensures last_db { IfOk result (λ _. IsTrue (L.Disk.is_usable last.new.db)) }
     ensures last_clean { AreClean L.Disk last.new.log last.new.db → AreClean L.Disk last.old.log last.old.db }
     ensures last_kept { KeepsNumber L.Disk last.old last.new }
+    ensures made { IsVacant (image_at R.Start) → IfOk result (λ opened. HasCleanDatabase opened.folder → how.first.may_lack_tables ≡ true) }
+    ensures started { IfOk result (λ opened. how.accepts_loss ≡ false → how.first.may_lack_number ≡ false → AreClean L.Disk last.new.log last.new.db
+        → HeldNamed (image_at R.Start) (image_of L.Disk last.old) opened) }
     ensures left { IfErr result (λ e. HoldsOnIfOpened (image_at R.Start) T.Start.db e.left) }
+    ensures refused { IfErr result (λ e. is_judged e.stopped ≡ true → StaysAsHeldLeft (image_at R.Start) T.Start.db e.left) }
+    ensures refused_last { IfErr result (λ e. is_judged e.stopped ≡ true
+        → OnlyReadsBoth L.Disk (last.old.log, last.old.db) (last.new.log, last.new.db)) }
     ensures err { IfErr result (λ e. IsNotUsage e.stopped) }
 {
     let changes = new_tables(rt.alloc(), key)?;
@@ -242,6 +298,7 @@ fn open_pairs<R: Start, T: Start, L: Disk, C: Confirm>(
 fn new_tables(alloc: Global, key: u64) -> Result<Vec<Change>, Stopped>
     ensures made { IfOk result (λ changes. MakesFirst key changes.items) }
     ensures err { IfErr result IsNotUsage }
+    ensures early { IfErr result (λ e. is_judged e ≡ false) }
 {
     Ok(first_changes(alloc, key)?)
 }
@@ -262,6 +319,7 @@ fn open_both<R: Start, T: Start>(
     ensures fresh { IfOk result (λ pairs. IsFresh true pairs.0.log × IsFresh false pairs.0.db) }
     ensures fresh_data { IfOk result (λ pairs. IsFresh false pairs.1.db) }
     ensures err { IfErr result IsNotUsage }
+    ensures early { IfErr result (λ e. is_judged e ≡ false) }
 {
     let (left, file) = held;
     // The data file is made first: a database without one is not that of a store that was just made.
@@ -306,6 +364,12 @@ fn open_over<D: Disk + Drop, E: Disk + Drop, L: Disk, C: Confirm>(
     ensures last_db { IfOk result (λ _. IsTrue (L.Disk.is_usable last.new.db)) }
     ensures last_clean { AreClean L.Disk last.new.log last.new.db → AreClean L.Disk last.old.log last.old.db }
     ensures last_kept { KeepsNumber L.Disk last.old last.new }
+    ensures made { IsVacant (image_of D.Disk pairs.0) → IfOk result (λ opened. HasCleanDatabase opened.folder → how.first.may_lack_tables ≡ true) }
+    ensures started { IfOk result (λ opened. how.accepts_loss ≡ false → how.first.may_lack_number ≡ false → AreClean L.Disk last.new.log last.new.db
+        → HeldNamed (image_of D.Disk pairs.0) (image_of L.Disk last.old) opened) }
+    ensures refused { IfErr result (λ e. is_judged e.stopped ≡ true → AreOnlyJudged E.Disk pairs.0 pairs.1.db e.left) }
+    ensures refused_last { IfErr result (λ e. is_judged e.stopped ≡ true
+        → OnlyReadsBoth L.Disk (last.old.log, last.old.db) (last.new.log, last.new.db)) }
     ensures left { HasOnly D.Disk pairs.0 → Only (E.Disk.seen pairs.1.db) (E.Disk.may_leave pairs.1.db)
         → IfErr result (λ e. HoldsOnLeft (image_of D.Disk pairs.0) (E.Disk.seen pairs.1.db) e.left) }
     ensures err { IfErr result (λ e. IsNotUsage e.stopped) }
@@ -348,6 +412,7 @@ fn make_ready<L: Disk, M: Medium>(
     ensures older { found.entry.now.version ≡ Older → OnOk result (HaveNumber L.Disk found.entry.now.key found.entry.now.last last.new) }
     ensures newer { found.entry.now.version ≢ Older → last.new ≡ last.old }
     ensures err { IfErr result IsNotUsage }
+    ensures early { IfErr result (λ e. is_judged e ≡ false) }
 {
     empty_reserve(rt, folder)?;
     number_older(last, found)
@@ -365,6 +430,7 @@ fn number_older<L: Disk, M: Medium>(last: &mut Files<L>, found: &Found<M>) -> Re
     ensures older { found.entry.now.version ≡ Older → OnOk result (HaveNumber L.Disk found.entry.now.key found.entry.now.last last.new) }
     ensures newer { found.entry.now.version ≢ Older → last.new ≡ last.old }
     ensures err { IfErr result IsNotUsage }
+    ensures early { IfErr result (λ e. is_judged e ≡ false) }
 {
     if found.version != Version::Older {
         return Ok(());
@@ -435,6 +501,11 @@ fn read_up_to_date<D: Disk, E: Disk + Drop, L: Disk, C: Confirm>(
         → IsNotOlder found.key found.last (L.Disk.seen last.old.log) (L.Disk.seen last.old.db)) }
     ensures numbered { IfOk result (λ found. how.accepts_loss ≡ false → AreClean L.Disk last.new.log last.new.db
         → AreClean D.Disk files.new.log files.new.db → FoundNumbered (image_of D.Disk files.old) (image_of L.Disk last.old) found) }
+    ensures made { IfOk result (λ found. found.version ≡ New → how.first.may_lack_tables ≡ true) }
+    ensures made_if { IsVacant (image_of D.Disk files.old)
+        → IfOk result (λ found. AreClean D.Disk files.new.log files.new.db → how.first.may_lack_tables ≡ true) }
+    ensures started { IfOk result (λ found. how.accepts_loss ≡ false → how.first.may_lack_number ≡ false → AreClean L.Disk last.new.log last.new.db
+        → AreClean D.Disk files.new.log files.new.db → FoundNamed (image_of D.Disk files.old) (image_of L.Disk last.old) found) }
     ensures only_last { OnlyReadsBoth L.Disk (last.old.log, last.old.db) (last.new.log, last.new.db) }
     ensures only_data { IfOk result (IsOnlyRead (E.Disk.seen disk)) }
     ensures unharmed { IfErr result (λ e. LeavesAsBefore disk e.1) }
@@ -469,10 +540,12 @@ pub(crate) fn expect_up_to_date<L: Disk, M: Medium>(
         → IsNotOlder found.entry.now.key found.entry.now.last (L.Disk.seen files.old.log) (L.Disk.seen files.old.db)) }
     ensures numbered { OnOk result (accepts_loss ≡ false → AreClean L.Disk files.new.log files.new.db
         → found.entry.now.version ≡ Current → IsNumbered found.entry.now.key found.entry.now.last (image_of L.Disk files.old)) }
+    ensures started { OnOk result (accepts_loss ≡ false → first.may_lack_number ≡ false → AreClean L.Disk files.new.log files.new.db
+        → found.entry.now.version ≡ Current → IsNamed found.entry.now.key (image_of L.Disk files.old)) }
     ensures err { IfErr result IsNotUsage }
 {
     match read_last(files, found.key) {
-        Ok(_) if lacks_tables(found, first) => Err(Stopped::Refused(Refusal::NoDatabase)),
+        Ok(_) if lacks_tables(found, first) => Err(Stopped::Refused(Refusal::NoTables)),
         Ok(_) if accepts_loss => Ok(()),
         Ok(Last::Number(number)) if number > found.last => Err(Stopped::Refused(Refusal::Older)),
         Ok(Last::Number(_)) => Ok(()),
@@ -492,7 +565,8 @@ fn lacks_tables<M: Medium>(found: &Found<M>, first: FirstStart) -> bool
 /// Returns whether the store that was found may have no number. One of version 1 may have none. A new one gets it when its
 /// tables are there, and before its first batch.
 fn may_lack_number<M: Medium>(found: &Found<M>, first: FirstStart) -> bool
-    ensures { result ≡ true → found.entry.now.version ≡ Current → found.entry.now.last ≡ 0 }
+    ensures last { result ≡ true → found.entry.now.version ≡ Current → found.entry.now.last ≡ 0 }
+    ensures first { result ≡ true → found.entry.now.version ≡ Current → first.may_lack_number ≡ true }
 {
     found.version == Version::Older || (found.last == 0 && first.may_lack_number)
 }
@@ -510,6 +584,7 @@ pub(crate) fn open_pair<S: Start>(
     ensures db { IfOk result (λ files. IsTrue (file_is_usable S.Start files.db)) }
     ensures fresh { IfOk result (λ files. IsFresh true files.log × IsFresh false files.db) }
     ensures err { IfErr result IsNotUsage }
+    ensures early { IfErr result (λ e. is_judged e ≡ false) }
 {
     let path = format!(in rt.alloc(); "{folder}/{name}")?;
     Ok(sqlite_std_file::open(rt, path.as_str(), start)?)
@@ -526,9 +601,10 @@ fn limit_of(quota: Option<u64>) -> Option<Option<u64>>
 }
 
 impl From<sqlite_std_file::OpenError> for Stopped {
-    ghost use Rattle.davd.specs.Program.{IsNotUsage};
+    ghost use Rattle.std.specs.Prelude.{◌≡◌, false};
+    ghost use Rattle.davd.specs.Program.{IsNotUsage, is_judged};
 
-    ghost from_gives = { λ _ e. IsNotUsage e };
+    ghost from_gives = { λ _ e. IsNotUsage e × (is_judged e ≡ false) };
 
     fn from(error: sqlite_std_file::OpenError) -> Stopped {
         match error {
@@ -541,15 +617,17 @@ impl From<sqlite_std_file::OpenError> for Stopped {
 }
 
 impl From<OpenError> for Stopped {
-    ghost use Rattle.davd.specs.Program.{IsNotUsage};
+    ghost use Rattle.std.specs.Prelude.{◌≡◌, false};
+    ghost use Rattle.dav_folder.specs.Errors.{IsLate};
+    ghost use Rattle.davd.specs.Program.{IsNotUsage, is_judged};
 
-    ghost from_gives = { λ _ e. IsNotUsage e };
+    ghost from_gives = { λ error e. IsNotUsage e × (IsLate error → is_judged e ≡ false) };
 
     fn from(error: OpenError) -> Stopped {
         match error {
             OpenError::Damaged => Stopped::Refused(Refusal::Damaged),
             OpenError::Foreign => Stopped::Refused(Refusal::Foreign),
-            OpenError::NoDatabase => Stopped::Refused(Refusal::NoDatabase),
+            OpenError::NoDatabase => Stopped::Refused(Refusal::NoTables),
             OpenError::Data(error) if error.kind() == ErrorKind::InvalidData => {
                 Stopped::Refused(Refusal::ShortData)
             }
@@ -561,9 +639,9 @@ impl From<OpenError> for Stopped {
 
 /// The first rows of a store fit, so only memory can have run out.
 impl From<SaveError> for Stopped {
-    ghost use Rattle.davd.specs.Program.{IsNotUsage};
+    ghost use Rattle.davd.specs.declared.program.Stopped.TheVariants.{Memory};
 
-    ghost from_gives = { λ _ e. IsNotUsage e };
+    ghost from_gives = { λ _ e. e ≡ Memory };
 
     fn from(_: SaveError) -> Stopped {
         Stopped::Memory

@@ -1,5 +1,5 @@
 //! The program: options, the store and the lock system, and the streams.
-ghost use Rattle.std.specs.Prelude.{◌≡◌, ◌⊎◌, Err, IfOk, IfErr, OnOk, OnErr, None, Some};
+ghost use Rattle.std.specs.Prelude.{◌≡◌, ◌⊎◌, true, false, Err, IfOk, IfErr, OnOk, OnErr, None, Some};
 ghost use Rattle.std.specs.Option.{option_map};
 ghost use Rattle.std.specs.Io.KnownBytes.{IsAtEnd};
 ghost use Rattle.dav_resource.specs.Texts.{texts};
@@ -10,7 +10,7 @@ ghost use Rattle.davd.specs.Checking.{ChecksFolder};
 ghost use Rattle.davd.specs.Folder.{rules_for};
 ghost use Rattle.davd.specs.Options.{OptionsValue, options_of};
 ghost use Rattle.davd.specs.Program.{DoCheck, HaveNoFolder, SayFolder, ServesAll, ServesInMemory, IsNotUsage, status_of};
-ghost use Rattle.davd.specs.Program.{ServesFolder, ServesWithLog, StopsInFolder, HasNotBegun};
+ghost use Rattle.davd.specs.Program.{ServesFolder, ServesWithLog, StopsInFolder, HasNotBegun, RefusesFolder, is_judged};
 
 use crate::checking::{CheckedData, check_folder};
 use crate::folder::{Held, StartOptions};
@@ -19,6 +19,7 @@ use crate::serving::{FolderData, FolderOptions, serve_folder};
 use dav_folder::Confirm;
 use dav_guarding::Guarding;
 use dav_memls::MemLs;
+use dav_reserve::Reserved;
 use dav_resource::{FsError, FsResult};
 use dav_rights::Access;
 use dav_server::{Options, Server};
@@ -64,13 +65,17 @@ pub enum Refusal {
     Foreign,
     /// There are bytes of a store, and its database is missing or empty.
     NoDatabase,
+    /// There are bytes of a store, and its database has no table.
+    NoTables,
     /// There is a database, and its data file is missing.
     NoData,
     /// The data file is shorter than the database says.
     ShortData,
     /// The database is of an earlier batch than the number that was kept beside it.
     Older,
-    /// The number of the last batch is missing, damaged or that of another folder, or one of its two files is missing.
+    /// One of the two files with the number of the last batch is missing.
+    HalfNumber,
+    /// The number of the last batch is missing, damaged or that of another folder.
     NoNumber,
     /// There are files of a backup that did not end.
     Unfinished,
@@ -127,7 +132,7 @@ impl From<FsError> for Stopped {
 ///
 /// Errors: `Usage` if the arguments are wrong; `Memory` if memory runs out before the first batch; `Stream` if a stream
 /// fails, or if the input ends inside a batch; over a folder those of `serve_folder`; of a check those of `check_folder`.
-/// With wrong arguments nothing is read or written.
+/// With wrong arguments nothing is read or written. A folder that is refused for what its files hold stays as it was.
 pub fn run_program<R: Start, T: Start, N: Start, C: Confirm, I: Read, O: Write>(
     rt: &HostRuntime,
     arguments: &[String],
@@ -146,6 +151,9 @@ pub fn run_program<R: Start, T: Start, N: Start, C: Confirm, I: Read, O: Write>(
         options (O.contents output.old) (O.contents output.new)
         ⊎ ServesWithLog ⟦<FileFrom<R> as Disk>⟧ ⟦<FileFrom<N> as Disk>⟧ ⟦<FolderData<T, C> as Medium>⟧ (image_at R.Start) T.Start.db (image_at N.Start)
         options (I.remaining input.old) (I.remaining input.new) (O.contents output.old) (O.contents output.new))) }
+    ensures refused { (options : OptionsValue) → SayFolder (texts arguments.now) options → IfErr result (λ e. is_judged e ≡ true
+        → RefusesFolder ⟦<FileFrom<R> as Disk>⟧ ⟦<Reserved<FileFrom<T>, FileFrom<T>> as Disk>⟧ ⟦<FileFrom<N> as Disk>⟧ C.Claim
+        (image_at R.Start) T.Start.db (image_at N.Start) e) }
     ensures end { OnOk result (DoCheck (texts arguments.now) ⊎ IsAtEnd (I.remaining input.new)) }
     ensures checked { DoCheck (texts arguments.now) → input.new ≡ input.old }
     ensures whole { DoCheck (texts arguments.now) → OnOk result (ChecksFolder ⟦<FileFrom<R> as Disk>⟧ ⟦<FileFrom<T> as Disk>⟧ ⟦<FileFrom<N> as Disk>⟧
@@ -200,6 +208,7 @@ fn serve_in_memory<I: Read, O: Write>(
         (I.remaining input.old) (I.remaining input.new) (O.contents output.old) (O.contents output.new)) }
     ensures end { OnOk result (IsAtEnd (I.remaining input.new)) }
     ensures err { IfErr result IsNotUsage }
+    ensures unjudged { IfErr result (λ e. is_judged e ≡ false) }
 {
     let store = new_store(alloc, quota, tag_part)?;
     let mut store = Guarding::new(alloc, store, Access::Full);
@@ -287,7 +296,7 @@ fn refusal_of(refusal: Refusal) -> &'static str {
             "davd: meta.db or meta.db-wal is damaged, so nothing was changed: restore all files of the folder from one backup",
         Refusal::Foreign =>
             "davd: meta.db has other tables than this version of davd makes, so nothing was changed: remove a table or view that was added, serve it by the later version that made it, or choose another folder",
-        Refusal::NoDatabase =>
+        Refusal::NoDatabase | Refusal::NoTables =>
             "davd: meta.db and meta.db-wal have no store, and the folder has bytes of one, so nothing was changed: restore all files of the folder from one backup",
         Refusal::NoData =>
             "davd: data is missing, so nothing was changed: restore all files of the folder from one backup",
@@ -300,8 +309,10 @@ fn refusal_of(refusal: Refusal) -> &'static str {
         Refusal::Journal =>
             "davd: there is the journal of another program beside a file of the folder, such as meta.db-journal, so nothing was changed: restore all files of the folder from one backup, and no other",
         Refusal::NoStore => "davd: the folder has no store, so there is nothing to check",
+        Refusal::HalfNumber =>
+            "davd: last or last-wal is missing, so nothing was changed: restore all files of the folder from one backup, or copy it and serve it with -accept-loss",
         Refusal::NoNumber =>
-            "davd: last or last-wal is missing, or both are damaged or of another folder, so nothing was changed: restore all files of the folder from one backup, or copy it and serve it with -accept-loss",
+            "davd: last and last-wal are missing, damaged or of another folder, so nothing was changed: restore all files of the folder from one backup, or copy it and serve it with -accept-loss",
     }
 }
 

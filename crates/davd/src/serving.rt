@@ -1,5 +1,5 @@
 //! Serving over a store in a folder.
-ghost use Rattle.std.specs.Prelude.{◌≡◌, ◌≤◌, ◌⊎◌, true, IsOk, IfOk, OnOk, OnErr, IfErr};
+ghost use Rattle.std.specs.Prelude.{◌≡◌, ◌≤◌, ◌⊎◌, true, false, IsOk, IfOk, OnOk, OnErr, IfErr};
 ghost use Rattle.std.specs.Io.KnownBytes.{IsAtEnd};
 ghost use Rattle.sqlite.specs.WalFiles.{image_at};
 ghost use Rattle.sqlite_store.specs.FileStore.{view};
@@ -8,12 +8,12 @@ ghost use Rattle.dav_folder.specs.Folders.{batch_of};
 ghost use Rattle.dav_folder.specs.Lasting.{HasCleanDatabase};
 ghost use Rattle.dav_folder.specs.Opening.{opened_at};
 ghost use Rattle.dav_last.specs.Batches.{number_of, key_of, is_usable, Names, HasCleanSlots};
-ghost use Rattle.davd.specs.Failing.{HoldsOnIfOpened};
+ghost use Rattle.davd.specs.Failing.{HoldsOnIfOpened, IsUntouched};
 ghost use Rattle.davd.specs.Folder.{IsOpenedAsKept, ServesOpened, StopsOpened, rules_for, state_from};
 ghost use Rattle.davd.specs.Leaving.{RunsAndLeaves, RunsWithLog, StopsAndLeaves, GoesOn, GoesOnWithLog, GoesOnAndStops};
-ghost use Rattle.davd.specs.Program.{IsNotUsage};
+ghost use Rattle.davd.specs.Program.{IsNotUsage, is_judged};
 
-use crate::folder::{Held, StartOptions, UnstartedOver, open_folder};
+use crate::folder::{Held, StartOptions, UnservedOver, open_folder};
 use crate::program::Stopped;
 use dav_data::{Claim, ClaimedFile};
 use dav_folder::{Confirm, Folder, FolderFiles, Numbered, Opened, close_folder, give_up};
@@ -73,7 +73,7 @@ pub fn serve_folder<R: Start, T: Start, N: Start, C: Confirm, I: Read, O: Write>
     options: FolderOptions,
     input: &mut I,
     output: &mut O,
-) -> Result<Ended<R, T, N, C>, UnstartedOver<FileFrom<R>, FileFrom<T>, C>>
+) -> Result<Ended<R, T, N, C>, UnservedOver<FileFrom<R>, FileFrom<T>, FileFrom<N>, C>>
     ensures served { IfOk result (λ ended. OnOk ended.0 (GoesOn (image_at R.Start) T.Start.db ended.1 (image_at N.Start) ended.2
         ⟦<FolderData<T, C> as Medium>⟧ (rules_for options.server) options.start (I.remaining input.old) (I.remaining input.new) (O.contents output.old) (O.contents output.new))) }
     ensures stopped { IfOk result (λ ended. OnErr ended.0 (GoesOnAndStops (image_at R.Start) T.Start.db ended.1 (image_at N.Start) ended.2
@@ -83,9 +83,11 @@ pub fn serve_folder<R: Start, T: Start, N: Start, C: Confirm, I: Read, O: Write>
     ensures end { IfOk result (λ ended. OnOk ended.0 (IsAtEnd (I.remaining input.new))) }
     ensures unread { OnErr result (input.new ≡ input.old) }
     ensures unwritten { OnErr result (output.new ≡ output.old) }
-    ensures left { IfErr result (λ e. HoldsOnIfOpened (image_at R.Start) T.Start.db e.left) }
-    ensures err { IfErr result (λ e. IsNotUsage e.stopped) }
+    ensures left { IfErr result (λ e. HoldsOnIfOpened (image_at R.Start) T.Start.db e.start.left) }
+    ensures refused { IfErr result (λ e. is_judged e.start.stopped ≡ true → IsUntouched ⟦<FileFrom<N> as Disk>⟧ (image_at R.Start) T.Start.db (image_at N.Start) e) }
+    ensures err { IfErr result (λ e. IsNotUsage e.start.stopped) }
     ensures later { IfOk result (λ ended. IfErr ended.0 IsNotUsage) }
+    ensures unjudged { IfOk result (λ ended. IfErr ended.0 (λ e. is_judged e ≡ false)) }
 {
     let FolderOptions { server, start } = options;
     let (opened, last) = open_folder(rt, folder, start, held)?;
@@ -126,6 +128,7 @@ pub fn serve_to_the_end<
     ensures key { key_of result.2 ≡ key_of last }
     ensures end { OnOk result.0 (IsAtEnd (I.remaining input.new)) }
     ensures err { IfErr result.0 IsNotUsage }
+    ensures unjudged { IfErr result.0 (λ e. is_judged e ≡ false) }
 {
     let (ended, (folder, store), mut last) = serve_opened(
         alloc, opened, last, options, input, output,
@@ -146,6 +149,7 @@ fn ended_by(copied: bool, synced: io::Result<()>) -> Result<(), Stopped>
     ensures copied { OnOk result (copied ≡ true) }
     ensures synced { OnOk result (IsOk synced) }
     ensures err { IfErr result IsNotUsage }
+    ensures unjudged { IfErr result (λ e. is_judged e ≡ false) }
 {
     if !copied {
         return Err(Stopped::WithLog);
@@ -189,6 +193,7 @@ pub fn serve_opened<S: Alter + Drop, D: Roomy + Drop, L: Disk + Drop, C: Claim, 
     ensures exact { is_usable result.2 ≡ true → number_of result.2 ≡ batch_of result.1.0 }
     ensures end { OnOk result.0 (IsAtEnd (I.remaining input.new)) }
     ensures err { IfErr result.0 IsNotUsage }
+    ensures unjudged { IfErr result.0 (λ e. is_judged e ≡ false) }
 {
     let Opened {
         folder,
@@ -213,7 +218,8 @@ pub fn serve_opened<S: Alter + Drop, D: Roomy + Drop, L: Disk + Drop, C: Claim, 
 
 /// Returns why serving ended with this error: the keeper says so, or else a stream failed.
 fn stopped_by<S: Alter, L: Disk>(keeper: &Numbered<S, L>, error: io::Error) -> Stopped
-    ensures { IsNotUsage result }
+    ensures err { IsNotUsage result }
+    ensures unjudged { is_judged result ≡ false }
 {
     match keeper.failure() {
         Some(failure) if is_full(failure) => Stopped::Full,

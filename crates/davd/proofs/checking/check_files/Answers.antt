@@ -11,6 +11,7 @@ returns-clause-whole g c = on_ok c.report_checked.result c.report_checked.ensure
   shown = contents_of c.in-Ok.disk;
   found = c.in-Ok-read.found;
   same = c.in-Ok.ensures.same;
+  store = c.in_ok-expect_store.ensures.ok;
   rows = λ image tables keeps stand whole clean. c.in-Ok-read.ensures.kept image tables keeps stand whole clean;
   sealed = λ tables keeps clean. c.in-Ok-read.ensures.sealed tables keeps clean;
   read = λ key is. all_read c.in_ok-checked.checked none (c.in_ok-checked.ensures.read key is);

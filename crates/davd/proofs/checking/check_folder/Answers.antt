@@ -17,6 +17,7 @@ returns-clause-whole g c =
         shown = it.shown;
         found = it.found;
         same = it.same;
+        store = it.store;
         rows = it.rows;
         sealed = it.sealed;
         read = it.read;

@@ -4,12 +4,12 @@ use Rattle.dav_seal.specs.Seals.{IsSealed}
 use Rattle.sqlite.specs.Files.{image_of}
 use Rattle.sqlite_wal.specs.Reads.{AreClean}
 use Rattle.davd.proofs.Finding.{finds_held, finds_new}
-use Rattle.davd.specs.Folder.{FindsHeld, FindsNew, IsNumbered}
+use Rattle.davd.specs.Folder.{FindsHeld, FindsNew, IsNumbered, IsNamed}
 use Rattle.sqlite_disk.specs.Disk.{Only}
 use Rattle.dav_folder.specs.Failing.{LeavesOnly, IsOnlyRead}
-use Rattle.davd.proofs.Failing.{holds_on, only_read}
+use Rattle.davd.proofs.Failing.{holds_on, only_read, not_judged}
 use Rattle.davd.proofs.Numbering.{only_read_number, kept_number}
-use Rattle.davd.specs.Failing.{HoldsOnLeft}
+use Rattle.davd.specs.Failing.{HoldsOnLeft, AreOnlyJudged}
 use Rattle.davd.proofs.folder.open_over.Goals as goal
 
 pub returns-in-Ok-open-clause-kept : goal.returns-in-Ok-open-clause-kept
@@ -95,3 +95,44 @@ pub returns-in-Err-open-clause-last_clean : goal.returns-in-Err-open-clause-last
 returns-in-Err-open-clause-last_clean g c = λ calm.
     let only = c.read_up_to_date.ensures.only_last in
     were_clean _ _ _ _ only.0.clean only.1.clean (c.make_ready.ensures.clean calm)
+
+pub returns-in-Ok-open-clause-made : goal.returns-in-Ok-open-clause-made
+returns-in-Ok-open-clause-made g c = λ vacant clean. c.in-Ok.ensures.made_if vacant (c.in-Ok-open.ensures.clean clean)
+
+pub returns-in-Ok-open-clause-started : goal.returns-in-Ok-open-clause-started
+returns-in-Ok-open-clause-started g c = λ strict sure calm tables keeps clean.
+    let opens = c.in-Ok-open.ensures in
+    subst (λ key. IsNamed key (image_of g.L.Disk c.args.last.now)) (sym opens.key)
+    (c.in-Ok.ensures.started strict sure (c.make_ready.ensures.clean calm) (opens.clean clean) tables keeps)
+
+-- the files were only read before they were judged
+pub returns-in-Err-clause-refused : goal.returns-in-Err-clause-refused
+returns-in-Err-clause-refused g c = λ judged.
+    let db = c.args.pairs.1.db in let seen = g.E.Disk.seen in
+    subst (λ e. AreOnlyJudged g.E.Disk c.args.pairs.0 db e.left) (sym c.failed_start.ensures) (record {
+      database = c.read_up_to_date.new.files;
+      data_file = c.in-Err.data_file;
+      is = refl;
+      only = c.read_up_to_date.ensures.only;
+      unharmed = subst (λ db. Only (seen db) (g.E.Disk.may_leave db) → LeavesOnly (seen db) c.in-Err.data_file) c.new-disk.ensures.inner c.in-Err.ensures.unharmed;
+    })
+
+-- and nothing that comes after that refuses the folder
+pub returns-in-Err-make_ready-clause-refused : goal.returns-in-Err-make_ready-clause-refused
+returns-in-Err-make_ready-clause-refused g c =
+    not_judged _ _ (ap (λ e. e.stopped) c.failed_start-in-Err-make_ready.ensures) c.in-Err-make_ready.ensures.early
+
+pub returns-in-Err-open-clause-refused : goal.returns-in-Err-open-clause-refused
+returns-in-Err-open-clause-refused g c =
+    not_judged _ _ (ap (λ e. e.stopped) c.failed_start-in-Err-open.ensures) (c.into.ensures.1 c.in-Err-open.ensures.err)
+
+pub returns-in-Err-clause-refused_last : goal.returns-in-Err-clause-refused_last
+returns-in-Err-clause-refused_last g c = λ judged. c.read_up_to_date.ensures.only_last
+
+pub returns-in-Err-make_ready-clause-refused_last : goal.returns-in-Err-make_ready-clause-refused_last
+returns-in-Err-make_ready-clause-refused_last g c =
+    not_judged _ _ (ap (λ e. e.stopped) c.failed_start-in-Err-make_ready.ensures) c.in-Err-make_ready.ensures.early
+
+pub returns-in-Err-open-clause-refused_last : goal.returns-in-Err-open-clause-refused_last
+returns-in-Err-open-clause-refused_last g c =
+    not_judged _ _ (ap (λ e. e.stopped) c.failed_start-in-Err-open.ensures) (c.into.ensures.1 c.in-Err-open.ensures.err)

@@ -7,13 +7,14 @@ use Rattle.dav_rows.specs.declared.change.Change.{Change}
 use Rattle.davd.proofs.Finding.{held_as, new_as}
 use Rattle.davd.proofs.FreshFiles.{fresh_seen, fresh_image}
 use Rattle.davd.proofs.FreshOutcomes.{fresh_contents, fresh_outcomes}
-use Rattle.davd.proofs.Failing.{moved}
+use Rattle.davd.proofs.Failing.{moved, err_also, stays_as_held, stays_moved}
 use Rattle.davd.proofs.Numbering.{unread_number}
 use Rattle.sqlite.specs.Files.{image_of}
 use Rattle.sqlite.specs.WalFiles.{image_at}
 use Rattle.sqlite_wal.specs.Reads.{AreClean}
 use Rattle.sqlite.specs.Recovery.{Image}
-use Rattle.davd.specs.Folder.{HeldSealed, HeldNumbered}
+use Rattle.dav_rows_files.specs.Starting.{IsVacant}
+use Rattle.davd.specs.Folder.{HeldSealed, HeldNumbered, HeldNamed}
 use Rattle.davd.proofs.folder.open_pairs.Goals as goal
 
 stands : {key : ℕ} (read changes : List Change) → read ≡ changes → StandForImage (first changes) (first_image key) → StandForImage (first read) (first_image key)
@@ -57,3 +58,24 @@ returns-clause-numbered g c =
     let pairs = c.in_ok-pairs.pairs in let fresh = c.in_ok-pairs.ensures in let last = c.open_over.new.last in
     subst (λ (image : Image). IfOk c.open_over.result (λ opened. c.args.how.accepts_loss ≡ false → AreClean g.L.Disk last.log last.db
     → HeldNumbered image (image_of g.L.Disk c.args.last.now) opened)) (fresh_image pairs.0.log pairs.0.db fresh.fresh.0 fresh.fresh.1) c.open_over.ensures.numbered
+
+pub returns-clause-made : goal.returns-clause-made
+returns-clause-made g c = λ vacant.
+    let pairs = c.in_ok-pairs.pairs in let fresh = c.in_ok-pairs.ensures in
+    c.open_over.ensures.made (subst IsVacant (sym (fresh_image pairs.0.log pairs.0.db fresh.fresh.0 fresh.fresh.1)) vacant)
+
+pub returns-clause-started : goal.returns-clause-started
+returns-clause-started g c =
+    let pairs = c.in_ok-pairs.pairs in let fresh = c.in_ok-pairs.ensures in let last = c.open_over.new.last in
+    subst (λ (image : Image). IfOk c.open_over.result (λ opened. c.args.how.accepts_loss ≡ false → c.args.how.first.may_lack_number ≡ false → AreClean g.L.Disk last.log last.db
+    → HeldNamed image (image_of g.L.Disk c.args.last.now) opened)) (fresh_image pairs.0.log pairs.0.db fresh.fresh.0 fresh.fresh.1) c.open_over.ensures.started
+
+-- the files were just opened, so a crash leaves of them only what they held
+pub returns-clause-refused : goal.returns-clause-refused
+returns-clause-refused g c =
+    let pairs = c.in_ok-pairs.pairs in let fresh = c.in_ok-pairs.ensures in
+    let held = fresh_image pairs.0.log pairs.0.db fresh.fresh.0 fresh.fresh.1 in
+    let shown = fresh_seen pairs.1.db fresh.fresh_data in
+    err_also c.open_over.result c.open_over.ensures.refused (λ e refused judged. stays_moved e.left _ _ _ _ held shown
+    (stays_as_held _ pairs.0 pairs.1.db e.left (λ image may. fresh_outcomes pairs.0.log pairs.0.db fresh.fresh.0 fresh.fresh.1 image may ∙ sym held)
+    (fresh_contents pairs.1.db fresh.fresh_data) (refused judged)))

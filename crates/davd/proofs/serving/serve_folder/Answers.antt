@@ -1,6 +1,6 @@
 use Rattle.std.proofs.Common.{◌∙◌, inl, inr}
 use Rattle.sqlite.specs.WalFiles.{image_at}
-use Rattle.davd.proofs.Leaves.{on_ok, on_err, goes_on, goes_on_with_log, goes_on_and_stops}
+use Rattle.davd.proofs.Leaves.{on_ok, on_err, passed_on, goes_on, goes_on_with_log, goes_on_and_stops}
 use Rattle.davd.specs.Folder.{rules_for}
 use Rattle.davd.proofs.serving.serve_folder.Goals as goal
 
@@ -24,3 +24,7 @@ returns-clause-stopped g c =
           opened.ensures.kept opened.ensures.new opened.ensures.sealed opened.ensures.tags opened.ensures.keyed served.ensures.clean
           (image_at g.N.Start) opened.last served.result.2 served.ensures.calm (served.ensures.key ∙ opened.ensures.key) opened.ensures.up_to_date opened.ensures.numbered _ _ _ _ runs)
     ])
+
+pub returns-in_err-opened-clause-refused : goal.returns-in_err-opened-clause-refused
+returns-in_err-opened-clause-refused g c =
+    passed_on c.from_residual.result c.in_err-opened.field-0.0 _ c.from_residual.ensures.1 c.in_err-opened.ensures.refused

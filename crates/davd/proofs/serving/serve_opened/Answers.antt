@@ -46,4 +46,7 @@ returns-clause-key g c =
     ap (λ it. key_of it) c.into_parts-folder.ensures.last ∙ c.serve_kept-ended.ensures.follows.key ∙ ap (λ it. key_of it) c.new-keeper.ensures.last
 
 pub returns-clause-err : goal.returns-clause-err
-returns-clause-err g c = elim c.match-ended.branch [ in-Ok w ↦ rw w.ended-is tt | in-Err w ↦ rw w.ended-is w.stopped_by.ensures ]
+returns-clause-err g c = elim c.match-ended.branch [ in-Ok w ↦ rw w.ended-is tt | in-Err w ↦ rw w.ended-is w.stopped_by.ensures.err ]
+
+pub returns-clause-unjudged : goal.returns-clause-unjudged
+returns-clause-unjudged g c = elim c.match-ended.branch [ in-Ok w ↦ rw w.ended-is tt | in-Err w ↦ rw w.ended-is w.stopped_by.ensures.unjudged ]
