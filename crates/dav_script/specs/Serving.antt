@@ -4,6 +4,7 @@ use Rattle.std.specs.Option.{unwrap_or}
 use Rattle.dav_resource.specs.PathText.{PathValue, read_path}
 use Rattle.dav_resource.specs.declared.error.DavError.{DavError}
 use Rattle.dav_resource.specs.declared.request.DavRequest.{DavRequest}
+use Rattle.dav_resource.specs.declared.profile.Profile.TheVariants.{Crate}
 use Rattle.dav_store.specs.Locks.{all_reliable}
 use Rattle.dav_tree.specs.TreeFs.{store_of}
 use Rattle.dav_tree.specs.Memory.{first_memory, seen_of}
@@ -53,7 +54,7 @@ without_log shared = record shared { seen = record shared.seen { store = record 
 
 -- one run of the engine has served these requests with these results, below this prefix and with all methods enabled (`Runs`)
 abbrev pub RunsBelow : List ℕ → Seen → List DavRequest → List Answer → Seen → Type 0
-RunsBelow prefix old requests answers new = Runs (record { prefix = prefix; allow = None; facts = old.store.facts }) old requests answers new
+RunsBelow prefix old requests answers new = Runs (record { prefix = prefix; allow = None; profile = Crate; facts = old.store.facts }) old requests answers new
 
 -- one run of the engine has served these requests, in order, over the store and the lock system; nothing else has changed
 pub record AreRun (old : Shared) (requests : List DavRequest) (new : Shared) : Type 0 where
