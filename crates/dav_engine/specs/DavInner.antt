@@ -31,7 +31,7 @@ module _ {C F L : Type 0} where
   made_with engine = (string_bytes engine.prefix, engine.allow, engine.credentials, engine.profile)
 
   -- what no call changes of the engine itself: which borrows it has, and what it was created with
-  abbrev pub fixed_parts : DavInner C F L → (GName × Option GName) × (List ℕ × Option DavMethodSet × C)
+  abbrev pub fixed_parts : DavInner C F L → (GName × Option GName) × (List ℕ × Option DavMethodSet × C × Profile)
   fixed_parts engine = (loans engine, made_with engine)
 
   -- the store and the lock system, as contracts see them
