@@ -10,6 +10,7 @@ pub mod Dump
 pub mod KeyProps
 pub mod Lawful
 pub mod TagLaws
+pub mod MarkingLaws
 pub mod Entry
 pub mod Kept
 pub mod KeptCode
