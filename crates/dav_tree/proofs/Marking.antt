@@ -91,9 +91,10 @@ sound-marked old new key version now sound is = sound-beside old new key (touche
 -- ---- numbers
 
 -- where a number is added
-pub numbers-insert : (old new : FinMap key_cmp ℕ) (key : Key) (number : ℕ) → get old key ≡ None → new ≡ insert old key number
+pub numbers-insert : (old tree new : FinMap key_cmp ℕ) (key : Key) (number : ℕ) → get old key ≡ None → tree ≡ old → new ≡ insert tree key number
     → (q : Key) (n : ℕ) → get old q ≡ Some n → get new q ≡ Some n
-numbers-insert old new key number none is q n here = ap (λ m. get m q) is ∙ get-insert key_cmp_total old key number q ∙ by (eq_by_cmp key_cmp q key) refl
+numbers-insert old tree new key number none same is q n here =
+    ap (λ m. get m q) (is ∙ ap (λ m. insert m key number) same) ∙ get-insert key_cmp_total old key number q ∙ by (eq_by_cmp key_cmp q key) refl
   where
     by : (b : Bool) → eq_by_cmp key_cmp q key ≡ b → cond b (Some number) (get old q) ≡ Some n
     by true tied = absurd (let clash : None ≡ Some n = sym none ∙ ap (get old) (sym ((tied_decides q key).0 tied)) ∙ here in cc)

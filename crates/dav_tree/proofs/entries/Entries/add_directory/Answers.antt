@@ -1,5 +1,4 @@
-use Rattle.std.proofs.Common.{◌∙◌, ap, refl, arith}
-use Rattle.std.specs.FinMap.{insert}
+use Rattle.std.proofs.Common.{ap, refl, arith}
 use Rattle.dav_tree.specs.declared.entry.Content.TheVariants.{Directory}
 use Rattle.dav_tree.specs.Memory.{size_of}
 use Rattle.dav_tree.specs.Entry.{node_by, is_held}
@@ -22,7 +21,7 @@ invariant_of-self-2 g c =
 
 pub returns-clause-numbers : goal.returns-clause-numbers
 returns-clause-numbers g c =
-    numbers-insert c.args.self.now.numbers c.add.new.self.nodes.numbers c.args.key.now _ c.requires.absent.unnumbered (c.in_ok-add.ensures.ok.numbers ∙ ap (λ (k : Kept). insert k.numbers c.args.key.now _) c.self.view_is)
+    numbers-insert c.args.self.now.numbers c.self.inside.tree.nodes.numbers c.add.new.self.nodes.numbers c.args.key.now _ c.requires.absent.unnumbered (ap (λ (k : Kept). k.numbers) c.self.view_is) c.in_ok-add.ensures.ok.numbers
 
 pub returns-clause-ok : goal.returns-clause-ok
 returns-clause-ok g c =

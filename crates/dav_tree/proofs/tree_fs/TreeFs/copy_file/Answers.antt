@@ -7,7 +7,7 @@ use Rattle.dav_resource.specs.declared.error.FsError.TheVariants.{NotFound, Forb
 use Rattle.dav_tree.specs.Memory.{copy_of, copied, marked}
 use Rattle.dav_tree.specs.Kept.{Kept}
 use Rattle.dav_tree.specs.TreeFs.{memory_of}
-use Rattle.dav_tree.specs.MemoryCalls.{error_of_copy}
+use Rattle.dav_tree.specs.MemoryCalls.{member_error, error_of_copy}
 use Rattle.dav_tree.proofs.Sound.{sound-kept}
 use Rattle.dav_tree.proofs.Rows.{copy_missing, copy_of_directory, copy_onto_directory, copy_free, copy-due, copy-over, copy-new}
 use Rattle.dav_tree.proofs.Marking.{member-room, room-less}
@@ -47,8 +47,9 @@ returns-in_err-version-clause-copied g c =
     let above = directory-above c.args.self.now.entries c.find.new.self c.find.ensures.same c.args.to.now.key _ c.key-2.ensures.value _ c.in-Some-directory_above.ensures in
     let same = c.find.ensures.same in
     let there = no-directory-key c.args.self.now.entries c.find.new.self same c.args.to.now.key _ c.key-3.ensures.value c.find-there.result c.find-there.ensures.found (sym c.is_directory.ensures ∙ c.if-is_directory.false) in
+    let again = memory-same m.version m.moment m.limit m.tag_part m.marks c.args.self.now.entries c.find-there.new.self (c.find-there.ensures.same ∙ same) in
     over-exit _ _ _ _ _ _ _ c.from_residual.ensures.1 (ap (λ b. error_of_copy (get m.resources c.args.to.now.key) b m) (copy_free m.resources c.args.from.now.key c.args.to.now.key found.stored here (sym found.kind ∙ c.if-source.false) there above)
-    ∙ c.in_err-version.ensures (get m.resources c.args.to.now.key) (finds-some c.args.self.now.entries c.find.new.self same c.args.to.now.key _ c.key-3.ensures.value c.find-there.result c.find-there.ensures.found)) (memory-same _ _ _ _ _ _ _ (c.find-there.ensures.same ∙ same))
+    ∙ ap (error_of_copy (get m.resources c.args.to.now.key) None) (sym again) ∙ c.in_err-version.ensures (get m.resources c.args.to.now.key) (finds-some c.args.self.now.entries c.find.new.self same c.args.to.now.key _ c.key-3.ensures.value c.find-there.result c.find-there.ensures.found)) (memory-same _ _ _ _ _ _ _ (c.find-there.ensures.same ∙ same))
 
 pub copy_to-requires-clause-from : goal.copy_to-requires-clause-from
 copy_to-requires-clause-from g c =
@@ -82,7 +83,8 @@ pub mark-requires-clause-room : goal.mark-requires-clause-room
 mark-requires-clause-room g c =
     let m = memory_of c.args.self.now in
     let next = c.in_ok-version.ensures None (sym (sym c.is_some.ensures ∙ c.if-is_some.false)) in
-    room-less m.marks (m.version + 2) (c.in_ok-version.version + 1) (omega (arith, next.0)) (member-room m next.1)
+    let again = memory-same m.version m.moment m.limit m.tag_part m.marks c.args.self.now.entries c.find-there.new.self (c.find-there.ensures.same ∙ c.find.ensures.same) in
+    room-less m.marks (m.version + 2) (c.in_ok-version.version + 1) (omega (arith, next.0)) (member-room m (ap (member_error None) (sym again) ∙ next.1))
 
 pub returns-then-is_some-clause-copied : goal.returns-then-is_some-clause-copied
 returns-then-is_some-clause-copied g c =
@@ -96,7 +98,9 @@ returns-then-is_some-clause-copied g c =
     let there = no-directory-key e c.find.new.self same to _ c.key-3.ensures.value c.find-there.result c.find-there.ensures.found (sym c.is_directory.ensures ∙ c.if-is_directory.false) in
     let some = finds-some e c.find.new.self same to _ c.key-3.ensures.value c.find-there.result c.find-there.ensures.found in
     let next = c.in_ok-version.ensures (get m.resources to) some in
-    over-ok _ _ _ _ _ _ (ap (λ b. error_of_copy (get m.resources to) b m) (copy_free m.resources c.args.from.now.key to found.stored here (sym found.kind ∙ c.if-source.false) there above) ∙ next.1)
+    let again = memory-same m.version m.moment m.limit m.tag_part m.marks e c.find-there.new.self (c.find-there.ensures.same ∙ same) in
+    over-ok _ _ _ _ _ _ (ap (λ b. error_of_copy (get m.resources to) b m) (copy_free m.resources c.args.from.now.key to found.stored here (sym found.kind ∙ c.if-source.false) there above)
+    ∙ ap (error_of_copy (get m.resources to) None) (sym again) ∙ next.1)
     (memory-changed c.in_ok-version.version m.moment m.limit m.tag_part m.marks e c.find-there.new.self c.copy_to.new.self (λ r. insert r to (copy_of (get r to) c.in_ok-version.version m.moment found.stored)) (c.find-there.ensures.same ∙ same)
     (rw c.key-4.ensures.value at (c.in_ok-copy_to.ensures.ok _ found.stored (at-again _ _ _ (c.find-there.ensures.same ∙ same) _ _ found)))
     ∙ ap (λ v. record m { resources = insert m.resources to (copy_of (get m.resources to) v m.moment found.stored); version = v }) next.0
@@ -117,7 +121,9 @@ returns-clause-copied g c =
     let next = c.in_ok-version.ensures (get m.resources to) some in
     let above_number = number-above e c.find.new.self c.find.ensures.same to _ c.key-2.ensures.value _ c.in-Some-directory_above.ensures in
     let number = c.in_ok-copy_to.ensures.numbers (parent to) _ (ap (λ (k : Kept). get k.numbers (parent to)) c.find-there.ensures.same ∙ above_number) in
-    over-ok _ _ _ _ _ _ (ap (λ b. error_of_copy (get m.resources to) b m) (copy_free m.resources c.args.from.now.key to found.stored here (sym found.kind ∙ c.if-source.false) there above) ∙ next.1)
+    let again = memory-same m.version m.moment m.limit m.tag_part m.marks e c.find-there.new.self (c.find-there.ensures.same ∙ same) in
+    over-ok _ _ _ _ _ _ (ap (λ b. error_of_copy (get m.resources to) b m) (copy_free m.resources c.args.from.now.key to found.stored here (sym found.kind ∙ c.if-source.false) there above)
+    ∙ ap (error_of_copy (get m.resources to) None) (sym again) ∙ next.1)
     (c.mark.ensures.marked (parent to) number ∙ ap (marked (parent to)) (memory-changed c.in_ok-version.version m.moment m.limit m.tag_part m.marks e c.find-there.new.self c.copy_to.new.self (λ r. insert r to (copy_of (get r to) c.in_ok-version.version m.moment found.stored)) (c.find-there.ensures.same ∙ same)
     (rw c.key-4.ensures.value at (c.in_ok-copy_to.ensures.ok _ found.stored (at-again _ _ _ (c.find-there.ensures.same ∙ same) _ _ found)))
     ∙ ap (λ v. record m { resources = insert m.resources to (copy_of (get m.resources to) v m.moment found.stored); version = v }) next.0

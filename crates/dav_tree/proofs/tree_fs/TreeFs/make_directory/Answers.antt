@@ -1,4 +1,4 @@
-use Rattle.std.proofs.Common.{◌∙◌, ◌+◌, ap, sym, arith}
+use Rattle.std.proofs.Common.{◌∙◌, ◌+◌, None, ap, sym, arith}
 use Rattle.std.specs.FinMap.{insert, get}
 use Rattle.dav_key.specs.Key.{parent}
 use Rattle.dav_store.specs.Store.{Directory}
@@ -36,7 +36,8 @@ returns-in_err-version-clause-made g c =
     let same = c.find.ensures.same in
     let missing = missing-key _ _ c.find.ensures.same key _ c.key.ensures.value (absent-of c.args.self.now.entries _ c.find.result c.find.ensures.found (sym c.is_some.ensures ∙ c.if-is_some.false)) in
     let above = directory-above c.args.self.now.entries c.find.new.self c.find.ensures.same key _ c.key-2.ensures.value _ c.in-Some.ensures in
-    over-exit _ _ _ _ _ _ _ c.from_residual.ensures.1 (dir_free m key missing above ∙ c.in_err-version.ensures) (memory-same _ _ _ _ _ _ _ same)
+    let again = memory-same m.version m.moment m.limit m.tag_part m.marks c.args.self.now.entries c.find.new.self same in
+    over-exit _ _ _ _ _ _ _ c.from_residual.ensures.1 (dir_free m key missing above ∙ ap (member_error None) (sym again) ∙ c.in_err-version.ensures) (memory-same _ _ _ _ _ _ _ same)
 
 pub invariant_of-self-2 : goal.invariant_of-self-2
 invariant_of-self-2 g c =
@@ -60,7 +61,8 @@ mark-requires-clause-there g c =
 pub mark-requires-clause-room : goal.mark-requires-clause-room
 mark-requires-clause-room g c =
     let m = memory_of c.args.self.now in
-    room-less m.marks (m.version + 2) (c.in_ok-version.version + 1) (omega (arith, c.in_ok-version.ensures.0)) (member-room m c.in_ok-version.ensures.1)
+    let again = memory-same m.version m.moment m.limit m.tag_part m.marks c.args.self.now.entries c.find.new.self c.find.ensures.same in
+    room-less m.marks (m.version + 2) (c.in_ok-version.version + 1) (omega (arith, c.in_ok-version.ensures.0)) (member-room m (ap (member_error None) (sym again) ∙ c.in_ok-version.ensures.1))
 
 pub returns-clause-made : goal.returns-clause-made
 returns-clause-made g c =
@@ -71,7 +73,8 @@ returns-clause-made g c =
     let missing = missing-key _ _ c.find.ensures.same key _ c.key.ensures.value (absent-of e _ c.find.result c.find.ensures.found (sym c.is_some.ensures ∙ c.if-is_some.false)) in
     let above = directory-above e c.find.new.self c.find.ensures.same key _ c.key-2.ensures.value _ c.in-Some.ensures in
     let number = c.in_ok-add_directory.ensures.numbers (parent key) _ (number-above e c.find.new.self c.find.ensures.same key _ c.key-2.ensures.value _ c.in-Some.ensures) in
-    over-ok _ _ _ _ _ _ (dir_free m key missing above ∙ c.in_ok-version.ensures.1)
+    let again = memory-same m.version m.moment m.limit m.tag_part m.marks e c.find.new.self same in
+    over-ok _ _ _ _ _ _ (dir_free m key missing above ∙ ap (member_error None) (sym again) ∙ c.in_ok-version.ensures.1)
     (c.mark.ensures.marked (parent key) number
     ∙ ap (marked (parent key)) (memory-changed c.in_ok-version.version m.moment m.limit m.tag_part m.marks e c.find.new.self c.add_directory.new.self (λ r. insert r key (fresh Directory c.in_ok-version.version m.moment)) same (rw c.key-3.ensures.value at c.in_ok-add_directory.ensures.ok)
     ∙ ap (λ v. record m { resources = insert m.resources key (fresh Directory v m.moment); version = v }) c.in_ok-version.ensures.0))

@@ -67,8 +67,8 @@ rename-requires-clause-none g c =
     let above = directory-above e c.find-2.new.self (c.find-2.ensures.same ∙ c.find.ensures.same) to _ c.key-4.ensures.value _ c.in-Some.ensures in
     λ rest. (λ i. get (same i).resources (c.key-7.ensures.value i ++ rest)) ∙ nothing_kept_below e.resources to c.args.self.now.sound nowhere rest
 
-pub invariant_of-self-2 : goal.invariant_of-self-2
-invariant_of-self-2 g c =
+pub invariant_of-self-3 : goal.invariant_of-self-3
+invariant_of-self-3 g c =
     let e = c.args.self.now.entries in
     let from = c.args.from.now.key in let to = c.args.to.now.key in
     let (place, found) = found-of e _ c.find.result c.find.ensures.found (c.is_none.ensures ∙ ap not c.if-is_none.false) in
@@ -149,8 +149,8 @@ mark-requires-clause-room g c =
     let m = memory_of c.args.self.now in
     room-less m.marks (m.version + 2) (m.version + 1) (omega arith) (sym c.has_room.ensures ∙ c.if-not-has_room.false)
 
-pub mark-2-requires-clause-there : goal.mark-2-requires-clause-there
-mark-2-requires-clause-there g c =
+pub mark-requires-2-clause-there : goal.mark-requires-2-clause-there
+mark-requires-2-clause-there g c =
     let e = c.args.self.now.entries in
     let from = c.args.from.now.key in let to = c.args.to.now.key in
     let (place, found) = found-of e _ c.find.result c.find.ensures.found (c.is_none.ensures ∙ ap not c.if-is_none.false) in
@@ -167,8 +167,9 @@ mark-2-requires-clause-there g c =
     let entered = entered-number from to _ _ numbers below new_some apart _ (number-above e c.find-2.new.self same to _ c.key-4.ensures.value _ c.in-Some.ensures) in
     (parent to, ap (λ m. get m (parent to)) c.mark.ensures.numbers ∙ entered)
 
-pub mark-2-requires-clause-room : goal.mark-2-requires-clause-room
-mark-2-requires-clause-room g c =
+pub mark-requires-2-clause-room : goal.mark-requires-2-clause-room
+mark-requires-2-clause-room g c =
+    let m = memory_of c.args.self.now in
     let e = c.args.self.now.entries in
     let from = c.args.from.now.key in let to = c.args.to.now.key in
     let (place, found) = found-of e _ c.find.result c.find.ensures.found (c.is_none.ensures ∙ ap not c.if-is_none.false) in
@@ -182,7 +183,7 @@ mark-2-requires-clause-room g c =
     let new_some = new-below e.resources to c.args.self.now.sound nowhere in
     let numbers = rw (c.key-6.ensures.value, c.key-7.ensures.value) at c.in_ok-rename.ensures.numbers in
     let left = left-number from to _ _ numbers below new_some off _ (number-above e c.find-2.new.self same from _ c.key-5.ensures.value _ c.in-Some-directory_above.ensures) in
-    ap (has_room 1) (c.mark.ensures.marked (parent from) left) ∙ room-marked (parent from) _ (sym c.has_room.ensures ∙ c.if-not-has_room.false)
+    ap (has_room 1) (c.mark.ensures.marked (parent from) left) ∙ room-marked (parent from) (memory_by c.rename.new.self m.version m.moment m.limit m.tag_part m.marks) (sym c.has_room.ensures ∙ c.if-not-has_room.false)
 
 pub returns-clause-renamed : goal.returns-clause-renamed
 returns-clause-renamed g c =
