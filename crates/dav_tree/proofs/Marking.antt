@@ -1,5 +1,5 @@
 -- Where directories are marked: the room for the marks, and the numbers of the directories.
-use Rattle.std.proofs.Common.{◌≡◌, ◌≢◌, ◌∙◌, ℕ, ◌+◌, ◌^◌, ◌≤◌, Bool, true, false, cond, not, ◌||◌, ltb, ◌==◌, if◌then◌else◌, [], Option, Some, None, Result, Ok, Err, refl, sym, ap, subst, arith, is_some}
+use Rattle.std.proofs.Common.{◌≡◌, ◌≢◌, ◌∙◌, ℕ, ◌+◌, ◌^◌, ◌≤◌, Bool, true, false, cond, not, ◌||◌, ltb, ◌==◌, if◌then◌else◌, [], Option, Some, None, Result, Ok, Err, refl, sym, ap, arith, is_some}
 use Rattle.std.proofs.lemmas.List.{append-nil}
 use borrow.Author.Tests.{ltb-true, lt-ltb}
 use Rattle.std.specs.Ordering.{eq_by_cmp}

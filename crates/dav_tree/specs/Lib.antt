@@ -11,6 +11,7 @@ pub mod KeyProps
 pub mod Lawful
 pub mod TagLaws
 pub mod MarkingLaws
+pub mod MemberLaws
 pub mod Entry
 pub mod Kept
 pub mod KeptCode

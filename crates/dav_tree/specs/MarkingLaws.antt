@@ -1,20 +1,19 @@
 -- What a mark of a directory changes, and what it leaves as it is: this project's own choice.
-use Rattle.std.proofs.Common.{◌≡◌, ◌≢◌, ◌∙◌, ℕ, ◌+◌, ◌≤◌, Bool, true, false, cond, if◌then◌else◌, Option, Some, None, refl, sym, ap, subst, arith}
+use Rattle.std.proofs.Common.{◌≡◌, ◌≢◌, ◌∙◌, ℕ, ◌+◌, ◌≤◌, Bool, true, false, cond, if◌then◌else◌, Option, Some, None, refl, ap, arith}
 use Rattle.std.specs.Option.{option_map, option_and_then}
 use Rattle.std.specs.Ordering.{eq_by_cmp}
-use Rattle.std.specs.FinMap.{get, insert, remove, get-insert, get-remove}
-use Rattle.dav_key.specs.Key.{Key, key_cmp, key_cmp_total, parent, tied_decides}
-use Rattle.dav_key.specs.Below.{put_at, is_at_or_below}
+use Rattle.std.specs.FinMap.{get}
+use Rattle.dav_key.specs.Key.{Key, key_cmp, tied_decides}
+use Rattle.dav_key.specs.Below.{put_at}
 use Rattle.dav_key.specs.EachLaws.{get-put_at, each-put_at, put_at-same}
-use Rattle.dav_store.specs.Store.{Node}
 use Rattle.dav_store.specs.PropertyCalls.{some_properties}
 use Rattle.dav_tree.specs.Lawful.{node_in, get-tree, get-properties}
-use Rattle.dav_tree.specs.Memory.{Stored, Resources, Memory, tree_of, properties_of, contents_of, facts_of, meta_of, touched, change_at, with_mark, marked, made, without, copied, copy_of, added, removed, marked_by_copy, copied_into, IsRenamed, IsRenamedAndMarked}
+use Rattle.dav_tree.specs.Memory.{Stored, Resources, Memory, tree_of, properties_of, contents_of, facts_of, meta_of, touched, change_at, with_mark, marked}
 
 -- ---- a change of one resource
 
 -- what is put at a key is nowhere else
-put-other : (resources : Resources) (key : Key) (o : Option Stored) (other : Key) → other ≢ key → get (put_at resources key o) other ≡ get resources other
+pub put-other : (resources : Resources) (key : Key) (o : Option Stored) (other : Key) → other ≢ key → get (put_at resources key o) other ≡ get resources other
 put-other resources key o other apart = get-put_at resources key o other ∙ by (eq_by_cmp key_cmp other key) refl
   where
     by : (b : Bool) → eq_by_cmp key_cmp other key ≡ b → cond b o (get resources other) ≡ get resources other

@@ -78,12 +78,12 @@ abbrev pub change_error : Option FsError → Memory → Option FsError
 change_error (Some e) old = Some e
 change_error None old = if old.version == 2 ^ 64 - 1 then Some errors.GeneralFailure else None
 
--- the counter has room for this many changes, unless no directory is marked
+-- directories are not marked, or the counter has room for this many changes
 abbrev pub has_room : ℕ → Memory → Bool
 has_room changes old = not old.marks || ltb (old.version + changes) (2 ^ 64)
 
--- the error of a call that marks directories, which counts as this many changes with that: the one that is due without the marks, or else GeneralFailure if
--- the counter has no room
+-- the error of a call that counts as this many changes with its marks: the one that is due without the marks, or else GeneralFailure if there is no room
+-- for the changes
 abbrev pub mark_error : ℕ → Option FsError → Memory → Option FsError
 mark_error changes (Some e) old = Some e
 mark_error changes None old = if has_room changes old then None else Some errors.GeneralFailure

@@ -1,4 +1,4 @@
-use Rattle.std.proofs.Common.{◌+◌, refl, sym, arith}
+use Rattle.std.proofs.Common.{◌+◌, refl, arith}
 use Rattle.dav_tree.specs.Memory.{change_at, touched}
 use Rattle.dav_tree.specs.Kept.{held_of}
 use Rattle.dav_tree.specs.TreeFs.{memory_of}
