@@ -122,11 +122,11 @@ pub record Has (resources : Resources) (held : Held) (kept : Kept) : Type 0 wher
   pub resources_are : kept.resources ≡ resources
   pub held_are : held_of kept ≡ held
 
--- each number stays that of its key
+-- each key with a number keeps it
 abbrev pub KeepsNumbers : Kept → Kept → Type 0
 KeepsNumbers old new = (key : Key) (number : ℕ) → get old.numbers key ≡ Some number → get new.numbers key ≡ Some number
 
--- the same but for one key
+-- so does each key but one
 abbrev pub KeepsOtherNumbers : Key → Kept → Kept → Type 0
 KeepsOtherNumbers key old new = (other : Key) (number : ℕ) → other ≢ key → get old.numbers other ≡ Some number → get new.numbers other ≡ Some number
 

@@ -1,12 +1,15 @@
 -- What the calls that add a member to a directory or remove one leave as it is: this project's own choice. A cache of what is elsewhere stays right.
-use Rattle.std.proofs.Common.{◌≡◌, ◌≢◌, ◌∙◌, ◌+◌, false, Option, Some, None, refl, ap}
+use Rattle.std.proofs.Common.{◌≡◌, ◌≢◌, ◌∙◌, ℕ, ◌+◌, ◌^◌, ltb, ◌||◌, not, false, if◌then◌else◌, Option, Some, None, refl, sym, ap, subst}
 use Rattle.std.specs.Option.{option_map}
 use Rattle.std.specs.FinMap.{get}
 use Rattle.dav_key.specs.Key.{Key, parent}
 use Rattle.dav_key.specs.Below.{is_at_or_below}
+use Rattle.dav_resource.specs.declared.error.FsError.{FsError}
+use Rattle.dav_resource.specs.declared.error.FsError.TheVariants as errors
 use Rattle.dav_store.specs.Store.{Node}
-use Rattle.dav_tree.specs.Memory.{Stored, Memory, fresh, copy_of, marked, made, without, copied, added, removed, marked_by_copy, copied_into, IsRenamedAndMarked}
-use Rattle.dav_tree.specs.MarkingLaws.{put-other, marked-other}
+use Rattle.dav_tree.specs.Memory.{Stored, Memory, fresh, copy_of, marked, made, without, copied, added, removed, marked_by_copy, copied_into, IsRenamed, IsRenamedAndMarked}
+use Rattle.dav_tree.specs.MemoryCalls.{change_error, mark_error, member_error}
+use Rattle.dav_tree.specs.MarkingLaws.{put-other, unmarked, marked-other}
 
 -- the resource at this key is as it was
 abbrev pub IsKept : Key → Memory → Memory → Type 0
@@ -40,3 +43,34 @@ renamed-other from to old new renamed other outside elsewhere left entered =
     ∙ marked-other (parent to) (marked (parent from) renamed.between) other entered
     ∙ marked-other (parent from) renamed.between other left
     ∙ renamed.renamed.resources.rest other outside elsewhere
+
+-- ---- where directories are not marked
+
+module _ (old : Memory) (off : old.marks ≡ false) where
+  -- the calls change no more than the one resource
+  pub added-off : (key : Key) (node : Node) → added key node old ≡ made key node old
+  added-off key node = unmarked (parent key) (made key node old) off
+
+  pub removed-off : (key : Key) → removed key old ≡ without key old
+  removed-off key = unmarked (parent key) (without key old) off
+
+  pub copied-off : (from to : Key) → copied_into from to old ≡ copied from to old
+  copied-off from to = by (get old.resources to)
+    where
+      by : (there : Option Stored) → marked_by_copy there to (copied from to old) ≡ copied from to old
+      by None = unmarked (parent to) (copied from to old) off
+      by (Some s) = refl
+
+  pub renamed-off : (from to : Key) (new : Memory) → IsRenamedAndMarked from to old new → IsRenamed from to old new
+  renamed-off from to new r =
+      let none = r.renamed.marks ∙ off in
+      let left = unmarked (parent from) r.between none in
+      subst (IsRenamed from to old) (sym (r.becomes ∙ ap (marked (parent to)) left ∙ unmarked (parent to) r.between none)) r.renamed
+
+  -- and nothing is refused for the marks
+  pub mark_error-off : (changes : ℕ) (error : Option FsError) → mark_error changes error old ≡ error
+  mark_error-off changes (Some e) = refl
+  mark_error-off changes None = ap (λ marks. if not marks || ltb (old.version + changes) (2 ^ 64) then None else Some errors.GeneralFailure) off
+
+  pub member_error-off : (bar : Option FsError) → member_error bar old ≡ change_error bar old
+  member_error-off bar = mark_error-off 2 (change_error bar old)

@@ -295,7 +295,7 @@ impl<M: Medium> Entries<M> {
         answer
     }
 
-    /// Makes the resource with a number one that was changed at time `now` by change number `version`.
+    /// Records that the resource with a number was changed at time `now`, by change number `version`.
     pub fn touch(&mut self, number: usize, version: u64, now: u64)
         requires { (key : Key) × (map.get self.old.numbers key ≡ Some number) }
         ensures touched { IsChangedAt number (touched version now) self.old self.new }
