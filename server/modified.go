@@ -2,8 +2,9 @@ package davserve
 
 import (
 	"net/http"
-	"net/url"
+	"regexp"
 	"strconv"
+	"strings"
 	"time"
 
 	"davserve/internal/frame"
@@ -43,17 +44,25 @@ func modifiedOf(header http.Header) (seconds int64, ok bool) {
 	return seconds, err == nil && 0 <= seconds && seconds <= lastModified
 }
 
-// writtenBy returns the path of the file or collection that a request writes, or "" if that isn't one.
+// plainDestination is a Destination whose path every reader of URLs finds to be the same. davd reads the field by other
+// rules than Go: to it a backslash is a slash.
+var plainDestination = regexp.MustCompile(`^(?:https?://[A-Za-z0-9.:\[\]-]+)?(/[A-Za-z0-9._~%!$&'()*+,;=:@/-]*)$`)
+
+// dots is a segment that names the collection itself or the one above it.
+var dots = regexp.MustCompile(`(?i)/(?:\.|%2e){1,2}(?:/|$)`)
+
+// writtenBy returns the path of the file or collection that a request writes, or "" if none is sure to be the one that
+// davd has written: nobody may set the time of another file, which the access rules may keep from them.
 func writtenBy(r *http.Request) string {
 	switch r.Method {
 	case http.MethodPut, http.MethodPatch:
 		return pathOf(r)
 	case "COPY", "MOVE":
-		destination, err := url.Parse(r.Header.Get("Destination"))
-		if err != nil {
+		found := plainDestination.FindStringSubmatch(strings.Join(r.Header["Destination"], " "))
+		if found == nil || dots.MatchString(found[1]) {
 			return ""
 		}
-		return destination.EscapedPath()
+		return found[1]
 	}
 	return ""
 }

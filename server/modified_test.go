@@ -2,6 +2,7 @@ package davserve
 
 import (
 	"net/http"
+	"net/http/httptest"
 	"strings"
 	"testing"
 )
@@ -27,6 +28,39 @@ func TestModifiedOf(t *testing.T) {
 		header.Set(modifiedField, test.value)
 		if seconds, ok := modifiedOf(header); ok != test.ok || ok && seconds != test.seconds {
 			t.Errorf("modifiedOf(%q) = %d, %t, want %d, %t", test.value, seconds, ok, test.seconds, test.ok)
+		}
+	}
+}
+
+func TestWrittenBy(t *testing.T) {
+	tests := []struct {
+		method       string
+		destinations []string
+		want         string
+	}{
+		{"PUT", nil, "/from"},
+		{"DELETE", nil, ""},
+		{"COPY", []string{"/to"}, "/to"},
+		{"MOVE", []string{"http://h:8080/to/%C3%A9/"}, "/to/%C3%A9/"},
+		{"MOVE", []string{"https://[::1]/to"}, "/to"},
+		{"COPY", nil, ""},
+		{"COPY", []string{"/a", "/b"}, ""},
+		{"COPY", []string{`http://h/a\b`}, ""}, // davd writes /a/b.
+		{"COPY", []string{"http://h/a\tb"}, ""},
+		{"COPY", []string{"/a/../b"}, ""},
+		{"COPY", []string{"/a/%2E./b"}, ""},
+		{"COPY", []string{"/a/."}, ""},
+		{"COPY", []string{"/a/..b"}, "/a/..b"},
+		{"COPY", []string{"/a?b"}, ""},
+		{"COPY", []string{"//h/a"}, "//h/a"}, // which is refused before
+		{"COPY", []string{"http://u@h/a"}, ""},
+		{"COPY", []string{"a"}, ""},
+	}
+	for _, test := range tests {
+		r := httptest.NewRequest(test.method, "/from", nil)
+		r.Header["Destination"] = test.destinations
+		if got := writtenBy(r); got != test.want {
+			t.Errorf("writtenBy of a %s to %q = %q, want %q", test.method, test.destinations, got, test.want)
 		}
 	}
 }

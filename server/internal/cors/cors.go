@@ -19,7 +19,7 @@ const (
 		"X-Requested-With, X-Update-Range"
 
 	responseFields = "Accept-Ranges, Allow, Content-Length, Content-Location, Content-Range, Date, DAV, ETag, " +
-		"Last-Modified, Location, Lock-Token, MS-Author-Via, Retry-After, WWW-Authenticate"
+		"Last-Modified, Location, Lock-Token, MS-Author-Via, Retry-After, WWW-Authenticate, X-OC-Mtime"
 
 	maxAge = "600" // seconds
 )
